@@ -1,0 +1,106 @@
+ghost use Rattle.std.specs.Prelude.{◌≡◌, ◌==◌, not, position, IfOk, None};
+ghost use Rattle.std.specs.Cmp.{partial_equiv_from_equiv};
+ghost use Rattle.std.specs.Cmp.Lexicographic.{pointwise, nat_list_eq_equiv};
+ghost use Rattle.mqb_base.specs.Answers.{RefusedBy};
+ghost use Rattle.mqb_base.specs.Names.{name_fault, is_name_byte};
+
+use std::alloc::{AllocError, Global};
+use std::marker::Model;
+use thiserror::Error;
+
+/// The name of a host or a queue: 1 to 64 bytes from 0x21 to 0x7E without `\`, `;`, `=` and `,`. Contracts see the list of its bytes.
+#[derive(Debug, Drop)]
+pub struct Name {
+    bytes: Vec<u8>,
+}
+
+/// Why bytes are no name.
+#[derive(Clone, Copy, Debug, PartialEq, Eq, Error)]
+pub enum NameError {
+    #[error("a name has 1 to 64 bytes")]
+    Length,
+    #[error("byte {at} may not stand in a name")]
+    Byte { at: usize },
+    #[error("out of memory")]
+    Memory,
+}
+
+impl Model for Name {
+    ghost use Rattle.std.specs.Prelude.{◌≡◌, ℕ, List, None};
+
+    ghost Value = { List ℕ };
+
+    ghost use Rattle.mqb_base.specs.Names.{name_fault};
+
+    ghost view = { λ n. n.bytes.items };
+
+    ghost invariant = { λ n. name_fault n.bytes.items ≡ None };
+}
+
+fn is_name_byte(byte: u8) -> bool
+    ensures { result ≡ is_name_byte byte }
+{
+    matches!(byte, 0x21..=0x7E) && !matches!(byte, b'\\' | b';' | b'=' | b',')
+}
+
+fn first_outside(bytes: &[u8]) -> Option<usize>
+    ensures { result ≡ position (λ b. not (is_name_byte b)) bytes.now }
+{
+    bytes.iter().position(|byte| !is_name_byte(*byte))
+}
+
+fn fault_of(bytes: &[u8]) -> Option<NameError>
+    ensures { result ≡ name_fault bytes.now }
+{
+    if bytes.is_empty() || bytes.len() > 64 {
+        return Some(NameError::Length);
+    }
+    first_outside(bytes).map(|at| NameError::Byte { at })
+}
+
+impl Name {
+    /// A copy of bytes that make a name.
+    pub fn new(alloc: Global, bytes: &[u8]) -> Result<Name, NameError>
+        ensures named { IfOk result (λ name. name ≡ bytes.now) }
+        ensures refused { RefusedBy (name_fault bytes.now) NameError.Memory result }
+    {
+        if let Some(fault) = fault_of(bytes) {
+            return Err(fault);
+        }
+        match Vec::from_slice(alloc, bytes) {
+            Ok(bytes) => Ok(Name { bytes }),
+            Err(_) => Err(NameError::Memory),
+        }
+    }
+
+    pub fn as_slice(&self) -> &[u8]
+        ensures bytes { result.now ≡ self.now }
+        ensures name { name_fault self.now ≡ None }
+    {
+        self.bytes.as_slice()
+    }
+}
+
+impl Clone for Name {
+    ghost is_clone = { λ old copy. copy ≡ old };
+
+    fn clone(&self) -> Result<Name, AllocError> {
+        Ok(Name {
+            bytes: self.bytes.clone()?,
+        })
+    }
+}
+
+impl PartialEq for Name {
+    ghost eq = { pointwise ◌==◌ };
+
+    ghost laws = { partial_equiv_from_equiv nat_list_eq_equiv };
+
+    fn eq(&self, other: &Self) -> bool {
+        self.bytes.as_slice() == other.bytes.as_slice()
+    }
+}
+
+impl Eq for Name {
+    ghost laws = { nat_list_eq_equiv };
+}

@@ -1,0 +1,23 @@
+use crate::ids::Guid;
+use crate::names::Name;
+
+/// What a queue is to be. `public` is the GUID under which it is registered, `quota` its greatest length, and with `journal` it keeps copies of
+/// what is taken.
+#[derive(Clone, Debug, PartialEq, Eq, Drop)]
+pub struct QueuePlan {
+    pub name: Name,
+    pub public: Option<Guid>,
+    pub transactional: bool,
+    pub quota: u32,
+    pub journal: bool,
+}
+
+/// A list of messages of one manager: a queue, its journal, the dead-letter queue, the transactional one, or the computer's journal.
+#[derive(Clone, Debug, PartialEq, Eq, Drop)]
+pub enum Place {
+    Queue(Name),
+    JournalOf(Name),
+    Dead,
+    DeadXact,
+    Journal,
+}
