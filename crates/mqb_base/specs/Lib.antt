@@ -5,3 +5,5 @@ pub mod Classes
 pub mod Times
 pub mod Drafts
 pub mod Messages
+pub mod Same
+pub mod Sequences

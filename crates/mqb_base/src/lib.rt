@@ -16,6 +16,7 @@ mod message;
 mod names;
 mod queue_names;
 mod queues;
+mod same;
 mod times;
 mod units;
 
@@ -31,5 +32,6 @@ pub use message::{Delivery, Message};
 pub use names::{Name, NameError};
 pub use queue_names::{Host, MachineQueue, QueueName};
 pub use queues::{Place, QueuePlan};
+pub use same::{earlier, same_name, same_sequence};
 pub use times::{UNLIMITED, is_due, remaining};
 pub use units::Units;
