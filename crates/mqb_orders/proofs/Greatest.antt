@@ -51,31 +51,35 @@ pub member : (low n : ℕ) (xs : List ℕ) → (greatest_below low n xs ≡ low)
 member low n [] = inl refl
 member low n (x ∷ xs) = rw (step low n x xs) (widen (member (raised low n x) n xs))
   where
-  widen : (greatest_below (raised low n x) n xs ≡ raised low n x) ⊎ Contains xs (greatest_below (raised low n x) n xs)
-      → (greatest_below (raised low n x) n xs ≡ low) ⊎ Contains (x ∷ xs) (greatest_below (raised low n x) n xs)
-  widen (inr inside) = inr (Contains-behind x xs _ inside)
-  widen (inl is_raised) = elim (raised_is low n x) [
-    inl is_low ↦ inl (is_raised ∙ is_low)
-    | inr is_x ↦ inr (subst (λ m. Contains (x ∷ xs) m) (sym (is_raised ∙ is_x)) (Contains-front x xs)) ]
+    widen : (greatest_below (raised low n x) n xs ≡ raised low n x) ⊎ Contains xs (greatest_below (raised low n x) n xs)
+        → (greatest_below (raised low n x) n xs ≡ low) ⊎ Contains (x ∷ xs) (greatest_below (raised low n x) n xs)
+    widen (inr inside) = inr (Contains-behind x xs _ inside)
+    widen (inl is_raised) = elim (raised_is low n x) [
+      | inl is_low ↦ inl (is_raised ∙ is_low)
+      | inr is_x ↦ inr (subst (λ m. Contains (x ∷ xs) m) (sym (is_raised ∙ is_x)) (Contains-front x xs))
+    ]
 
 pub is_greatest : (low n : ℕ) (xs : List ℕ) → low < n → IsGreatestBelow low n xs (greatest_below low n xs)
 is_greatest low n xs h = record {
-    below = below low n xs h;
-    floor = floor low n xs;
-    member = member low n xs;
-    greatest = greatest low n xs }
+  below = below low n xs h;
+  floor = floor low n xs;
+  member = member low n xs;
+  greatest = greatest low n xs;
+}
 
 -- nothing else is the greatest
 pub same_greatest : (low n : ℕ) (xs : List ℕ) (m : ℕ) → IsGreatestBelow low n xs m → m ≡ greatest_below low n xs
 same_greatest low n xs m is = antisymmetric (at_most (is.member)) (at_least (member low n xs))
   where
-  antisymmetric : m ≤ greatest_below low n xs → greatest_below low n xs ≤ m → m ≡ greatest_below low n xs
-  antisymmetric a b = omega arith
-  at_most : (m ≡ low) ⊎ Contains xs m → m ≤ greatest_below low n xs
-  at_most (inl is_low) = omega (arith, floor low n xs)
-  at_most (inr inside) = All-contains (λ x. x < n → x ≤ greatest_below low n xs) xs m (greatest low n xs) inside is.below
-  at_least : (greatest_below low n xs ≡ low) ⊎ Contains xs (greatest_below low n xs) → greatest_below low n xs ≤ m
-  at_least (inl is_low) = omega (arith, is.floor)
-  at_least (inr inside) =
-      let low_below : low < n = omega (arith, is.floor, is.below) in
-      All-contains (λ x. x < n → x ≤ m) xs (greatest_below low n xs) is.greatest inside (below low n xs low_below)
+    antisymmetric : m ≤ greatest_below low n xs → greatest_below low n xs ≤ m → m ≡ greatest_below low n xs
+    antisymmetric a b = omega arith
+
+    at_most : (m ≡ low) ⊎ Contains xs m → m ≤ greatest_below low n xs
+    at_most (inl is_low) = omega (arith, floor low n xs)
+    at_most (inr inside) = All-contains (λ x. x < n → x ≤ greatest_below low n xs) xs m (greatest low n xs) inside is.below
+
+    at_least : (greatest_below low n xs ≡ low) ⊎ Contains xs (greatest_below low n xs) → greatest_below low n xs ≤ m
+    at_least (inl is_low) = omega (arith, is.floor)
+    at_least (inr inside) =
+        let low_below : low < n = omega (arith, is.floor, is.below) in
+        All-contains (λ x. x < n → x ≤ m) xs (greatest_below low n xs) is.greatest inside (below low n xs low_below)

@@ -15,7 +15,7 @@ use Rattle.mqb_orders.specs.Judging.{decided, verdict_of}
 -- Where a packet links to the greatest kept number below its own, and is next, each kept number below its own was decided.
 abbrev pub NextLeavesNoneOut : Type 0
 NextLeavesNoneOut = (row : Option InRow) (tx : TxHead) (low : ℕ) (kept : List ℕ)
-  → tx.previous ≡ greatest_below low tx.number kept → verdict_of row tx ≡ Next → All (λ k. k < tx.number → k ≤ decided row tx.sequence) kept
+    → tx.previous ≡ greatest_below low tx.number kept → verdict_of row tx ≡ Next → All (λ k. k < tx.number → k ≤ decided row tx.sequence) kept
 
 -- What is next has a number above the last decided one.
 abbrev pub NextIsAbove : Type 0
@@ -46,4 +46,4 @@ pub record KeepsStream (s : Stream) (lines : List Line) (acked : ℕ) (kept : Li
 -- Then a link is the number that stands before in the stream.
 abbrev pub LinkIsBefore : Type 0
 LinkIsBefore = (s : Stream) (lines : List Line) (acked : ℕ) (kept : List Kept) (n : ℕ)
-  → KeepsStream s lines acked kept → acked < n → link_before acked kept n ≡ before s n lines
+    → KeepsStream s lines acked kept → acked < n → link_before acked kept n ≡ before s n lines

@@ -17,8 +17,14 @@ pub record Row : Type 0 where
 
 abbrev pub row_of : OutRow → Row
 row_of r = record {
-  peer = r.peer; destination = r.destination; sequence = r.sequence;
-  committed = r.committed; offered = r.offered; acked = r.acked; kept = r.kept.kept }
+  peer = r.peer;
+  destination = r.destination;
+  sequence = r.sequence;
+  committed = r.committed;
+  offered = r.offered;
+  acked = r.acked;
+  kept = r.kept.kept;
+}
 
 -- the greatest of low and the members below n
 abbrev pub greatest_below : ℕ → ℕ → List ℕ → ℕ

@@ -8,5 +8,8 @@ mod rows;
 
 pub use judging::{Verdict, judge};
 pub use kept::{Kept, KeptList};
-pub use laws::{before_stays, decided_is_duplicate, link_is_before, link_is_greatest, next_is_above, next_kept_is_least, next_leaves_none_out};
+pub use laws::{
+    before_stays, decided_is_duplicate, link_is_before, link_is_greatest, next_is_above,
+    next_kept_is_least, next_leaves_none_out,
+};
 pub use rows::{InRow, OutRow};

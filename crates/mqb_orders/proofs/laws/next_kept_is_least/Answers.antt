@@ -1,8 +1,6 @@
-use Rattle.std.proofs.Common.{ℕ, ◌<◌, map}
-use Rattle.std.specs.List.{AllPairs}
 use Rattle.mqb_orders.specs.KeptLists.{numbers}
-use Rattle.mqb_orders.proofs.Least.{is_next}
+use Rattle.mqb_orders.proofs.Least.{is_next, numbers_rise}
 use Rattle.mqb_orders.proofs.laws.next_kept_is_least.Goals as goal
 
 pub returns : goal.returns
-returns c = λ kept after rises. is_next after (numbers kept) ?
+returns c = λ kept after rises. is_next after (numbers kept) (numbers_rise kept rises)

@@ -19,4 +19,4 @@ pub returns : goal.returns
 returns c = λ row tx low kept link next.
     let decided_last : tx.previous ≤ decided row tx.sequence = linked row tx next in
     All-weaker (λ k. k < tx.number → k ≤ greatest_below low tx.number kept) (λ k. k < tx.number → k ≤ decided row tx.sequence)
-        (λ k at_most below. let h : k ≤ greatest_below low tx.number kept = at_most below in omega arith) kept (greatest low tx.number kept)
+    (λ k at_most below. let h : k ≤ greatest_below low tx.number kept = at_most below in omega arith) kept (greatest low tx.number kept)
