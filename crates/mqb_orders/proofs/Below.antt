@@ -1,6 +1,6 @@
 -- What stands below a number in a list, where only members from that number on were added.
 use Rattle.std.proofs.Common.{◌≡◌, ℕ, ◌<◌, ◌≤◌, Bool, true, false, not, ◌&&◌, ◌||◌, cond, eqb, ltb, List, [], ◌∷◌, ◌++◌, Option, Some, None, refl, sym, ap, ◌∙◌, append-nil, arith}
-use Rattle.std.specs.List.{All, AllByRecursion, filter, filter_map, list_any, cons_option, fold}
+use Rattle.std.specs.List.{All, filter, filter_map, list_any, cons_option}
 use Rattle.std.specs.Option.{IfSome}
 use Rattle.std.proofs.lemmas.Bool.{ltb-true, true≢false}
 use Rattle.std.proofs.lemmas.Bool.Decides.{nat_tests}

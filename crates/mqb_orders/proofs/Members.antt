@@ -1,5 +1,5 @@
 -- The members of a list that has one more at its front.
-use Rattle.std.proofs.Common.{◌≡◌, ℕ, ◌<◌, List, [], ◌∷◌, length, get_or, suc, refl, arith}
+use Rattle.std.proofs.Common.{ℕ, List, ◌∷◌, suc, refl, arith}
 use Rattle.std.specs.List.{Contains}
 
 pub Contains-front : (x : ℕ) (xs : List ℕ) → Contains (x ∷ xs) x

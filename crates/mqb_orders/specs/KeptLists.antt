@@ -1,4 +1,4 @@
-use Rattle.std.specs.Prelude.{ℕ, ◌<◌, ◌≤◌, ◌-◌, min, length, List, AllPairs, map}
+use Rattle.std.specs.Prelude.{ℕ, ◌<◌, ◌-◌, min, List, AllPairs, map}
 use Rattle.mqb_orders.specs.declared.kept.Kept.{Kept}
 
 -- a list of kept messages, and how many more it has room for

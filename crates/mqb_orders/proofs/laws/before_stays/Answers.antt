@@ -1,5 +1,5 @@
-use Rattle.std.proofs.Common.{◌≡◌, ℕ, ◌≤◌, max, ap, List, ◌++◌}
-use Rattle.std.specs.List.{All, fold, filter_map}
+use Rattle.std.proofs.Common.{ℕ, ◌≤◌, max, ap, List}
+use Rattle.std.specs.List.{fold, filter_map}
 use Rattle.std.specs.Option.{IfSome}
 use Rattle.std.proofs.lemmas.List.Elements.{All-weaker, filter_map-append}
 use Rattle.mqb_base.specs.declared.ledger.Line.{Line}

@@ -2,13 +2,9 @@ use Rattle.std.proofs.Common.{◌≡◌, ℕ, ◌<◌, ◌≤◌, ◌⊎◌, inl
 use Rattle.std.specs.List.{All, Contains}
 use Rattle.std.proofs.lemmas.Bool.{cases_lt}
 use Rattle.std.proofs.lemmas.List.Elements.{All-weaker, All-contains}
-use Rattle.mqb_base.specs.declared.ledger.Stream.{Stream}
-use Rattle.mqb_base.specs.declared.ledger.Line.{Line}
-use Rattle.mqb_orders.specs.declared.kept.Kept.{Kept}
 use Rattle.mqb_orders.specs.KeptLists.{numbers}
-use Rattle.mqb_orders.specs.Laws.{KeepsStream}
 use Rattle.mqb_orders.specs.Rows.{link_before, greatest_below, IsGreatestBelow}
-use Rattle.mqb_orders.specs.Streams.{kept_of, before}
+use Rattle.mqb_orders.specs.Streams.{kept_of}
 use Rattle.mqb_orders.proofs.Greatest.{floor, below, greatest, member, same_greatest}
 use Rattle.mqb_orders.proofs.laws.link_is_before.Goals as goal
 

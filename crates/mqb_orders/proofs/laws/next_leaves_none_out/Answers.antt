@@ -1,11 +1,10 @@
-use Rattle.std.proofs.Common.{◌≡◌, ℕ, ◌<◌, ◌≤◌, Bool, true, false, cond, leb, ltb, sym, subst, refl, List, arith, Option, Some, None}
-use Rattle.std.specs.List.{All}
+use Rattle.std.proofs.Common.{◌≡◌, ◌<◌, ◌≤◌, arith, Option, Some, None}
 use Rattle.std.proofs.lemmas.Bool.Decides.{nat_tests}
 use Rattle.std.proofs.lemmas.List.Elements.{All-weaker}
 use Rattle.mqb_base.specs.declared.heads.TxHead.{TxHead}
-use Rattle.mqb_orders.specs.declared.judging.Verdict.TheVariants.{Next, Duplicate, Gap, Stale}
+use Rattle.mqb_orders.specs.declared.judging.Verdict.TheVariants.{Next}
 use Rattle.mqb_orders.specs.declared.rows.InRow.{InRow}
-use Rattle.mqb_orders.specs.Judging.{decided, verdict_of, verdict_after}
+use Rattle.mqb_orders.specs.Judging.{decided, verdict_of}
 use Rattle.mqb_orders.specs.Rows.{greatest_below}
 use Rattle.mqb_orders.proofs.Greatest.{greatest}
 use Rattle.mqb_orders.proofs.laws.next_leaves_none_out.Goals as goal
