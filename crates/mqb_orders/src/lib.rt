@@ -5,6 +5,7 @@ mod judging;
 mod kept;
 mod laws;
 mod rows;
+mod streams;
 
 pub use judging::{Verdict, judge};
 pub use kept::{Kept, KeptList};
@@ -13,3 +14,7 @@ pub use laws::{
     next_kept_is_least, next_leaves_none_out,
 };
 pub use rows::{InRow, OutRow};
+pub use streams::same_stream;
+
+#[cfg(test)]
+mod tests;
