@@ -5,12 +5,16 @@
 #![tactic(auto)]
 
 mod events;
+mod identifiers;
+mod ledger_lines;
 mod lists;
 mod printing;
 mod reading;
 mod replies;
+mod texts;
 
 pub use events::{Event, Which};
+pub use identifiers::{print_destination, print_id, print_manager};
 pub use lists::{Lines, Numbers, Ops};
 pub use printing::print_reply;
 pub use reading::{LineKind, Script, ScriptFault, read_script};
