@@ -7,11 +7,14 @@
 mod events;
 mod identifiers;
 mod ledger_lines;
+mod lines;
 mod lists;
 mod printing;
 mod reading;
 mod replies;
+mod sends;
 mod texts;
+mod words;
 
 pub use events::{Event, Which};
 pub use identifiers::{print_destination, print_id, print_manager};
