@@ -43,12 +43,18 @@ abbrev pub destination_of : List ℕ → Option QueueName
 destination_of word = where_ (starts_with ◌==◌ word beta_queues)
     (option_map (λ queue. Direct (Os (codes "beta")) queue false) (name_of (drop (length beta_queues) word)))
 
--- a body of up to 1,000 bytes, printable and without space and comma, that does not begin with a star
 abbrev pub is_body_byte : ℕ → Bool
 is_body_byte b = (nat_le 0x21 b && nat_le b 0x7E) && not (b == 0x2C)
 
+abbrev pub is_starred : List ℕ → Bool
+is_starred word = starts_with ◌==◌ word (codes "*")
+
+-- up to 1,000 bytes, printable and without space and comma, that do not begin with a star
+abbrev pub is_body : List ℕ → Bool
+is_body word = (list_all is_body_byte word && nat_le (length word) 1000) && not (is_starred word)
+
 abbrev pub body_of : List ℕ → Option (List ℕ)
-body_of word = where_ ((list_all is_body_byte word && nat_le (length word) 1000) && not (starts_with ◌==◌ word (0x2A ∷ []))) (Some word)
+body_of word = where_ (is_body word) (Some word)
 
 abbrev pub no_id : MessageId
 no_id = record { qm = record { 0 = replicate 16 0 }; number = 0 }
@@ -75,19 +81,30 @@ parts_of destination body = record {
 abbrev pub is_dash : List ℕ → Bool
 is_dash word = same_bytes word (codes "-")
 
+-- the text behind five fields that ask for nothing
+abbrev pub plain_text : List (List ℕ) → Option (List ℕ)
+plain_text (reach ∷ life ∷ flags ∷ admin ∷ response ∷ text ∷ []) =
+    where_ (is_dash reach && is_dash life && is_dash flags && is_dash admin && is_dash response) (Some text)
+plain_text _ = None
+
 abbrev pub send_of : List (List ℕ) → Option Op
-send_of (send ∷ destination ∷ reach ∷ life ∷ flags ∷ admin ∷ response ∷ text ∷ []) =
-    where_ (same_bytes send (codes "send") && (is_dash reach && is_dash life && is_dash flags && is_dash admin && is_dash response))
-    (option_and_then (λ to. option_map (λ body. Send (parts_of to body)) (body_of text)) (destination_of destination))
+send_of (send ∷ destination ∷ rest) = where_ (same_bytes send (codes "send"))
+    (option_and_then (λ text. option_and_then (λ to. option_map (λ body. Send (parts_of to body)) (body_of text)) (destination_of destination)) (plain_text rest))
 send_of _ = None
 
 -- The line forms.
 
+-- what is built of queues: those of beta, transactional and without a journal
+abbrev pub is_built_queue : List ℕ → List ℕ → List ℕ → Bool
+is_built_queue manager kind journal = same_bytes manager (codes "beta") && same_bytes kind (codes "tx") && same_bytes journal (codes "none")
+
+abbrev pub plan_of : List ℕ → List ℕ → Option QueuePlan
+plan_of name quota = option_and_then (λ queue. option_map (λ most. record { name = queue; public = None; transactional = true; quota = most; journal = false })
+    (number_in 0 MAX quota)) (name_of name)
+
 abbrev pub queue_of : List (List ℕ) → Option Event
 queue_of (manager ∷ name ∷ kind ∷ quota ∷ journal ∷ []) =
-    where_ (same_bytes manager (codes "beta") && same_bytes kind (codes "tx") && same_bytes journal (codes "none"))
-    (option_and_then (λ queue. option_map (λ most. Queue Beta (record { name = queue; public = None; transactional = true; quota = most; journal = false }))
-    (number_in 0 MAX quota)) (name_of name))
+    where_ (is_built_queue manager kind journal) (option_map (λ plan. Queue Beta plan) (plan_of name quota))
 queue_of _ = None
 
 abbrev pub commit_of : List (List ℕ) → Option Event
@@ -96,10 +113,13 @@ commit_of (manager ∷ now ∷ op ∷ []) =
     (option_and_then (λ moment. option_map (λ send. Commit Alpha moment (send ∷ [])) (send_of (fields_of op))) (moment_of now))
 commit_of _ = None
 
+-- what is built of connections: those that alpha makes, with the windows 64
+abbrev pub is_built_connection : List ℕ → List ℕ → List ℕ → Bool
+is_built_connection manager own other = same_bytes manager (codes "alpha") && same_bytes own (codes "64") && same_bytes other (codes "64")
+
 abbrev pub connect_of : List (List ℕ) → Option Event
 connect_of (manager ∷ now ∷ own ∷ other ∷ []) =
-    where_ (same_bytes manager (codes "alpha") && same_bytes own (codes "64") && same_bytes other (codes "64"))
-    (option_map (λ moment. Connect Alpha moment 64 64) (moment_of now))
+    where_ (is_built_connection manager own other) (option_map (λ moment. Connect Alpha moment 64 64) (moment_of now))
 connect_of _ = None
 
 abbrev pub pump_of : List (List ℕ) → Option Event
@@ -128,15 +148,16 @@ abbrev pub is_skipped : List ℕ → Bool
 is_skipped [] = true
 is_skipped (b ∷ bs) = b == 0x23
 
+-- the event of line n, where it is one, and those of the lines behind it
+abbrev pub with_event : ℕ → Option Event → Result (List (ℕ × Event)) ℕ → Result (List (ℕ × Event)) ℕ
+with_event n None rest = Err n
+with_event n (Some event) (Ok events) = Ok ((n, event) ∷ events)
+with_event n (Some event) (Err first) = Err first
+
 -- the events of lines, numbered from n, or the number of the first line that is none
 abbrev pub script_from : ℕ → List (List ℕ) → Result (List (ℕ × Event)) ℕ
 script_from n [] = Ok []
-script_from n (line ∷ lines) = if is_skipped line then script_from (n + 1) lines else numbered n (event_of (words_of line)) (script_from (n + 1) lines)
-  where
-    numbered : ℕ → Option Event → Result (List (ℕ × Event)) ℕ → Result (List (ℕ × Event)) ℕ
-    numbered n None rest = Err n
-    numbered n (Some event) (Ok events) = Ok ((n, event) ∷ events)
-    numbered n (Some event) (Err first) = Err first
+script_from n (line ∷ lines) = if is_skipped line then script_from (n + 1) lines else with_event n (event_of (words_of line)) (script_from (n + 1) lines)
 
 abbrev pub script_of : List ℕ → Result (List (ℕ × Event)) ℕ
 script_of text = script_from 1 (lines_of text)

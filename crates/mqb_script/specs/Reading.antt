@@ -1,11 +1,11 @@
-use Rattle.std.specs.Prelude.{◌≡◌, ℕ, ◌<◌, ◌≤◌, List, [], length, Option, Some, None, Result, Ok, Err, IfSome}
+use Rattle.std.specs.Prelude.{◌≡◌, ℕ, ◌+◌, ◌<◌, ◌≤◌, Bool, List, [], ◌∷◌, ◌++◌, length, Option, Some, None, Result, Ok, Err, IfSome, MatchBool}
 use Rattle.mqb_outside.specs.Told.{Gave}
 use Rattle.mqb_outside.specs.Faults.{Rose}
 use Rattle.mqb_script.specs.declared.events.Event.{Event}
 use Rattle.mqb_script.specs.declared.reading.LineKind.TheVariants.{Unbuilt}
 use Rattle.mqb_script.specs.declared.reading.ScriptFault.{ScriptFault}
 use Rattle.mqb_script.specs.declared.reading.ScriptFault.TheVariants as fault
-use Rattle.mqb_script.specs.Grammar.{script_of}
+use Rattle.mqb_script.specs.Grammar.{script_from, script_of}
 
 -- the greatest length of a script
 abbrev pub LONGEST : ℕ
@@ -40,3 +40,13 @@ ReadCause before after (Err (fault.Line number kind)) = after ≡ before
 ReadCause before after (Err fault.TooLong) = after ≡ before
 ReadCause before after (Err fault.Memory) = after ≡ before
 ReadCause before after (Ok events) = after ≡ before
+
+-- what was read in front of more
+abbrev pub in_front : List (ℕ × Event) → Result (List (ℕ × Event)) ℕ → Result (List (ℕ × Event)) ℕ
+in_front events (Ok more) = Ok (events ++ more)
+in_front events (Err first) = Err first
+
+-- Line n was read behind the events of the lines before it; `good` says whether it is a line of a script.
+abbrev pub ReadsLine : ℕ → List ℕ → List (ℕ × Event) → List (ℕ × Event) → Bool → Type 0
+ReadsLine n line before after good = (rest : List (List ℕ)) →
+    MatchBool good (in_front before (script_from n (line ∷ rest)) ≡ in_front after (script_from (n + 1) rest)) (script_from n (line ∷ rest) ≡ Err n)

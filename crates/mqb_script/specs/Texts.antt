@@ -1,4 +1,4 @@
-use Rattle.std.specs.Prelude.{ℕ, Bool, ◌+◌, ◌-◌, ◌/◌, ◌%◌, nat_lt, List, [], ◌∷◌, ◌++◌, codes, Option, Some, None, unwrap_or, if◌then◌else◌, find}
+use Rattle.std.specs.Prelude.{ℕ, Bool, ◌+◌, ◌-◌, ◌/◌, ◌%◌, nat_lt, List, [], ◌∷◌, ◌++◌, codes, Option, Some, None, unwrap_or, if◌then◌else◌, find, slice_index}
 use Rattle.std.specs.Option.{option_map}
 use Rattle.std.specs.List.{flat_map}
 use Rattle.std.specs.Fmt.{decimal}
@@ -7,6 +7,12 @@ use Rattle.mqb_base.specs.declared.ids.Guid.{Guid}
 use Rattle.mqb_base.specs.declared.ids.MessageId.{MessageId}
 use Rattle.mqb_base.specs.declared.ids.SequenceId.{SequenceId}
 use Rattle.mqb_base.specs.declared.ids.Identity.{Identity}
+use Rattle.mqb_base.specs.declared.queue_names.Host.{Host}
+use Rattle.mqb_base.specs.declared.queue_names.Host.TheVariants.{Os, Tcp}
+use Rattle.mqb_base.specs.declared.queue_names.MachineQueue.{MachineQueue}
+use Rattle.mqb_base.specs.declared.queue_names.MachineQueue.TheVariants.{DeadLetter, DeadXact, Journal}
+use Rattle.mqb_base.specs.declared.queue_names.QueueName.{QueueName}
+use Rattle.mqb_base.specs.declared.queue_names.QueueName.TheVariants.{Public, Private, Direct, Machine}
 use Rattle.mqb_base.specs.declared.class.Class.{Class}
 use Rattle.mqb_base.specs.declared.heard.Cause.{Cause}
 use Rattle.mqb_base.specs.declared.heard.Cause.TheVariants.{Early, BadAck, Refused, Repeated, Foreign}
@@ -28,9 +34,12 @@ numbers_text numbers = flat_map (λ n. spaced (decimal n)) numbers
 
 -- Managers, messages, streams and classes.
 
+abbrev pub guid_text : Guid → List ℕ
+guid_text guid = hyphenated_text lower guid.0
+
 -- a manager is printed as its host, and one that is not among the hosts as its GUID
 abbrev pub manager_text : List Identity → Guid → List ℕ
-manager_text hosts guid = unwrap_or (option_map (λ known. known.host) (find (λ known. same_guid known.guid guid) hosts)) (hyphenated_text lower guid.0)
+manager_text hosts guid = unwrap_or (option_map (λ known. known.host) (find (λ known. same_guid known.guid guid) hosts)) (guid_text guid)
 
 abbrev pub id_text : List Identity → MessageId → List ℕ
 id_text hosts id = manager_text hosts id.qm ++ codes "." ++ decimal id.number
@@ -39,12 +48,44 @@ id_text hosts id = manager_text hosts id.qm ++ codes "." ++ decimal id.number
 abbrev pub place_text : SequenceId → ℕ → List ℕ
 place_text sequence number = decimal sequence.ordinal ++ spaced (decimal number)
 
-abbrev pub hex_digit : ℕ → ℕ
-hex_digit n = if nat_lt n 10 then 48 + n else 55 + n
+-- `ten` is the code of the digit ten: that of `A` or of `a`
+abbrev pub hex_digit : ℕ → ℕ → ℕ
+hex_digit ten n = if nat_lt n 10 then 48 + n else ten + (n - 10)
+
+abbrev pub four_digits : ℕ → ℕ → List ℕ
+four_digits ten n = hex_digit ten (n / 4096) ∷ hex_digit ten (n / 256 % 16) ∷ hex_digit ten (n / 16 % 16) ∷ hex_digit ten (n % 16) ∷ []
 
 -- four hexadecimal digits in capitals
 abbrev pub class_text : Class → List ℕ
-class_text class = hex_digit (class.0 / 4096) ∷ hex_digit (class.0 / 256 % 16) ∷ hex_digit (class.0 / 16 % 16) ∷ hex_digit (class.0 % 16) ∷ []
+class_text class = four_digits 0x41 class.0
+
+-- Names of queues.
+
+-- eight hexadecimal digits in small letters
+abbrev pub low_digits : ℕ → List ℕ
+low_digits n = four_digits 0x61 (n / 65536) ++ four_digits 0x61 (n % 65536)
+
+abbrev pub address_text : List ℕ → List ℕ
+address_text address = decimal (slice_index address 0) ++ codes "." ++ decimal (slice_index address 1) ++ codes "." ++ decimal (slice_index address 2)
+    ++ codes "." ++ decimal (slice_index address 3)
+
+abbrev pub host_text : Host → List ℕ
+host_text (Os name) = codes "OS:" ++ name
+host_text (Tcp address) = codes "TCP:" ++ address_text address
+
+abbrev pub suffix_text : Bool → List ℕ
+suffix_text journal = if journal then codes ";JOURNAL" else []
+
+abbrev pub machine_text : MachineQueue → List ℕ
+machine_text DeadLetter = codes ";DEADLETTER"
+machine_text DeadXact = codes ";DEADXACT"
+machine_text Journal = codes ";JOURNAL"
+
+abbrev pub destination_text : QueueName → List ℕ
+destination_text (Public guid journal) = codes "PUBLIC=" ++ guid_text guid ++ suffix_text journal
+destination_text (Private qm number journal) = codes "PRIVATE=" ++ guid_text qm ++ codes "\\" ++ low_digits number ++ suffix_text journal
+destination_text (Direct host queue journal) = codes "DIRECT=" ++ host_text host ++ codes "\\PRIVATE$\\" ++ queue ++ suffix_text journal
+destination_text (Machine qm kind) = codes "MACHINE=" ++ guid_text qm ++ machine_text kind
 
 -- Ledger lines.
 
@@ -64,9 +105,12 @@ line_text hosts (line.Purged id) = codes "purged " ++ id_text hosts id
 line_text hosts (line.Lapsed id) = codes "lapsed " ++ id_text hosts id
 line_text hosts (line.Swept id) = codes "swept " ++ id_text hosts id
 
--- each line in brackets, behind a space
+-- in brackets, behind a space
+abbrev pub bracketed : List Identity → Line → List ℕ
+bracketed hosts l = codes " [" ++ line_text hosts l ++ codes "]"
+
 abbrev pub lines_text : List Identity → List Line → List ℕ
-lines_text hosts lines = flat_map (λ l. codes " [" ++ line_text hosts l ++ codes "]") lines
+lines_text hosts lines = flat_map (bracketed hosts) lines
 
 -- Replies.
 
@@ -111,7 +155,11 @@ reply_text hosts reply.NoPacket = codes "none"
 reply_text hosts reply.Gone = codes "gone"
 reply_text hosts (reply.Heard heard lines) = heard_text hosts heard ++ lines_text hosts lines
 
--- a line of the transcript: the script's line number, where there is one, and the reply
+-- the script's line number, where there is one
+abbrev pub number_text : Option ℕ → List ℕ
+number_text None = []
+number_text (Some number) = decimal number ++ codes " "
+
+-- a line of the transcript
 abbrev pub printed : List Identity → Option ℕ → Reply → List ℕ
-printed hosts None answer = reply_text hosts answer ++ codes "\n"
-printed hosts (Some line) answer = decimal line ++ spaced (reply_text hosts answer) ++ codes "\n"
+printed hosts line answer = number_text line ++ reply_text hosts answer ++ codes "\n"

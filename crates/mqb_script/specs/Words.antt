@@ -1,4 +1,4 @@
-use Rattle.std.specs.Prelude.{ℕ, Bool, false, ◌+◌, ◌*◌, ◌-◌, ◌==◌, ◌&&◌, ◌||◌, not, nat_le, nat_lt, List, [], ◌∷◌, length, fold, Option, Some, None, if◌then◌else◌}
+use Rattle.std.specs.Prelude.{ℕ, Bool, ◌+◌, ◌*◌, ◌-◌, ◌==◌, ◌&&◌, ◌||◌, not, nat_le, nat_lt, List, length, slice_index, fold, Option, Some, None, if◌then◌else◌}
 use Rattle.std.specs.List.{slice_split, list_all}
 use Rattle.mqb_base.specs.Same.{same_bytes}
 
@@ -21,10 +21,9 @@ is_digit b = nat_le 48 b && nat_le b 57
 abbrev pub value_of : List ℕ → ℕ
 value_of digits = fold (λ n b. n * 10 + (b - 48)) 0 digits
 
--- decimal digits, without a leading zero
+-- one digit or more, without a leading zero
 abbrev pub is_decimal : List ℕ → Bool
-is_decimal [] = false
-is_decimal (b ∷ bs) = list_all is_digit (b ∷ bs) && (length bs == 0 || not (b == 48))
+is_decimal word = list_all is_digit word && (length word == 1 || (nat_lt 1 (length word) && not (slice_index word 0 == 48)))
 
 -- the number from least to greatest that a word spells
 abbrev pub number_in : ℕ → ℕ → List ℕ → Option ℕ

@@ -5,12 +5,19 @@
 #![tactic(auto)]
 
 mod events;
+mod identifiers;
+mod ledger_lines;
+mod lines;
 mod lists;
 mod printing;
 mod reading;
 mod replies;
+mod sends;
+mod texts;
+mod words;
 
 pub use events::{Event, Which};
+pub use identifiers::{print_destination, print_id, print_manager};
 pub use lists::{Lines, Numbers, Ops};
 pub use printing::print_reply;
 pub use reading::{LineKind, Script, ScriptFault, read_script};
