@@ -13,6 +13,8 @@ mod printing;
 mod reading;
 mod replies;
 mod sends;
+#[cfg(test)]
+mod tests;
 mod texts;
 mod words;
 
