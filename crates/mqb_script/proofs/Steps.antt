@@ -34,14 +34,14 @@ abbrev pub IsReadTo : Result (List (ℕ × Event)) ℕ → ℕ → ℕ → List 
 IsReadTo whole n place lines before = whole ≡ in_front before (script_from n (map (λ line. line.now) (drop place lines)))
 
 pub goes_on : (whole : Result (List (ℕ × Event)) ℕ) (n place : ℕ) (lines : List (Bor (List ℕ))) (before after : List (ℕ × Event)) (d : Bor (List ℕ)) (good : Bool)
-  → IsReadTo whole n place lines before → place < length lines → ReadsLine n (get_or lines place d).now before after good → good ≡ true
-  → IsReadTo whole (n + 1) (place + 1) lines after
+    → IsReadTo whole n place lines before → place < length lines → ReadsLine n (get_or lines place d).now before after good → good ≡ true
+    → IsReadTo whole (n + 1) (place + 1) lines after
 goes_on whole n place lines before after d true read within line is =
     read ∙ at_drop_more (λ rest. in_front before (script_from n (map (λ l. l.now) rest))) lines place d within ∙ line (map (λ l. l.now) (drop (place + 1) lines))
 goes_on whole n place lines before after d false read within line is = cc
 
 pub stops : (whole : Result (List (ℕ × Event)) ℕ) (n place : ℕ) (lines : List (Bor (List ℕ))) (before after : List (ℕ × Event)) (d : Bor (List ℕ)) (good : Bool)
-  → IsReadTo whole n place lines before → place < length lines → ReadsLine n (get_or lines place d).now before after good → good ≡ false → Err n ≡ whole
+    → IsReadTo whole n place lines before → place < length lines → ReadsLine n (get_or lines place d).now before after good → good ≡ false → Err n ≡ whole
 stops whole n place lines before after d true read within line is = cc
 stops whole n place lines before after d false read within line is =
     sym (read ∙ at_drop_more (λ rest. in_front before (script_from n (map (λ l. l.now) rest))) lines place d within

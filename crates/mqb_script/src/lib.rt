@@ -15,6 +15,8 @@ mod replies;
 mod sends;
 #[cfg(test)]
 mod tests;
+#[cfg(test)]
+mod text_tests;
 mod texts;
 mod words;
 
