@@ -13,6 +13,10 @@ mod printing;
 mod reading;
 mod replies;
 mod sends;
+#[cfg(test)]
+mod tests;
+#[cfg(test)]
+mod text_tests;
 mod texts;
 mod words;
 
