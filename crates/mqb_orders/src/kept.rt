@@ -71,7 +71,7 @@ impl KeptList {
     fn spare(&self) -> u32
         ensures { result ≡ self.now.spare }
     {
-        self.items.capacity().min(0xFFFF_FFFF) as u32 - self.len()
+        self.items.capacity().min(u32::MAX as usize) as u32 - self.len()
     }
 
     /// Makes room for `n` more.
@@ -88,7 +88,7 @@ impl KeptList {
         if n <= self.spare() {
             return Ok(());
         }
-        if n > 0xFFFF_FFFF - self.len() {
+        if n > u32::MAX - self.len() {
             return Err(Memory);
         }
         self.items.reserve(n as usize)?;

@@ -1,4 +1,7 @@
-//! The order rules: which message of a stream is next, and which number stands before it.
+//! The order rules: what a packet is to its row, which messages of a stream are kept, and which number stands before one.
+//!
+//! Contracts see a `KeptList` as its messages and how many more it has room for. `specs/Streams.antt` says of a ledger's lines what is kept of a
+//! stream and what stands before a number, and the laws tie that to the rows and to the verdicts.
 #![tactic(auto)]
 
 mod judging;

@@ -29,7 +29,7 @@ pub struct OutRow {
 impl OutRow {
     ghost use Rattle.mqb_orders.specs.Rows.{link_before, next_kept};
 
-    /// The number that stands before a kept one that is not acknowledged: 0 where there is none.
+    /// The number that stands before a kept one that is not acknowledged: the kept one before it, or the acknowledged one, which is 0 at first.
     pub fn link_before(&self, n: u32) -> u32
         requires kept { Contains (numbers self.now.kept.kept) n }
         requires unacknowledged { self.now.acked < n }

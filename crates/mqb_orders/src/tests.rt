@@ -1,4 +1,5 @@
-ghost use Rattle.std.specs.Prelude.{◌≡◌, IfOk};
+ghost use Rattle.std.specs.Prelude.{◌≡◌, [], ◌∷◌, IfOk};
+ghost use Rattle.mqb_orders.specs.KeptLists.{numbers};
 
 use crate::{InRow, Kept, KeptList, OutRow, Verdict, judge};
 use mqb_base::{
@@ -100,17 +101,31 @@ fn kept_messages(rt: HostRuntime) -> Result<(), Fail> {
     assert_eq!(rt; list.remove(1).number, 5);
     assert_eq!(rt; list.as_slice().len(), 2);
     assert_eq!(rt; list.reserve(u32::MAX), Err(Memory));
+    Ok(())
+}
+
+fn kept_2_and_9(alloc: Global) -> Result<KeptList, Memory>
+    ensures { IfOk result (λ list. numbers list.kept ≡ 2 ∷ 9 ∷ []) }
+{
+    let mut list = KeptList::new(alloc);
+    list.push(kept(alloc, 2)?).map_err(|refused| refused.1)?;
+    list.push(kept(alloc, 9)?).map_err(|refused| refused.1)?;
+    Ok(list)
+}
+
+#[test]
+fn links(rt: HostRuntime) -> Result<(), Fail> {
     let row = OutRow {
         peer: 0,
         destination: NAME,
         sequence: SEQUENCE,
         committed: 9,
         offered: 9,
-        acked: 0,
-        kept: list,
+        acked: 1,
+        kept: kept_2_and_9(rt.alloc())?,
     };
     assert_eq!(rt; row.link_before(9), 2);
-    assert_eq!(rt; row.link_before(2), 0);
+    assert_eq!(rt; row.link_before(2), 1);
     assert_eq!(rt; row.next_kept(2), Some(9));
     assert_eq!(rt; row.next_kept(9), None);
     Ok(())
