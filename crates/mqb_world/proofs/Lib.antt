@@ -1,0 +1,3 @@
+pub mod Pumping
+pub mod Marking
+pub mod Views

@@ -1,0 +1,5 @@
+pub mod Packets
+pub mod Manager
+pub mod Machine
+pub mod Outgoing
+pub mod Pumping
