@@ -1,4 +1,4 @@
-use Rattle.std.specs.Prelude.{◌≡◌, ℕ, ◌+◌, ◌<◌, ◌≤◌, Bool, List, [], ◌∷◌, ◌++◌, length, Option, Some, None, Result, Ok, Err, IfSome, MatchBool}
+use Rattle.std.specs.Prelude.{◌≡◌, ℕ, ◌+◌, ◌<◌, ◌≤◌, Bool, List, [], ◌∷◌, ◌++◌, length, Option, Result, Ok, Err, IfSome, MatchBool}
 use Rattle.mqb_outside.specs.Told.{Gave}
 use Rattle.mqb_outside.specs.Faults.{Rose}
 use Rattle.mqb_script.specs.declared.events.Event.{Event}

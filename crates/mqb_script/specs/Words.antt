@@ -1,6 +1,5 @@
 use Rattle.std.specs.Prelude.{ℕ, Bool, ◌+◌, ◌*◌, ◌-◌, ◌==◌, ◌&&◌, ◌||◌, not, nat_le, nat_lt, List, length, slice_index, fold, Option, Some, None, if◌then◌else◌}
 use Rattle.std.specs.List.{slice_split, list_all}
-use Rattle.mqb_base.specs.Same.{same_bytes}
 
 -- the lines of a text: its parts between line feeds
 abbrev pub lines_of : List ℕ → List (List ℕ)

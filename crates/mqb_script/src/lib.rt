@@ -13,6 +13,7 @@ mod printing;
 mod reading;
 mod replies;
 mod sends;
+mod spelling;
 #[cfg(test)]
 mod tests;
 #[cfg(test)]
@@ -26,3 +27,4 @@ pub use lists::{Lines, Numbers, Ops};
 pub use printing::print_reply;
 pub use reading::{LineKind, Script, ScriptFault, read_script};
 pub use replies::Reply;
+pub use spelling::lines_are_read_back;

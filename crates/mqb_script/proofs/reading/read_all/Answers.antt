@@ -1,5 +1,4 @@
-use Rattle.std.proofs.Common.{◌≡◌, ◌≤◌, ◌<◌, ◌+◌, ◌++◌, length, take, Some, refl, arith, rules, length-append, length-take}
-use Rattle.mqb_script.specs.Reading.{Reads}
+use Rattle.std.proofs.Common.{◌≡◌, ◌++◌, length, take, arith, length-append, length-take}
 use Rattle.mqb_script.proofs.Steps.{gave_more}
 use Rattle.mqb_script.proofs.reading.read_all.Goals as goal
 
