@@ -26,7 +26,8 @@ more_digits n front large spells = record {
 pub decimal_spells : (n : ℕ) → n < 2 ^ 64 → Spells n (decimal n)
 decimal_spells = decimal_by_steps Spells one_digit more_digits
 
-decimal_form : (digits : List ℕ) (n : ℕ) → list_all is_digit digits ≡ true → 0 < length digits → (0 < n → 48 < get_or digits 0 0) → (n ≡ 0 → length digits ≡ 1)
+decimal_form : (digits : List ℕ) (n : ℕ) → list_all is_digit digits ≡ true → 0 < length digits → (0 < n → 48 < get_or digits 0 0)
+    → (n ≡ 0 → length digits ≡ 1)
     → is_decimal digits ≡ true
 decimal_form digits n all some first zero = rw all (grind (arith, nat_tests))
 
@@ -36,7 +37,8 @@ is_decimal_of n small =
     (λ none. ap length (decimal_digit n (omega arith)))
 
 -- a word that spells a number in the range
-in_range : (least greatest n : ℕ) (word : List ℕ) → is_decimal word ≡ true → value_of word ≡ n → least ≤ n → n ≤ greatest → number_in least greatest word ≡ Some n
+in_range : (least greatest n : ℕ) (word : List ℕ) → is_decimal word ≡ true → value_of word ≡ n → least ≤ n → n ≤ greatest
+    → number_in least greatest word ≡ Some n
 in_range least greatest n word form value low high = rw (form, value) (grind (arith, nat_tests))
 
 pub number_back : (least n : ℕ) → least ≤ n → n ≤ MAX → number_in least MAX (decimal n) ≡ Some n

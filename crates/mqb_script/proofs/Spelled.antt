@@ -33,7 +33,8 @@ all_pass : (p : ℕ → Bool) (xs : List ℕ) → length xs ≤ position_or_len 
 all_pass p xs h =
     list_all-from_AllPass p xs (λ k d within. not_false (p (get_or xs k d)) (fails_before_first (λ b. not (p b)) xs k d (omega arith)))
 
-none_outside : (bad below : Bool) (at : ℕ) → (if bad then Some Length else option_map (λ n. Byte n) (cond below (Some at) None)) ≡ None → below ≡ false
+none_outside : (bad below : Bool) (at : ℕ) → (if bad then Some Length else option_map (λ n. Byte n) (cond below (Some at) None)) ≡ None
+    → below ≡ false
 none_outside true below at h = cc
 none_outside false true at h = cc
 none_outside false false at h = refl
@@ -44,7 +45,8 @@ not_below a b h = grind (arith, nat_tests)
 name_bytes : (name : List ℕ) → name_fault name ≡ None → list_all is_name_byte name ≡ true
 name_bytes name h =
     let at : ℕ = position_or_len (λ b. not (is_name_byte b)) name in
-    all_pass is_name_byte name (not_below at (length name) (none_outside (length name == 0 || nat_lt 64 (length name)) (nat_lt at (length name)) at h))
+    all_pass is_name_byte name (not_below at (length name)
+    (none_outside (length name == 0 || nat_lt 64 (length name)) (nat_lt at (length name)) at h))
 
 name_without_space : (b : ℕ) → is_name_byte b ≡ true → (b == 32) ≡ false
 name_without_space b h = grind (arith, nat_tests)
@@ -83,7 +85,8 @@ queue_of_beta name = Direct (Os (codes "beta")) name false
 printed_destination : (name : List ℕ) → destination_text (queue_of_beta name) ≡ beta_queues ++ name
 printed_destination name = ap (λ rest. beta_queues ++ rest) (append-nil name)
 
-destination_lacks : (c : ℕ) (name : List ℕ) → lacks c beta_queues ≡ true → lacks c name ≡ true → lacks c (destination_text (queue_of_beta name)) ≡ true
+destination_lacks : (c : ℕ) (name : List ℕ) → lacks c beta_queues ≡ true → lacks c name ≡ true
+    → lacks c (destination_text (queue_of_beta name)) ≡ true
 destination_lacks c name a b = ap (lacks c) (printed_destination name) ∙ lacks-append c beta_queues name a b
 
 destination_back : (name : List ℕ) → name_fault name ≡ None → destination_of (destination_text (queue_of_beta name)) ≡ Some (queue_of_beta name)
@@ -93,7 +96,8 @@ destination_back name h = ap destination_of (printed_destination name) ∙ ap (o
 abbrev more_fields : List ℕ → List ℕ → List (List ℕ)
 more_fields destination body = destination ∷ codes "-" ∷ codes "-" ∷ codes "-" ∷ codes "-" ∷ codes "-" ∷ body ∷ []
 
-fields_lack : (c : ℕ) (destination body : List ℕ) → lacks c (codes "send") ≡ true → lacks c (codes "-") ≡ true → lacks c destination ≡ true → lacks c body ≡ true
+fields_lack : (c : ℕ) (destination body : List ℕ) → lacks c (codes "send") ≡ true → lacks c (codes "-") ≡ true → lacks c destination ≡ true
+    → lacks c body ≡ true
     → all_lack c (codes "send" ∷ more_fields destination body) ≡ true
 fields_lack c destination body send dash d b = rw (send, dash, d, b) refl
 
@@ -107,7 +111,8 @@ send_back name body n b =
     let comma : lacks 44 name ≡ true = lacks_where 44 is_name_byte name_without_comma name (name_bytes name n) in
     let comma_body : lacks 44 body ≡ true = lacks_where 44 is_body_byte body_without_comma body (body_bytes body b) in
     let to : List ℕ = destination_text (queue_of_beta name) in
-    ap send_of (split_join 44 (codes "send") (more_fields to body) (fields_lack 44 to body refl refl (destination_lacks 44 name refl comma) comma_body))
+    ap send_of (split_join 44 (codes "send") (more_fields to body)
+    (fields_lack 44 to body refl refl (destination_lacks 44 name refl comma) comma_body))
     ∙ send_fields_back to body (queue_of_beta name) (destination_back name n) (body_back body b)
 
 send_lacks : (name body : List ℕ) → name_fault name ≡ None → is_body body ≡ true → lacks 32 (send_text (parts_of (queue_of_beta name) body)) ≡ true
@@ -128,7 +133,8 @@ queue_back : (name : List ℕ) (word : List ℕ) (quota : ℕ) → name_of name 
     ≡ Some (Queue Beta (record { name = name; public = None; transactional = true; quota = quota; journal = false }))
 queue_back name word quota n q = rw (n, q) refl
 
-commit_words : (now text : List ℕ) → lacks 32 now ≡ true → lacks 32 text ≡ true → all_lack 32 (codes "commit" ∷ codes "alpha" ∷ now ∷ text ∷ []) ≡ true
+commit_words : (now text : List ℕ) → lacks 32 now ≡ true → lacks 32 text ≡ true
+    → all_lack 32 (codes "commit" ∷ codes "alpha" ∷ now ∷ text ∷ []) ≡ true
 commit_words now text n t = rw (n, t) refl
 
 commit_back : (word text : List ℕ) (now : ℕ) (send : Op) → moment_of word ≡ Some now → send_of (fields_of text) ≡ Some send
@@ -158,17 +164,22 @@ deliver_back number word packet now p n = rw (p, n) refl
 pub read_back : {event : Event} → IsBuilt event → event_of (words_of (line_of event)) ≡ Some event
 read_back (queue name quota n q) =
     let space : lacks 32 name ≡ true = lacks_where 32 is_name_byte name_without_space name (name_bytes name n) in
-    ap event_of (split_join 32 (codes "queue") (codes "beta" ∷ name ∷ codes "tx" ∷ decimal quota ∷ codes "none" ∷ []) (queue_words name (decimal quota) space (number_lacks quota q)))
+    ap event_of (split_join 32 (codes "queue") (codes "beta" ∷ name ∷ codes "tx" ∷ decimal quota ∷ codes "none" ∷ [])
+    (queue_words name (decimal quota) space (number_lacks quota q)))
     ∙ queue_back name (decimal quota) quota (name_back name n) (number_back 0 quota (omega arith) q)
 read_back (commit now name body m n b) =
     let text : List ℕ = send_text (parts_of (queue_of_beta name) body) in
-    ap event_of (split_join 32 (codes "commit") (codes "alpha" ∷ decimal now ∷ text ∷ []) (commit_words (decimal now) text (number_lacks now m) (send_lacks name body n b)))
+    ap event_of (split_join 32 (codes "commit") (codes "alpha" ∷ decimal now ∷ text ∷ [])
+    (commit_words (decimal now) text (number_lacks now m) (send_lacks name body n b)))
     ∙ commit_back (decimal now) text now (Send (parts_of (queue_of_beta name) body)) (number_back 0 now (omega arith) m) (send_back name body n b)
 read_back (connect now m) =
-    ap event_of (split_join 32 (codes "connect") (codes "alpha" ∷ decimal now ∷ codes "64" ∷ codes "64" ∷ []) (connect_words (decimal now) (number_lacks now m)))
+    ap event_of (split_join 32 (codes "connect") (codes "alpha" ∷ decimal now ∷ codes "64" ∷ codes "64" ∷ [])
+    (connect_words (decimal now) (number_lacks now m)))
     ∙ connect_back (decimal now) now (number_back 0 now (omega arith) m)
 read_back (pump now m) =
-    ap event_of (split_join 32 (codes "pump") (codes "alpha" ∷ decimal now ∷ []) (pump_words (decimal now) (number_lacks now m))) ∙ pump_back (decimal now) now (number_back 0 now (omega arith) m)
+    ap event_of (split_join 32 (codes "pump") (codes "alpha" ∷ decimal now ∷ []) (pump_words (decimal now) (number_lacks now m)))
+    ∙ pump_back (decimal now) now (number_back 0 now (omega arith) m)
 read_back (deliver packet now some most m) =
-    ap event_of (split_join 32 (codes "deliver") (decimal packet ∷ decimal now ∷ []) (deliver_words (decimal packet) (decimal now) (number_lacks packet most) (number_lacks now m)))
+    ap event_of (split_join 32 (codes "deliver") (decimal packet ∷ decimal now ∷ [])
+    (deliver_words (decimal packet) (decimal now) (number_lacks packet most) (number_lacks now m)))
     ∙ deliver_back (decimal packet) (decimal now) packet now (number_back 1 packet some most) (number_back 0 now (omega arith) m)

@@ -24,7 +24,8 @@ pub data IsBuilt : Event → Type 0 where
 
 -- a send, its fields between commas
 abbrev pub send_text : Parts → List ℕ
-send_text parts = join_with_byte 44 (codes "send" ∷ destination_text parts.destination ∷ codes "-" ∷ codes "-" ∷ codes "-" ∷ codes "-" ∷ codes "-" ∷ parts.body ∷ [])
+send_text parts = join_with_byte 44
+    (codes "send" ∷ destination_text parts.destination ∷ codes "-" ∷ codes "-" ∷ codes "-" ∷ codes "-" ∷ codes "-" ∷ parts.body ∷ [])
 
 -- the words of an event's line
 abbrev pub words_from : Event → List (List ℕ)

@@ -26,4 +26,5 @@ is_decimal word = list_all is_digit word && (length word == 1 || (nat_lt 1 (leng
 
 -- the number from least to greatest that a word spells
 abbrev pub number_in : ℕ → ℕ → List ℕ → Option ℕ
-number_in least greatest word = if is_decimal word && (nat_le least (value_of word) && nat_le (value_of word) greatest) then Some (value_of word) else None
+number_in least greatest word =
+    if is_decimal word && (nat_le least (value_of word) && nat_le (value_of word) greatest) then Some (value_of word) else None

@@ -1,7 +1,7 @@
 //! The script of a replay: its lines as events, and the texts of the replies.
 //!
-//! `read_script` reads a script whole, or names the first line that is none. `print_reply` writes what a line of the transcript says. The line forms that
-//! are built are those of the definition `event_of`.
+//! `read_script` reads a script whole, or names the first line that is none. `print_reply` writes what a line of the transcript says. The line
+//! forms that are built are those of the definition `event_of`, and an event's line is read back as that event (`lines_are_read_back`).
 #![tactic(auto)]
 
 mod events;

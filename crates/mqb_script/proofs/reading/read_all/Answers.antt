@@ -6,7 +6,8 @@ pub returns-then-len-count-gt-LONGEST-clause-fault : goal.returns-then-len-count
 returns-then-len-count-gt-LONGEST-clause-fault g c = record {
   text = c.loop-count.text.items ++ take c.in-Ok.count c.read.new.buf;
   gave = gave_more _ _ _ _ _ c.loop-count.invariant.gave c.in-Ok.ensures.gave;
-  answers = let same : length c.read.new.buf ≡ length c.loop-count.buffer = c.read.auto.buf in simp (length-append, length-take) (omega (arith, c.in-Ok.ensures.within));
+  answers = let same : length c.read.new.buf ≡ length c.loop-count.buffer =
+      c.read.auto.buf in simp (length-append, length-take) (omega (arith, c.in-Ok.ensures.within));
   ended = tt;
 }
 
