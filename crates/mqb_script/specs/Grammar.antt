@@ -99,8 +99,8 @@ is_built_queue manager kind journal = same_bytes manager (codes "beta") && same_
 
 abbrev pub plan_of : List ℕ → List ℕ → Option QueuePlan
 plan_of name quota = option_and_then
-    (λ queue. option_map (λ most. record { name = queue; public = None; transactional = true; quota = most; journal = false }) (number_in 0 MAX quota))
-    (name_of name)
+    (λ queue. option_map (λ most. record { name = queue; public = None; transactional = true; quota = most; journal = false })
+    (number_in 0 MAX quota)) (name_of name)
 
 abbrev pub queue_of : List (List ℕ) → Option Event
 queue_of (manager ∷ name ∷ kind ∷ quota ∷ journal ∷ []) =
