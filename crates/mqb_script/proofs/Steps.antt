@@ -1,6 +1,5 @@
 -- What a line adds to what was read, and what a read adds to what was taken.
-use Rattle.std.proofs.Common.{◌≡◌, ℕ, ◌+◌, ◌<◌, ◌≤◌, Bool, true, false, ◌==◌, List, [], ◌∷◌, ◌++◌, length, drop, map, get_or, count_by, Option, Some, None, Result, Ok, Err, refl, sym, ap, ◌∙◌, rules, arith, append_assoc, append-nil, IfSome, Bor}
-use Rattle.std.specs.Option.{option_map}
+use Rattle.std.proofs.Common.{◌≡◌, ℕ, ◌+◌, ◌<◌, ◌≤◌, Bool, true, false, ◌==◌, List, [], ◌∷◌, ◌++◌, length, drop, map, get_or, count_by, Option, Some, None, Result, Ok, Err, refl, sym, ap, ◌∙◌, arith, append_assoc, Bor}
 use Rattle.std.proofs.lemmas.List.{at_drop_more}
 use Rattle.std.proofs.lemmas.List.Sums.{count_by-le-length}
 use Rattle.std.proofs.lemmas.List.Splits.{length-slice_split}
@@ -14,7 +13,8 @@ pub in_front_nothing : (r : Result (List (ℕ × Event)) ℕ) → in_front [] r 
 in_front_nothing (Ok more) = refl
 in_front_nothing (Err first) = refl
 
-pushed : (n : ℕ) (event : Event) (before : List (ℕ × Event)) (r : Result (List (ℕ × Event)) ℕ) → in_front before (with_event n (Some event) r) ≡ in_front (before ++ (n, event) ∷ []) r
+pushed : (n : ℕ) (event : Event) (before : List (ℕ × Event)) (r : Result (List (ℕ × Event)) ℕ)
+    → in_front before (with_event n (Some event) r) ≡ in_front (before ++ (n, event) ∷ []) r
 pushed n event before (Ok more) = ap Ok (sym (append_assoc before ((n, event) ∷ []) more))
 pushed n event before (Err first) = refl
 
@@ -33,20 +33,25 @@ few_lines text =
 abbrev pub IsReadTo : Result (List (ℕ × Event)) ℕ → ℕ → ℕ → List (Bor (List ℕ)) → List (ℕ × Event) → Type 0
 IsReadTo whole n place lines before = whole ≡ in_front before (script_from n (map (λ line. line.now) (drop place lines)))
 
-pub goes_on : (whole : Result (List (ℕ × Event)) ℕ) (n place : ℕ) (lines : List (Bor (List ℕ))) (before after : List (ℕ × Event)) (d : Bor (List ℕ)) (good : Bool)
+pub goes_on : (whole : Result (List (ℕ × Event)) ℕ) (n place : ℕ) (lines : List (Bor (List ℕ))) (before after : List (ℕ × Event))
+    (d : Bor (List ℕ)) (good : Bool)
     → IsReadTo whole n place lines before → place < length lines → ReadsLine n (get_or lines place d).now before after good → good ≡ true
     → IsReadTo whole (n + 1) (place + 1) lines after
 goes_on whole n place lines before after d true read within line is =
-    read ∙ at_drop_more (λ rest. in_front before (script_from n (map (λ l. l.now) rest))) lines place d within ∙ line (map (λ l. l.now) (drop (place + 1) lines))
+    read ∙ at_drop_more (λ rest. in_front before (script_from n (map (λ l. l.now) rest))) lines place d within
+    ∙ line (map (λ l. l.now) (drop (place + 1) lines))
 goes_on whole n place lines before after d false read within line is = cc
 
-pub stops : (whole : Result (List (ℕ × Event)) ℕ) (n place : ℕ) (lines : List (Bor (List ℕ))) (before after : List (ℕ × Event)) (d : Bor (List ℕ)) (good : Bool)
-    → IsReadTo whole n place lines before → place < length lines → ReadsLine n (get_or lines place d).now before after good → good ≡ false → Err n ≡ whole
+pub stops : (whole : Result (List (ℕ × Event)) ℕ) (n place : ℕ) (lines : List (Bor (List ℕ))) (before after : List (ℕ × Event)) (d : Bor (List ℕ))
+    (good : Bool)
+    → IsReadTo whole n place lines before → place < length lines → ReadsLine n (get_or lines place d).now before after good → good ≡ false
+    → Err n ≡ whole
 stops whole n place lines before after d true read within line is = cc
 stops whole n place lines before after d false read within line is =
     sym (read ∙ at_drop_more (λ rest. in_front before (script_from n (map (λ l. l.now) rest))) lines place d within
     ∙ ap (in_front before) (line (map (λ l. l.now) (drop (place + 1) lines))))
 
-pub gave_more : (first middle last : Option (List ℕ)) (text more : List ℕ) → Gave first middle text → Gave middle last more → Gave first last (text ++ more)
+pub gave_more : (first middle last : Option (List ℕ)) (text more : List ℕ) → Gave first middle text → Gave middle last more
+    → Gave first last (text ++ more)
 gave_more first middle None text more a b = rw (a, b) refl
 gave_more first middle (Some rest) text more a b = rw (a, b) (ap Some (sym (append_assoc text more rest)))

@@ -1,7 +1,6 @@
-use Rattle.std.specs.Prelude.{ℕ, Bool, true, false, ◌+◌, ◌==◌, ◌&&◌, ◌||◌, not, nat_le, List, [], ◌∷◌, ◌++◌, length, drop, codes, Option, Some, None, is_none, Result, Ok, Err, option_and_then, replicate, if◌then◌else◌}
+use Rattle.std.specs.Prelude.{ℕ, Bool, true, false, ◌+◌, ◌==◌, ◌&&◌, not, nat_le, List, [], ◌∷◌, length, drop, codes, Option, Some, None, is_none, Result, Ok, Err, option_and_then, replicate, if◌then◌else◌}
 use Rattle.std.specs.Option.{option_map}
 use Rattle.std.specs.List.{list_all, starts_with}
-use Rattle.mqb_base.specs.declared.ids.Guid.{Guid}
 use Rattle.mqb_base.specs.declared.ids.MessageId.{MessageId}
 use Rattle.mqb_base.specs.declared.queue_names.Host.TheVariants.{Os}
 use Rattle.mqb_base.specs.declared.queue_names.QueueName.{QueueName}
@@ -12,7 +11,6 @@ use Rattle.mqb_base.specs.declared.draft.Op.{Op}
 use Rattle.mqb_base.specs.declared.draft.Op.TheVariants.{Send}
 use Rattle.mqb_base.specs.Same.{same_bytes}
 use Rattle.mqb_base.specs.Names.{name_fault}
-use Rattle.mqb_script.specs.declared.events.Which.{Which}
 use Rattle.mqb_script.specs.declared.events.Which.TheVariants.{Alpha, Beta}
 use Rattle.mqb_script.specs.declared.events.Event.{Event}
 use Rattle.mqb_script.specs.declared.events.Event.TheVariants.{Queue, Commit, Connect, Pump, Deliver}
@@ -89,7 +87,8 @@ plain_text _ = None
 
 abbrev pub send_of : List (List ℕ) → Option Op
 send_of (send ∷ destination ∷ rest) = where_ (same_bytes send (codes "send"))
-    (option_and_then (λ text. option_and_then (λ to. option_map (λ body. Send (parts_of to body)) (body_of text)) (destination_of destination)) (plain_text rest))
+    (option_and_then (λ text. option_and_then (λ to. option_map (λ body. Send (parts_of to body)) (body_of text)) (destination_of destination))
+    (plain_text rest))
 send_of _ = None
 
 -- The line forms.
@@ -99,7 +98,8 @@ abbrev pub is_built_queue : List ℕ → List ℕ → List ℕ → Bool
 is_built_queue manager kind journal = same_bytes manager (codes "beta") && same_bytes kind (codes "tx") && same_bytes journal (codes "none")
 
 abbrev pub plan_of : List ℕ → List ℕ → Option QueuePlan
-plan_of name quota = option_and_then (λ queue. option_map (λ most. record { name = queue; public = None; transactional = true; quota = most; journal = false })
+plan_of name quota = option_and_then
+    (λ queue. option_map (λ most. record { name = queue; public = None; transactional = true; quota = most; journal = false })
     (number_in 0 MAX quota)) (name_of name)
 
 abbrev pub queue_of : List (List ℕ) → Option Event
@@ -157,7 +157,8 @@ with_event n (Some event) (Err first) = Err first
 -- the events of lines, numbered from n, or the number of the first line that is none
 abbrev pub script_from : ℕ → List (List ℕ) → Result (List (ℕ × Event)) ℕ
 script_from n [] = Ok []
-script_from n (line ∷ lines) = if is_skipped line then script_from (n + 1) lines else with_event n (event_of (words_of line)) (script_from (n + 1) lines)
+script_from n (line ∷ lines) = if is_skipped line then script_from (n + 1) lines
+    else with_event n (event_of (words_of line)) (script_from (n + 1) lines)
 
 abbrev pub script_of : List ℕ → Result (List (ℕ × Event)) ℕ
 script_of text = script_from 1 (lines_of text)

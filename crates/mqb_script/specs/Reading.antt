@@ -1,4 +1,4 @@
-use Rattle.std.specs.Prelude.{◌≡◌, ℕ, ◌+◌, ◌<◌, ◌≤◌, Bool, List, [], ◌∷◌, ◌++◌, length, Option, Some, None, Result, Ok, Err, IfSome, MatchBool}
+use Rattle.std.specs.Prelude.{◌≡◌, ℕ, ◌+◌, ◌<◌, ◌≤◌, Bool, List, [], ◌∷◌, ◌++◌, length, Option, Result, Ok, Err, IfSome, MatchBool}
 use Rattle.mqb_outside.specs.Told.{Gave}
 use Rattle.mqb_outside.specs.Faults.{Rose}
 use Rattle.mqb_script.specs.declared.events.Event.{Event}
@@ -41,6 +41,12 @@ ReadCause before after (Err fault.TooLong) = after ≡ before
 ReadCause before after (Err fault.Memory) = after ≡ before
 ReadCause before after (Ok events) = after ≡ before
 
+-- All that a source held was taken, and it is no longer than a script may be.
+pub record IsWhole (before after : Option (List ℕ)) (text : List ℕ) : Type 0 where
+  pub short : length text ≤ LONGEST
+  pub gave : Gave before after text
+  pub ended : IfSome after (λ rest. rest ≡ [])
+
 -- what was read in front of more
 abbrev pub in_front : List (ℕ × Event) → Result (List (ℕ × Event)) ℕ → Result (List (ℕ × Event)) ℕ
 in_front events (Ok more) = Ok (events ++ more)
@@ -49,4 +55,5 @@ in_front events (Err first) = Err first
 -- Line n was read behind the events of the lines before it; `good` says whether it is a line of a script.
 abbrev pub ReadsLine : ℕ → List ℕ → List (ℕ × Event) → List (ℕ × Event) → Bool → Type 0
 ReadsLine n line before after good = (rest : List (List ℕ)) →
-    MatchBool good (in_front before (script_from n (line ∷ rest)) ≡ in_front after (script_from (n + 1) rest)) (script_from n (line ∷ rest) ≡ Err n)
+    MatchBool good (in_front before (script_from n (line ∷ rest)) ≡ in_front after (script_from (n + 1) rest))
+    (script_from n (line ∷ rest) ≡ Err n)

@@ -18,7 +18,6 @@ use Rattle.mqb_base.specs.declared.heard.Cause.{Cause}
 use Rattle.mqb_base.specs.declared.heard.Cause.TheVariants.{Early, BadAck, Refused, Repeated, Foreign}
 use Rattle.mqb_base.specs.declared.heard.Heard.{Heard}
 use Rattle.mqb_base.specs.declared.heard.Heard.TheVariants as heard
-use Rattle.mqb_base.specs.declared.ledger.Stream.{Stream}
 use Rattle.mqb_base.specs.declared.ledger.Line.{Line}
 use Rattle.mqb_base.specs.declared.ledger.Line.TheVariants as line
 use Rattle.mqb_base.specs.Same.{same_guid}

@@ -1,6 +1,5 @@
 use Rattle.std.specs.Prelude.{ℕ, Bool, ◌+◌, ◌*◌, ◌-◌, ◌==◌, ◌&&◌, ◌||◌, not, nat_le, nat_lt, List, length, slice_index, fold, Option, Some, None, if◌then◌else◌}
 use Rattle.std.specs.List.{slice_split, list_all}
-use Rattle.mqb_base.specs.Same.{same_bytes}
 
 -- the lines of a text: its parts between line feeds
 abbrev pub lines_of : List ℕ → List (List ℕ)
@@ -27,4 +26,5 @@ is_decimal word = list_all is_digit word && (length word == 1 || (nat_lt 1 (leng
 
 -- the number from least to greatest that a word spells
 abbrev pub number_in : ℕ → ℕ → List ℕ → Option ℕ
-number_in least greatest word = if is_decimal word && (nat_le least (value_of word) && nat_le (value_of word) greatest) then Some (value_of word) else None
+number_in least greatest word =
+    if is_decimal word && (nat_le least (value_of word) && nat_le (value_of word) greatest) then Some (value_of word) else None

@@ -29,7 +29,8 @@ fn print_placed(
     hosts: &[Identity],
     out: &mut Vec<u8>,
 ) -> Result<(), Memory>
-    ensures { OnOk result (out.new.items ≡ out.old.items ++ (word.now ++ place_text stream.now.sequence number ++ spaced (id_text hosts.now id.now))) }
+    ensures { OnOk result (out.new.items
+        ≡ out.old.items ++ (word.now ++ place_text stream.now.sequence number ++ spaced (id_text hosts.now id.now))) }
 {
     put(word, out)?;
     print_place(alloc, &stream.sequence, number, out)?;
@@ -46,7 +47,8 @@ fn print_refused(
     hosts: &[Identity],
     out: &mut Vec<u8>,
 ) -> Result<(), Memory>
-    ensures { OnOk result (out.new.items ≡ out.old.items ++ (codes "refused " ++ place_text stream.now.sequence number ++ spaced (class_text class) ++ spaced (id_text hosts.now id.now))) }
+    ensures { OnOk result (out.new.items ≡ out.old.items
+        ++ (codes "refused " ++ place_text stream.now.sequence number ++ spaced (class_text class) ++ spaced (id_text hosts.now id.now))) }
 {
     put(b"refused ", out)?;
     print_place(alloc, &stream.sequence, number, out)?;

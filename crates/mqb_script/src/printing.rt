@@ -177,8 +177,8 @@ fn print_line(
     put(b"\n", out)
 }
 
-/// Appends a line of the transcript: the script's line number, where there is one, and the reply with its ledger lines. A GUID of `hosts` is printed as
-/// its host. After a refusal `out` is as before.
+/// Appends a line of the transcript: the script's line number, where there is one, and the reply with its ledger lines. A GUID of `hosts` is
+/// printed as its host. After a refusal `out` is as before.
 pub fn print_reply(
     alloc: Global,
     line: Option<u32>,

@@ -1,7 +1,6 @@
-ghost use Rattle.std.specs.Prelude.{◌≡◌, ◌≤◌, [], length, Err, IfOk, IfErr, IfSome, OnOk};
-ghost use Rattle.mqb_outside.specs.Told.{Gave};
+ghost use Rattle.std.specs.Prelude.{◌≡◌, ◌≤◌, length, Err, IfOk, IfErr, OnOk};
 ghost use Rattle.mqb_script.specs.Grammar.{script_of};
-ghost use Rattle.mqb_script.specs.Reading.{LONGEST, Reads, ReadCause, ReadsLine};
+ghost use Rattle.mqb_script.specs.Reading.{LONGEST, Reads, ReadCause, ReadsLine, IsWhole};
 
 use crate::events::Event;
 use crate::lines::{event_of_line, is_skipped};
@@ -74,7 +73,7 @@ const LONGEST: usize = 16_384;
 
 /// Takes all bytes of a source, up to the longest script.
 fn read_all<S: Source>(alloc: Global, source: &mut S) -> Result<Vec<u8>, ScriptFault>
-    ensures text { IfOk result (λ text. (length text.items ≤ LONGEST) × Gave (S.held source.old) (S.held source.new) text.items × IfSome (S.held source.new) (λ rest. rest ≡ [])) }
+    ensures whole { IfOk result (λ text. IsWhole (S.held source.old) (S.held source.new) text.items) }
     ensures fault { IfErr result (λ fault. Reads (S.held source.old) (S.held source.new) (Err fault)) }
     ensures quiet { OnOk result (S.read_faults source.new ≡ S.read_faults source.old) }
     ensures cause { IfErr result (λ fault. ReadCause (S.read_faults source.old) (S.read_faults source.new) (Err fault)) }

@@ -1,4 +1,4 @@
-ghost use Rattle.std.specs.Prelude.{◌≡◌, true, map, IfOk, IfSome};
+ghost use Rattle.std.specs.Prelude.{◌≡◌, true, codes, map, IfOk, IfSome};
 ghost use Rattle.std.specs.List.{list_all};
 ghost use Rattle.std.specs.Option.{option_map};
 ghost use Rattle.mqb_base.specs.QueueNames.{names_queue};
@@ -22,6 +22,12 @@ pub(crate) fn name_of(alloc: Global, word: &[u8]) -> Result<Option<Name>, Memory
     }
 }
 
+fn beta(alloc: Global) -> Result<Name, Memory>
+    ensures { IfOk result (λ name. name ≡ codes "beta") }
+{
+    Name::new(alloc, b"beta").map_err(|_| Memory)
+}
+
 const BETA_QUEUES: &[u8] = b"DIRECT=OS:beta\\PRIVATE$\\";
 
 fn destination_of(alloc: Global, word: &[u8]) -> Result<Option<QueueName>, Memory>
@@ -34,11 +40,8 @@ fn destination_of(alloc: Global, word: &[u8]) -> Result<Option<QueueName>, Memor
     let Some(queue) = name_of(alloc, queue)? else {
         return Ok(None);
     };
-    let Some(host) = name_of(alloc, b"beta")? else {
-        return Ok(None);
-    };
     Ok(Some(QueueName::Direct {
-        host: Host::Os(host),
+        host: Host::Os(beta(alloc)?),
         queue,
         journal: false,
     }))

@@ -5,7 +5,7 @@ use mqb_outside::MemorySource;
 use std::alloc::Global;
 use std::test::Fail;
 
-const ROW: &[u8] = b"queue beta orders tx 100 none
+const SCRIPT: &[u8] = b"queue beta orders tx 100 none
 connect alpha 1000 64 64
 commit alpha 1000 send,DIRECT=OS:beta\\PRIVATE$\\orders,-,-,-,-,-,one
 pump alpha 1000
@@ -49,8 +49,8 @@ fn form(event: &Event) -> (char, u32, u32) {
 }
 
 #[test]
-fn first_row_is_read(rt: HostRuntime) -> Result<(), Fail> {
-    let script = read(rt.alloc(), ROW, &[])?;
+fn each_form_is_read(rt: HostRuntime) -> Result<(), Fail> {
+    let script = read(rt.alloc(), SCRIPT, &[])?;
     let wanted = [
         (1, ('q', 100, 1)),
         (2, ('l', 1000, 64)),

@@ -1,5 +1,4 @@
-use Rattle.std.proofs.Common.{◌≡◌, ◌≤◌, ◌<◌, ◌+◌, ◌++◌, length, take, Some, refl, arith, rules, length-append, length-take}
-use Rattle.mqb_script.specs.Reading.{Reads}
+use Rattle.std.proofs.Common.{◌≡◌, ◌++◌, length, take, arith, length-append, length-take}
 use Rattle.mqb_script.proofs.Steps.{gave_more}
 use Rattle.mqb_script.proofs.reading.read_all.Goals as goal
 
@@ -7,7 +6,8 @@ pub returns-then-len-count-gt-LONGEST-clause-fault : goal.returns-then-len-count
 returns-then-len-count-gt-LONGEST-clause-fault g c = record {
   text = c.loop-count.text.items ++ take c.in-Ok.count c.read.new.buf;
   gave = gave_more _ _ _ _ _ c.loop-count.invariant.gave c.in-Ok.ensures.gave;
-  answers = let same : length c.read.new.buf ≡ length c.loop-count.buffer = c.read.auto.buf in simp (length-append, length-take) (omega (arith, c.in-Ok.ensures.within));
+  answers = let same : length c.read.new.buf ≡ length c.loop-count.buffer =
+      c.read.auto.buf in simp (length-append, length-take) (omega (arith, c.in-Ok.ensures.within));
   ended = tt;
 }
 

@@ -1,7 +1,7 @@
 use Rattle.std.proofs.Common.{◌≡◌, ◌≤◌, ap, ◌+◌, length, map, rules, arith}
 use Rattle.std.proofs.lemmas.List.{length-map}
 use Rattle.mqb_script.specs.Words.{lines_of}
-use Rattle.mqb_script.proofs.Steps.{few_lines, goes_on, stops}
+use Rattle.mqb_script.proofs.Steps.{few_lines, stops}
 use Rattle.mqb_script.proofs.reading.script_of.Goals as goal
 
 pub overflow_add-number : goal.overflow_add-number

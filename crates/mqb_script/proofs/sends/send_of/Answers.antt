@@ -1,4 +1,4 @@
-use Rattle.std.proofs.Common.{◌<◌, length, map, sym, arith}
+use Rattle.std.proofs.Common.{map, sym, arith}
 use Rattle.std.proofs.lemmas.List.{length-map}
 use Rattle.mqb_script.proofs.Counts.{send_of_short}
 use Rattle.mqb_script.proofs.sends.send_of.Goals as goal
