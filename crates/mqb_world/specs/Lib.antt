@@ -3,3 +3,4 @@ pub mod Manager
 pub mod Machine
 pub mod Outgoing
 pub mod Pumping
+pub mod Steps

@@ -1,6 +1,7 @@
 use Rattle.std.specs.Prelude.{ℕ, zero, suc, Bool, false, ◌+◌, ◌-◌, nat_lt, List, [], ◌∷◌, ◌++◌, length, map, replicate, slice_get, Option, Some, None, is_some, option_and_then, codes, if◌then◌else◌}
 use Rattle.mqb_base.specs.declared.heard.Cause.TheVariants.{Repeated}
 use Rattle.mqb_base.specs.declared.heard.Heard.TheVariants.{Closed, Discarded}
+use Rattle.mqb_base.specs.declared.draft.Parts.{Parts}
 use Rattle.mqb_base.specs.declared.draft.Op.{Op}
 use Rattle.mqb_base.specs.declared.draft.Op.TheVariants.{Send, Take}
 use Rattle.mqb_base.specs.declared.ids.Identity.{Identity}
@@ -95,10 +96,22 @@ ended m = record m { alpha = unlinked m.alpha; beta = unlinked m.beta; present =
 
 -- The events.
 
+abbrev pub send_in : Op → Option Parts
+send_in (Send parts) = Some parts
+send_in (Take queue) = None
+
 -- a transaction of one send, which is the one that is built
+abbrev pub only_send : List Op → Option Parts
+only_send [] = None
+only_send (op ∷ []) = send_in op
+only_send (op ∷ more ∷ ops) = None
+
 abbrev pub commit_ops : Machine → Which → ℕ → List Op → Answer
-commit_ops m which now (Send parts ∷ []) = called m which (commit (state_of m which) now parts)
-commit_ops m which now _ = only m reply.Done
+commit_ops m which now ops = of (only_send ops)
+  where
+    of : Option Parts → Answer
+    of None = only m reply.Done
+    of (Some parts) = called m which (commit (state_of m which) now parts)
 
 -- the four packets that set a connection up, one from each side in turn
 abbrev pub set_up : List Packet

@@ -12,6 +12,11 @@ pub record HasRoom (strings : List (List ℕ)) (n : ℕ) : Type 0 where
   pub count : length strings ≤ 2000000000 + n
   pub bytes : bytes_in strings ≤ 2000000000 + 1100 * n
 
+-- A medium grew by a string of at most 1,100 bytes for each packet that was sent: n before, and m now.
+pub record Grows (strings : List (List ℕ)) (n : ℕ) (strings_now : List (List ℕ)) (m : ℕ) : Type 0 where
+  pub count : length strings_now + n ≡ length strings + m
+  pub bytes : bytes_in strings_now + 1100 * n ≤ bytes_in strings + 1100 * m
+
 -- These were sent: their heads were noted, and their bytes joined the medium.
 pub record Sent (transfers : List Transfer) (heads heads_after : List TxHead) (strings strings_after : List (List ℕ)) : Type 0 where
   pub noted : heads_after ≡ heads ++ heads_of transfers
@@ -20,3 +25,8 @@ pub record Sent (transfers : List Transfer) (heads heads_after : List TxHead) (s
 -- what is sent of one kept message, when n packets were sent
 abbrev pub next_of : ℕ → Sending → Kept → List Transfer
 next_of n s k = if nat_lt n 64 && waits s k then transfer_of s.row k ∷ [] else []
+
+-- a medium has at most 64 strings more, of at most 1,100 bytes each
+pub record IsAFewMore (strings strings_now : List (List ℕ)) : Type 0 where
+  pub count : length strings_now ≤ length strings + 64
+  pub bytes : bytes_in strings_now ≤ bytes_in strings + 70400

@@ -6,11 +6,14 @@
 
 mod identities;
 mod incoming;
+mod lines;
 mod manager;
 mod outgoing;
 mod packets;
 mod queues;
 mod sends;
+mod world;
 
 pub use identities::hosts;
 pub use packets::{Packet, Transfer};
+pub use world::{World, WorldFault};

@@ -1,7 +1,7 @@
 ghost use Rattle.std.specs.Prelude.{◌≡◌, ◌<◌, ◌≤◌, ◌++◌, None, Some, false, length, map, vec_len, IfOk, IfSome, OnOk, OnErr};
 ghost use Rattle.mqb_world.specs.Manager as spec;
 ghost use Rattle.mqb_world.specs.Packets.{transfer_spelling};
-ghost use Rattle.mqb_world.specs.Pumping.{HasRoom};
+ghost use Rattle.mqb_world.specs.Pumping.{HasRoom, Grows};
 
 use crate::incoming::{in_at, put_row, row_at};
 use crate::outgoing::{LONGEST_BODY, Outgoing};
@@ -263,7 +263,8 @@ impl Manager {
         ensures heads { IfOk result (λ heads. heads.items ≡ spec.heads_of (spec.chosen self.old)) }
         ensures after { OnOk result (self.new ≡ spec.pumped self.old) }
         ensures sent { OnOk result (M.strings medium.new ≡ M.strings medium.old ++ map transfer_spelling (spec.chosen self.old)) }
-        ensures room { IfOk result (λ heads. HasRoom (M.strings medium.new) (vec_len heads)) }
+        ensures few { IfOk result (λ heads. vec_len heads ≤ 64) }
+        ensures grows { IfOk result (λ heads. Grows (M.strings medium.old) 0 (M.strings medium.new) (vec_len heads)) }
         ensures refused { OnErr result (self.new ≡ self.old) }
     {
         let mut heads = Vec::new(self.alloc);

@@ -26,7 +26,7 @@ pub struct Outgoing {
 impl Outgoing {
     ghost use Rattle.mqb_world.specs.Outgoing.{sending_of};
     ghost use Rattle.mqb_world.specs.Manager.{joined, waits, head_of, transfer_of, waiting_in, placed_on, offered_on, unsent};
-    ghost use Rattle.mqb_world.specs.Pumping.{HasRoom, Sent, next_of};
+    ghost use Rattle.mqb_world.specs.Pumping.{HasRoom, Grows, Sent, next_of};
     ghost use Rattle.mqb_world.specs.Packets.{transfer_spelling};
 
     /// The row of a new stream.
@@ -134,6 +134,7 @@ impl Outgoing {
         requires room { HasRoom (M.strings medium.old) (vec_len heads.old) }
         ensures sent { OnOk result (Sent (next_of (vec_len heads.old) (sending_of self.now) kept.now) heads.old.items heads.new.items (M.strings medium.old) (M.strings medium.new)) }
         ensures room { OnOk result (HasRoom (M.strings medium.new) (vec_len heads.new)) }
+        ensures grows { OnOk result (Grows (M.strings medium.old) (vec_len heads.old) (M.strings medium.new) (vec_len heads.new)) }
         ensures refused { OnErr result (M.strings medium.new ≡ M.strings medium.old) }
     {
         if heads.len() < MOST_PACKETS && self.waits(kept) {
@@ -152,6 +153,7 @@ impl Outgoing {
         requires room { HasRoom (M.strings medium.old) (vec_len heads.old) }
         ensures sent { OnOk result (Sent (take (64 - vec_len heads.old) (waiting_in (sending_of self.now))) heads.old.items heads.new.items (M.strings medium.old) (M.strings medium.new)) }
         ensures room { OnOk result (HasRoom (M.strings medium.new) (vec_len heads.new)) }
+        ensures grows { OnOk result (Grows (M.strings medium.old) (vec_len heads.old) (M.strings medium.new) (vec_len heads.new)) }
     {
         for kept in self.row.kept.as_slice() {
             self.send_next(kept, heads, scratch, medium)?;

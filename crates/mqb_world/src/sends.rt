@@ -2,7 +2,7 @@ ghost use Rattle.std.specs.Prelude.{◌≡◌, ◌-◌, [], ◌∷◌, ◌++◌,
 ghost use Rattle.mqb_base.specs.Same.{same_name};
 ghost use Rattle.mqb_world.specs.Manager.{transfers_waiting, placed_on, offered_on, unsent, stream_at, joined_at, begun};
 ghost use Rattle.mqb_world.specs.Outgoing.{sending_of};
-ghost use Rattle.mqb_world.specs.Pumping.{HasRoom, Sent};
+ghost use Rattle.mqb_world.specs.Pumping.{HasRoom, Grows, Sent};
 
 use crate::outgoing::Outgoing;
 use mqb_base::{Memory, Message, QueueName, SequenceId, TxHead};
@@ -19,6 +19,7 @@ pub(crate) fn send_all<M: Medium>(
     requires room { HasRoom (M.strings medium.old) (vec_len heads.old) }
     ensures sent { OnOk result (Sent (take (64 - vec_len heads.old) (transfers_waiting (map sending_of outs.now))) heads.old.items heads.new.items (M.strings medium.old) (M.strings medium.new)) }
     ensures room { OnOk result (HasRoom (M.strings medium.new) (vec_len heads.new)) }
+    ensures grows { OnOk result (Grows (M.strings medium.old) (vec_len heads.old) (M.strings medium.new) (vec_len heads.new)) }
 {
     for outgoing in outs {
         outgoing.send_waiting(heads, scratch, medium)?;

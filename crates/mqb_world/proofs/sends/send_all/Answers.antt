@@ -20,5 +20,6 @@ loop-outgoing-preserved g c =
     c.args.heads.now.items c.loop-outgoing.heads.items (strings c.args.medium.now) (strings c.loop-outgoing.medium)) here c.loop-outgoing.invariant.sent in
     record {
       room = c.in_ok-send_waiting.ensures.room;
+      grows = record { count = omega (arith, c.loop-outgoing.invariant.grows, c.in_ok-send_waiting.ensures.grows); bytes = omega (arith, c.loop-outgoing.invariant.grows, c.in_ok-send_waiting.ensures.grows) };
       sent = so_far_part _ _ (waiting_in (sending_of o)) (transfers_waiting (map sending_of (drop (i + 1) outs))) _ _ _ _ _ _ before (search rules);
     }

@@ -21,5 +21,6 @@ loop-kept-preserved g c =
     c.args.heads.now.items c.loop-kept.heads.items (strings c.args.medium.now) (strings c.loop-kept.medium)) here c.loop-kept.invariant.sent in
     record {
       room = c.in_ok-send_next.ensures.room;
+      grows = record { count = omega (arith, c.loop-kept.invariant.grows, c.in_ok-send_next.ensures.grows); bytes = omega (arith, c.loop-kept.invariant.grows, c.in_ok-send_next.ensures.grows) };
       sent = so_far_next _ _ s k (drop (i + 1) items) _ _ _ _ _ _ before (search rules);
     }
