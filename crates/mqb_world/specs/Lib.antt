@@ -4,3 +4,5 @@ pub mod Machine
 pub mod Outgoing
 pub mod Pumping
 pub mod Steps
+pub mod Endings
+pub mod Transcripts

@@ -4,10 +4,12 @@
 //! the two of them.
 #![tactic(auto)]
 
+mod ending;
 mod identities;
 mod incoming;
 mod lines;
 mod manager;
+mod out_lines;
 mod outgoing;
 mod packets;
 mod queues;

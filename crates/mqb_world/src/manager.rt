@@ -1,9 +1,12 @@
 ghost use Rattle.std.specs.Prelude.{◌≡◌, ◌<◌, ◌≤◌, ◌++◌, None, Some, false, length, map, vec_len, IfOk, IfSome, OnOk, OnErr};
+ghost use Rattle.mqb_world.specs.Endings.{state_text};
 ghost use Rattle.mqb_world.specs.Manager as spec;
 ghost use Rattle.mqb_world.specs.Packets.{transfer_spelling};
 ghost use Rattle.mqb_world.specs.Pumping.{HasRoom, Grows};
 
+use crate::ending::{put_ins, put_queues, put_system};
 use crate::incoming::{in_at, put_row, row_at};
+use crate::out_lines::put_outs;
 use crate::outgoing::{LONGEST_BODY, Outgoing};
 use crate::packets::Transfer;
 use crate::queues::{Messages, Queue, arrive_at, is_there, queue_at, refusal_at};
@@ -411,5 +414,16 @@ impl Manager {
             heard,
             lines: Lines::new(self.alloc),
         })
+    }
+
+    /// Appends the lines that say what the manager holds. After a refusal a part of them may stand in `out`.
+    pub(crate) fn print(&self, hosts: &[Identity], out: &mut Vec<u8>) -> Result<(), Memory>
+        ensures { OnOk result (out.new.items ≡ out.old.items ++ state_text hosts.now self.now) }
+    {
+        let host = self.identity.host.as_slice();
+        put_queues(self.alloc, host, &self.queues, hosts, out)?;
+        put_system(host, out)?;
+        put_outs(self.alloc, host, &self.outs, out)?;
+        put_ins(self.alloc, host, &self.ins, hosts, out)
     }
 }

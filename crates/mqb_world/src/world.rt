@@ -1,6 +1,7 @@
 ghost use Rattle.std.specs.Prelude.{◌≡◌, ◌+◌, ◌*◌, ◌<◌, ◌≤◌, ◌^◌, ◌++◌, ◌∷◌, [], length, map, replicate, vec_len, slice_get, Some, IfOk, OnOk, IfSome};
 ghost use Rattle.mqb_outside.specs.Strings.{bytes_in};
 ghost use Rattle.mqb_script.specs.Sizes.{IsSized, IsShort};
+ghost use Rattle.mqb_world.specs.Endings.{end_text};
 ghost use Rattle.mqb_world.specs.Machine as spec;
 ghost use Rattle.mqb_world.specs.Manager.{create, heads_of, chosen};
 ghost use Rattle.mqb_world.specs.Packets.{spelling};
@@ -9,11 +10,12 @@ ghost use Rattle.mqb_world.specs.Steps.{Answers};
 ghost use Rattle.std.specs.Option.{option_copied};
 ghost use Rattle.std.specs.List.{AllByRecursion};
 
+use crate::ending::put;
 use crate::identities::{alpha, beta};
 use crate::lines::add_lines;
 use crate::manager::Manager;
 use crate::packets::{Packet, read_packet};
-use mqb_base::{Cause, Heard, Line, Memory, Op, Parts, QueuePlan, TxHead};
+use mqb_base::{Cause, Heard, Identity, Line, Memory, Op, Parts, QueuePlan, TxHead};
 use mqb_outside::Medium;
 use mqb_script::{Event, Lines, Numbers, Ops, Reply, Which};
 use std::alloc::Global;
@@ -289,6 +291,15 @@ impl World {
             Event::Deliver { packet, .. } => self.deliver(*packet, medium)?,
         };
         Ok(reply)
+    }
+
+    /// Appends the last lines of a transcript: what each manager holds. After a refusal a part of them may stand in `out`.
+    pub fn print_end(&self, hosts: &[Identity], out: &mut Vec<u8>) -> Result<(), Memory>
+        ensures { OnOk result (out.new.items ≡ out.old.items ++ end_text hosts.now self.now) }
+    {
+        put(b"end\n", out)?;
+        self.alpha.print(hosts, out)?;
+        self.beta.print(hosts, out)
     }
 }
 
