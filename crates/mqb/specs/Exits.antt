@@ -1,0 +1,13 @@
+use Rattle.std.specs.Prelude.{ℕ}
+use Rattle.mqb.specs.declared.status.Status.{Status}
+use Rattle.mqb.specs.declared.status.Status.TheVariants.{Done, Usage, Script, TooLong, ReadFault, WriteFault, Memory}
+
+-- the exit status of each end of the program
+abbrev pub exit_of : Status → ℕ
+exit_of Done = 0
+exit_of Usage = 2
+exit_of (Script line kind) = 3
+exit_of TooLong = 3
+exit_of ReadFault = 4
+exit_of WriteFault = 5
+exit_of Memory = 10

@@ -1,0 +1,5 @@
+pub mod Words
+pub mod Outputs
+pub mod Plays
+pub mod Exits
+pub mod Runs
