@@ -1,18 +1,17 @@
 -- What the events of a script name keeps its bounds, and there are no more events than bytes.
-use Rattle.std.proofs.Common.{◌≡◌, ℕ, ◌+◌, ◌≤◌, Bool, true, false, ◌==◌, ◌&&◌, not, nat_le, if◌then◌else◌, cond, List, [], ◌∷◌, length, codes, Option, Some, None, Result, Ok, Err, refl, arith}
+use Rattle.std.proofs.Common.{◌≡◌, ℕ, ◌+◌, ◌≤◌, Bool, true, false, ◌==◌, ◌&&◌, nat_le, if◌then◌else◌, cond, List, [], ◌∷◌, length, codes, Option, Some, None, Result, Ok, Err, refl, arith}
 use Rattle.std.specs.Option.{IfSome, option_map, option_and_then}
 use Rattle.std.specs.Result.{IfOk}
-use Rattle.std.specs.List.{AllByRecursion, list_all, slice_split, onto_first}
+use Rattle.std.specs.List.{AllByRecursion, onto_first}
 use Rattle.std.proofs.lemmas.Result.{IfOk-at_ok}
 use Rattle.std.proofs.lemmas.Bool.Decides.{nat_tests}
-use Rattle.mqb_base.specs.declared.draft.Op.{Op}
 use Rattle.mqb_base.specs.declared.draft.Op.TheVariants.{Send}
 use Rattle.mqb_base.specs.Same.{same_bytes}
 use Rattle.mqb_script.specs.declared.events.Which.TheVariants.{Alpha, Beta}
 use Rattle.mqb_script.specs.declared.events.Event.{Event}
 use Rattle.mqb_script.specs.declared.events.Event.TheVariants.{Queue, Commit, Connect, Pump, Deliver}
 use Rattle.mqb_script.specs.Words.{lines_of, words_of, fields_of, value_of, is_decimal, number_in}
-use Rattle.mqb_script.specs.Grammar.{MAX, where_, moment_of, destination_of, is_body_byte, is_starred, is_body, body_of, parts_of, plain_text, send_of, is_built_queue, plan_of, queue_of, commit_of, is_built_connection, connect_of, pump_of, deliver_of, event_of, is_skipped, with_event, script_from, script_of}
+use Rattle.mqb_script.specs.Grammar.{MAX, where_, moment_of, destination_of, is_body, body_of, parts_of, plain_text, send_of, is_built_queue, plan_of, queue_of, commit_of, is_built_connection, connect_of, pump_of, deliver_of, event_of, is_skipped, with_event, script_from, script_of}
 use Rattle.mqb_script.specs.Sizes.{IsShort, IsSized}
 use Rattle.mqb_script.proofs.Splitting.{both}
 
