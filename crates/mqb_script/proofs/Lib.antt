@@ -3,3 +3,4 @@ pub mod Steps
 pub mod Decimals
 pub mod Splitting
 pub mod Spelled
+pub mod Bounds

@@ -37,18 +37,21 @@ pub fn print_manager(guid: &Guid, hosts: &[Identity], out: &mut Vec<u8>) -> Resu
     }
 }
 
-/// Appends the identifier of a message: its manager, a dot and its number. After a refusal a part of it may stand in `out`.
+/// Appends the identifier of a message: its manager, a dot and its number. After a refusal `out` is as before.
 pub fn print_id(
     alloc: Global,
     id: &MessageId,
     hosts: &[Identity],
     out: &mut Vec<u8>,
 ) -> Result<(), Memory>
-    ensures { OnOk result (out.new.items ≡ out.old.items ++ id_text hosts.now id.now) }
+    ensures ok { OnOk result (out.new.items ≡ out.old.items ++ id_text hosts.now id.now) }
+    ensures err { OnErr result (out.new.items ≡ out.old.items) }
 {
-    print_manager(&id.qm, hosts, out)?;
-    put(b".", out)?;
-    print_number(alloc, id.number, out)
+    let mut text = Vec::new(alloc);
+    print_manager(&id.qm, hosts, &mut text)?;
+    put(b".", &mut text)?;
+    print_number(alloc, id.number, &mut text)?;
+    put(text.as_slice(), out)
 }
 
 fn print_address(alloc: Global, address: &[u8; 4], out: &mut Vec<u8>) -> Result<(), Memory>
@@ -99,8 +102,7 @@ fn machine_suffix(kind: MachineQueue) -> &'static [u8]
     }
 }
 
-/// Appends the printed form of a queue's name. After a refusal a part of it may stand in `out`.
-pub fn print_destination(alloc: Global, name: &QueueName, out: &mut Vec<u8>) -> Result<(), Memory>
+fn print_queue_name(alloc: Global, name: &QueueName, out: &mut Vec<u8>) -> Result<(), Memory>
     ensures { OnOk result (out.new.items ≡ out.old.items ++ destination_text name.now) }
 {
     match name {
@@ -137,4 +139,14 @@ pub fn print_destination(alloc: Global, name: &QueueName, out: &mut Vec<u8>) -> 
             put(machine_suffix(*kind), out)
         }
     }
+}
+
+/// Appends the printed form of a queue's name. After a refusal `out` is as before.
+pub fn print_destination(alloc: Global, name: &QueueName, out: &mut Vec<u8>) -> Result<(), Memory>
+    ensures ok { OnOk result (out.new.items ≡ out.old.items ++ destination_text name.now) }
+    ensures err { OnErr result (out.new.items ≡ out.old.items) }
+{
+    let mut text = Vec::new(alloc);
+    print_queue_name(alloc, name, &mut text)?;
+    put(text.as_slice(), out)
 }

@@ -1,6 +1,8 @@
 ghost use Rattle.std.specs.Prelude.{◌≡◌, ◌≤◌, length, Err, IfOk, IfErr, OnOk};
+ghost use Rattle.std.specs.List.{AllByRecursion};
 ghost use Rattle.mqb_script.specs.Grammar.{script_of};
 ghost use Rattle.mqb_script.specs.Reading.{LONGEST, Reads, ReadCause, ReadsLine, IsWhole};
+ghost use Rattle.mqb_script.specs.Sizes.{IsSized};
 
 use crate::events::Event;
 use crate::lines::{event_of_line, is_skipped};
@@ -118,6 +120,8 @@ fn script_of(alloc: Global, text: &[u8]) -> Result<Result<Script, u32>, Memory>
 /// Reads a script whole. A line that is none is looked for only once the input was read to its end.
 pub fn read_script<S: Source>(alloc: Global, source: &mut S) -> Result<Script, ScriptFault>
     ensures reads { Reads (S.held source.old) (S.held source.new) result }
+    ensures sized { IfOk result (λ script. AllByRecursion (λ e. IsSized e.1) script) }
+    ensures few { IfOk result (λ script. length script ≤ LONGEST) }
     ensures cause { ReadCause (S.read_faults source.old) (S.read_faults source.new) result }
 {
     let text = read_all(alloc, source)?;
