@@ -34,7 +34,7 @@ few_room m strings turns most few =
     record { few = omega arith; count = omega arith; bytes = omega arith }
 
 pub few_more : (m m' : Machine) (strings strings' : List (List ℕ)) (turns : ℕ) → HasFew m strings turns → IsAFewMore strings strings' →
-  length m'.senders ≡ length strings' → HasFew m' strings' (turns + 1)
+    length m'.senders ≡ length strings' → HasFew m' strings' (turns + 1)
 few_more m m' strings strings' turns few more own =
     let count = few.count in
     let bytes = few.bytes in
@@ -43,8 +43,8 @@ few_more m m' strings strings' turns few more own =
     record { own = own; count = omega arith; bytes = omega arith }
 
 pub played_one : (before now now' : Option (List ℕ)) (text : List ℕ) (ends : List (List ℕ)) (m : Machine) (strings : List (List ℕ)) (line : ℕ × Event) (left : List (ℕ × Event)) →
-  IsPlayedTo before now text ends m strings (line ∷ left) → Took now now' (printed hosts (Some line.0) (step m strings line.1).reply) →
-  IsPlayedTo before now' text ends (step m strings line.1).after (strings_after m strings line.1) left
+    IsPlayedTo before now text ends m strings (line ∷ left) → Took now now' (printed hosts (Some line.0) (step m strings line.1).reply) →
+    IsPlayedTo before now' text ends (step m strings line.1).after (strings_after m strings line.1) left
 played_one before now now' text ends m strings line left so_far took =
     let one : List ℕ = printed hosts (Some line.0) (step m strings line.1).reply in
     record {
@@ -52,22 +52,23 @@ played_one before now now' text ends m strings line left so_far took =
       took = took_then before now now' so_far.written one so_far.took took;
       whole = append_assoc so_far.written one (text_from (step m strings line.1).after (strings_after m strings line.1) left) ∙ so_far.whole;
       ends = so_far.ends;
-      sized = so_far.sized.1 }
+      sized = so_far.sized.1;
+    }
 
 pub played_front : (before now now' : Option (List ℕ)) (text : List ℕ) (ends : List (List ℕ)) (m : Machine) (strings : List (List ℕ)) (line : ℕ × Event) (left : List (ℕ × Event)) →
-  IsPlayedTo before now text ends m strings (line ∷ left) → TookFront now now' (printed hosts (Some line.0) (step m strings line.1).reply) → TookFront before now' text
+    IsPlayedTo before now text ends m strings (line ∷ left) → TookFront now now' (printed hosts (Some line.0) (step m strings line.1).reply) → TookFront before now' text
 played_front before now now' text ends m strings line left so_far front =
     let one : List ℕ = printed hosts (Some line.0) (step m strings line.1).reply in
     subst (λ (x : List ℕ). TookFront before now' x) so_far.whole
-      (front_then before now now' so_far.written _ so_far.took (front_more now now' one (text_from (step m strings line.1).after (strings_after m strings line.1) left) front))
+    (front_then before now now' so_far.written _ so_far.took (front_more now now' one (text_from (step m strings line.1).after (strings_after m strings line.1) left) front))
 
 pub played_end : (before now now' : Option (List ℕ)) (text : List ℕ) (ends : List (List ℕ)) (m : Machine) (strings : List (List ℕ)) →
-  IsPlayedTo before now text ends m strings [] → Took now now' (end_text hosts m) → Took before now' text
+    IsPlayedTo before now text ends m strings [] → Took now now' (end_text hosts m) → Took before now' text
 played_end before now now' text ends m strings so_far took =
     subst (λ (x : List ℕ). Took before now' x) so_far.whole (took_then before now now' so_far.written (end_text hosts m) so_far.took took)
 
 pub played_end_front : (before now now' : Option (List ℕ)) (text : List ℕ) (ends : List (List ℕ)) (m : Machine) (strings : List (List ℕ)) →
-  IsPlayedTo before now text ends m strings [] → TookFront now now' (end_text hosts m) → TookFront before now' text
+    IsPlayedTo before now text ends m strings [] → TookFront now now' (end_text hosts m) → TookFront before now' text
 played_end_front before now now' text ends m strings so_far front =
     subst (λ (x : List ℕ). TookFront before now' x) so_far.whole (front_then before now now' so_far.written (end_text hosts m) so_far.took front)
 

@@ -28,7 +28,8 @@ pub so_far_then : (a b c : Option (List ℕ)) (text left : List ℕ) (n : ℕ) �
 so_far_then a b c text left n before more = record {
   written = before.written ++ take n left;
   whole = append_assoc before.written (take n left) (drop n left) ∙ ap (λ (x : List ℕ). before.written ++ x) (take-append-drop n left) ∙ before.whole;
-  took = took_then a b c before.written (take n left) before.took more }
+  took = took_then a b c before.written (take n left) before.took more;
+}
 
 pub so_far_front : (a b : Option (List ℕ)) (text left : List ℕ) → TookSoFar a b text left → TookFront a b text
 so_far_front a b text left s = record { written = s.written; left = left; whole = s.whole; took = s.took }
@@ -47,14 +48,16 @@ front_then a b c x y first second = record {
   written = x ++ second.written;
   left = second.left;
   whole = append_assoc x second.written second.left ∙ ap (λ (z : List ℕ). x ++ z) second.whole;
-  took = took_then a b c x second.written first second.took }
+  took = took_then a b c x second.written first second.took;
+}
 
 pub front_more : (a b : Option (List ℕ)) (x y : List ℕ) → TookFront a b x → TookFront a b (x ++ y)
 front_more a b x y front = record {
   written = front.written;
   left = front.left ++ y;
   whole = sym (append_assoc front.written front.left y) ∙ ap (λ (z : List ℕ). z ++ y) front.whole;
-  took = front.took }
+  took = front.took;
+}
 
 pub on_err : {T E P : Type 0} (r : Result T E) → P → OnErr r P
 on_err (Ok x) p = tt

@@ -2,6 +2,7 @@ use Rattle.std.specs.Prelude.{◌≡◌, ℕ, ◌<◌, ◌≤◌, ◌⊎◌, Lis
 use Rattle.mqb_outside.specs.Faults.{Rose}
 use Rattle.mqb_outside.specs.Told.{Gave, Took}
 use Rattle.mqb_script.specs.declared.events.Event.{Event}
+use Rattle.mqb_script.specs.declared.reading.LineKind.{LineKind}
 use Rattle.mqb_script.specs.Grammar.{script_of}
 use Rattle.mqb_script.specs.Reading.{LONGEST}
 use Rattle.mqb_world.specs.Machine.{beginning}
@@ -21,6 +22,10 @@ version_text = codes "mqb 0.1.0\n"
 -- The text was written and the program ended so, or a front of it was, and the output failed.
 abbrev pub Tells : List ℕ → Status → Option (List ℕ) → Option (List ℕ) → Status → Type 0
 Tells text end before after r = ((r ≡ end) × Took before after text) ⊎ ((r ≡ status.WriteFault) × TookFront before after text)
+
+-- The fault line of a script was written, or memory ran out before.
+abbrev pub TellsLine : ℕ → LineKind → Option (List ℕ) → Option (List ℕ) → Status → Type 0
+TellsLine line kind before after r = Tells (script_fault_text line) (status.Script line kind) before after r ⊎ ((r ≡ status.Memory) × (after ≡ before))
 
 -- where it is told what is left of the input, nothing is
 abbrev pub IsAtEnd : Option (List ℕ) → Type 0
@@ -74,6 +79,11 @@ ReadFaultHasCause before after _ = Unit {0}
 abbrev pub WriteFaultHasCause : ℕ → ℕ → Status → Type 0
 WriteFaultHasCause before after status.WriteFault = Rose before after
 WriteFaultHasCause before after _ = Unit {0}
+
+-- an end that is no write fault
+abbrev pub IsPlain : Status → Type 0
+IsPlain status.WriteFault = ⊥
+IsPlain _ = Unit {0}
 
 -- and with a usage fault only where the words are no command
 abbrev pub UsageHasCause : Option Command → Status → Type 0

@@ -5,10 +5,10 @@ use Rattle.mqb.specs.declared.words.Command.TheVariants.{Replay, Help, Version}
 
 abbrev pub command_named : List ℕ → Option Command
 command_named word =
-  if same_bytes word (codes "replay") then Some Replay
-  else if same_bytes word (codes "--help") then Some Help
-  else if same_bytes word (codes "--version") then Some Version
-  else None
+    if same_bytes word (codes "replay") then Some Replay
+    else if same_bytes word (codes "--help") then Some Help
+    else if same_bytes word (codes "--version") then Some Version
+    else None
 
 -- the command of the words of a command line, which is one word
 abbrev pub command_of : List (List ℕ) → Option Command

@@ -85,7 +85,12 @@ fn turn<K: Sink, M: Medium>(
 }
 
 /// Writes the last lines of a transcript.
-fn end<K: Sink>(alloc: Global, world: &World, hosts: &[Identity], out: &mut K) -> Result<(), PlayFault>
+fn end<K: Sink>(
+    alloc: Global,
+    world: &World,
+    hosts: &[Identity],
+    out: &mut K,
+) -> Result<(), PlayFault>
     ensures whole { OnOk result (Took (K.taken out.old) (K.taken out.new) (end_text hosts.now world.now)) }
     ensures front { OnErr result (TookFront (K.taken out.old) (K.taken out.new) (end_text hosts.now world.now)) }
     ensures cause { PlayCause (K.write_faults out.old) (K.write_faults out.new) result }
