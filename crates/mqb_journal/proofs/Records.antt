@@ -1,12 +1,16 @@
 -- What an image with a record more or less stands for.
-use Rattle.std.proofs.Common.{◌≡◌, ◌≢◌, inl, inr, ⊎_elim, ℕ, ◌+◌, ◌≤◌, List, [], ◌∷◌, ◌++◌, length, sym, ◌∙◌, ap, subst, arith, append_assoc, length-append}
+use Rattle.std.proofs.Common.{◌≡◌, ◌≢◌, inl, inr, ⊎_elim, ℕ, ◌+◌, ◌≤◌, ◌<◌, List, [], ◌∷◌, ◌++◌, length, take, drop, sym, ◌∙◌, ap, subst, arith, append_assoc, length-append}
 use Rattle.std.specs.List.{All}
 use Rattle.std.specs.Int.{to_le_bytes, w32}
-use Rattle.std.proofs.lemmas.List.{append-nil}
+use Rattle.std.proofs.lemmas.List.{append-nil, take-append-drop}
 use Rattle.std.proofs.lemmas.List.Elements.{All-push}
-use Rattle.mqb_devices.specs.Disk.{View, LeavesOnly}
+use Rattle.mqb_devices.specs.Disk.{View, IsSettled, LeavesOnly, OnlyReads}
 use Rattle.mqb_devices.proofs.Runs.{weaker}
 use Rattle.mqb_journal.specs.Gates.{HasClosedGate, HasRecord, ClosedOrWhole}
+use Rattle.mqb_devices.specs.Images.{Each}
+use Rattle.mqb_journal.specs.Scan.{IsClosedAt}
+use Rattle.mqb_journal.specs.Journals.{IsAt}
+use Rattle.mqb_journal.specs.declared.journal.Journal.{Journal}
 use Rattle.mqb_journal.specs.Store.{header, framed, chain, StandsFor, IsBeforeOrAfter}
 
 -- a record within the limit
@@ -60,3 +64,38 @@ run_before_or_after old new guid records entry block small fits is run =
 pub length-chain-push : (records : List (List ℕ)) (entry : List ℕ) → length (chain (records ++ entry ∷ [])) ≡ length (chain records) + length (block_of entry)
 length-chain-push records entry =
     ap length (chain-push records entry) ∙ omega (arith, length-append (chain records) (framed entry), length-append (to_le_bytes w32 (length entry)) entry, length-append (to_le_bytes w32 (length entry) ++ entry) (0 ∷ []))
+
+pub length-chain-more : (records : List (List ℕ)) (entry : List ℕ) → length (chain (records ++ entry ∷ [])) ≡ length (chain records) + 5 + length entry
+length-chain-more records entry =
+    length-chain-push records entry ∙ omega (arith, length-append (to_le_bytes w32 (length entry)) entry, length-append (to_le_bytes w32 (length entry) ++ entry) (0 ∷ []))
+
+-- each record takes a byte at least
+pub count_within : (records : List (List ℕ)) → length records ≤ length (chain records)
+count_within [] = omega arith
+count_within (first ∷ records) = omega (arith, count_within records, length-append (framed first) (chain records))
+
+-- what stands behind the header, one record on
+pub chained_more : (records : List (List ℕ)) (entry rest behind later : List ℕ) → rest ≡ chain records ++ behind → behind ≡ framed entry ++ later → rest ≡ chain (records ++ entry ∷ []) ++ later
+chained_more records entry rest behind later is next =
+    is ∙ ap (λ (l : List ℕ). chain records ++ l) next ∙ sym (append_assoc (chain records) (framed entry) later) ∙ ap (λ (l : List ℕ). l ++ later) (sym (chain-push records entry))
+
+-- what was read up to a gate that is not open
+pub stands_read : (guid : List ℕ) (records : List (List ℕ)) (gate : ℕ) (c : List ℕ) → All IsSmall records → take 24 c ≡ header guid → drop 24 c ≡ chain records ++ drop gate c → IsClosedAt gate c → StandsFor guid records c
+stands_read guid records gate c small head chained shut = record {
+  gate = shut.byte;
+  rest = drop (gate + 1) c;
+  closed = shut.closed;
+  small = small;
+  is = sym (take-append-drop 24 c) ∙ ap (λ (l : List ℕ). l ++ drop 24 c) head ∙ ap (λ (l : List ℕ). header guid ++ l) (chained ∙ ap (λ (l : List ℕ). chain records ++ l) shut.is)
+      ∙ sym (append_assoc (header guid) (chain records) (shut.byte ∷ drop (gate + 1) c));
+}
+
+-- a disk that was only read stays settled
+pub settled_read : (old new : View) → OnlyReads old new → IsSettled old → IsSettled new
+settled_read old new reads settled c left = reads.unchanged.reads.none_lost c (settled c (reads.unchanged.leaves.none_new c left))
+
+-- the gate behind the records is there
+pub gate_within : (d : View) (journal : Journal) (records : List (List ℕ)) → IsAt d journal records → Each d.reads (λ c. journal.end < length c)
+gate_within d journal records at c told =
+    let stands = at.stands c told in
+    omega (arith, at.end, ap length stands.is, length-append (front_of journal.guid.0 records) (stands.gate ∷ stands.rest), length-front journal.guid.0 records)

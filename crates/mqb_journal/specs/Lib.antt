@@ -1,3 +1,4 @@
 pub mod Store
 pub mod Gates
 pub mod Journals
+pub mod Scan

@@ -6,9 +6,13 @@ use Rattle.std.specs.Int.{to_le_bytes, w32}
 abbrev pub places : List ℕ
 places = 3 ∷ 2 ∷ 1 ∷ 0 ∷ 5 ∷ 4 ∷ 7 ∷ 6 ∷ 8 ∷ 9 ∷ 10 ∷ 11 ∷ 12 ∷ 13 ∷ 14 ∷ 15 ∷ []
 
--- `MQBJ`, the version 1, and the GUID in wire form
+-- `MQBJ`, and the version 1
+abbrev pub MAGIC : List ℕ
+MAGIC = 77 ∷ 81 ∷ 66 ∷ 74 ∷ 1 ∷ 0 ∷ 0 ∷ 0 ∷ []
+
+-- these, and the GUID in wire form
 abbrev pub header : List ℕ → List ℕ
-header guid = 77 ∷ 81 ∷ 66 ∷ 74 ∷ 1 ∷ 0 ∷ 0 ∷ 0 ∷ map (slice_index guid) places
+header guid = MAGIC ++ map (slice_index guid) places
 
 -- an open gate, a record's length and its bytes
 abbrev pub framed : List ℕ → List ℕ

@@ -1,18 +1,17 @@
-ghost use Rattle.std.specs.Prelude.{◌≡◌, ◌↔◌, ◌+◌, ◌^◌, ◌<◌, ◌≤◌, ℕ, List, [], ◌∷◌, ◌++◌, length, vec_capacity, true, false, Err, IfOk, OnOk, OnErr};
+ghost use Rattle.std.specs.Prelude.{◌≡◌, ◌↔◌, ◌+◌, ◌^◌, ◌<◌, ◌≤◌, ℕ, List, [], ◌∷◌, ◌++◌, length, vec_capacity, true, false, unwrap_or, slice_get, Err, IfOk, OnOk, OnErr};
 ghost use Rattle.std.specs.Int.{to_le_bytes, w32};
 ghost use Rattle.mqb_outside.specs.Faults.{Rose};
 ghost use Rattle.mqb_devices.specs.Images.{Each};
-ghost use Rattle.mqb_devices.specs.Disk.{LeavesOnly, OnlyReads};
+ghost use Rattle.mqb_devices.specs.Disk.{IsSettled, LeavesOnly, OnlyReads};
 
 use crate::durable::{write_behind, write_durably};
 use crate::faults::{AppendFault, OpenFault};
 use crate::header::empty_store;
+use crate::record::Records;
+use crate::scan::{MAX_RECORD, header_at, next_record};
 use mqb_base::{Guid, Memory};
 use mqb_devices::Disk;
 use std::alloc::Global;
-
-/// The longest record.
-const MAX_RECORD: usize = 8_388_608;
 
 /// What a record of 128 bytes takes: its length, its bytes and a gate.
 const FIRST_BLOCK: usize = 133;
@@ -26,13 +25,16 @@ pub struct Journal {
     lsn: u64,
     down: bool,
     block: Vec<u8>,
+    // The records that were read, until they are dropped.
+    kept: Records,
     ghost within: { end < 2 ^ 62 },
     ghost count: { lsn ≤ end },
 }
 
 impl Journal {
-    ghost use Rattle.mqb_journal.specs.Store.{IsBeforeOrAfter};
+    ghost use Rattle.mqb_journal.specs.Store.{StandsFor, IsBeforeOrAfter};
     ghost use Rattle.mqb_journal.specs.Journals.{IsAt, room, Refused, DiskFaults};
+    ghost use Rattle.mqb_journal.specs.Scan.{IsBadStore, OpenFaults};
 
     /// Makes an empty disk a store without records.
     pub fn format<D: Disk>(alloc: Global, disk: &mut D, guid: Guid) -> Result<Journal, OpenFault>
@@ -58,7 +60,55 @@ impl Journal {
             lsn: 0,
             down: false,
             block,
+            kept: Records::new(alloc),
         })
+    }
+
+    /// Reads the store on a disk. The records are kept until they are dropped.
+    pub fn start<D: Disk>(alloc: Global, disk: &mut D) -> Result<Journal, OpenFault>
+        ensures started { IfOk result (λ journal. Each (D.view disk.old).reads (StandsFor journal.guid.0 journal.kept)) }
+        ensures goes_on { IsSettled (D.view disk.old) → IfOk result (λ journal. IsAt (D.view disk.new) journal journal.kept) }
+        ensures bad { (at : ℕ) → result ≡ Err (OpenFault.BadStore at) → Each (D.view disk.old).reads (IsBadStore at) }
+        ensures reads { OnlyReads (D.view disk.old) (D.view disk.new) }
+        ensures cause { OpenFaults (D.view disk.old).faults (D.view disk.new).faults result }
+        ensures not_empty { result ≡ Err OpenFault.NotEmpty → ⊥ }
+    {
+        let len = disk.len()?;
+        if len < 25 {
+            return Err(OpenFault::BadStore { at: 0 });
+        }
+        let Some(guid) = header_at(disk)? else {
+            return Err(OpenFault::BadStore { at: 0 });
+        };
+        let mut kept = Records::new(alloc);
+        let mut gate = 24;
+        'records: while let Some(record) = next_record(alloc, disk, gate, len)? {
+            gate += 5 + record.len() as u64;
+            kept.push(record)?;
+        }
+        Ok(Journal {
+            guid,
+            end: gate,
+            lsn: kept.len() as u64,
+            down: false,
+            block: Vec::new(alloc),
+            kept,
+        })
+    }
+
+    /// The bytes of record `k`, counted from 0, of those that `start` read.
+    pub fn entry_bytes(&self, k: u64) -> &[u8]
+        requires { k < self.now.lsn }
+        ensures { result.now ≡ unwrap_or (slice_get self.now.kept k) [] }
+    {
+        self.kept.get(k)
+    }
+
+    /// Drops the bytes of the records that `start` read.
+    pub fn forget(&mut self)
+        ensures { self.new ≡ record self.old { kept = [] } }
+    {
+        self.kept.clear();
     }
 
     /// Adds a record, by four calls of the disk. At `Ok` each crash from then on leaves it.
@@ -125,3 +175,6 @@ fn frame(block: &mut Vec<u8>, entry: &[u8]) -> Result<(), Memory>
     block.push(0)?;
     Ok(())
 }
+
+#[cfg(test)]
+mod tests;

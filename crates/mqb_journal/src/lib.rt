@@ -9,6 +9,8 @@ mod durable;
 mod faults;
 mod header;
 mod journal;
+mod record;
+mod scan;
 
 pub use faults::{AppendFault, OpenFault};
 pub use journal::Journal;
