@@ -8,8 +8,10 @@ mod change;
 mod image;
 mod memory_disk;
 mod switch;
+mod trace_disk;
 
 pub use memory_disk::MemoryDisk;
+pub use trace_disk::TraceDisk;
 
 #[cfg(test)]
 mod tests;

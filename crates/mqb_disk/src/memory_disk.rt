@@ -13,7 +13,7 @@ use std::alloc::Global;
 const MAX_CHANGES: usize = 64;
 
 /// No disk is longer.
-const MAX_LEN: usize = 1 << 62;
+pub(crate) const MAX_LEN: usize = 1 << 62;
 
 /// A disk in memory whose power can be cut off. It begins empty.
 ///

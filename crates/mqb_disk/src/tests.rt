@@ -1,4 +1,4 @@
-use crate::MemoryDisk;
+use crate::{MemoryDisk, TraceDisk};
 use mqb_base::Failed;
 use mqb_devices::{Disk, Mode, Pick, Power};
 use std::alloc::{AllocError, Global};
@@ -84,5 +84,19 @@ fn limits(rt: HostRuntime) -> Result<(), Fail> {
     assert_eq!(rt; write(&mut disk, 0, b"x"), Err(Failed));
     assert_eq!(rt; disk.sync(), Ok(()));
     assert_eq!(rt; write(&mut disk, 0, b"x"), Ok(()));
+    Ok(())
+}
+
+#[test]
+fn a_trace_keeps_its_calls(rt: HostRuntime) -> Result<(), Fail> {
+    let alloc = rt.alloc();
+    let mut disk = TraceDisk::new(alloc, 16, 8)?;
+    assert_eq!(rt; write(&mut disk, 0, b"abcd"), Ok(()));
+    assert_eq!(rt; disk.sync(), Ok(()));
+    assert_eq!(rt; cut(&mut disk, 2), Ok(()));
+    assert!(rt; holds(alloc, &mut disk, b"ab")?);
+    assert_eq!(rt; disk.reads(), [(0, 2)].as_slice());
+    assert_eq!(rt; disk.sync(), Ok(()));
+    assert!(rt; disk.len().is_err());
     Ok(())
 }
