@@ -1,0 +1,42 @@
+ghost use Rattle.std.specs.Prelude.{◌≡◌, ◌<◌, ◌≤◌, ℕ, List, [], Option, length, take, IfOk, IfSome, OnErr};
+ghost use Rattle.mqb_outside.specs.Told.{Gave, Took};
+ghost use Rattle.mqb_outside.specs.Faults.{HasCause};
+
+use mqb_base::Failed;
+use mqb_outside::{Sink, Source};
+
+/// A connection: a source and a sink, each with its own count of faults.
+///
+/// `receive` and `send` are `read` and `write` with what these cannot say of the other half: a receive leaves what was sent, and a send leaves what
+/// is still to come.
+pub trait Conn: Source + Sink {
+    /// What it held when it was given, where it tells that.
+    ghost given: { Self → Option (List ℕ) };
+
+    /// The address that was asked for, where it tells one.
+    ghost address: { Self → Option (List ℕ) };
+
+    /// Fills the front of `buf`, and says how much of it. For a `buf` that is not empty, 0 is the end of what comes.
+    fn receive(&mut self, buf: &mut [u8]) -> Result<usize, Failed>
+        ensures within { IfOk result (λ n. n ≤ length buf.old) }
+        ensures gave { IfOk result (λ n. Gave (Self.held self.old) (Self.held self.new) (take n buf.new)) }
+        ensures ended { IfOk result (λ n. n ≡ 0 → 0 < length buf.old → IfSome (Self.held self.old) (λ rest. rest ≡ [])) }
+        ensures unchanged { OnErr result (Self.held self.new ≡ Self.held self.old) }
+        ensures cause { HasCause (Self.read_faults self.old) (Self.read_faults self.new) result }
+        ensures taken { Self.taken self.new ≡ Self.taken self.old }
+        ensures write_faults { Self.write_faults self.new ≡ Self.write_faults self.old }
+        ensures given { given self.new ≡ given self.old }
+        ensures address { address self.new ≡ address self.old };
+
+    /// Takes a front of `bytes`, and says how much of it: at least one byte, where there is one.
+    fn send(&mut self, bytes: &[u8]) -> Result<usize, Failed>
+        ensures within { IfOk result (λ n. n ≤ length bytes.now) }
+        ensures some { IfOk result (λ n. 0 < length bytes.now → 0 < n) }
+        ensures took { IfOk result (λ n. Took (Self.taken self.old) (Self.taken self.new) (take n bytes.now)) }
+        ensures unchanged { OnErr result (Self.taken self.new ≡ Self.taken self.old) }
+        ensures cause { HasCause (Self.write_faults self.old) (Self.write_faults self.new) result }
+        ensures held { Self.held self.new ≡ Self.held self.old }
+        ensures read_faults { Self.read_faults self.new ≡ Self.read_faults self.old }
+        ensures given { given self.new ≡ given self.old }
+        ensures address { address self.new ≡ address self.old };
+}

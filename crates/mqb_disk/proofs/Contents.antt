@@ -1,0 +1,42 @@
+-- What the buffer of an image holds after a call.
+use Rattle.std.proofs.Common.{◌≡◌, ℕ, ◌+◌, ◌-◌, ◌≤◌, max, List, ◌++◌, length, take, drop, replicate, sym, ◌∙◌, ap, arith, length-append, length-drop, append_assoc}
+use Rattle.std.proofs.lemmas.List.{length-take-le, length-replicate, take_at, take-take, take-append-drop}
+use Rattle.std.proofs.lemmas.Slice.{between_is}
+use Rattle.mqb_devices.specs.Images.{Torn}
+use Rattle.mqb_devices.proofs.Steps.{written_torn}
+use Rattle.std.proofs.Math.Seq.{take-append-add}
+
+-- a part of the front of a list
+pub drop_take_any : (n len : ℕ) (l : List ℕ) → drop n (take len l) ≡ take (len - n) (drop n l)
+drop_take_any n len l = sym (between_is l n len)
+
+-- bytes that were written over a buffer stand in its contents
+pub written_front : (at len : ℕ) (bytes buffer : List ℕ) → at ≤ len → len ≤ length buffer → take (max len (at + length bytes)) (take at buffer ++ bytes ++ drop (at + length bytes) buffer) ≡ take at (take len buffer) ++ bytes ++ drop (at + length bytes) (take len buffer)
+written_front at len bytes buffer place within =
+    let front : List ℕ = take at buffer ++ bytes in
+    let size : length front ≡ at + length bytes = omega (arith, length-append (take at buffer) bytes, length-take-le at buffer (omega arith)) in
+    let rest : ℕ = len - (at + length bytes) in
+    let end : max len (at + length bytes) ≡ length front + rest = omega (arith, size) in
+    ap (λ (n : ℕ). take n (front ++ drop (at + length bytes) buffer)) end
+    ∙ take-append-add front (drop (at + length bytes) buffer) rest
+    ∙ ap (λ (l : List ℕ). front ++ l) (sym (drop_take_any (at + length bytes) len buffer))
+    ∙ ap (λ (l : List ℕ). l ++ bytes ++ drop (at + length bytes) (take len buffer)) (sym (take-take at len buffer place))
+
+pub filled_torn : (at len n : ℕ) (buffer : List ℕ) → at ≤ len → len ≤ length buffer → at + n ≤ length buffer → Torn at n (take len buffer) (take (max len (at + n)) (take at buffer ++ replicate n 1 ++ drop (at + n) buffer))
+filled_torn at len n buffer place within fits =
+    let ones : List ℕ = replicate n 1 in
+    let size : length ones ≡ n = length-replicate n 1 in
+    let is : take (max len (at + n)) (take at buffer ++ ones ++ drop (at + n) buffer) ≡ take at (take len buffer) ++ ones ++ drop (at + length ones) (take len buffer) =
+    ap (λ (k : ℕ). take (max len (at + k)) (take at buffer ++ ones ++ drop (at + k) buffer)) (sym size) ∙ written_front at len ones buffer place within in
+    written_torn at n ones (take len buffer) _ (omega (arith, length-take-le len buffer within)) (omega (arith, size)) is
+
+-- a buffer that takes the rest of another, which it is like up to there
+pub followed : (from : ℕ) (buffer other : List ℕ) → from ≤ length other → length other ≤ length buffer → take from buffer ≡ take from other → take (length other) (take from buffer ++ drop from other ++ drop (from + length (drop from other)) buffer) ≡ other
+followed from buffer other place fits alike =
+    let front : List ℕ = take from buffer ++ drop from other in
+    let size : length front ≡ length other = omega (arith, length-append (take from buffer) (drop from other), length-take-le from buffer (omega arith), length-drop from other) in
+    take_at front (drop (from + length (drop from other)) buffer) (length other) size
+    ∙ ap (λ (l : List ℕ). l ++ drop from other) alike ∙ take-append-drop from other
+
+pub alike_fronts : (from len : ℕ) (buffer other : List ℕ) → from ≤ len → take from (take len buffer) ≡ take from other → take from buffer ≡ take from other
+alike_fronts from len buffer other place alike = sym (take-take from len buffer place) ∙ alike

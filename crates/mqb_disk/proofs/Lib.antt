@@ -1,0 +1,3 @@
+pub mod Contents
+pub mod Tears
+pub mod Histories

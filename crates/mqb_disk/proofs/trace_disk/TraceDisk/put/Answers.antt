@@ -1,0 +1,27 @@
+use Rattle.std.proofs.Common.{◌≡◌, ◌+◌, ◌≤◌, ◌++◌, ℕ, List, length, take, drop, vec_len, sym, ◌∙◌, ap, subst, arith}
+use Rattle.std.specs.List.{All}
+use Rattle.mqb_disk.specs.History.{fits, held}
+use Rattle.mqb_disk.specs.declared.trace_disk.Call.{Call}
+use Rattle.mqb_disk.proofs.Histories.{history_wrote, fits_more}
+use Rattle.mqb_disk.proofs.trace_disk.TraceDisk.put.Goals as goal
+
+pub returns-clause-kept : goal.returns-clause-kept
+returns-clause-kept c =
+    let kept = c.args.self.now.bytes in
+    let size : vec_len kept ≡ length kept.items = omega arith in
+    history_wrote kept.items _ c.args.bytes.now c.args.self.now.calls.items _ c.args.at c.len.result (subst (λ (k : ℕ). All (fits k) c.args.self.now.calls.items) size c.args.self.now.within) (omega (arith, c.len.ensures)) c.in-Ok.ensures.items c.push_reserved.ensures.items
+
+pub invariant_of-self : goal.invariant_of-self
+invariant_of-self c =
+    let kept = c.args.self.now.bytes in
+    let bytes = c.args.bytes.now in
+    let size : vec_len kept ≡ length kept.items = omega arith in
+    let history_is = history_wrote kept.items c.extend_from_slice.new.self.items bytes c.args.self.now.calls.items c.push_reserved.new.self.items c.args.at c.len.result (subst (λ (k : ℕ). All (fits k) c.args.self.now.calls.items) size c.args.self.now.within) (omega (arith, c.len.ensures)) c.in-Ok.ensures.items c.push_reserved.ensures.items in
+    let larger : ℕ = vec_len c.extend_from_slice.new.self in
+    record {
+      within = subst (λ (l : List Call). All (fits larger) l) (sym c.push_reserved.ensures.items)
+          (fits_more (vec_len kept) larger c.args.self.now.calls.items _ (omega (arith, c.in-Ok.ensures.len)) c.args.self.now.within (omega (arith, c.len.ensures, c.in-Ok.ensures.len)));
+      same = c.write.ensures.written ∙ ap (λ (l : List ℕ). take c.args.at l ++ bytes ++ drop (c.args.at + length bytes) l) c.args.self.now.same ∙ ap held (sym history_is);
+      calls_room = omega (arith, c.push_reserved.ensures.len, c.push_reserved.ensures.capacity, c.args.self.now.calls_room, c.requires.left);
+      reads_room = omega (arith, c.args.self.now.reads_room);
+    }

@@ -1,0 +1,13 @@
+use Rattle.std.proofs.Common.{refl}
+use Rattle.mqb_disk.specs.History.{history}
+use Rattle.mqb_disk.proofs.Histories.{quiet_time, quiet_cut, kept_cut}
+use Rattle.mqb_disk.proofs.trace_disk.TraceDiskDisk.cut.Goals as goal
+
+pub returns-then-self-eq0-clause-time : goal.returns-then-self-eq0-clause-time
+returns-then-self-eq0-clause-time c = quiet_time (history c.args.self.now.bytes.items c.args.self.now.calls.items) _ _ _ c.fail.ensures.kept
+
+pub returns-then-self-eq0-clause-leaves : goal.returns-then-self-eq0-clause-leaves
+returns-then-self-eq0-clause-leaves c = quiet_cut (history c.args.self.now.bytes.items c.args.self.now.calls.items) _ c.args.len c.fail.ensures.kept
+
+pub returns-clause-leaves : goal.returns-clause-leaves
+returns-clause-leaves c = kept_cut (history c.args.self.now.bytes.items c.args.self.now.calls.items) _ c.args.len c.shorten.ensures.kept

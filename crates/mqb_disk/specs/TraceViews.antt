@@ -1,0 +1,53 @@
+use Rattle.std.specs.Prelude.{◌≡◌, ℕ, ◌≤◌, List, [], ◌∷◌, length, true, None, refl}
+use Rattle.std.proofs.Common.{inl, inr, ⊎_elim, sym, ◌∙◌, subst, arith}
+use Rattle.mqb_devices.specs.Disk.{View, Lawful}
+use Rattle.mqb_disk.specs.History.{Event, Wrote, WasCut, Synced, history, held, ImageAt, Since}
+use Rattle.mqb_disk.specs.declared.trace_disk.TraceDisk.{TraceDisk}
+
+pub is_left : (events : List Event) → ImageAt events (held events)
+is_left [] = refl
+is_left (Wrote at bytes ∷ events) = inl refl
+is_left (WasCut n ∷ events) = inl refl
+is_left (Synced ∷ events) = refl
+
+pub since_within : (events : List Event) (t : ℕ) (c : List ℕ) → Since events t c → t ≤ length events
+since_within [] t c since = since.0
+since_within (event ∷ events) t c since = ⊎_elim (λ now. now.0) (λ before. (let le : t ≤ length events = since_within events t c before in omega arith)) since
+
+pub since_now : (events : List Event) (c : List ℕ) → Since events (length events) c → ImageAt events c
+since_now [] c since = since.1
+since_now (event ∷ events) c since = ⊎_elim (λ now. now.1) (λ before. absurd (let le : length (event ∷ events) ≤ length events = since_within events (length (event ∷ events)) c before in omega arith)) since
+
+pub counts_now : (events : List Event) (t : ℕ) (c : List ℕ) → t ≤ length events → ImageAt events c → Since events t c
+counts_now [] t c le image = (le, image)
+counts_now (event ∷ events) t c le image = inl (le, image)
+
+-- what a disk tells after these events
+abbrev pub view_of : List Event → ℕ → View
+view_of events faults = record {
+  reads = λ c. c ≡ held events;
+  leaves = ImageAt events;
+  moment = length events;
+  since = Since events;
+  keeps_calls = true;
+  faults = faults;
+  switch = record { arms = 0; restarts = 0; last_pick = None };
+}
+
+abbrev pub trace_view : TraceDisk → View
+trace_view d = view_of (history d.bytes.items d.calls.items) d.faults
+
+pub lawful_of : (events : List Event) (faults : ℕ) → Lawful (view_of events faults)
+lawful_of events faults = record {
+  one = λ a b is other. is ∙ sym other;
+  is_left = λ c is. subst (ImageAt events) (sym is) (is_left events);
+  only_now = λ c left. since_now events c left;
+  counts_now = λ keeps t le c left. counts_now events t c le left;
+}
+
+pub trace_lawful : (d : TraceDisk) → Lawful (trace_view d)
+trace_lawful d = lawful_of (history d.bytes.items d.calls.items) d.faults
+
+-- the place and the length of each read so far
+abbrev pub reads_of : TraceDisk → List (ℕ × ℕ)
+reads_of d = d.reads.items

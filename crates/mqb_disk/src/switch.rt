@@ -1,0 +1,133 @@
+ghost use Rattle.std.specs.Prelude.{◌≡◌, ◌≤◌, Some, None, true, false};
+ghost use Rattle.mqb_outside.specs.Faults.{Rose};
+ghost use Rattle.mqb_devices.specs.Disk.{Counted};
+
+use mqb_devices::{Mode, Pick};
+
+/// What comes of a device call.
+#[derive(Clone, Copy, Debug, PartialEq, Eq)]
+pub(crate) enum Turn {
+    Works,
+    /// It fails without effect.
+    Fails,
+    /// It takes place, and the power is cut off.
+    Stops,
+}
+
+/// The power switch of a disk, with its count of faults.
+#[derive(Debug, Drop)]
+pub(crate) struct PowerSwitch {
+    pub(crate) armed: Option<(u32, Mode)>,
+    pub(crate) stopped: bool,
+    pub(crate) restart_is_armed: bool,
+    pub(crate) fails_next: bool,
+    pub(crate) faults: u64,
+    pub(crate) arms: u64,
+    pub(crate) restarts: u64,
+    pub(crate) last_pick: Option<Pick>,
+}
+
+impl PowerSwitch {
+    pub(crate) fn new() -> PowerSwitch
+        ensures armed { result.armed ≡ None }
+        ensures stopped { result.stopped ≡ false }
+        ensures faults { result.faults ≡ 0 }
+        ensures arms { result.arms ≡ 0 }
+        ensures restarts { result.restarts ≡ 0 }
+        ensures pick { result.last_pick ≡ None }
+    {
+        PowerSwitch {
+            armed: None,
+            stopped: false,
+            restart_is_armed: false,
+            fails_next: false,
+            faults: 0,
+            arms: 0,
+            restarts: 0,
+            last_pick: None,
+        }
+    }
+
+    /// Counts a device call, and says what comes of it. One that fails or stops is counted as a fault.
+    pub(crate) fn turn(&mut self) -> Turn
+        ensures works { result ≡ Turn.Works → self.new.faults ≡ self.old.faults }
+        ensures fails { result ≡ Turn.Fails → Rose self.old.faults self.new.faults }
+        ensures stops { result ≡ Turn.Stops → Rose self.old.faults self.new.faults }
+        ensures stopped { result ≡ Turn.Stops → self.new.stopped ≡ true }
+        ensures arms { self.new.arms ≡ self.old.arms }
+        ensures restarts { self.new.restarts ≡ self.old.restarts }
+        ensures pick { self.new.last_pick ≡ self.old.last_pick }
+    {
+        let turn = self.next_turn();
+        if turn != Turn::Works {
+            self.fault();
+        }
+        turn
+    }
+
+    fn next_turn(&mut self) -> Turn
+        ensures faults { self.new.faults ≡ self.old.faults }
+        ensures stopped { result ≡ Turn.Stops → self.new.stopped ≡ true }
+        ensures arms { self.new.arms ≡ self.old.arms }
+        ensures restarts { self.new.restarts ≡ self.old.restarts }
+        ensures pick { self.new.last_pick ≡ self.old.last_pick }
+    {
+        if self.stopped {
+            return Turn::Fails;
+        }
+        if self.fails_next {
+            self.fails_next = false;
+            return Turn::Fails;
+        }
+        match self.armed {
+            None => Turn::Works,
+            Some((call, mode)) if call > 1 => {
+                self.armed = Some((call - 1, mode));
+                Turn::Works
+            }
+            Some((_, Mode::Fail)) => {
+                self.armed = None;
+                Turn::Fails
+            }
+            Some((_, Mode::Stop)) => {
+                self.armed = None;
+                self.stopped = true;
+                Turn::Stops
+            }
+        }
+    }
+
+    pub(crate) fn fault(&mut self)
+        ensures fault { Rose self.old.faults self.new.faults }
+        ensures rest { self.new ≡ record self.old { faults = self.new.faults } }
+    {
+        self.faults = self.faults.saturating_add(1);
+    }
+
+    pub(crate) fn arm(&mut self, call: u32, mode: Mode)
+        ensures armed { self.new.armed ≡ Some (call, mode) }
+        ensures counted { Counted self.old.arms self.new.arms }
+        ensures rest { self.new ≡ record self.old { armed = self.new.armed; arms = self.new.arms } }
+    {
+        self.armed = Some((call, mode));
+        self.arms = self.arms.saturating_add(1);
+    }
+
+    /// The power is on again.
+    pub(crate) fn restart(&mut self, pick: Pick)
+        ensures armed { self.new.armed ≡ None }
+        ensures stopped { self.new.stopped ≡ false }
+        ensures counted { Counted self.old.restarts self.new.restarts }
+        ensures pick { self.new.last_pick ≡ Some pick }
+        ensures faults { self.new.faults ≡ self.old.faults }
+        ensures arms { self.new.arms ≡ self.old.arms }
+        ensures fails { self.new.fails_next ≡ self.old.restart_is_armed }
+    {
+        self.armed = None;
+        self.stopped = false;
+        self.fails_next = self.restart_is_armed;
+        self.restart_is_armed = false;
+        self.restarts = self.restarts.saturating_add(1);
+        self.last_pick = Some(pick);
+    }
+}

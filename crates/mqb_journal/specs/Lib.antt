@@ -1,0 +1,4 @@
+pub mod Store
+pub mod Gates
+pub mod Journals
+pub mod Scan

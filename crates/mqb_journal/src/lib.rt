@@ -1,0 +1,16 @@
+//! The journal of a store: a header, and behind it a chain of records, each on the disk before it is acknowledged.
+//!
+//! A record stands behind a gate. A closed gate stands behind the last record, on the disk before anything is written behind it: a record is written
+//! behind the closed gate first, together with a closed gate of its own, and then the gate before it is opened by a write of its own. So a crash at
+//! any moment leaves the records from before, with the new one or without.
+#![tactic(auto)]
+
+mod durable;
+mod faults;
+mod header;
+mod journal;
+mod record;
+mod scan;
+
+pub use faults::{AppendFault, OpenFault};
+pub use journal::Journal;
