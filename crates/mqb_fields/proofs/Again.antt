@@ -1,0 +1,53 @@
+-- What was put at a place is read there.
+use Rattle.std.proofs.Common.{◌≡◌, ℕ, ◌+◌, ◌-◌, ◌^◌, ◌<◌, ◌≤◌, Bool, true, false, cond, ltb, List, [], ◌∷◌, ◌++◌, length, take, drop, Result, Ok, Err, refl, sym, ap, ◌∙◌, append_assoc, zero, suc, slice_index, arith, length-append, length-drop, drop-cons}
+use Rattle.std.proofs.lemmas.Bool.{le-ltb}
+use Rattle.std.proofs.lemmas.List.{take_at, drop_at, length-take-le, append-nil, drop_all}
+use Rattle.byteorder.specs.Endian.{little_number}
+use Rattle.byteorder.specs.Numbers.{length-bytes_low_first, little_number-reads_back}
+use Rattle.mqb_fields.specs.declared.faults.Short.{Short}
+use Rattle.mqb_fields.specs.Reading.{◌>>=◌, Reading, part_at, number_at, guid_at}
+use Rattle.mqb_fields.specs.Writing.{put_at, bytes_of}
+use Rattle.mqb_fields.specs.Guids.{swapped}
+
+-- the rest of a list from the place of what was put
+drop-put_at : (to bytes : List ℕ) (at : ℕ) → at + length bytes ≤ length to → drop at (put_at to at bytes) ≡ bytes ++ drop (at + length bytes) to
+drop-put_at to bytes at room =
+    let front : length (take at to) ≡ at = length-take-le at to (omega arith) in
+    rw (append_assoc (take at to) bytes (drop (at + length bytes) to)) (drop_at (take at to) (bytes ++ drop (at + length bytes) to) at front)
+
+length-put_at : (to bytes : List ℕ) (at : ℕ) → at + length bytes ≤ length to → length (put_at to at bytes) ≡ length to
+length-put_at to bytes at room =
+    omega (arith, length-append (take at to ++ bytes) (drop (at + length bytes) to), length-append (take at to) bytes, length-take-le at to (omega arith), length-drop (at + length bytes) to)
+
+pub part_again : (to bytes : List ℕ) (at count : ℕ) → length bytes ≡ count → at + count ≤ length to
+    → part_at count (record { bytes = put_at to at bytes; at = at }) ≡ Ok (bytes, record { bytes = put_at to at bytes; at = at + count })
+part_again to bytes at count is_count room =
+    let enough : ltb (length (put_at to at bytes) - at) count ≡ false = le-ltb _ _ (omega (arith, length-put_at to bytes at (omega arith))) in
+    let part : take count (drop at (put_at to at bytes)) ≡ bytes =
+    rw (drop-put_at to bytes at (omega arith)) (take_at bytes (drop (at + length bytes) to) count is_count) in
+    rw (enough, part) refl
+
+pub number_again : (to : List ℕ) (at width number : ℕ) → at + width ≤ length to → number < 256 ^ width
+    → number_at width (record { bytes = put_at to at (bytes_of width number); at = at }) ≡ Ok (number, record { bytes = put_at to at (bytes_of width number); at = at + width })
+number_again to at width number room fits =
+    let bytes = bytes_of width number in
+    let back : little_number width bytes ≡ number = ap (little_number width) (sym (append-nil bytes)) ∙ little_number-reads_back width number [] fits in
+    rw (part_again to bytes at width (length-bytes_low_first 0 width number) room, back) refl
+
+-- the count members of a list from a place
+abbrev members : ℕ → ℕ → List ℕ → List ℕ
+members i zero list = []
+members i (suc count) list = slice_index list i ∷ members (suc i) count list
+
+members_all : (i count : ℕ) (list : List ℕ) → length list ≡ i + count → members i count list ≡ drop i list
+members_all i zero list len = sym (drop_all i list (omega arith))
+members_all i (suc count) list len =
+    let here : i < length list = omega arith in
+    rw (members_all (suc i) count list (omega arith), drop-cons list i 0) refl
+
+pub swapped_twice : (guid : List ℕ) → length guid ≡ 16 → swapped (swapped guid) ≡ guid
+swapped_twice guid len = members_all 0 16 guid len
+
+pub guid_again : (to guid : List ℕ) (at : ℕ) → at + 16 ≤ length to → length guid ≡ 16
+    → guid_at (record { bytes = put_at to at (swapped guid); at = at }) ≡ Ok (guid, record { bytes = put_at to at (swapped guid); at = at + 16 })
+guid_again to guid at room len = rw (part_again to (swapped guid) at 16 refl room, swapped_twice guid len) refl

@@ -1,0 +1,51 @@
+use Rattle.std.specs.Prelude.{◌≡◌, ℕ, ◌+◌, ◌-◌, List, length, take, drop, Result, Ok, Err, nat_lt, if◌then◌else◌}
+use Rattle.byteorder.specs.Endian.{little_number}
+use Rattle.mqb_fields.specs.declared.faults.Short.{Short}
+use Rattle.mqb_fields.specs.Guids.{swapped}
+
+-- a list of bytes, and the place up to which it was read
+pub record Reading : Type 0 where
+  pub bytes : List ℕ
+  pub at : ℕ
+
+infixl 10 ◌>>=◌
+abbrev pub ◌>>=◌ : {A B E : Type 0} → Result A E → (A → Result B E) → Result B E
+(Ok x) >>= f = f x
+(Err e) >>= f = Err e
+
+-- the next count bytes
+abbrev pub part_at : ℕ → Reading → Result (List ℕ × Reading) Short
+part_at count r = if nat_lt (length r.bytes - r.at) count
+    then Err (record { at = r.at })
+    else Ok (take count (drop r.at r.bytes), record r { at = r.at + count })
+
+-- where the next count bytes end
+abbrev pub after : ℕ → Reading → Result Reading Short
+after count r = do
+  part ← part_at count r
+  Ok part.1
+
+-- the number in the next width bytes, the lowest first
+abbrev pub number_at : ℕ → Reading → Result (ℕ × Reading) Short
+number_at width r = do
+  part ← part_at width r
+  Ok (little_number width part.0, part.1)
+
+-- a GUID, in the order of its text
+abbrev pub guid_at : Reading → Result (List ℕ × Reading) Short
+guid_at r = do
+  part ← part_at 16 r
+  Ok (swapped part.0, part.1)
+
+-- What a call that began at old and ended at new answered, seen by view, is what reading gives.
+abbrev pub ReadsAs : {X Y E : Type 0} → (X → Y) → (Reading → Result (Y × Reading) E) → Reading → Reading → Result X E → Type 0
+ReadsAs view read old new (Ok x) = read old ≡ Ok (view x, new)
+ReadsAs view read old new (Err e) = read old ≡ Err e
+
+abbrev pub Reads : {X E : Type 0} → (Reading → Result (X × Reading) E) → Reading → Reading → Result X E → Type 0
+Reads = ReadsAs (λ x. x)
+
+-- A call that skips count bytes answered so.
+abbrev pub Skips : {X : Type 0} → ℕ → Reading → Reading → Result X Short → Type 0
+Skips count old new (Ok _) = after count old ≡ Ok new
+Skips count old new (Err e) = after count old ≡ Err e
