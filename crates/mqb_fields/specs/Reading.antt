@@ -8,6 +8,14 @@ pub record Reading : Type 0 where
   pub bytes : List ℕ
   pub at : ℕ
 
+-- what is left
+abbrev pub rest_of : Reading → List ℕ
+rest_of r = drop r.at r.bytes
+
+-- some bytes on
+abbrev pub moved : ℕ → Reading → Reading
+moved count r = record r { at = r.at + count }
+
 infixl 10 ◌>>=◌
 abbrev pub ◌>>=◌ : {A B E : Type 0} → Result A E → (A → Result B E) → Result B E
 (Ok x) >>= f = f x
@@ -17,7 +25,7 @@ abbrev pub ◌>>=◌ : {A B E : Type 0} → Result A E → (A → Result B E) �
 abbrev pub part_at : ℕ → Reading → Result (List ℕ × Reading) Short
 part_at count r = if nat_lt (length r.bytes - r.at) count
     then Err (record { at = r.at })
-    else Ok (take count (drop r.at r.bytes), record r { at = r.at + count })
+    else Ok (take count (rest_of r), moved count r)
 
 -- where the next count bytes end
 abbrev pub after : ℕ → Reading → Result Reading Short
@@ -45,7 +53,7 @@ ReadsAs view read old new (Err e) = read old ≡ Err e
 abbrev pub Reads : {X E : Type 0} → (Reading → Result (X × Reading) E) → Reading → Reading → Result X E → Type 0
 Reads = ReadsAs (λ x. x)
 
--- A call that skips count bytes answered so.
-abbrev pub Skips : {X : Type 0} → ℕ → Reading → Reading → Result X Short → Type 0
-Skips count old new (Ok _) = after count old ≡ Ok new
-Skips count old new (Err e) = after count old ≡ Err e
+-- What a call that reads nothing answered, and where it ended, is where reading moves to.
+abbrev pub Moves : {X E : Type 0} → (Reading → Result Reading E) → Reading → Reading → Result X E → Type 0
+Moves move old new (Ok _) = move old ≡ Ok new
+Moves move old new (Err e) = move old ≡ Err e

@@ -1,5 +1,5 @@
 ghost use Rattle.std.specs.Prelude.{◌≡◌, OnErr};
-ghost use Rattle.mqb_fields.specs.Reading.{Reads, ReadsAs, Skips, number_at, guid_at, part_at};
+ghost use Rattle.mqb_fields.specs.Reading.{Moves, Reads, ReadsAs, after, guid_at, number_at, part_at, rest_of};
 
 use crate::faults::Short;
 use crate::guids::swapped;
@@ -38,6 +38,14 @@ impl<'a> Cursor<'a> {
         self.at
     }
 
+    /// The bytes that are left.
+    pub fn rest(&self) -> &'a [u8]
+        ensures { result.now ≡ rest_of self.now }
+    {
+        let bytes = self.bytes;
+        &bytes[self.at..]
+    }
+
     /// The next `count` bytes.
     pub fn take(&mut self, count: usize) -> Result<&'a [u8], Short>
         ensures read { ReadsAs (λ part. part.now) (part_at count) self.old self.new result }
@@ -53,7 +61,7 @@ impl<'a> Cursor<'a> {
     }
 
     pub fn skip(&mut self, count: usize) -> Result<(), Short>
-        ensures read { Skips count self.old self.new result }
+        ensures read { Moves (after count) self.old self.new result }
         ensures stays { OnErr result (self.new ≡ self.old) }
     {
         self.take(count)?;

@@ -18,6 +18,7 @@ fn fields_are_read_in_turn(rt: HostRuntime) {
     assert_eq!(rt; cursor.u32(), Ok(0x0201_204E));
     assert_eq!(rt; cursor.take(2), Ok([8, 9].as_slice()));
     assert_eq!(rt; cursor.at(), 9);
+    assert_eq!(rt; cursor.rest(), [3].as_slice());
     assert_eq!(rt; cursor.u16(), Err(Short { at: 9 }));
     assert_eq!(rt; cursor.skip(1), Ok(()));
     assert_eq!(rt; cursor.u8(), Err(Short { at: 10 }));
