@@ -1,0 +1,4 @@
+pub mod Printed
+pub mod Parts
+pub mod Reading
+pub mod Directs

@@ -1,0 +1,18 @@
+//! The names of queues, as texts and in their wire form.
+//!
+//! `Printed` is the one form in which a name is printed, and `Reading` says what a text is read as, part by part from the left: a fault is that of
+//! the first part that fails. `Wire` is the form in packets and stores.
+#![tactic(auto)]
+
+mod direct;
+mod faults;
+mod parts;
+mod printing;
+mod reading;
+
+pub use faults::{NameFault, NameKind};
+pub use printing::write_name;
+pub use reading::read_name;
+
+#[cfg(test)]
+mod tests;
