@@ -33,11 +33,15 @@ after count r = do
   part ← part_at count r
   Ok part.1
 
--- the number in the next width bytes, the lowest first
+-- the number in the first width bytes, the lowest first
+abbrev pub number_of : ℕ → List ℕ → ℕ
+number_of width bytes = little_number width bytes
+
+-- the number in the next width bytes
 abbrev pub number_at : ℕ → Reading → Result (ℕ × Reading) Short
 number_at width r = do
   part ← part_at width r
-  Ok (little_number width part.0, part.1)
+  Ok (number_of width part.0, part.1)
 
 -- a GUID, in the order of its text
 abbrev pub guid_at : Reading → Result (List ℕ × Reading) Short

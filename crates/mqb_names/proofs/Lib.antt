@@ -1,2 +1,4 @@
 pub mod Ends
 pub mod Guids
+pub mod Units
+pub mod Lengths

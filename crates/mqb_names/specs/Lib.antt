@@ -2,3 +2,4 @@ pub mod Printed
 pub mod Parts
 pub mod Reading
 pub mod Directs
+pub mod Wire

@@ -57,7 +57,7 @@ host_at r = if begins (rest_of r) (codes "OS:") then os_at (moved 3 r)
     else bad r part.Protocol
 
 -- host and queue of a direct name
-abbrev pub direct_at : Reading → Result ((Host × List ℕ) × Reading) PartFault
+unfoldable pub direct_at : Reading → Result ((Host × List ℕ) × Reading) PartFault
 direct_at r = do
   host ← host_at r
   behind ← word_at path part.Path host.1

@@ -89,6 +89,7 @@ fn path(cursor: &mut Cursor<'_>) -> Result<(), PartFault>
 }
 
 /// Host and queue of a direct name, up to what stands behind them.
+#[tactic(auto, unfolding(crate::specs::Reading::direct_at))]
 pub(crate) fn direct_part<'a>(cursor: &mut Cursor<'a>) -> Result<DirectPart<'a>, PartFault>
     ensures { ReadsAs names_of direct_at cursor.old cursor.new result }
 {

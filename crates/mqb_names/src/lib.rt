@@ -9,10 +9,14 @@ mod faults;
 mod parts;
 mod printing;
 mod reading;
+mod wire;
+mod wire_reading;
 
 pub use faults::{NameFault, NameKind};
 pub use printing::write_name;
 pub use reading::read_name;
+pub use wire::{NameView, WireFault};
+pub use wire_reading::read_wire_name;
 
 #[cfg(test)]
 mod tests;
