@@ -1,7 +1,7 @@
 -- What was put at a place is read there.
 use Rattle.std.proofs.Common.{◌≡◌, ℕ, ◌+◌, ◌-◌, ◌^◌, ◌<◌, ◌≤◌, Bool, true, false, cond, ltb, List, [], ◌∷◌, ◌++◌, length, take, drop, Result, Ok, Err, refl, sym, ap, ◌∙◌, append_assoc, zero, suc, slice_index, arith, length-append, length-drop, drop-cons}
 use Rattle.std.proofs.lemmas.Bool.{le-ltb}
-use Rattle.std.proofs.lemmas.List.{take_at, drop_at, length-take-le, append-nil, drop_all}
+use Rattle.std.proofs.lemmas.List.{take_at, drop_at, length-take-le, append-nil, drop_all, drop-drop}
 use Rattle.byteorder.specs.Endian.{little_number}
 use Rattle.byteorder.specs.Numbers.{length-bytes_low_first, little_number-reads_back}
 use Rattle.mqb_fields.specs.declared.faults.Short.{Short}
@@ -18,6 +18,24 @@ drop-put_at to bytes at room =
 length-put_at : (to bytes : List ℕ) (at : ℕ) → at + length bytes ≤ length to → length (put_at to at bytes) ≡ length to
 length-put_at to bytes at room =
     omega (arith, length-append (take at to ++ bytes) (drop (at + length bytes) to), length-append (take at to) bytes, length-take-le at to (omega arith), length-drop (at + length bytes) to)
+
+-- What is put behind what was put is put with it as one.
+pub put_then : (to first second : List ℕ) (at : ℕ) → at + length first ≤ length to
+    → put_at (put_at to at first) (at + length first) second ≡ put_at to at (first ++ second)
+put_then to first second at room =
+    let front : length (take at to ++ first) ≡ at + length first = omega (arith, length-append (take at to) first, length-take-le at to (omega arith)) in
+    let rest = drop (at + length first) to in
+    let kept : take (at + length first) (put_at to at first) ≡ take at to ++ first = take_at (take at to ++ first) rest (at + length first) front in
+    let behind : drop (at + length first + length second) (put_at to at first) ≡ drop (at + length (first ++ second)) to =
+    sym (drop-drop (length second) (at + length first) (put_at to at first))
+    ∙ ap (drop (length second)) (drop_at (take at to ++ first) rest (at + length first) front)
+    ∙ drop-drop (length second) (at + length first) to
+    ∙ ap (λ (count : ℕ). drop count to) (omega (arith, length-append first second)) in
+    rw (kept, behind, append_assoc (take at to) first second) refl
+
+-- What fills a list is all of it then.
+pub put_all : (to bytes : List ℕ) → length to ≡ length bytes → put_at to 0 bytes ≡ bytes
+put_all to bytes len = rw (drop_all (0 + length bytes) to (omega arith), append-nil bytes) refl
 
 pub part_again : (to bytes : List ℕ) (at count : ℕ) → length bytes ≡ count → at + count ≤ length to
     → part_at count (record { bytes = put_at to at bytes; at = at }) ≡ Ok (bytes, record { bytes = put_at to at bytes; at = at + count })

@@ -1,4 +1,4 @@
-ghost use Rattle.std.specs.Prelude.{◌≡◌, ◌≤◌, ◌<◌, ◌+◌, ◌^◌, ℕ, List, length, Ok};
+ghost use Rattle.std.specs.Prelude.{◌≡◌, ◌≤◌, ◌<◌, ◌+◌, ◌^◌, ℕ, List, ◌++◌, length, Ok};
 ghost use Rattle.mqb_fields.specs.Reading.{number_at, guid_at};
 ghost use Rattle.mqb_fields.specs.Writing.{put_at, bytes_of};
 ghost use Rattle.mqb_fields.specs.Guids.{swapped};
@@ -16,3 +16,18 @@ pub fn guid_is_read()
         let put = put_at to at (swapped guid) in
         guid_at (record { bytes = put; at = at }) ≡ Ok (guid, record { bytes = put; at = at + 16 }) }
 {}
+
+/// What is put behind what was put is put with it as one.
+pub fn parts_are_one()
+    ensures {
+        (to first second : List ℕ) (at : ℕ) → at + length first ≤ length to →
+        put_at (put_at to at first) (at + length first) second ≡ put_at to at (first ++ second)
+    }
+{
+}
+
+/// What fills a list is all of it then.
+pub fn all_is_put()
+    ensures { (to bytes : List ℕ) → length to ≡ length bytes → put_at to 0 bytes ≡ bytes }
+{
+}

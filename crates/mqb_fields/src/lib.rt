@@ -13,7 +13,7 @@ mod writing;
 
 pub use cursor::Cursor;
 pub use faults::{HeadFault, HeadKind, Short};
-pub use laws::{guid_is_read, number_is_read};
+pub use laws::{all_is_put, guid_is_read, number_is_read, parts_are_one};
 pub use writing::{put_guid, put_u16, put_u32};
 
 #[cfg(test)]

@@ -8,7 +8,7 @@ use Rattle.mqb_base.specs.declared.queue_names.QueueName.TheVariants.{Public, Pr
 use Rattle.mqb_fields.specs.declared.faults.Short as fields
 use Rattle.mqb_fields.specs.Guids.{swapped}
 use Rattle.mqb_fields.specs.Reading.{◌>>=◌, Reading, rest_of, number_at, guid_at}
-use Rattle.mqb_fields.specs.Writing.{bytes_of}
+use Rattle.mqb_fields.specs.Writing.{bytes_of, put_at}
 use Rattle.mqb_names.specs.declared.faults.PartFault.{PartFault}
 use Rattle.mqb_names.specs.declared.wire.NameView.{NameView}
 use Rattle.mqb_names.specs.declared.wire.WireFault.{WireFault}
@@ -25,6 +25,10 @@ abbrev pub text_of : List ℕ → Option (List ℕ)
 text_of [] = Some []
 text_of (low ∷ []) = None
 text_of (low ∷ high ∷ rest) = if nat_lt low 0x80 && high == 0 then option_map (λ text. low ∷ text) (text_of rest) else None
+
+-- a list of bytes with the units of a text at a place
+unfoldable pub put_text_at : List ℕ → ℕ → List ℕ → List ℕ
+put_text_at to at text = put_at to at (units text)
 
 -- the type of a name
 abbrev pub kind_of : QueueName → ℕ

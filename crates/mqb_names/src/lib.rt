@@ -11,12 +11,14 @@ mod printing;
 mod reading;
 mod wire;
 mod wire_reading;
+mod wire_writing;
 
 pub use faults::{NameFault, NameKind};
 pub use printing::write_name;
 pub use reading::read_name;
 pub use wire::{NameView, WireFault};
 pub use wire_reading::read_wire_name;
+pub use wire_writing::{put_wire_name, wire_len};
 
 #[cfg(test)]
 mod tests;
