@@ -2,3 +2,5 @@ pub mod Ends
 pub mod Guids
 pub mod Units
 pub mod Lengths
+pub mod Again
+pub mod DirectAgain

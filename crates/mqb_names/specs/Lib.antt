@@ -3,3 +3,4 @@ pub mod Parts
 pub mod Reading
 pub mod Directs
 pub mod Wire
+pub mod Values

@@ -6,6 +6,7 @@
 
 mod direct;
 mod faults;
+mod laws;
 mod parts;
 mod printing;
 mod reading;
@@ -14,6 +15,7 @@ mod wire_reading;
 mod wire_writing;
 
 pub use faults::{NameFault, NameKind};
+pub use laws::printed_is_read;
 pub use printing::write_name;
 pub use reading::read_name;
 pub use wire::{NameView, WireFault};
