@@ -2,10 +2,9 @@
 use Rattle.std.proofs.Common.{◌≡◌, ℕ, ◌+◌, ◌-◌, ◌^◌, ◌<◌, ◌≤◌, Bool, true, false, cond, ltb, List, [], ◌∷◌, ◌++◌, length, take, drop, Result, Ok, Err, refl, sym, ap, ◌∙◌, append_assoc, zero, suc, slice_index, arith, length-append, length-drop, drop-cons}
 use Rattle.std.proofs.lemmas.Bool.{le-ltb}
 use Rattle.std.proofs.lemmas.List.{take_at, drop_at, length-take-le, append-nil, drop_all, drop-drop}
-use Rattle.byteorder.specs.Endian.{little_number}
 use Rattle.byteorder.specs.Numbers.{length-bytes_low_first, little_number-reads_back}
 use Rattle.mqb_fields.specs.declared.faults.Short.{Short}
-use Rattle.mqb_fields.specs.Reading.{◌>>=◌, Reading, part_at, number_at, guid_at}
+use Rattle.mqb_fields.specs.Reading.{◌>>=◌, Reading, number_of, part_at, number_at, guid_at}
 use Rattle.mqb_fields.specs.Writing.{put_at, bytes_of}
 use Rattle.mqb_fields.specs.Guids.{swapped}
 
@@ -45,12 +44,15 @@ part_again to bytes at count is_count room =
     rw (drop-put_at to bytes at (omega arith)) (take_at bytes (drop (at + length bytes) to) count is_count) in
     rw (enough, part) refl
 
+pub number_back : (width number : ℕ) → number < 256 ^ width → number_of width (bytes_of width number) ≡ number
+number_back width number fits =
+    ap (number_of width) (sym (append-nil (bytes_of width number))) ∙ little_number-reads_back width number [] fits
+
 pub number_again : (to : List ℕ) (at width number : ℕ) → at + width ≤ length to → number < 256 ^ width
     → number_at width (record { bytes = put_at to at (bytes_of width number); at = at }) ≡ Ok (number, record { bytes = put_at to at (bytes_of width number); at = at + width })
 number_again to at width number room fits =
     let bytes = bytes_of width number in
-    let back : little_number width bytes ≡ number = ap (little_number width) (sym (append-nil bytes)) ∙ little_number-reads_back width number [] fits in
-    rw (part_again to bytes at width (length-bytes_low_first 0 width number) room, back) refl
+    rw (part_again to bytes at width (length-bytes_low_first 0 width number) room, number_back width number fits) refl
 
 -- the count members of a list from a place
 abbrev members : ℕ → ℕ → List ℕ → List ℕ

@@ -19,15 +19,11 @@ pub fn guid_is_read()
 
 /// What is put behind what was put is put with it as one.
 pub fn parts_are_one()
-    ensures {
-        (to first second : List ℕ) (at : ℕ) → at + length first ≤ length to →
-        put_at (put_at to at first) (at + length first) second ≡ put_at to at (first ++ second)
-    }
-{
-}
+    ensures { (to first second : List ℕ) (at : ℕ) → at + length first ≤ length to →
+        put_at (put_at to at first) (at + length first) second ≡ put_at to at (first ++ second) }
+{}
 
 /// What fills a list is all of it then.
 pub fn all_is_put()
     ensures { (to bytes : List ℕ) → length to ≡ length bytes → put_at to 0 bytes ≡ bytes }
-{
-}
+{}

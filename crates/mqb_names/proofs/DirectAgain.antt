@@ -59,11 +59,14 @@ no_fault true w k e = absurd cc
 no_fault false true k e = absurd cc
 no_fault false false k e = refl
 
-name_runs : (name : List ℕ) → IsName name → Runs name
-name_runs name valid =
+name_all : (name : List ℕ) → IsName name → prefix_len (λ b. not (not (is_name_byte b))) name ≡ length name
+name_all name valid =
     let within = prefix_len-le-length (λ b. not (not (is_name_byte b))) name in
     let past = ltb-false _ _ (no_fault _ _ _ valid) in
-    name_bytes_run name (omega (arith, within, past))
+    omega (arith, within, past)
+
+name_runs : (name : List ℕ) → IsName name → Runs name
+name_runs name valid = name_bytes_run name (name_all name valid)
 
 name_again : (kind : NameKind) (r : Reading) (name rest : List ℕ) → IsName name → Stops rest → rest_of r ≡ name ++ rest
     → name_at kind r ≡ Ok (name, moved (length name) r)
@@ -213,3 +216,65 @@ pub direct_name : (host : Host) (queue : List ℕ) (journal : Bool) → IsHost h
 unfolding same_word
 direct_name host queue journal valid is_queue =
     direct_name_again (moved 7 (record { bytes = printed (Direct host queue journal); at = 0 })) host queue journal valid is_queue refl
+
+-- each byte is below 0x80
+abbrev pub Ascii : List ℕ → Type 0
+Ascii [] = Unit {0}
+Ascii (b ∷ text) = (b < 128) × Ascii text
+
+ascii_both : (first second : List ℕ) → Ascii first → Ascii second → Ascii (first ++ second)
+ascii_both [] second one two = two
+ascii_both (b ∷ first) second one two = (one.0, ascii_both first second one.1 two)
+
+name_byte_ascii : (b : ℕ) → is_name_byte b ≡ true → b < 128
+name_byte_ascii b is_byte = grind (arith, nat_tests)
+
+name_bytes_ascii : (text : List ℕ) → prefix_len (λ b. not (not (is_name_byte b))) text ≡ length text → Ascii text
+name_bytes_ascii [] all = tt
+name_bytes_ascii (b ∷ text) all = let both = first_passes (is_name_byte b) _ (length text) all in (name_byte_ascii b both.0, name_bytes_ascii text both.1)
+
+octet_ascii : (n : ℕ) → n < 256 → Ascii (printed_octet n) × (length (printed_octet n) ≤ 3)
+octet_ascii n small = octet_forms (λ text. Ascii text × (length text ≤ 3)) n small
+    (λ under_ten. ((omega arith, tt), omega arith))
+    (λ ten under_hundred. ((omega arith, (omega arith, tt)), omega arith))
+    (λ hundred. ((omega arith, (omega arith, (omega arith, tt))), omega arith))
+
+address_ascii : (address : List ℕ) → AreBytes 4 address → Ascii (printed_address address) × (length (printed_address address) ≤ 15)
+address_ascii address valid =
+    let part = λ (k : ℕ). printed_octet (slice_index address k) in
+    let a = octet_ascii (slice_index address 0) (valid.1 0 0 (omega (arith, valid.0))) in
+    let b = octet_ascii (slice_index address 1) (valid.1 1 0 (omega (arith, valid.0))) in
+    let c = octet_ascii (slice_index address 2) (valid.1 2 0 (omega (arith, valid.0))) in
+    let d = octet_ascii (slice_index address 3) (valid.1 3 0 (omega (arith, valid.0))) in
+    let dotted : 46 < 128 = omega arith in (
+      ascii_both _ (dot ∷ part 3) (ascii_both _ (dot ∷ part 2) (ascii_both (part 0) (dot ∷ part 1) a.0 (dotted, b.0)) (dotted, c.0)) (dotted, d.0),
+      omega (arith, a.1, b.1, c.1, d.1, length-append (part 0 ++ dot ∷ part 1 ++ dot ∷ part 2) (dot ∷ part 3), length-append (part 0 ++ dot ∷ part 1) (dot ∷ part 2), length-append (part 0) (dot ∷ part 1)),
+    )
+
+or_false : (v w : Bool) → (v || w) ≡ false → w ≡ false
+or_false true w e = absurd cc
+or_false false w e = e
+
+not_long : (v : Bool) (rest : Option NameError) → cond v (Some Length) rest ≡ None → v ≡ false
+not_long true rest e = absurd cc
+not_long false rest e = refl
+
+name_most : (name : List ℕ) → IsName name → length name ≤ 64
+name_most name valid = ltb-false _ _ (or_false _ _ (not_long _ _ valid))
+
+host_ascii : (host : Host) → IsHost host → Ascii (printed_host host) × (length (printed_host host) ≤ 67)
+host_ascii (Os name) valid = ((omega arith, (omega arith, (omega arith, name_bytes_ascii name (name_all name valid)))), omega (arith, name_most name valid))
+host_ascii (Tcp address) valid =
+    let part = address_ascii address valid in
+    ((omega arith, (omega arith, (omega arith, (omega arith, part.0)))), omega (arith, part.1))
+
+path_ascii : Ascii path
+path_ascii = (omega arith, (omega arith, (omega arith, (omega arith, (omega arith, (omega arith, (omega arith, (omega arith, (omega arith, (omega arith, tt))))))))))
+
+pub direct_ascii : (host : Host) (queue : List ℕ) → IsHost host → IsName queue → Ascii (printed_direct host queue)
+direct_ascii host queue valid is_queue =
+    ascii_both (printed_host host ++ path) queue (ascii_both (printed_host host) path (host_ascii host valid).0 path_ascii) (name_bytes_ascii queue (name_all queue is_queue))
+
+pub direct_most : (host : Host) (queue : List ℕ) → IsHost host → IsName queue → length (printed_direct host queue) ≤ 141
+direct_most host queue valid is_queue =
+    omega (arith, (host_ascii host valid).1, name_most queue is_queue, length-append (printed_host host ++ path) queue, length-append (printed_host host) path)

@@ -1,9 +1,11 @@
 -- How many bytes a wire form has, by its own bytes alone.
-use Rattle.std.proofs.Common.{◌≡◌, ◌≤◌, ◌<◌, ℕ, ◌+◌, ◌*◌, ◌-◌, Bool, true, false, cond, ltb, eqb, ◌==◌, List, length, take, drop, Result, Ok, Err, refl, sym, ap, ◌∙◌, inl, inr, arith, length-take}
+use Rattle.std.proofs.Common.{◌≡◌, ◌≤◌, ◌<◌, ℕ, ◌+◌, ◌*◌, ◌-◌, Bool, true, false, cond, ltb, eqb, ◌==◌, List, length, take, drop, Result, Ok, Err, refl, sym, ap, ◌∙◌, inl, inr, arith, length-take, ◌++◌, length-append}
 use Rattle.std.proofs.lemmas.Bool.{cases_lt, le-ltb, lt-ltb}
 use Rattle.std.proofs.lemmas.Bool.Decides.{nat_tests}
 use Rattle.std.proofs.lemmas.List.{length-take-le, take-take}
 use Rattle.mqb_fields.specs.Reading.{number_at, number_of}
+use Rattle.mqb_fields.specs.Writing.{bytes_of}
+use Rattle.mqb_fields.proofs.Again.{number_back}
 use Rattle.mqb_names.specs.declared.wire.WireFault.{WireFault}
 use Rattle.mqb_names.specs.declared.wire.WireFault.TheVariants.{Short, Bad}
 use Rattle.mqb_names.specs.Wire.{start, direct_length, length_at}
@@ -64,3 +66,9 @@ long_by_kind false false false length len then e = absurd cc
 pub length_long : (kind : ℕ) (bytes : List ℕ) (len : ℕ) → length_at kind bytes ≡ Ok len → 2 ≤ len
 unfolding length_at
 length_long kind bytes len e = long_by_kind (kind == 1) (kind == 2) (kind == 3) _ len (λ direct. counted_long _ len (direct_ok bytes len direct).1) e
+
+pub counted_few : (count : ℕ) (rest : List ℕ) → count ≤ 141 → direct_length (number_at 2 (start (bytes_of 2 count ++ rest))) ≡ Ok (2 + 2 * count)
+counted_few count rest few =
+    let back : number_of 2 (bytes_of 2 count) ≡ count = number_back 2 count (omega arith) in
+    let not_many : ltb 141 count ≡ false = le-ltb _ _ (omega arith) in
+    direct_counted (bytes_of 2 count ++ rest) (omega (arith, length-append (bytes_of 2 count) rest)) ∙ rw (back, not_many) refl

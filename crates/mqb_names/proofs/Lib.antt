@@ -4,3 +4,5 @@ pub mod Units
 pub mod Lengths
 pub mod Again
 pub mod DirectAgain
+pub mod PrintedAgain
+pub mod WireAgain

@@ -15,7 +15,7 @@ mod wire_reading;
 mod wire_writing;
 
 pub use faults::{NameFault, NameKind};
-pub use laws::printed_is_read;
+pub use laws::{one_printed_form, printed_is_read, wire_is_read};
 pub use printing::write_name;
 pub use reading::read_name;
 pub use wire::{NameView, WireFault};
