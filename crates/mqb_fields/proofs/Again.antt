@@ -1,10 +1,9 @@
 -- What was put at a place is read there.
-use Rattle.std.proofs.Common.{◌≡◌, ℕ, ◌+◌, ◌-◌, ◌^◌, ◌<◌, ◌≤◌, Bool, true, false, cond, ltb, List, [], ◌∷◌, ◌++◌, length, take, drop, Result, Ok, Err, refl, sym, ap, ◌∙◌, append_assoc, zero, suc, slice_index, arith, length-append, length-drop, drop-cons}
+use Rattle.std.proofs.Common.{◌≡◌, ℕ, ◌+◌, ◌-◌, ◌^◌, ◌<◌, ◌≤◌, false, ltb, List, [], ◌∷◌, ◌++◌, length, take, drop, Ok, refl, sym, ap, ◌∙◌, append_assoc, zero, suc, slice_index, arith, length-append, length-drop, drop-cons}
 use Rattle.std.proofs.lemmas.Bool.{le-ltb}
 use Rattle.std.proofs.lemmas.List.{take_at, drop_at, length-take-le, append-nil, drop_all, drop-drop}
 use Rattle.byteorder.specs.Numbers.{length-bytes_low_first, little_number-reads_back}
-use Rattle.mqb_fields.specs.declared.faults.Short.{Short}
-use Rattle.mqb_fields.specs.Reading.{◌>>=◌, Reading, number_of, part_at, number_at, guid_at}
+use Rattle.mqb_fields.specs.Reading.{number_of, part_at, number_at, guid_at}
 use Rattle.mqb_fields.specs.Writing.{put_at, bytes_of}
 use Rattle.mqb_fields.specs.Guids.{swapped}
 

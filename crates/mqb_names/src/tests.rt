@@ -160,6 +160,7 @@ const NOT_WIRE: [(u8, &[u8], WireFault); 9] = [
 fn the_wire_form_is_read_whatever_follows(rt: HostRuntime) -> Result<(), Fail> {
     for (text, kind, wire) in WIRE.iter() {
         let name = read_name(rt.alloc(), text)?;
+        assert!(rt; name.names_queue());
         let mut bytes = vec![in rt.alloc(); 0; wire_len(&name) as usize]?;
         put_wire_name(&name, bytes.as_mut_slice());
         assert_eq!(rt; bytes.as_slice(), *wire);
