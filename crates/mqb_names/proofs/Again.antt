@@ -1,5 +1,5 @@
 -- Each part that is printed is read again.
-use Rattle.std.proofs.Common.{◌≡◌, ◌≤◌, ◌<◌, ℕ, ◌+◌, ◌*◌, ◌/◌, ◌%◌, ◌^◌, Bool, true, false, cond, not, List, [], ◌∷◌, ◌++◌, length, take, drop, Option, Some, None, Result, Ok, Err, refl, sym, ap, ◌∙◌, arith, inl, append_assoc}
+use Rattle.std.proofs.Common.{◌≡◌, ◌<◌, ℕ, ◌/◌, ◌%◌, ◌^◌, Bool, true, false, List, [], ◌∷◌, ◌++◌, length, take, drop, Some, Ok, refl, sym, ap, ◌∙◌, arith, inl, append_assoc}
 use Rattle.std.proofs.lemmas.Bool.Decides.{nat_tests}
 use Rattle.std.proofs.lemmas.List.{take_at, drop_at, drop-drop}
 use Rattle.uuid.specs.Text.{lower, hex_digit, is_hex_digit, parsed_hyphenated}
@@ -8,9 +8,8 @@ use Rattle.uuid.proofs.RoundTrips.{parses_hyphenated_text}
 use Rattle.mqb_base.specs.declared.ids.Guid.{Guid}
 use Rattle.mqb_base.specs.declared.queue_names.MachineQueue.{MachineQueue}
 use Rattle.mqb_base.specs.declared.queue_names.MachineQueue.TheVariants.{DeadLetter, DeadXact, Journal}
-use Rattle.mqb_base.specs.declared.queue_names.QueueName.{QueueName}
-use Rattle.mqb_base.specs.declared.queue_names.QueueName.TheVariants.{Public, Private, Direct, Machine}
-use Rattle.mqb_fields.specs.Reading.{◌>>=◌, Reading, rest_of, moved}
+use Rattle.mqb_base.specs.declared.queue_names.QueueName.TheVariants.{Public, Private, Machine}
+use Rattle.mqb_fields.specs.Reading.{Reading, rest_of, moved}
 use Rattle.mqb_names.specs.Printed.{backslash, printed, printed_guid, printed_number, printed_journal, printed_kind}
 use Rattle.mqb_names.specs.Parts.{same_word, guid_of, hex_digits, hex_value, hex_number}
 use Rattle.mqb_names.specs.Reading.{guid_at, number_at, journal_at, kind_at, public_at, private_at, machine_at, name_of}

@@ -1,24 +1,24 @@
 -- A direct name that is printed is read again.
-use Rattle.std.proofs.Common.{◌≡◌, ◌≤◌, ◌<◌, ℕ, suc, ◌+◌, ◌-◌, ◌*◌, ◌/◌, ◌%◌, Bool, true, false, cond, not, ◌||◌, ◌==◌, ltb, List, [], ◌∷◌, ◌++◌, length, take, drop, Option, Some, None, option_map, Result, Ok, Err, refl, sym, ap, ◌∙◌, arith, append_assoc, is_none, slice_index, get_or, inl, inr, length-append}
+use Rattle.std.proofs.Common.{◌≡◌, ◌≤◌, ◌<◌, ℕ, suc, ◌+◌, ◌-◌, ◌*◌, ◌/◌, ◌%◌, Bool, true, false, cond, not, ◌||◌, ◌==◌, ltb, List, [], ◌∷◌, ◌++◌, length, drop, Option, Some, None, option_map, Result, Ok, refl, sym, ap, ◌∙◌, arith, append_assoc, slice_index, inl, inr, length-append}
 use Rattle.std.proofs.lemmas.Bool.Decides.{nat_tests}
 use Rattle.std.proofs.lemmas.Bool.{cases_lt, le-ltb, lt-ltb, ltb-false}
 use Rattle.std.proofs.lemmas.List.{take_at, drop_at, drop-drop}
 use Rattle.std.proofs.lemmas.List.Sums.{prefix_len-le-length}
-use Rattle.std.specs.Prelude.{position, codes, option_and_then}
-use Rattle.std.specs.List.{prefix_len, position_or_len, before_first}
+use Rattle.std.specs.Prelude.{codes}
+use Rattle.std.specs.List.{prefix_len, before_first}
 use Rattle.mqb_base.specs.declared.names.NameError.{NameError}
 use Rattle.mqb_base.specs.declared.names.NameError.TheVariants.{Length, Byte}
 use Rattle.mqb_base.specs.declared.queue_names.Host.{Host}
 use Rattle.mqb_base.specs.declared.queue_names.Host.TheVariants.{Os, Tcp}
 use Rattle.mqb_base.specs.declared.queue_names.QueueName.TheVariants.{Direct}
-use Rattle.mqb_base.specs.Names.{is_name_byte, name_fault}
-use Rattle.mqb_fields.specs.Reading.{◌>>=◌, Reading, rest_of, moved}
+use Rattle.mqb_base.specs.Names.{is_name_byte}
+use Rattle.mqb_fields.specs.Reading.{Reading, rest_of, moved}
 use Rattle.mqb_names.specs.declared.faults.PartFault.{PartFault}
 use Rattle.mqb_names.specs.declared.faults.NameKind.{NameKind}
 use Rattle.mqb_names.specs.declared.faults.NameKind.TheVariants as part
 use Rattle.mqb_names.specs.Printed.{dot, path, printed, printed_address, printed_direct, printed_host, printed_journal, printed_octet}
 use Rattle.mqb_names.specs.Parts.{same_word, begins, is_stop, is_digit, octet_of, octet_and_rest, address_of}
-use Rattle.mqb_names.specs.Reading.{name_at, os_at, tcp_at, host_at, word_at, direct_at, direct_name_at, name_of}
+use Rattle.mqb_names.specs.Reading.{name_at, host_at, direct_at, direct_name_at, name_of}
 use Rattle.mqb_names.specs.Values.{AreBytes, IsName, IsHost}
 use Rattle.mqb_names.proofs.Again.{rest_again, journal_again}
 

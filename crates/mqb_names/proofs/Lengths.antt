@@ -1,7 +1,6 @@
 -- How many bytes a wire form has, by its own bytes alone.
-use Rattle.std.proofs.Common.{◌≡◌, ◌≤◌, ◌<◌, ℕ, ◌+◌, ◌*◌, ◌-◌, Bool, true, false, cond, ltb, eqb, ◌==◌, List, length, take, drop, Result, Ok, Err, refl, sym, ap, ◌∙◌, inl, inr, arith, length-take, ◌++◌, length-append}
+use Rattle.std.proofs.Common.{◌≡◌, ◌≤◌, ◌<◌, ℕ, ◌+◌, ◌*◌, ◌-◌, Bool, true, false, cond, ltb, ◌==◌, List, length, take, Result, Ok, Err, refl, sym, ap, ◌∙◌, inl, inr, arith, ◌++◌, length-append}
 use Rattle.std.proofs.lemmas.Bool.{cases_lt, le-ltb, lt-ltb}
-use Rattle.std.proofs.lemmas.Bool.Decides.{nat_tests}
 use Rattle.std.proofs.lemmas.List.{length-take-le, take-take}
 use Rattle.mqb_fields.specs.Reading.{number_at, number_of}
 use Rattle.mqb_fields.specs.Writing.{bytes_of}

@@ -1,5 +1,5 @@
 -- The units of a text.
-use Rattle.std.proofs.Common.{◌≡◌, ◌≤◌, ◌<◌, ℕ, ◌+◌, ◌*◌, Bool, true, false, cond, List, [], ◌∷◌, ◌++◌, length, drop, slice_index, take, get_or, Option, Some, None, option_map, refl, sym, ap, ◌∙◌, append_assoc, length-append, arith, ltb, ◌==◌, ◌&&◌}
+use Rattle.std.proofs.Common.{◌≡◌, ◌≤◌, ◌<◌, ℕ, ◌+◌, ◌*◌, true, List, [], ◌∷◌, ◌++◌, length, drop, slice_index, take, get_or, Option, Some, None, option_map, refl, sym, ap, ◌∙◌, append_assoc, length-append, arith, ltb, ◌==◌, ◌&&◌}
 use Rattle.std.proofs.lemmas.Bool.Decides.{nat_tests}
 use Rattle.std.proofs.lemmas.Grind.{take_at_read}
 use Rattle.std.proofs.lemmas.List.{length-take-le}

@@ -1,23 +1,17 @@
 -- A wire form that is written is read again, whatever follows.
-use Rattle.std.proofs.Common.{◌≡◌, ◌≤◌, ◌<◌, ℕ, zero, suc, ◌+◌, ◌-◌, ◌*◌, ◌/◌, ◌%◌, ◌^◌, Bool, true, false, cond, not, ◌&&◌, ◌==◌, ltb, List, [], ◌∷◌, ◌++◌, length, take, drop, Option, Some, None, option_map, is_some, Result, Ok, Err, refl, sym, ap, ◌∙◌, arith, append_assoc, length-append, inl, inr}
-use Rattle.std.proofs.lemmas.Bool.{le-ltb, lt-ltb, ltb-false}
-use Rattle.std.proofs.lemmas.Bool.Decides.{nat_tests}
+use Rattle.std.proofs.Common.{◌≡◌, ℕ, true, false, ltb, List, [], ◌∷◌, ◌++◌, length, Option, Some, Ok, refl, sym, ap, ◌∙◌, arith, length-append}
+use Rattle.std.proofs.lemmas.Bool.{le-ltb, lt-ltb}
 use Rattle.std.proofs.lemmas.List.{take_at, append-nil}
-use Rattle.std.specs.Prelude.{codes, IsTrue}
-use Rattle.std.specs.List.{prefix_len}
-use Rattle.mqb_base.specs.declared.ids.Guid.{Guid}
 use Rattle.mqb_base.specs.declared.queue_names.Host.{Host}
-use Rattle.mqb_base.specs.declared.queue_names.Host.TheVariants.{Os, Tcp}
 use Rattle.mqb_base.specs.declared.queue_names.QueueName.{QueueName}
 use Rattle.mqb_base.specs.declared.queue_names.QueueName.TheVariants.{Public, Private, Direct, Machine}
 use Rattle.mqb_base.specs.QueueNames.{names_queue}
-use Rattle.mqb_fields.specs.Guids.{swapped}
-use Rattle.mqb_fields.specs.Reading.{◌>>=◌, Reading, rest_of, moved, number_of, number_at, guid_at}
+use Rattle.mqb_fields.specs.Reading.{rest_of, number_of}
 use Rattle.mqb_fields.specs.Writing.{bytes_of}
 use Rattle.mqb_fields.proofs.Again.{swapped_twice, number_back}
-use Rattle.mqb_names.specs.Printed.{path, printed_direct, printed_host}
-use Rattle.mqb_names.specs.Wire.{start, units, text_of, kind_of, wire, length_at, direct_of, direct_from, spelled, wire_at}
-use Rattle.mqb_names.specs.Values.{AreBytes, IsName, IsHost, IsQueueName}
+use Rattle.mqb_names.specs.Printed.{printed_direct}
+use Rattle.mqb_names.specs.Wire.{start, units, text_of, kind_of, wire, length_at, direct_of, spelled, wire_at}
+use Rattle.mqb_names.specs.Values.{IsName, IsHost, IsQueueName}
 use Rattle.mqb_names.proofs.Again.{rest_again}
 use Rattle.mqb_names.proofs.DirectAgain.{direct_again, Ascii, direct_ascii, direct_most}
 use Rattle.mqb_names.proofs.Lengths.{counted_few}

@@ -1,4 +1,4 @@
-use Rattle.std.proofs.Common.{arith, sym, ◌∙◌, length}
+use Rattle.std.proofs.Common.{arith, sym, ◌∙◌}
 use Rattle.mqb_names.proofs.Guids.{guid_short, guid_parsed, none_parsed}
 use Rattle.mqb_names.proofs.parts.guid_of.Goals as goal
 

@@ -1,4 +1,4 @@
-use Rattle.std.proofs.Common.{sym, ◌∙◌, arith, rules, take}
+use Rattle.std.proofs.Common.{sym, ◌∙◌, arith}
 use Rattle.std.proofs.lemmas.List.{length-take-le}
 use Rattle.mqb_names.proofs.Lengths.{length_taken, length_long}
 use Rattle.mqb_names.proofs.wire_reading.read_wire_name.Goals as goal

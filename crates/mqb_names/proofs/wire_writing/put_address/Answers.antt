@@ -1,6 +1,6 @@
 use Rattle.std.proofs.Common.{◌∷◌, slice_index, List, ℕ}
 use Rattle.mqb_names.specs.Printed.{dot, printed_octet}
-use Rattle.mqb_names.proofs.Units.{IsPut, four_texts}
+use Rattle.mqb_names.proofs.Units.{four_texts}
 use Rattle.mqb_names.proofs.wire_writing.put_address.Goals as goal
 
 pub returns : goal.returns

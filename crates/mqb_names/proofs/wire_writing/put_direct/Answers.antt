@@ -1,7 +1,7 @@
-use Rattle.std.proofs.Common.{◌≡◌, ◌∙◌, ◌+◌, ◌*◌, ap, length, List, ℕ, arith}
+use Rattle.std.proofs.Common.{◌∙◌, ◌+◌, ◌*◌, ap, length, List, ℕ}
 use Rattle.mqb_names.specs.Printed.{path, printed_host}
 use Rattle.mqb_names.specs.Wire.{put_text_at}
-use Rattle.mqb_names.proofs.Units.{IsPut, three_texts}
+use Rattle.mqb_names.proofs.Units.{three_texts}
 use Rattle.mqb_names.proofs.wire_writing.put_direct.Goals as goal
 
 pub returns : goal.returns

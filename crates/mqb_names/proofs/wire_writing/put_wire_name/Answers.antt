@@ -1,7 +1,7 @@
-use Rattle.std.proofs.Common.{◌≡◌, ◌∙◌, ◌++◌, ap, sym, length, List, ℕ, arith}
+use Rattle.std.proofs.Common.{◌≡◌, ◌∙◌, ap, length, List, ℕ, arith}
 use Rattle.mqb_fields.specs.Writing.{bytes_of, put_at}
 use Rattle.mqb_names.specs.Printed.{printed_direct}
-use Rattle.mqb_names.specs.Wire.{units, put_text_at}
+use Rattle.mqb_names.specs.Wire.{put_text_at}
 use Rattle.mqb_names.proofs.Units.{length_direct, direct_put}
 use Rattle.mqb_names.proofs.wire_writing.put_wire_name.Goals as goal
 
