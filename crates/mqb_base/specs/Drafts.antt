@@ -7,10 +7,10 @@ use Rattle.mqb_base.specs.QueueNames.{names_queue, absent_or_queue}
 -- why no message may be made of parts, the first reason
 abbrev pub draft_fault : Parts → Option DraftFault
 draft_fault p = if not (names_queue p.destination) then Some Destination
-  else if nat_lt 7 p.priority then Some Priority
-  else if not (absent_or_queue p.admin) then Some Admin
-  else if not (absent_or_queue p.response) then Some Response
-  else if nat_lt 15 p.ack then Some Ack
-  else if nat_lt 3 p.journal then Some Journal
-  else if nat_lt 250 (length p.label) then Some Label
-  else None
+    else if nat_lt 7 p.priority then Some Priority
+    else if not (absent_or_queue p.admin) then Some Admin
+    else if not (absent_or_queue p.response) then Some Response
+    else if nat_lt 15 p.ack then Some Ack
+    else if nat_lt 3 p.journal then Some Journal
+    else if nat_lt 250 (length p.label) then Some Label
+    else None

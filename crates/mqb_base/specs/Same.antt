@@ -1,4 +1,5 @@
-use Rattle.std.specs.Prelude.{ℕ, Bool, true, false, not, ◌==◌, ◌&&◌, List}
+use Rattle.std.specs.Prelude.{ℕ, Bool, true, false, not, ◌==◌, ◌&&◌, List, map}
+use Rattle.std.specs.Char.{to_ascii_lowercase}
 use Rattle.std.specs.Cmp.Lexicographic.{pointwise}
 use Rattle.mqb_base.specs.declared.ids.Guid.{Guid}
 use Rattle.mqb_base.specs.declared.queue_names.Host.{Host}
@@ -12,6 +13,10 @@ use Rattle.mqb_base.specs.declared.queue_names.QueueName.TheVariants.{Public, Pr
 
 abbrev pub same_bytes : List ℕ → List ℕ → Bool
 same_bytes = pointwise ◌==◌
+
+-- the case of letters left aside
+abbrev pub same_ignoring_case : List ℕ → List ℕ → Bool
+same_ignoring_case a b = same_bytes (map to_ascii_lowercase a) (map to_ascii_lowercase b)
 
 abbrev pub same_flag : Bool → Bool → Bool
 same_flag true b = b

@@ -59,7 +59,7 @@ impl Model for Draft {
     ghost use Rattle.std.specs.Prelude.{◌≡◌, None};
     ghost use Rattle.mqb_base.specs.declared.draft.Parts.{Parts};
     ghost use Rattle.mqb_base.specs.Drafts.{draft_fault};
-ghost use Rattle.mqb_base.specs.QueueNames.{absent_or_queue};
+    ghost use Rattle.mqb_base.specs.QueueNames.{absent_or_queue};
 
     ghost Value = { Parts };
 

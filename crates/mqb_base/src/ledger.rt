@@ -40,21 +40,40 @@ pub enum Line {
         id: MessageId,
     },
     /// It was put into a queue of the manager that made it.
-    Local { id: MessageId },
+    Local {
+        id: MessageId,
+    },
     /// It was recoverable, and arrived and was put.
-    Stored { id: MessageId },
+    Stored {
+        id: MessageId,
+    },
     /// It was recoverable, and arrived and was refused.
-    Bounced { class: Class, id: MessageId },
+    Bounced {
+        class: Class,
+        id: MessageId,
+    },
     /// It was recoverable, and its peer has stored it.
-    Released { id: MessageId },
+    Released {
+        id: MessageId,
+    },
     /// It was taken from a queue.
-    Took { id: MessageId },
+    Took {
+        id: MessageId,
+    },
     /// It was taken or purged from a journal or a dead-letter queue.
-    Emptied { id: MessageId },
+    Emptied {
+        id: MessageId,
+    },
     /// It was purged from a queue.
-    Purged { id: MessageId },
+    Purged {
+        id: MessageId,
+    },
     /// It was recoverable, and its time to reach its queue was due at its source.
-    Lapsed { id: MessageId },
+    Lapsed {
+        id: MessageId,
+    },
     /// Its time to be received was due in its queue.
-    Swept { id: MessageId },
+    Swept {
+        id: MessageId,
+    },
 }

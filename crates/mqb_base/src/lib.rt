@@ -35,3 +35,6 @@ pub use queues::{Place, QueuePlan};
 pub use same::{earlier, same_name, same_sequence};
 pub use times::{UNLIMITED, is_due, remaining};
 pub use units::Units;
+
+#[cfg(test)]
+mod tests;

@@ -3,6 +3,7 @@ ghost use Rattle.std.specs.Cmp.{partial_equiv_from_equiv};
 ghost use Rattle.std.specs.Cmp.Lexicographic.{pointwise, nat_list_eq_equiv};
 ghost use Rattle.mqb_base.specs.Answers.{RefusedBy};
 ghost use Rattle.mqb_base.specs.Names.{name_fault, is_name_byte};
+ghost use Rattle.mqb_base.specs.Same.{same_ignoring_case};
 
 use std::alloc::{AllocError, Global};
 use std::marker::Model;
@@ -78,6 +79,15 @@ impl Name {
         ensures name { name_fault self.now ≡ None }
     {
         self.bytes.as_slice()
+    }
+
+    /// Whether the names are equal but for the case of their letters.
+    pub fn eq_ignore_ascii_case(&self, other: &Name) -> bool
+        ensures { result ≡ same_ignoring_case self.now other.now }
+    {
+        self.bytes
+            .as_slice()
+            .eq_ignore_ascii_case(other.bytes.as_slice())
     }
 }
 

@@ -10,6 +10,11 @@ use Rattle.mqb_orders.specs.declared.rows.InRow.{InRow}
 abbrev pub decided_of : InRow → SequenceId → ℕ
 decided_of row sequence = if same_sequence row.sequence sequence then row.last else 0
 
+-- the same, where there may be no row
+abbrev pub decided : Option InRow → SequenceId → ℕ
+decided None sequence = 0
+decided (Some row) sequence = decided_of row sequence
+
 -- what a packet is, once d was decided of its sequence
 abbrev pub verdict_after : ℕ → TxHead → Verdict
 verdict_after d tx = if nat_le tx.number d then Duplicate else if nat_lt d tx.previous then Gap else Next

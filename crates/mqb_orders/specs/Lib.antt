@@ -1,2 +1,5 @@
 pub mod KeptLists
+pub mod Rows
 pub mod Judging
+pub mod Streams
+pub mod Laws

@@ -1,13 +1,30 @@
-// A library with one function.
+//! The script of a replay: its lines as events, and the texts of the replies.
+//!
+//! `read_script` reads a script whole, or names the first line that is none. `print_reply` writes what a line of the transcript says. The line
+//! forms that are built are those of the definition `event_of`, and an event's line is read back as that event (`lines_are_read_back`).
 #![tactic(auto)]
 
-ghost use Rattle.std.specs.Prelude.{◌≡◌};
-ghost use Rattle.mqb_script.specs.Echo.{echo_of};
+mod events;
+mod identifiers;
+mod ledger_lines;
+mod lines;
+mod lists;
+mod printing;
+mod reading;
+mod replies;
+mod sends;
+mod spelling;
+#[cfg(test)]
+mod tests;
+#[cfg(test)]
+mod text_tests;
+mod texts;
+mod words;
 
-// The `ensures` clause is the contract: what `echo` returns is `echo_of` of its argument, a definition
-// in `specs/Echo.antt`, which a caller's clause can cite too.
-pub fn echo(x: usize) -> usize
-    ensures { result ≡ echo_of x }
-{
-    x
-}
+pub use events::{Event, Which};
+pub use identifiers::{print_destination, print_id, print_manager};
+pub use lists::{Lines, Numbers, Ops};
+pub use printing::print_reply;
+pub use reading::{LineKind, Script, ScriptFault, read_script};
+pub use replies::Reply;
+pub use spelling::lines_are_read_back;

@@ -1,0 +1,4 @@
+pub mod Members
+pub mod Greatest
+pub mod Least
+pub mod Below

@@ -1,0 +1,5 @@
+pub mod Counts
+pub mod Steps
+pub mod Decimals
+pub mod Splitting
+pub mod Spelled

@@ -1,0 +1,57 @@
+-- What a line adds to what was read, and what a read adds to what was taken.
+use Rattle.std.proofs.Common.{◌≡◌, ℕ, ◌+◌, ◌<◌, ◌≤◌, Bool, true, false, ◌==◌, List, [], ◌∷◌, ◌++◌, length, drop, map, get_or, count_by, Option, Some, None, Result, Ok, Err, refl, sym, ap, ◌∙◌, arith, append_assoc, Bor}
+use Rattle.std.proofs.lemmas.List.{at_drop_more}
+use Rattle.std.proofs.lemmas.List.Sums.{count_by-le-length}
+use Rattle.std.proofs.lemmas.List.Splits.{length-slice_split}
+use Rattle.mqb_outside.specs.Told.{Gave}
+use Rattle.mqb_script.specs.declared.events.Event.{Event}
+use Rattle.mqb_script.specs.Words.{lines_of, words_of}
+use Rattle.mqb_script.specs.Grammar.{is_skipped, event_of, with_event, script_from}
+use Rattle.mqb_script.specs.Reading.{in_front, ReadsLine}
+
+pub in_front_nothing : (r : Result (List (ℕ × Event)) ℕ) → in_front [] r ≡ r
+in_front_nothing (Ok more) = refl
+in_front_nothing (Err first) = refl
+
+pushed : (n : ℕ) (event : Event) (before : List (ℕ × Event)) (r : Result (List (ℕ × Event)) ℕ)
+    → in_front before (with_event n (Some event) r) ≡ in_front (before ++ (n, event) ∷ []) r
+pushed n event before (Ok more) = ap Ok (sym (append_assoc before ((n, event) ∷ []) more))
+pushed n event before (Err first) = refl
+
+pub event_step : (n : ℕ) (line : List ℕ) (event : Event) (before : List (ℕ × Event)) (rest : List (List ℕ))
+    → is_skipped line ≡ false → event_of (words_of line) ≡ Some event
+    → in_front before (script_from n (line ∷ rest)) ≡ in_front (before ++ (n, event) ∷ []) (script_from (n + 1) rest)
+event_step n line event before rest kept is = rw (kept, is) (pushed n event before (script_from (n + 1) rest))
+
+pub few_lines : (text : List ℕ) → length (lines_of text) ≤ length text + 1
+few_lines text =
+    let parts : length (lines_of text) ≡ count_by (λ b. b == 10) text + 1 = length-slice_split (λ b. b == 10) text in
+    let marks : count_by (λ b. b == 10) text ≤ length text = count_by-le-length (λ b. b == 10) text in
+    omega arith
+
+-- The lines before a place were read: the whole is their events in front of what the lines from there on give, the first of which is line n.
+abbrev pub IsReadTo : Result (List (ℕ × Event)) ℕ → ℕ → ℕ → List (Bor (List ℕ)) → List (ℕ × Event) → Type 0
+IsReadTo whole n place lines before = whole ≡ in_front before (script_from n (map (λ line. line.now) (drop place lines)))
+
+pub goes_on : (whole : Result (List (ℕ × Event)) ℕ) (n place : ℕ) (lines : List (Bor (List ℕ))) (before after : List (ℕ × Event))
+    (d : Bor (List ℕ)) (good : Bool)
+    → IsReadTo whole n place lines before → place < length lines → ReadsLine n (get_or lines place d).now before after good → good ≡ true
+    → IsReadTo whole (n + 1) (place + 1) lines after
+goes_on whole n place lines before after d true read within line is =
+    read ∙ at_drop_more (λ rest. in_front before (script_from n (map (λ l. l.now) rest))) lines place d within
+    ∙ line (map (λ l. l.now) (drop (place + 1) lines))
+goes_on whole n place lines before after d false read within line is = cc
+
+pub stops : (whole : Result (List (ℕ × Event)) ℕ) (n place : ℕ) (lines : List (Bor (List ℕ))) (before after : List (ℕ × Event)) (d : Bor (List ℕ))
+    (good : Bool)
+    → IsReadTo whole n place lines before → place < length lines → ReadsLine n (get_or lines place d).now before after good → good ≡ false
+    → Err n ≡ whole
+stops whole n place lines before after d true read within line is = cc
+stops whole n place lines before after d false read within line is =
+    sym (read ∙ at_drop_more (λ rest. in_front before (script_from n (map (λ l. l.now) rest))) lines place d within
+    ∙ ap (in_front before) (line (map (λ l. l.now) (drop (place + 1) lines))))
+
+pub gave_more : (first middle last : Option (List ℕ)) (text more : List ℕ) → Gave first middle text → Gave middle last more
+    → Gave first last (text ++ more)
+gave_more first middle None text more a b = rw (a, b) refl
+gave_more first middle (Some rest) text more a b = rw (a, b) (ap Some (sym (append_assoc text more rest)))

@@ -1,0 +1,164 @@
+use Rattle.std.specs.Prelude.{ℕ, Bool, true, false, ◌+◌, ◌==◌, ◌&&◌, not, nat_le, List, [], ◌∷◌, length, drop, codes, Option, Some, None, is_none, Result, Ok, Err, option_and_then, replicate, if◌then◌else◌}
+use Rattle.std.specs.Option.{option_map}
+use Rattle.std.specs.List.{list_all, starts_with}
+use Rattle.mqb_base.specs.declared.ids.MessageId.{MessageId}
+use Rattle.mqb_base.specs.declared.queue_names.Host.TheVariants.{Os}
+use Rattle.mqb_base.specs.declared.queue_names.QueueName.{QueueName}
+use Rattle.mqb_base.specs.declared.queue_names.QueueName.TheVariants.{Direct}
+use Rattle.mqb_base.specs.declared.queues.QueuePlan.{QueuePlan}
+use Rattle.mqb_base.specs.declared.draft.Parts.{Parts}
+use Rattle.mqb_base.specs.declared.draft.Op.{Op}
+use Rattle.mqb_base.specs.declared.draft.Op.TheVariants.{Send}
+use Rattle.mqb_base.specs.Same.{same_bytes}
+use Rattle.mqb_base.specs.Names.{name_fault}
+use Rattle.mqb_script.specs.declared.events.Which.TheVariants.{Alpha, Beta}
+use Rattle.mqb_script.specs.declared.events.Event.{Event}
+use Rattle.mqb_script.specs.declared.events.Event.TheVariants.{Queue, Commit, Connect, Pump, Deliver}
+use Rattle.mqb_script.specs.Words.{lines_of, words_of, fields_of, number_in}
+
+abbrev pub MAX : ℕ
+MAX = 4294967295
+
+-- the value, where the test holds
+abbrev pub where_ : {T : Type 0} → Bool → Option T → Option T
+where_ test value = if test then value else None
+
+-- Names and numbers.
+
+abbrev pub name_of : List ℕ → Option (List ℕ)
+name_of word = if is_none (name_fault word) then Some word else None
+
+abbrev pub moment_of : List ℕ → Option ℕ
+moment_of word = number_in 0 MAX word
+
+-- A send: its eight fields between commas.
+
+-- what stands before the queue's name in a destination
+abbrev pub beta_queues : List ℕ
+beta_queues = codes "DIRECT=OS:beta\\PRIVATE$\\"
+
+abbrev pub destination_of : List ℕ → Option QueueName
+destination_of word = where_ (starts_with ◌==◌ word beta_queues)
+    (option_map (λ queue. Direct (Os (codes "beta")) queue false) (name_of (drop (length beta_queues) word)))
+
+abbrev pub is_body_byte : ℕ → Bool
+is_body_byte b = (nat_le 0x21 b && nat_le b 0x7E) && not (b == 0x2C)
+
+abbrev pub is_starred : List ℕ → Bool
+is_starred word = starts_with ◌==◌ word (codes "*")
+
+-- up to 1,000 bytes, printable and without space and comma, that do not begin with a star
+abbrev pub is_body : List ℕ → Bool
+is_body word = (list_all is_body_byte word && nat_le (length word) 1000) && not (is_starred word)
+
+abbrev pub body_of : List ℕ → Option (List ℕ)
+body_of word = where_ (is_body word) (Some word)
+
+abbrev pub no_id : MessageId
+no_id = record { qm = record { 0 = replicate 16 0 }; number = 0 }
+
+-- a message with this body to this queue, and nothing else asked of it
+abbrev pub parts_of : QueueName → List ℕ → Parts
+parts_of destination body = record {
+  destination = destination;
+  priority = 0;
+  reach = MAX;
+  life = MAX;
+  admin = None;
+  response = None;
+  ack = 0;
+  journal = 0;
+  correlation = no_id;
+  body_type = 0;
+  tag = 0;
+  label = [];
+  extension = [];
+  body = body;
+}
+
+abbrev pub is_dash : List ℕ → Bool
+is_dash word = same_bytes word (codes "-")
+
+-- the text behind five fields that ask for nothing
+abbrev pub plain_text : List (List ℕ) → Option (List ℕ)
+plain_text (reach ∷ life ∷ flags ∷ admin ∷ response ∷ text ∷ []) =
+    where_ (is_dash reach && is_dash life && is_dash flags && is_dash admin && is_dash response) (Some text)
+plain_text _ = None
+
+abbrev pub send_of : List (List ℕ) → Option Op
+send_of (send ∷ destination ∷ rest) = where_ (same_bytes send (codes "send"))
+    (option_and_then (λ text. option_and_then (λ to. option_map (λ body. Send (parts_of to body)) (body_of text)) (destination_of destination))
+    (plain_text rest))
+send_of _ = None
+
+-- The line forms.
+
+-- what is built of queues: those of beta, transactional and without a journal
+abbrev pub is_built_queue : List ℕ → List ℕ → List ℕ → Bool
+is_built_queue manager kind journal = same_bytes manager (codes "beta") && same_bytes kind (codes "tx") && same_bytes journal (codes "none")
+
+abbrev pub plan_of : List ℕ → List ℕ → Option QueuePlan
+plan_of name quota = option_and_then
+    (λ queue. option_map (λ most. record { name = queue; public = None; transactional = true; quota = most; journal = false })
+    (number_in 0 MAX quota)) (name_of name)
+
+abbrev pub queue_of : List (List ℕ) → Option Event
+queue_of (manager ∷ name ∷ kind ∷ quota ∷ journal ∷ []) =
+    where_ (is_built_queue manager kind journal) (option_map (λ plan. Queue Beta plan) (plan_of name quota))
+queue_of _ = None
+
+abbrev pub commit_of : List (List ℕ) → Option Event
+commit_of (manager ∷ now ∷ op ∷ []) =
+    where_ (same_bytes manager (codes "alpha"))
+    (option_and_then (λ moment. option_map (λ send. Commit Alpha moment (send ∷ [])) (send_of (fields_of op))) (moment_of now))
+commit_of _ = None
+
+-- what is built of connections: those that alpha makes, with the windows 64
+abbrev pub is_built_connection : List ℕ → List ℕ → List ℕ → Bool
+is_built_connection manager own other = same_bytes manager (codes "alpha") && same_bytes own (codes "64") && same_bytes other (codes "64")
+
+abbrev pub connect_of : List (List ℕ) → Option Event
+connect_of (manager ∷ now ∷ own ∷ other ∷ []) =
+    where_ (is_built_connection manager own other) (option_map (λ moment. Connect Alpha moment 64 64) (moment_of now))
+connect_of _ = None
+
+abbrev pub pump_of : List (List ℕ) → Option Event
+pump_of (manager ∷ now ∷ []) = where_ (same_bytes manager (codes "alpha")) (option_map (λ moment. Pump Alpha moment) (moment_of now))
+pump_of _ = None
+
+abbrev pub deliver_of : List (List ℕ) → Option Event
+deliver_of (packet ∷ now ∷ []) = option_and_then (λ k. option_map (λ moment. Deliver k moment) (moment_of now)) (number_in 1 MAX packet)
+deliver_of _ = None
+
+-- the event of a line, from its words
+abbrev pub event_of : List (List ℕ) → Option Event
+event_of [] = None
+event_of (word ∷ words) =
+    if same_bytes word (codes "queue") then queue_of words
+    else if same_bytes word (codes "commit") then commit_of words
+    else if same_bytes word (codes "connect") then connect_of words
+    else if same_bytes word (codes "pump") then pump_of words
+    else if same_bytes word (codes "deliver") then deliver_of words
+    else None
+
+-- The script.
+
+-- an empty line and a comment are skipped
+abbrev pub is_skipped : List ℕ → Bool
+is_skipped [] = true
+is_skipped (b ∷ bs) = b == 0x23
+
+-- the event of line n, where it is one, and those of the lines behind it
+abbrev pub with_event : ℕ → Option Event → Result (List (ℕ × Event)) ℕ → Result (List (ℕ × Event)) ℕ
+with_event n None rest = Err n
+with_event n (Some event) (Ok events) = Ok ((n, event) ∷ events)
+with_event n (Some event) (Err first) = Err first
+
+-- the events of lines, numbered from n, or the number of the first line that is none
+abbrev pub script_from : ℕ → List (List ℕ) → Result (List (ℕ × Event)) ℕ
+script_from n [] = Ok []
+script_from n (line ∷ lines) = if is_skipped line then script_from (n + 1) lines
+    else with_event n (event_of (words_of line)) (script_from (n + 1) lines)
+
+abbrev pub script_of : List ℕ → Result (List (ℕ × Event)) ℕ
+script_of text = script_from 1 (lines_of text)

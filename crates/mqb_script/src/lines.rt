@@ -1,0 +1,173 @@
+ghost use Rattle.std.specs.Prelude.{◌≡◌, map, IfOk};
+ghost use Rattle.mqb_script.specs.Words.{words_of};
+ghost use Rattle.mqb_script.specs.Grammar.{moment_of, is_built_queue, plan_of, queue_of, commit_of, is_built_connection, connect_of, pump_of, deliver_of, event_of, is_skipped};
+
+use crate::events::{Event, Which};
+use crate::lists::Ops;
+use crate::sends::{name_of, send_of};
+use crate::words::{is_word, number_in, parts};
+use mqb_base::{Memory, QueuePlan};
+use std::alloc::Global;
+
+fn moment_of(word: &[u8]) -> Option<u32>
+    ensures { result ≡ moment_of word.now }
+{
+    number_in(0, u32::MAX, word)
+}
+
+fn is_built_queue(manager: &[u8], kind: &[u8], journal: &[u8]) -> bool
+    ensures { result ≡ is_built_queue manager.now kind.now journal.now }
+{
+    is_word(manager, b"beta") && is_word(kind, b"tx") && is_word(journal, b"none")
+}
+
+fn plan_of(alloc: Global, name: &[u8], quota: &[u8]) -> Result<Option<QueuePlan>, Memory>
+    ensures { IfOk result (λ plan. plan ≡ plan_of name.now quota.now) }
+{
+    let Some(name) = name_of(alloc, name)? else {
+        return Ok(None);
+    };
+    let Some(quota) = number_in(0, u32::MAX, quota) else {
+        return Ok(None);
+    };
+    Ok(Some(QueuePlan {
+        name,
+        public: None,
+        transactional: true,
+        quota,
+        journal: false,
+    }))
+}
+
+fn queue_of(alloc: Global, words: &[&[u8]]) -> Result<Option<Event>, Memory>
+    ensures { IfOk result (λ event. event ≡ queue_of (map (λ word. word.now) words.now)) }
+{
+    let [manager, name, kind, quota, journal] = words else {
+        return Ok(None);
+    };
+    if !is_built_queue(manager, kind, journal) {
+        return Ok(None);
+    }
+    let Some(plan) = plan_of(alloc, name, quota)? else {
+        return Ok(None);
+    };
+    Ok(Some(Event::Queue {
+        manager: Which::Beta,
+        plan,
+    }))
+}
+
+fn commit_of(alloc: Global, words: &[&[u8]]) -> Result<Option<Event>, Memory>
+    ensures { IfOk result (λ event. event ≡ commit_of (map (λ word. word.now) words.now)) }
+{
+    let [manager, now, op] = words else {
+        return Ok(None);
+    };
+    if !is_word(manager, b"alpha") {
+        return Ok(None);
+    }
+    let Some(now) = moment_of(now) else {
+        return Ok(None);
+    };
+    let fields = parts(alloc, op, b',')?;
+    let Some(send) = send_of(alloc, fields.as_slice())? else {
+        return Ok(None);
+    };
+    let mut ops = Ops::new(alloc);
+    ops.push(send)?;
+    Ok(Some(Event::Commit {
+        manager: Which::Alpha,
+        now,
+        ops,
+    }))
+}
+
+fn is_built_connection(manager: &[u8], own: &[u8], other: &[u8]) -> bool
+    ensures { result ≡ is_built_connection manager.now own.now other.now }
+{
+    is_word(manager, b"alpha") && is_word(own, b"64") && is_word(other, b"64")
+}
+
+fn connect_of(words: &[&[u8]]) -> Option<Event>
+    ensures { result ≡ connect_of (map (λ word. word.now) words.now) }
+{
+    let [manager, now, own, other] = words else {
+        return None;
+    };
+    if !is_built_connection(manager, own, other) {
+        return None;
+    }
+    let now = moment_of(now)?;
+    Some(Event::Connect {
+        manager: Which::Alpha,
+        now,
+        alpha_window: 64,
+        beta_window: 64,
+    })
+}
+
+fn pump_of(words: &[&[u8]]) -> Option<Event>
+    ensures { result ≡ pump_of (map (λ word. word.now) words.now) }
+{
+    let [manager, now] = words else {
+        return None;
+    };
+    if !is_word(manager, b"alpha") {
+        return None;
+    }
+    let now = moment_of(now)?;
+    Some(Event::Pump {
+        manager: Which::Alpha,
+        now,
+    })
+}
+
+fn deliver_of(words: &[&[u8]]) -> Option<Event>
+    ensures { result ≡ deliver_of (map (λ word. word.now) words.now) }
+{
+    let [packet, now] = words else {
+        return None;
+    };
+    let packet = number_in(1, u32::MAX, packet)?;
+    let now = moment_of(now)?;
+    Some(Event::Deliver { packet, now })
+}
+
+fn event_of(alloc: Global, words: &[&[u8]]) -> Result<Option<Event>, Memory>
+    ensures { IfOk result (λ event. event ≡ event_of (map (λ word. word.now) words.now)) }
+{
+    let [word, words @ ..] = words else {
+        return Ok(None);
+    };
+    if is_word(word, b"queue") {
+        queue_of(alloc, words)
+    } else if is_word(word, b"commit") {
+        commit_of(alloc, words)
+    } else if is_word(word, b"connect") {
+        Ok(connect_of(words))
+    } else if is_word(word, b"pump") {
+        Ok(pump_of(words))
+    } else if is_word(word, b"deliver") {
+        Ok(deliver_of(words))
+    } else {
+        Ok(None)
+    }
+}
+
+/// The event of a line, where it is one.
+pub(crate) fn event_of_line(alloc: Global, line: &[u8]) -> Result<Option<Event>, Memory>
+    ensures { IfOk result (λ event. event ≡ event_of (words_of line.now)) }
+{
+    let words = parts(alloc, line, b' ')?;
+    event_of(alloc, words.as_slice())
+}
+
+/// Whether a line is empty or a comment.
+pub(crate) fn is_skipped(line: &[u8]) -> bool
+    ensures { result ≡ is_skipped line.now }
+{
+    match line {
+        [] => true,
+        [first, ..] => *first == b'#',
+    }
+}

@@ -1,0 +1,33 @@
+use crate::lists::{Lines, Numbers};
+use mqb_base::Heard;
+
+/// What the managers answer to an event.
+#[derive(Debug, Drop)]
+pub enum Reply {
+    /// `ok`
+    Done,
+    /// `queuethere`
+    QueueThere,
+    /// `toomanyqueues`
+    TooManyQueues,
+    /// `connected` and the numbers of the four set-up packets
+    Connected { packets: Numbers },
+    /// `linked`
+    Linked,
+    /// `committed` and the lines of its record
+    Committed { lines: Lines },
+    /// `sequencespent` and the place of the op in its transaction, from 0
+    SequenceSpent { op: u32 },
+    /// `numbersspent`
+    NumbersSpent,
+    /// `pumped` and the numbers of the packets
+    Pumped { packets: Numbers },
+    /// `unlinked`
+    Unlinked,
+    /// `none`: there is no such packet
+    NoPacket,
+    /// `gone`: the packet's connection has ended
+    Gone,
+    /// what a manager made of a packet, and the lines of its record
+    Heard { heard: Heard, lines: Lines },
+}

@@ -1,0 +1,4 @@
+pub mod Pumping
+pub mod Marking
+pub mod Views
+pub mod Numbering
