@@ -23,11 +23,11 @@ use Rattle.mqb_names.specs.Values.{AreBytes, IsName, IsHost}
 use Rattle.mqb_names.proofs.Again.{rest_again, journal_again}
 
 -- the text that follows is empty or begins with a stop
-abbrev Stops : List ℕ → Type 0
+abbrev pub Stops : List ℕ → Type 0
 Stops rest = prefix_len (λ b. not (is_stop b)) rest ≡ 0
 
 -- no stop is in it
-abbrev Runs : List ℕ → Type 0
+abbrev pub Runs : List ℕ → Type 0
 Runs [] = Unit {0}
 Runs (b ∷ text) = (is_stop b ≡ false) × Runs text
 
@@ -39,7 +39,7 @@ run_length : (text rest : List ℕ) → Runs text → Stops rest → prefix_len 
 run_length [] rest runs stops = stops
 run_length (b ∷ text) rest runs stops = rw (runs.0, run_length text rest runs.1 stops) (omega arith)
 
-runs_before : (text rest : List ℕ) → Runs text → Stops rest → before_first is_stop (text ++ rest) ≡ text
+pub runs_before : (text rest : List ℕ) → Runs text → Stops rest → before_first is_stop (text ++ rest) ≡ text
 runs_before text rest runs stops = rw (run_length text rest runs stops) (take_at text rest (length text) refl)
 
 -- names
@@ -68,7 +68,7 @@ name_all name valid =
 name_runs : (name : List ℕ) → IsName name → Runs name
 name_runs name valid = name_bytes_run name (name_all name valid)
 
-name_again : (kind : NameKind) (r : Reading) (name rest : List ℕ) → IsName name → Stops rest → rest_of r ≡ name ++ rest
+pub name_again : (kind : NameKind) (r : Reading) (name rest : List ℕ) → IsName name → Stops rest → rest_of r ≡ name ++ rest
     → name_at kind r ≡ Ok (name, moved (length name) r)
 name_again kind r name rest valid stops e =
     let front : before_first is_stop (rest_of r) ≡ name = ap (before_first is_stop) e ∙ runs_before name rest (name_runs name valid) stops in
@@ -149,7 +149,7 @@ four_run : (a b c d : ℕ) → a < 256 → b < 256 → c < 256 → d < 256 → R
 four_run a b c d is_a is_b is_c is_d =
     runs_both _ (dot ∷ printed_octet d) (runs_both _ (dot ∷ printed_octet c) (runs_both (printed_octet a) (dot ∷ printed_octet b) (octet_runs a is_a) (refl, octet_runs b is_b)) (refl, octet_runs c is_c)) (refl, octet_runs d is_d)
 
-address_again : (address : List ℕ) → AreBytes 4 address → (address_of (printed_address address) ≡ Some address) × Runs (printed_address address)
+pub address_again : (address : List ℕ) → AreBytes 4 address → (address_of (printed_address address) ≡ Some address) × Runs (printed_address address)
 address_again [] valid = absurd (omega (arith, valid.0))
 address_again (a ∷ []) valid = absurd (omega (arith, valid.0))
 address_again (a ∷ b ∷ []) valid = absurd (omega (arith, valid.0))
@@ -163,7 +163,7 @@ address_again (a ∷ b ∷ c ∷ d ∷ []) valid =
 address_again (a ∷ b ∷ c ∷ d ∷ e ∷ more) valid = absurd (omega (arith, valid.0))
 
 -- hosts
-further : (first second : ℕ) (r : Reading) → moved second (moved first r) ≡ moved (first + second) r
+pub further : (first second : ℕ) (r : Reading) → moved second (moved first r) ≡ moved (first + second) r
 further first second r = ap (λ (at : ℕ). record r { at = at }) (omega arith)
 
 host_again : (r : Reading) (host : Host) (rest : List ℕ) → IsHost host → Stops rest → rest_of r ≡ printed_host host ++ rest

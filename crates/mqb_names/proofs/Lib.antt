@@ -6,3 +6,5 @@ pub mod Again
 pub mod DirectAgain
 pub mod PrintedAgain
 pub mod WireAgain
+pub mod TextWords
+pub mod TextRead

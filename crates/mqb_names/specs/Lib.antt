@@ -4,3 +4,4 @@ pub mod Reading
 pub mod Directs
 pub mod Wire
 pub mod Values
+pub mod Grammar

@@ -32,7 +32,8 @@ printed_octet n = if nat_lt n 10 then (48 + n) ∷ []
     else (48 + n / 100) ∷ (48 + n / 10 % 10) ∷ (48 + n % 10) ∷ []
 
 abbrev pub printed_address : List ℕ → List ℕ
-printed_address a = printed_octet (slice_index a 0) ++ dot ∷ printed_octet (slice_index a 1) ++ dot ∷ printed_octet (slice_index a 2) ++ dot ∷ printed_octet (slice_index a 3)
+printed_address a =
+    printed_octet (slice_index a 0) ++ dot ∷ printed_octet (slice_index a 1) ++ dot ∷ printed_octet (slice_index a 2) ++ dot ∷ printed_octet (slice_index a 3)
 
 abbrev pub printed_host : Host → List ℕ
 printed_host (Os name) = codes "OS:" ++ name

@@ -80,7 +80,8 @@ private_from r = do
   Ok (Private (record { 0 = qm.0 }) number.0 false)
 
 abbrev pub direct_from : List ℕ → Option QueueName
-direct_from units = if nat_lt 282 (length units) then None else option_map (λ direct. Direct direct.0 direct.1 false) (option_and_then direct_of (text_of units))
+direct_from units = if nat_lt 282 (length units) then None
+    else option_map (λ direct. Direct direct.0 direct.1 false) (option_and_then direct_of (text_of units))
 
 -- the name whose wire form these bytes are
 unfoldable pub spelled : ℕ → List ℕ → Option QueueName
