@@ -8,3 +8,4 @@ pub mod PrintedAgain
 pub mod WireAgain
 pub mod TextWords
 pub mod TextRead
+pub mod TextWritten

@@ -1,10 +1,16 @@
-ghost use Rattle.std.specs.Prelude.{◌≡◌, ◌++◌, ℕ, List, IsTrue, Ok, Some, length};
+ghost use Rattle.std.specs.Prelude.{◌≡◌, ◌↔◌, ◌++◌, ℕ, List, IsTrue, Ok, Some, length};
 ghost use Rattle.mqb_base.specs.declared.queue_names.QueueName.{QueueName};
 ghost use Rattle.mqb_base.specs.QueueNames.{names_queue};
+ghost use Rattle.mqb_names.specs.Grammar.{IsText};
 ghost use Rattle.mqb_names.specs.Printed.{printed};
 ghost use Rattle.mqb_names.specs.Reading.{name_of};
 ghost use Rattle.mqb_names.specs.Values.{IsQueueName};
 ghost use Rattle.mqb_names.specs.Wire.{kind_of, spelled, wire, wire_at};
+
+/// A text is read as a name exactly where it is a spelling of that name.
+pub fn spelling_is_read()
+    ensures { (text : List ℕ) (name : QueueName) → IsQueueName name → (name_of text ≡ Ok name) ↔ IsText text name }
+{}
 
 /// The printed form of a name is read as that name.
 pub fn printed_is_read()

@@ -1,7 +1,7 @@
 //! The names of queues, as texts and in their wire form.
 //!
-//! `Printed` is the one form in which a name is printed, and `Reading` says what a text is read as, part by part from the left: a fault is that of
-//! the first part that fails. `Wire` is the form in packets and stores.
+//! `Printed` is the one form in which a name is printed, `Grammar` says which texts spell a name, and `Reading` says what a text is read as, part by
+//! part from the left: a fault is that of the first part that fails. `Wire` is the form in packets and stores.
 #![tactic(auto)]
 
 mod direct;
@@ -15,7 +15,7 @@ mod wire_reading;
 mod wire_writing;
 
 pub use faults::{NameFault, NameKind};
-pub use laws::{one_printed_form, printed_is_read, wire_is_read};
+pub use laws::{one_printed_form, printed_is_read, spelling_is_read, wire_is_read};
 pub use printing::write_name;
 pub use reading::read_name;
 pub use wire::{NameView, WireFault};
