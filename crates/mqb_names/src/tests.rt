@@ -330,13 +330,14 @@ fn the_longest_direct_name_has_141_units(rt: HostRuntime) -> Result<(), Fail> {
     assert_eq!(rt; wire_len(&name), 284);
     let mut bytes = vec![in rt.alloc(); 0; wire_len(&name) as usize]?;
     put_wire_name(&name, bytes.as_mut_slice());
-    assert_eq!(rt; &bytes.as_slice()[..4], b"\x8D\0O\0".as_slice());
+    assert_eq!(rt; bytes.first(), Some(&0x8D));
     let (view, used) = read_wire_name(3, bytes.as_slice())?;
     assert_eq!(rt; used, 284);
     assert_eq!(rt; view.to_owned(rt.alloc())?, name);
-    let cut = read_wire_name(3, &bytes.as_slice()[..283]);
+    assert_eq!(rt; bytes.pop(), Some(0));
+    let cut = read_wire_name(3, bytes.as_slice());
     assert_eq!(rt; cut.map(|found| found.1), Err(WireFault::Short));
-    bytes[283] = 1;
+    bytes.push(1)?;
     let changed = read_wire_name(3, bytes.as_slice());
     assert_eq!(rt; changed.map(|found| found.1), Err(WireFault::Bad));
     Ok(())
