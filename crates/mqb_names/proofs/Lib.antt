@@ -7,5 +7,6 @@ pub mod DirectAgain
 pub mod PrintedAgain
 pub mod WireAgain
 pub mod TextWords
+pub mod TextGuids
 pub mod TextRead
 pub mod TextWritten

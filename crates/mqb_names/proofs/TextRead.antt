@@ -17,12 +17,14 @@ use Rattle.mqb_fields.specs.Reading.{Reading, rest_of, moved}
 use Rattle.mqb_names.specs.declared.faults.PartFault.{PartFault}
 use Rattle.mqb_names.specs.declared.faults.NameKind.TheVariants as part
 use Rattle.mqb_names.specs.declared.faults.NameKind.{NameKind}
-use Rattle.mqb_names.specs.Printed.{backslash, path, printed_address, printed_journal, printed_kind}
+use Rattle.mqb_names.specs.Printed.{backslash, path, printed_address, printed_guid, printed_journal, printed_kind}
 use Rattle.mqb_names.specs.Parts.{same_word, begins, guid_of, is_stop, hex_digits, hex_number}
 use Rattle.mqb_names.specs.Reading.{word_at, guid_at, number_at, name_at, host_at, direct_at, journal_at, kind_at, public_at, private_at, direct_name_at, machine_at, name_from, name_of}
 use Rattle.mqb_names.specs.Grammar.{◌then◌, Exactly, Word, GuidText, Digits, HostText, JournalText, IsText}
-use Rattle.mqb_names.specs.Values.{IsName, IsHost, IsQueueName}
+use Rattle.mqb_names.specs.Values.{AreBytes, IsName, IsHost, IsQueueName}
+use Rattle.uuid.proofs.TextLemmas.{by_index_length}
 use Rattle.mqb_names.proofs.Again.{rest_again}
+use Rattle.mqb_names.proofs.TextGuids.{guid_from_word}
 use Rattle.mqb_names.proofs.DirectAgain.{Stops, name_again, address_again, runs_before, further}
 use Rattle.mqb_names.proofs.TextWords.{clash, both_hold, word_length, word_begins, begins_apart, words_apart, backslash_front, semicolon_front, semicolon_behind_digits}
 
@@ -30,15 +32,12 @@ use Rattle.mqb_names.proofs.TextWords.{clash, both_hold, word_length, word_begin
 abbrev Leaves : {X : Type 0} → X → List ℕ → Result (X × Reading) PartFault → Type 0
 Leaves x rest read = (r : Reading) × (read ≡ Ok (x, r)) × (rest_of r ≡ rest)
 
-guid_length : (text bytes : List ℕ) → parsed_hyphenated text ≡ Some bytes → length text ≡ 36
-guid_length text bytes e = grind (arith, nat_tests)
-
-guid_read : (r : Reading) (g : Guid) (text rest : List ℕ) → GuidText g text → rest_of r ≡ text ++ rest → Leaves g rest (guid_at r)
+guid_read : (r : Reading) (g : Guid) (text rest : List ℕ) → AreBytes 16 g.0 → GuidText g text → rest_of r ≡ text ++ rest → Leaves g rest (guid_at r)
 unfolding guid_of
-guid_read r g text rest is e =
-    let len : length text ≡ 36 = guid_length text g.0 is in
+guid_read r g text rest valid is e =
+    let len : length text ≡ 36 = word_length text (printed_guid g) is ∙ by_index_length 36 _ in
     let front : take 36 (rest_of r) ≡ text = ap (take 36) e ∙ take_at text rest 36 len in
-    let read : guid_of (rest_of r) ≡ Some g.0 = ap parsed_hyphenated front ∙ is in
+    let read : guid_of (rest_of r) ≡ Some g.0 = ap parsed_hyphenated front ∙ guid_from_word text g.0 valid.0 valid.1 is in
     let leads : guid_at r ≡ Ok (g, moved 36 r) = rw read refl in
     (moved 36 r, leads, rest_again r text rest 36 len e)
 
@@ -107,23 +106,23 @@ host_read r (Tcp address) text rest valid (word, second, whole, is_word, is_addr
     (moved (length printed) (moved 4 r), leads, rest_again (moved 4 r) printed rest (length printed) refl behind)
 
 -- what stands behind the prefix
-public_read : (r : Reading) (g : Guid) (journal : Bool) → (GuidText g then JournalText journal) (rest_of r) → public_at r ≡ Ok (Public g journal)
+public_read : (r : Reading) (g : Guid) (journal : Bool) → AreBytes 16 g.0 → (GuidText g then JournalText journal) (rest_of r) → public_at r ≡ Ok (Public g journal)
 unfolding public_at
-public_read r g journal (id, tail, whole, is_id, is_tail) =
-    let guid = guid_read r g id tail is_id (sym whole) in
+public_read r g journal valid (id, tail, whole, is_id, is_tail) =
+    let guid = guid_read r g id tail valid is_id (sym whole) in
     rw (guid.1, journal_read guid.0 journal (subst (JournalText journal) (sym guid.2) is_tail)) refl
 
-machine_read : (r : Reading) (g : Guid) (kind : MachineQueue) → (GuidText g then Word (printed_kind kind)) (rest_of r) → machine_at r ≡ Ok (Machine g kind)
+machine_read : (r : Reading) (g : Guid) (kind : MachineQueue) → AreBytes 16 g.0 → (GuidText g then Word (printed_kind kind)) (rest_of r) → machine_at r ≡ Ok (Machine g kind)
 unfolding machine_at
-machine_read r g kind (id, tail, whole, is_id, is_tail) =
-    let guid = guid_read r g id tail is_id (sym whole) in
+machine_read r g kind valid (id, tail, whole, is_id, is_tail) =
+    let guid = guid_read r g id tail valid is_id (sym whole) in
     rw (guid.1, kind_read guid.0 kind (subst (Word (printed_kind kind)) (sym guid.2) is_tail)) refl
 
-private_read : (r : Reading) (g : Guid) (n : ℕ) (journal : Bool) → (GuidText g then Word (backslash ∷ []) then Digits n then JournalText journal) (rest_of r)
+private_read : (r : Reading) (g : Guid) (n : ℕ) (journal : Bool) → AreBytes 16 g.0 → (GuidText g then Word (backslash ∷ []) then Digits n then JournalText journal) (rest_of r)
     → private_at r ≡ Ok (Private g n journal)
 unfolding private_at
-private_read r g n journal (id, behind_id, whole, is_id, (mark, behind_mark, whole_mark, is_mark, (digits, tail, whole_digits, are_digits, is_tail))) =
-    let guid = guid_read r g id behind_id is_id (sym whole) in
+private_read r g n journal valid (id, behind_id, whole, is_id, (mark, behind_mark, whole_mark, is_mark, (digits, tail, whole_digits, are_digits, is_tail))) =
+    let guid = guid_read r g id behind_id valid is_id (sym whole) in
     let rest : rest_of guid.0 ≡ mark ++ (digits ++ tail) = guid.2 ∙ sym whole_mark ∙ ap (λ (t : List ℕ). mark ++ t) (sym whole_digits) in
     let number = number_read guid.0 n mark digits tail is_mark are_digits (journal_behind_digits journal tail is_tail) rest in
     rw (guid.1, number.1, journal_read number.0 journal (subst (JournalText journal) (sym number.2) is_tail)) refl
@@ -163,11 +162,11 @@ pub text_read : (text : List ℕ) (name : QueueName) → IsQueueName name → Is
 text_read text (Public g journal) valid (word, rest, whole, is_word, is_rest) =
     let known = codes "PUBLIC=" in
     let parts = subst (GuidText g then JournalText journal) (behind_word text word rest known whole is_word) is_rest in
-    rw (starts text word rest known whole is_word) (public_read (moved 7 (start text)) g journal parts)
+    rw (starts text word rest known whole is_word) (public_read (moved 7 (start text)) g journal valid parts)
 text_read text (Private g n journal) valid (word, rest, whole, is_word, is_rest) =
     let known = codes "PRIVATE=" in
     let parts = subst (GuidText g then Word (backslash ∷ []) then Digits n then JournalText journal) (behind_word text word rest known whole is_word) is_rest in
-    rw (starts_not text word rest known (codes "PUBLIC=") whole is_word refl, starts text word rest known whole is_word) (private_read (moved 8 (start text)) g n journal parts)
+    rw (starts_not text word rest known (codes "PUBLIC=") whole is_word refl, starts text word rest known whole is_word) (private_read (moved 8 (start text)) g n journal valid.0 parts)
 text_read text (Direct host queue journal) valid (word, rest, whole, is_word, is_rest) =
     let known = codes "DIRECT=" in
     let parts = subst (HostText host then Word path then Exactly queue then JournalText journal) (behind_word text word rest known whole is_word) is_rest in
@@ -184,4 +183,4 @@ text_read text (Machine g kind) valid (word, rest, whole, is_word, is_rest) =
       starts_not text word rest known (codes "PRIVATE=") whole is_word refl,
       starts_not text word rest known (codes "DIRECT=") whole is_word refl,
       starts text word rest known whole is_word,
-    ) (machine_read (moved 8 (start text)) g kind parts)
+    ) (machine_read (moved 8 (start text)) g kind valid parts)

@@ -15,7 +15,7 @@ both_hold true w e = (refl, e)
 both_hold false w e = absurd cc
 
 -- a letter is that of a word, whatever its case
-abbrev alike : ℕ → ℕ → Bool
+abbrev pub alike : ℕ → ℕ → Bool
 alike b c = nat_eq (to_ascii_lowercase b) (to_ascii_lowercase c)
 
 pub word_length : (text word : List ℕ) → Word word text → length text ≡ length word

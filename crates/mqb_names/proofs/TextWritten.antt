@@ -26,6 +26,7 @@ use Rattle.mqb_names.specs.Reading.{bad, or_bad, word_at, guid_at, number_at, na
 use Rattle.mqb_names.specs.Grammar.{◌then◌, Exactly, Word, GuidText, Digits, HostText, JournalText, IsText}
 use Rattle.mqb_names.proofs.DirectAgain.{further, apart}
 use Rattle.mqb_names.proofs.TextWords.{both_hold}
+use Rattle.mqb_names.proofs.TextGuids.{word_from_guid}
 
 -- a text of this form stood there and was read
 abbrev Took : (List ℕ → Type 0) → Reading → Reading → Type 0
@@ -73,7 +74,7 @@ guid_given None r x e = absurd cc
 
 guid_took : (r : Reading) (x : Guid × Reading) → guid_at r ≡ Ok x → Took (GuidText x.0) r x.1
 unfolding guid_of
-guid_took r x e = let given = guid_given (guid_of (rest_of r)) r x e in took (GuidText x.0) 36 r x.1 given.1 given.0
+guid_took r x e = let given = guid_given (guid_of (rest_of r)) r x e in took (GuidText x.0) 36 r x.1 given.1 (word_from_guid (take 36 (rest_of r)) x.0.0 given.0)
 
 -- what stands before an end
 before_split : (p : ℕ → Bool) (r : Reading) → before_first p (rest_of r) ++ rest_of (moved (length (before_first p (rest_of r))) r) ≡ rest_of r
@@ -245,17 +246,21 @@ third_of a b = option_and_then (last_of a b.0) (octet_and_rest b.1)
 abbrev second_of : ℕ × List ℕ → Option (List ℕ)
 second_of a = option_and_then (third_of a.0) (octet_and_rest a.1)
 
+four_joined : (text a b c d behind_a behind_b behind_c : List ℕ) → text ≡ a ++ dot ∷ behind_a → behind_a ≡ b ++ dot ∷ behind_b → behind_b ≡ c ++ dot ∷ behind_c → behind_c ≡ d
+    → text ≡ a ++ dot ∷ b ++ dot ∷ c ++ dot ∷ d
+four_joined text a b c d behind_a behind_b behind_c first second third last =
+    first
+    ∙ ap (λ (t : List ℕ). a ++ dot ∷ t) (second ∙ ap (λ (t : List ℕ). b ++ dot ∷ t) (third ∙ ap (λ (t : List ℕ). c ++ dot ∷ t) last))
+    ∙ sym (apart a b c d)
+
 address_text : (text address : List ℕ) → address_of text ≡ Some address → text ≡ printed_address address
 address_text text address e =
     let a = then_gives second_of (octet_and_rest text) address e in
     let b = then_gives (third_of a.0.0) (octet_and_rest a.0.1) address a.2 in
     let c = then_gives (last_of a.0.0 b.0.0) (octet_and_rest b.0.1) address b.2 in
     let d = map_gives (λ d. a.0.0 ∷ b.0.0 ∷ c.0.0 ∷ d ∷ []) (octet_of c.0.1) address c.2 in
-    let from_c = octet_and_rest_text b.0.1 c.0 c.1 ∙ ap (λ (t : List ℕ). printed_octet c.0.0 ++ dot ∷ t) (octet_text c.0.1 d.0 d.1) in
-    let from_b = octet_and_rest_text a.0.1 b.0 b.1 ∙ ap (λ (t : List ℕ). printed_octet b.0.0 ++ dot ∷ t) from_c in
-    octet_and_rest_text text a.0 a.1
-    ∙ ap (λ (t : List ℕ). printed_octet a.0.0 ++ dot ∷ t) from_b
-    ∙ sym (apart (printed_octet a.0.0) (printed_octet b.0.0) (printed_octet c.0.0) (printed_octet d.0))
+    four_joined text (printed_octet a.0.0) (printed_octet b.0.0) (printed_octet c.0.0) (printed_octet d.0) a.0.1 b.0.1 c.0.1
+    (octet_and_rest_text text a.0 a.1) (octet_and_rest_text a.0.1 b.0 b.1) (octet_and_rest_text b.0.1 c.0 c.1) (octet_text c.0.1 d.0 d.1)
     ∙ ap printed_address d.2
 
 -- hosts

@@ -1,13 +1,13 @@
 -- Which texts spell a name: its parts, one behind the other.
-use Rattle.std.specs.Prelude.{◌≡◌, ℕ, ◌≤◌, Bool, true, List, [], ◌∷◌, ◌++◌, length, Some, codes}
+use Rattle.std.specs.Prelude.{◌≡◌, ℕ, ◌≤◌, Bool, true, List, [], ◌∷◌, ◌++◌, length, codes}
 use Rattle.std.specs.List.{list_all}
-use Rattle.uuid.specs.Text.{is_hex_digit, parsed_hyphenated}
+use Rattle.uuid.specs.Text.{is_hex_digit}
 use Rattle.mqb_base.specs.declared.ids.Guid.{Guid}
 use Rattle.mqb_base.specs.declared.queue_names.Host.{Host}
 use Rattle.mqb_base.specs.declared.queue_names.Host.TheVariants.{Os, Tcp}
 use Rattle.mqb_base.specs.declared.queue_names.QueueName.{QueueName}
 use Rattle.mqb_base.specs.declared.queue_names.QueueName.TheVariants.{Public, Private, Direct, Machine}
-use Rattle.mqb_names.specs.Printed.{backslash, path, printed_address, printed_journal, printed_kind}
+use Rattle.mqb_names.specs.Printed.{backslash, path, printed_address, printed_guid, printed_journal, printed_kind}
 use Rattle.mqb_names.specs.Parts.{same_word, hex_number}
 
 -- a text of the first form, and one of the second behind it
@@ -23,9 +23,9 @@ Exactly bytes text = text ≡ bytes
 abbrev pub Word : List ℕ → List ℕ → Type 0
 Word word text = same_word text word ≡ true
 
--- the 36 characters of a GUID, its letters in either case
+-- a GUID's 36 characters
 abbrev pub GuidText : Guid → List ℕ → Type 0
-GuidText guid text = parsed_hyphenated text ≡ Some guid.0
+GuidText guid = Word (printed_guid guid)
 
 -- one to eight hexadecimal digits, in either case, that stand for a number
 abbrev pub Digits : ℕ → List ℕ → Type 0
