@@ -1,10 +1,10 @@
 -- The characters that a GUID is read from are its printed form, its letters in either case.
-use Rattle.std.proofs.Common.{◌≡◌, ◌≤◌, ◌<◌, ℕ, zero, suc, ◌+◌, ◌*◌, ◌/◌, ◌%◌, Bool, true, false, cond, ◌&&◌, ◌||◌, ◌==◌, ◌⊎◌, inl, inr, List, [], ◌∷◌, length, get_or, slice_index, All, Option, Some, None, refl, sym, ap, ◌∙◌, arith, if◌then◌else◌}
+use Rattle.std.proofs.Common.{◌≡◌, ◌<◌, ℕ, zero, suc, ◌+◌, ◌*◌, ◌/◌, ◌%◌, Bool, true, false, cond, ◌&&◌, ◌||◌, ◌==◌, ◌⊎◌, inl, inr, List, [], ◌∷◌, length, get_or, slice_index, All, Some, None, refl, sym, ap, ◌∙◌, arith, if◌then◌else◌}
 use Rattle.std.proofs.lemmas.Bool.Decides.{nat_tests}
 use Rattle.std.proofs.lemmas.List.{get_or_default}
 use Rattle.std.specs.List.{list_all}
 use Rattle.std.specs.Char.{to_ascii_lowercase}
-use Rattle.uuid.specs.Text.{lower, hex_digit, nibble, is_hex_digit, value_of, by_index, byte_of_digits, hyphen, hyphen_place, digit_place, is_hyphen_place, digits_of, has_hyphens, parsed_simple, parsed_hyphenated, hyphenated_text}
+use Rattle.uuid.specs.Text.{lower, hex_digit, nibble, is_hex_digit, value_of, by_index, byte_of_digits, hyphen, hyphen_place, digit_place, is_hyphen_place, digits_of, has_hyphens, parsed_hyphenated, hyphenated_text}
 use Rattle.uuid.proofs.TextLemmas.{by_index_length, by_index_at, nibble_even, nibble_odd, nibble_small, simple_some, hyphens_pass}
 use Rattle.mqb_names.specs.Parts.{same_word}
 use Rattle.mqb_names.specs.Grammar.{Word}

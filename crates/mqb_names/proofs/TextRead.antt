@@ -1,8 +1,8 @@
 -- Each spelling of a name is read as that name.
-use Rattle.std.proofs.Common.{◌≡◌, ◌≤◌, ◌<◌, ℕ, suc, ◌+◌, Bool, true, false, cond, not, ◌&&◌, ◌==◌, ltb, leb, subst, append_assoc, List, [], ◌∷◌, ◌++◌, length, take, drop, Option, Some, None, Result, Ok, refl, sym, ap, ◌∙◌, arith, true≢false, length-append}
+use Rattle.std.proofs.Common.{◌≡◌, ◌≤◌, ℕ, ◌+◌, Bool, true, false, not, leb, subst, append_assoc, List, [], ◌∷◌, ◌++◌, length, take, drop, Some, Result, Ok, refl, sym, ap, ◌∙◌, arith}
 use Rattle.std.proofs.lemmas.Bool.Decides.{nat_tests}
 use Rattle.std.proofs.lemmas.Bool.{lt-ltb}
-use Rattle.std.proofs.lemmas.List.{take_at, drop_at, drop-drop, append-nil, nil_from_length}
+use Rattle.std.proofs.lemmas.List.{take_at, drop_at, nil_from_length}
 use Rattle.std.specs.List.{prefix_len, list_all, before_first}
 use Rattle.std.specs.Prelude.{codes}
 use Rattle.uuid.specs.Text.{is_hex_digit, parsed_hyphenated}
@@ -16,10 +16,9 @@ use Rattle.mqb_base.specs.declared.queue_names.QueueName.TheVariants.{Public, Pr
 use Rattle.mqb_fields.specs.Reading.{Reading, rest_of, moved}
 use Rattle.mqb_names.specs.declared.faults.PartFault.{PartFault}
 use Rattle.mqb_names.specs.declared.faults.NameKind.TheVariants as part
-use Rattle.mqb_names.specs.declared.faults.NameKind.{NameKind}
-use Rattle.mqb_names.specs.Printed.{backslash, path, printed_address, printed_guid, printed_journal, printed_kind}
-use Rattle.mqb_names.specs.Parts.{same_word, begins, guid_of, is_stop, hex_digits, hex_number}
-use Rattle.mqb_names.specs.Reading.{word_at, guid_at, number_at, name_at, host_at, direct_at, journal_at, kind_at, public_at, private_at, direct_name_at, machine_at, name_from, name_of}
+use Rattle.mqb_names.specs.Printed.{backslash, path, printed_address, printed_guid, printed_kind}
+use Rattle.mqb_names.specs.Parts.{begins, guid_of, is_stop, hex_digits}
+use Rattle.mqb_names.specs.Reading.{guid_at, number_at, host_at, direct_at, journal_at, kind_at, public_at, private_at, direct_name_at, machine_at, name_of}
 use Rattle.mqb_names.specs.Grammar.{◌then◌, Exactly, Word, GuidText, Digits, HostText, JournalText, IsText}
 use Rattle.mqb_names.specs.Values.{AreBytes, IsName, IsHost, IsQueueName}
 use Rattle.uuid.proofs.TextLemmas.{by_index_length}

@@ -1,5 +1,5 @@
 -- A text that is read as a name is a spelling of it.
-use Rattle.std.proofs.Common.{◌≡◌, ◌≤◌, ◌<◌, ℕ, suc, ◌+◌, ◌-◌, ◌*◌, ◌/◌, ◌%◌, Bool, true, false, cond, not, ◌&&◌, ◌==◌, ltb, leb, subst, append_assoc, List, [], ◌∷◌, ◌++◌, length, take, drop, Option, Some, None, option_map, Result, Ok, Err, refl, sym, ap, ◌∙◌, arith, ◌⊎◌, inl, inr, if◌then◌else◌}
+use Rattle.std.proofs.Common.{◌≡◌, ◌≤◌, ◌<◌, ℕ, ◌+◌, ◌-◌, ◌*◌, ◌/◌, ◌%◌, Bool, true, false, cond, not, ◌&&◌, ◌==◌, ltb, leb, subst, append_assoc, List, [], ◌∷◌, ◌++◌, length, take, drop, Option, Some, None, option_map, Result, Ok, Err, refl, sym, ap, ◌∙◌, arith, ◌⊎◌, inl, inr, if◌then◌else◌}
 use Rattle.std.proofs.lemmas.Bool.Decides.{nat_tests}
 use Rattle.std.proofs.lemmas.Bool.{lt-ltb, le-ltb}
 use Rattle.std.proofs.lemmas.List.{take-append-drop, drop-drop, drop_more}
@@ -8,7 +8,7 @@ use Rattle.std.proofs.lemmas.List.Sums.{passes_at_first}
 use Rattle.std.specs.List.{prefix_len, position_or_len, list_all, before_first}
 use Rattle.std.proofs.Math.Numerals.{one-add}
 use Rattle.std.specs.Prelude.{codes, option_and_then, nat_lt, position, get_or}
-use Rattle.uuid.specs.Text.{is_hex_digit, parsed_hyphenated}
+use Rattle.uuid.specs.Text.{is_hex_digit}
 use Rattle.mqb_base.specs.declared.ids.Guid.{Guid}
 use Rattle.mqb_base.specs.declared.queue_names.Host.{Host}
 use Rattle.mqb_base.specs.declared.queue_names.Host.TheVariants.{Os, Tcp}
@@ -20,9 +20,9 @@ use Rattle.mqb_fields.specs.Reading.{◌>>=◌, Reading, rest_of, moved}
 use Rattle.mqb_names.specs.declared.faults.PartFault.{PartFault}
 use Rattle.mqb_names.specs.declared.faults.NameKind.TheVariants as part
 use Rattle.mqb_names.specs.declared.faults.NameKind.{NameKind}
-use Rattle.mqb_names.specs.Printed.{backslash, dot, path, printed_octet, printed_address, printed_journal, printed_kind}
+use Rattle.mqb_names.specs.Printed.{backslash, dot, path, printed_octet, printed_address, printed_kind}
 use Rattle.mqb_names.specs.Parts.{same_word, begins, guid_of, is_stop, is_digit, hex_digits, hex_number, octet_of, octet_before, octet_and_rest, address_of}
-use Rattle.mqb_names.specs.Reading.{bad, or_bad, word_at, guid_at, number_at, name_at, os_at, tcp_at, host_at, direct_at, journal_at, kind_at, public_at, private_at, direct_name_at, machine_at, name_of}
+use Rattle.mqb_names.specs.Reading.{or_bad, word_at, guid_at, number_at, name_at, os_at, tcp_at, host_at, direct_at, journal_at, kind_at, public_at, private_at, direct_name_at, machine_at, name_of}
 use Rattle.mqb_names.specs.Grammar.{◌then◌, Exactly, Word, GuidText, Digits, HostText, JournalText, IsText}
 use Rattle.mqb_names.proofs.DirectAgain.{further, apart}
 use Rattle.mqb_names.proofs.TextWords.{both_hold}
