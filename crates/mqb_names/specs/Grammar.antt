@@ -23,7 +23,7 @@ Exactly bytes text = text ≡ bytes
 abbrev pub Word : List ℕ → List ℕ → Type 0
 Word word text = same_word text word ≡ true
 
--- a GUID's 36 characters
+-- a GUID as it is printed, its letters in either case
 abbrev pub GuidText : Guid → List ℕ → Type 0
 GuidText guid = Word (printed_guid guid)
 
@@ -31,10 +31,12 @@ GuidText guid = Word (printed_guid guid)
 abbrev pub Digits : ℕ → List ℕ → Type 0
 Digits number text = (1 ≤ length text) × (length text ≤ 8) × (list_all is_hex_digit text ≡ true) × (hex_number text ≡ number)
 
+-- a host behind its protocol
 abbrev pub HostText : Host → List ℕ → Type 0
 HostText (Os name) = Word (codes "OS:") then Exactly name
 HostText (Tcp address) = Word (codes "TCP:") then Exactly (printed_address address)
 
+-- nothing, or the suffix of a queue's journal
 abbrev pub JournalText : Bool → List ℕ → Type 0
 JournalText journal = Word (printed_journal journal)
 

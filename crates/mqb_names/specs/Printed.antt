@@ -33,7 +33,8 @@ printed_octet n = if nat_lt n 10 then (48 + n) ∷ []
 
 abbrev pub printed_address : List ℕ → List ℕ
 printed_address a =
-    printed_octet (slice_index a 0) ++ dot ∷ printed_octet (slice_index a 1) ++ dot ∷ printed_octet (slice_index a 2) ++ dot ∷ printed_octet (slice_index a 3)
+    printed_octet (slice_index a 0) ++ dot ∷ printed_octet (slice_index a 1)
+    ++ dot ∷ printed_octet (slice_index a 2) ++ dot ∷ printed_octet (slice_index a 3)
 
 abbrev pub printed_host : Host → List ℕ
 printed_host (Os name) = codes "OS:" ++ name
