@@ -12,3 +12,6 @@ mod source;
 pub use medium::{Medium, MemoryMedium};
 pub use sink::{MemorySink, Sink, StdSink};
 pub use source::{MemorySource, Source, StdSource};
+
+#[cfg(test)]
+mod tests;
