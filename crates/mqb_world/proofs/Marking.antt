@@ -1,5 +1,5 @@
 -- A loop that changes each member of a list in place.
-use Rattle.std.proofs.Common.{◌≡◌, ℕ, ◌+◌, ◌<◌, ◌≤◌, List, [], ◌∷◌, ◌++◌, length, take, drop, get_or, set, suc, refl, sym, subst, ◌∙◌, ap, arith, drop-cons}
+use Rattle.std.proofs.Common.{◌≡◌, ℕ, ◌+◌, ◌<◌, ◌≤◌, List, [], ◌∷◌, ◌++◌, length, take, drop, get_or, set, suc, sym, subst, ◌∙◌, ap, arith, drop-cons}
 use Rattle.std.specs.Prelude.{map}
 use Rattle.std.proofs.lemmas.List.{map_push, drop-set-lt, take_all}
 use Rattle.std.proofs.Math.Seq.{take-suc, take-suc-set}

@@ -1,5 +1,5 @@
 -- The numbers of packets, one after another.
-use Rattle.std.proofs.Common.{◌≡◌, ℕ, ◌+◌, ◌-◌, ◌<◌, ◌≤◌, List, [], ◌∷◌, ◌++◌, zero, suc, refl, sym, ap, ◌∙◌, arith, append_assoc, append-nil}
+use Rattle.std.proofs.Common.{◌≡◌, ℕ, ◌+◌, ◌-◌, ◌<◌, ◌≤◌, List, [], ◌∷◌, ◌++◌, suc, sym, ap, ◌∙◌, arith, append_assoc, append-nil}
 use Rattle.mqb_world.specs.Machine.{numbers_after}
 
 pub numbered_next : (before count i : ℕ) (xs all : List ℕ) → i < count → xs ++ numbers_after (before + i) (count - i) ≡ all →

@@ -6,3 +6,4 @@ pub mod Pumping
 pub mod Steps
 pub mod Endings
 pub mod Transcripts
+pub mod Laws

@@ -1,4 +1,4 @@
-use Rattle.std.specs.Prelude.{ℕ, Bool, true, false, ◌+◌, ◌==◌, ◌&&◌, ◌||◌, not, nat_lt, nat_le, max, List, [], ◌∷◌, ◌++◌, length, map, filter, fold, take, position, slice_get, slice_set, replicate, codes, Option, Some, None, is_some, unwrap_or, option_and_then, if◌then◌else◌}
+use Rattle.std.specs.Prelude.{ℕ, Bool, false, ◌+◌, ◌&&◌, ◌||◌, not, nat_lt, nat_le, max, List, [], ◌∷◌, ◌++◌, length, map, filter, fold, take, position, slice_get, slice_set, replicate, codes, Option, Some, None, is_some, unwrap_or, option_and_then, if◌then◌else◌}
 use Rattle.std.specs.Option.{option_map, option_map_or}
 use Rattle.std.specs.List.{flat_map}
 use Rattle.mqb_base.specs.declared.class.Class.{Class}

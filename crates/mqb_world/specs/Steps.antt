@@ -1,4 +1,4 @@
-use Rattle.std.specs.Prelude.{◌≡◌, ℕ, List}
+use Rattle.std.specs.Prelude.{◌≡◌, List}
 use Rattle.mqb_script.specs.declared.replies.Reply.{Reply}
 use Rattle.mqb_world.specs.declared.packets.Packet.{Packet}
 use Rattle.mqb_world.specs.Machine.{Machine, Answer}

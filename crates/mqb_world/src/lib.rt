@@ -7,6 +7,7 @@
 mod ending;
 mod identities;
 mod incoming;
+mod laws;
 mod lines;
 mod manager;
 mod out_lines;
@@ -17,5 +18,6 @@ mod sends;
 mod world;
 
 pub use identities::hosts;
+pub use laws::{duplicate_changes_nothing, spelled_is_read};
 pub use packets::{Packet, Transfer};
 pub use world::{World, WorldFault};

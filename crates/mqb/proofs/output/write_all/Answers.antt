@@ -1,5 +1,5 @@
-use Rattle.std.proofs.Common.{◌≡◌, ◌∙◌, rules}
-use Rattle.mqb.proofs.Taking.{TookSoFar, so_far_then}
+use Rattle.std.proofs.Common.{◌∙◌}
+use Rattle.mqb.proofs.Taking.{so_far_then}
 use Rattle.mqb.proofs.output.write_all.Goals as goal
 
 pub loop-rest-preserved : goal.loop-rest-preserved

@@ -1,11 +1,11 @@
-use Rattle.std.proofs.Common.{◌≡◌, ℕ, ◌+◌, ◌≤◌, List, [], ◌∷◌, length, drop, Some, arith, rules, subst, sym, ap, ◌∙◌}
+use Rattle.std.proofs.Common.{◌≡◌, ℕ, ◌+◌, List, [], drop, Some, arith, rules, subst, ◌∙◌}
 use Rattle.std.proofs.lemmas.List.{drop_all}
 use Rattle.mqb_outside.specs.Told.{Took}
 use Rattle.mqb_script.specs.declared.events.Event.{Event}
 use Rattle.mqb_world.specs.Endings.{end_text}
 use Rattle.mqb_base.specs.declared.ids.Identity.{Identity}
 use Rattle.mqb_script.specs.Texts.{printed}
-use Rattle.mqb_world.specs.Machine.{Machine, step, beginning, hosts}
+use Rattle.mqb_world.specs.Machine.{Machine, step, beginning}
 use Rattle.mqb_world.specs.Transcripts.{transcript_of, strings_from}
 use Rattle.mqb.specs.Outputs.{TookFront}
 use Rattle.mqb.proofs.Taking.{on_err, on_ok_from, on_err_from}

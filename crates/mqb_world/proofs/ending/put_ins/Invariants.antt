@@ -1,6 +1,6 @@
 use Rattle.std.proofs.Common.{◌≡◌, ◌++◌, take}
 use Rattle.std.specs.List.{flat_map}
-use Rattle.mqb_world.specs.Endings.{queue_text, in_text}
+use Rattle.mqb_world.specs.Endings.{in_text}
 use Rattle.mqb_world.proofs.ending.put_ins.Given as goal
 
 abbrev pub invariant-loop-row : goal.invariant-loop-row

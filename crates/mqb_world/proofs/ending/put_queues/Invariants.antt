@@ -1,6 +1,6 @@
 use Rattle.std.proofs.Common.{◌≡◌, ◌++◌, take}
 use Rattle.std.specs.List.{flat_map}
-use Rattle.mqb_world.specs.Endings.{queue_text, in_text}
+use Rattle.mqb_world.specs.Endings.{queue_text}
 use Rattle.mqb_world.proofs.ending.put_queues.Given as goal
 
 abbrev pub invariant-loop-queue : goal.invariant-loop-queue

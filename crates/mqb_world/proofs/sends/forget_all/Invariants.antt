@@ -1,4 +1,4 @@
-use Rattle.mqb_world.specs.Manager.{placed_on, offered_on, unsent}
+use Rattle.mqb_world.specs.Manager.{unsent}
 use Rattle.mqb_world.specs.Outgoing.{sending_of}
 use Rattle.mqb_world.proofs.Marking.{IsMarked}
 use Rattle.mqb_world.proofs.sends.forget_all.Given as goal

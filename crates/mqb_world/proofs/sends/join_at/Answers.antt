@@ -1,5 +1,3 @@
-use Rattle.std.proofs.Common.{◌≡◌, ◌∙◌, sym, ap}
-use Rattle.mqb_world.specs.declared.outgoing.Outgoing.{Outgoing}
 use Rattle.mqb_world.specs.Manager.{Sending, joined}
 use Rattle.mqb_world.specs.Outgoing.{sending_of}
 use Rattle.mqb_world.proofs.Views.{on_ok, on_err, set_map, set_same}

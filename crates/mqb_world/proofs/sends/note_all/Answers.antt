@@ -1,8 +1,8 @@
 use Rattle.std.proofs.Common.{◌∙◌, ap, sym, arith}
 use Rattle.mqb_world.specs.declared.outgoing.Outgoing.{Outgoing}
-use Rattle.mqb_world.specs.Manager.{placed_on, offered_on, unsent}
+use Rattle.mqb_world.specs.Manager.{placed_on, offered_on}
 use Rattle.mqb_world.specs.Outgoing.{sending_of}
-use Rattle.mqb_world.proofs.Marking.{IsMarked, marked_next}
+use Rattle.mqb_world.proofs.Marking.{marked_next}
 use Rattle.mqb_world.proofs.sends.note_all.Goals as goal
 
 pub loop-outgoing-preserved : goal.loop-outgoing-preserved

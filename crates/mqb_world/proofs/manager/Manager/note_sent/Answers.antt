@@ -1,4 +1,4 @@
-use Rattle.std.proofs.Common.{◌≡◌, ◌∙◌, List, sym, ap, rules}
+use Rattle.std.proofs.Common.{◌∙◌, List, sym, ap, rules}
 use Rattle.std.proofs.lemmas.Grind.{common_steps}
 use Rattle.std.specs.Prelude.{map}
 use Rattle.mqb_world.specs.Manager.{State, Sending, placed_on, offered_on}
