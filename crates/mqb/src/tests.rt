@@ -160,6 +160,7 @@ fn failing_calls_end_the_run(rt: HostRuntime) -> Result<(), Fail> {
     assert!(rt; sink.as_slice() == b"fault: readfault\n".as_slice());
     let mut source = MemorySource::new(alloc, QUEUE.as_bytes(), &[])?;
     let mut sink = MemorySink::new(alloc, &[2])?;
+    let mut medium = MemoryMedium::new(alloc);
     assert_eq!(rt;
         run(alloc, &words, &mut source, &mut sink, &mut medium),
         Status::WriteFault
