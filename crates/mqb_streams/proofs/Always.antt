@@ -1,0 +1,141 @@
+-- What holds at each point of each run, and that it makes a channel exactly once.
+use Rattle.std.proofs.Common.{◌≡◌, ◌<◌, ◌≤◌, ◌⊎◌, inl, inr, true, false, List, [], ◌∷◌, ◌++◌, refl, sym, subst, ◌∙◌, le_trans, lt_of_lt_of_le, arith}
+use Rattle.std.proofs.lemmas.Bool.{cases_Bool, cases_lt, true≢false}
+use Rattle.mqb_base.specs.Sequences.{earlier}
+use Rattle.mqb_streams.specs.World.{Channel, Position, StreamWorld, start}
+use Rattle.mqb_streams.specs.Words.{precedes, is_expired, is_decided, kept, before, last}
+use Rattle.mqb_streams.specs.Steps.{StreamStep, happens, May}
+use Rattle.mqb_streams.specs.Runs.{after, IsRun}
+use Rattle.mqb_streams.specs.ExactlyOnce.{ExactlyOnce, IsNumbered, Differ}
+use Rattle.mqb_streams.specs.Growth.{Grows}
+use Rattle.mqb_streams.proofs.Positions.{precedes_tells}
+use Rattle.mqb_streams.proofs.Members.{In_from_decided, kept_is_not_expired}
+use Rattle.mqb_streams.proofs.Numbers.{kept_within}
+use Rattle.mqb_streams.proofs.Decisions.{RiseOf, decided_within}
+use Rattle.mqb_streams.proofs.Growing.{grows, grows_none, grows_trans}
+use Rattle.mqb_streams.proofs.Committing.{CommitsRise, numbered_stays, commits_rise}
+use Rattle.mqb_streams.proofs.Transferring.{TransfersTruthful, transfers_truthful}
+use Rattle.mqb_streams.proofs.Deciding.{DecisionsSettled, decisions_rise, decisions_settled, same_but_reach}
+use Rattle.mqb_streams.proofs.Marking.{AllMarksStand, marks_stand}
+use Rattle.mqb_streams.proofs.Skipping.{NoneSkipped, none_skipped}
+use Rattle.mqb_streams.proofs.Telling.{OrderAcksTrue, FatesTrue, FinalAcksTrue, order_acks_true, fates_true, final_acks_true, told_was_decided}
+use Rattle.mqb_streams.proofs.Expiring.{ExpiriesDue, expiries_due, expiries_differ}
+use Rattle.mqb_streams.proofs.Beginning.{BegunInOrder, begun_in_order}
+
+pub record Invariant (w : StreamWorld) : Type 0 where
+  pub numbered : IsNumbered w.committed
+  pub commits : CommitsRise w.committed
+  pub rise : RiseOf w.decided
+  pub marks : AllMarksStand w
+  pub truthful : TransfersTruthful w
+  pub settled : DecisionsSettled w
+  pub skipped : NoneSkipped w
+  pub order_acks : OrderAcksTrue w
+  pub fates : FatesTrue w
+  pub final_acks : FinalAcksTrue w
+  pub expiries : ExpiriesDue w
+  pub differ : Differ w.expired
+  pub begun : BegunInOrder w
+
+at_start : (channel : Channel) → Invariant (start channel)
+at_start channel = record {
+  numbered = tt;
+  commits = tt;
+  rise = tt;
+  marks = λ s. record { acknowledged = inl refl; decided = inl refl; offered = inl refl; acknowledged_was_decided = omega arith; decided_was_offered = omega arith };
+  truthful = λ t inside. absurd inside;
+  settled = λ d inside. absurd inside;
+  skipped = λ p is_kept within. absurd (true≢false (sym is_kept));
+  order_acks = λ a inside. absurd inside;
+  fates = λ f inside. absurd inside;
+  final_acks = λ a inside. absurd inside;
+  expiries = λ e inside. absurd inside;
+  differ = tt;
+  begun = λ s offered. absurd (omega arith);
+}
+
+pub step_grows : (w : StreamWorld) (x : StreamStep) → Invariant w → May w x → Grows w (happens w x)
+step_grows w x i may = grows w x i.numbered (λ s. (i.marks s).offered) i.rise may
+
+stays : (w : StreamWorld) (x : StreamStep) → Invariant w → May w x → Grows w (happens w x) → Invariant (happens w x)
+stays w x i may g = record {
+  numbered = numbered_stays w x i.numbered;
+  commits = commits_rise w x i.numbered i.commits may;
+  rise = decisions_rise w x i.rise;
+  marks = marks_stand w x i.marks i.rise i.truthful i.order_acks (told_was_decided w i.rise i.settled i.fates i.final_acks) may g;
+  truthful = transfers_truthful w x i.truthful may g;
+  settled = decisions_settled w x i.truthful i.settled may g;
+  skipped = none_skipped w x i.skipped i.marks i.rise i.truthful may g;
+  order_acks = order_acks_true w x i.order_acks i.marks i.rise i.settled may g;
+  fates = fates_true w x i.fates may g;
+  final_acks = final_acks_true w x i.final_acks may g;
+  expiries = expiries_due w x i.expiries may g;
+  differ = expiries_differ w x i.differ may;
+  begun = begun_in_order w x i.begun (λ s. (i.marks s).offered) may g;
+}
+
+pub always : (channel : Channel) (xs : List StreamStep) → IsRun channel xs → Invariant (after channel xs)
+always channel [] run = at_start channel
+always channel (x ∷ xs) run =
+    let i : Invariant (after channel xs) = always channel xs run.1 in
+    stays (after channel xs) x i run.0 (step_grows (after channel xs) x i run.0)
+
+pub run_of_earlier : (channel : Channel) (more xs : List StreamStep) → IsRun channel (more ++ xs) → IsRun channel xs
+run_of_earlier channel [] xs run = run
+run_of_earlier channel (x ∷ more) xs run = run_of_earlier channel more xs run.1
+
+pub run_grows : (channel : Channel) (more xs : List StreamStep) → IsRun channel (more ++ xs) → Grows (after channel xs) (after channel (more ++ xs))
+run_grows channel [] xs run = grows_none (after channel xs)
+run_grows channel (x ∷ more) xs run =
+    grows_trans (after channel xs) (after channel (more ++ xs)) (after channel ((x ∷ more) ++ xs)) (run_grows channel more xs run.1)
+    (step_grows (after channel (more ++ xs)) x (always channel (more ++ xs) run.1) run.0)
+
+-- ---- exactly once
+
+module _ (w : StreamWorld) (i : Invariant w) where
+  pub decided_kept : (p : Position) → is_decided w.decided p ≡ true → (kept w p ≡ true) × (p.number ≤ w.offered p.sequence)
+  decided_kept p h =
+      let found = In_from_decided w.decided p h in
+      let settled = i.settled found.0 found.1 in
+      subst (λ (q : Position). (kept w q ≡ true) × (q.number ≤ w.offered q.sequence)) found.2 (settled.2.kept, settled.2.offered)
+
+  acknowledged_is_decided : (p : Position) → kept w p ≡ true → p.number ≤ w.acknowledged p.sequence → is_decided w.decided p ≡ true
+  acknowledged_is_decided p is_kept within = i.skipped p is_kept (le_trans within (i.marks p.sequence).acknowledged_was_decided)
+
+  none_is_skipped : (p q : Position) → kept w p ≡ true → is_decided w.decided q ≡ true → precedes p q ≡ true → is_decided w.decided p ≡ true
+  none_is_skipped p q is_kept decided before = at (precedes_tells p q before)
+    where
+      begun : 0 < w.offered q.sequence
+      begun = let k = decided_kept q decided in lt_of_lt_of_le (kept_within w.committed w.expired q i.numbered k.0).0 k.1
+
+      at : (earlier p.sequence q.sequence ≡ true) ⊎ ((p.sequence ≡ q.sequence) × (p.number < q.number)) → is_decided w.decided p ≡ true
+      at (inl before) = acknowledged_is_decided p is_kept (i.begun q.sequence begun p before is_kept)
+      at (inr h) = i.skipped p is_kept (subst (λ s. p.number ≤ last w.decided s) (sym h.0)
+          (let within : q.number ≤ last w.decided q.sequence = decided_within w.decided q i.rise decided in omega (arith, h.1)))
+
+  undecided : (p : Position) → is_expired w.expired p ≡ true → is_decided w.decided p ≡ false
+  undecided p expired = elim (cases_Bool (is_decided w.decided p)) [
+    | inl decided ↦ absurd (true≢false (sym expired ∙ kept_is_not_expired w.committed w.expired p (decided_kept p decided).0))
+    | inr is ↦ is
+  ]
+
+  waits : (p : Position) → kept w p ≡ true → is_decided w.decided p ≡ false → w.acknowledged p.sequence < p.number
+  waits p is_kept not_decided = elim (cases_lt (w.acknowledged p.sequence) p.number) [
+    | inl above ↦ above
+    | inr within ↦ absurd (true≢false (sym (acknowledged_is_decided p is_kept within) ∙ not_decided))
+  ]
+
+  pub is_exactly_once : ExactlyOnce w
+  is_exactly_once = record {
+    numbered = i.numbered;
+    committed_in_order = i.commits;
+    decided_in_order = i.rise;
+    decided_committed = λ d inside. let s = i.settled d inside in (s.0, s.2.committed, s.2.position, same_but_reach s.0.message d.message s.1.sent_at s.2.message);
+    none_skipped = none_is_skipped;
+    expired_due = i.expiries;
+    expired_undecided = undecided;
+    expired_once = i.differ;
+    late_was_due = λ d inside. let s = i.settled d inside in (s.0, s.1, s.2.committed, s.2.sent, s.2.position, s.2.head, s.2.late);
+    waiting = waits;
+    begun_in_order = i.begun;
+  }

@@ -1,0 +1,16 @@
+pub mod Positions
+pub mod Members
+pub mod Numbers
+pub mod Befores
+pub mod Decisions
+pub mod Judging
+pub mod Growing
+pub mod Committing
+pub mod Transferring
+pub mod Deciding
+pub mod Marking
+pub mod Skipping
+pub mod Telling
+pub mod Expiring
+pub mod Beginning
+pub mod Always

@@ -1,0 +1,9 @@
+pub mod Outcomes
+pub mod World
+pub mod Words
+pub mod Steps
+pub mod Runs
+pub mod ExactlyOnce
+pub mod Growth
+pub mod Truths
+pub mod Laws
