@@ -1,17 +1,19 @@
 -- What holds at each point of each run, and that it makes a channel exactly once.
-use Rattle.std.proofs.Common.{◌≡◌, ◌<◌, ◌≤◌, ◌⊎◌, inl, inr, true, false, List, [], ◌∷◌, ◌++◌, refl, sym, subst, ◌∙◌, le_trans, lt_of_lt_of_le, arith}
-use Rattle.std.proofs.lemmas.Bool.{cases_Bool, cases_lt, true≢false}
+use Rattle.std.proofs.Common.{◌≡◌, ◌<◌, ◌≤◌, ◌⊎◌, inl, inr, true, false, not, List, [], ◌∷◌, ◌++◌, refl, sym, subst, ◌∙◌, le_trans, lt_of_lt_of_le, arith, Bool, ap}
+use Rattle.std.proofs.lemmas.Bool.{and_from, cases_Bool, cases_lt, true≢false}
 use Rattle.mqb_base.specs.Sequences.{earlier}
-use Rattle.mqb_streams.specs.World.{Channel, Position, StreamWorld, start}
-use Rattle.mqb_streams.specs.Words.{precedes, is_expired, is_decided, kept, before, last}
-use Rattle.mqb_streams.specs.Steps.{StreamStep, happens, May}
+use Rattle.mqb_orders.specs.declared.judging.Verdict.TheVariants.{Duplicate, Stale}
+use Rattle.mqb_streams.specs.World.{Channel, Position, StreamWorld, start, Transfer}
+use Rattle.mqb_streams.specs.Words.{precedes, is_expired, is_decided, kept, before, last, is_committed, position_of, In}
+use Rattle.mqb_streams.specs.Steps.{StreamStep, happens, May, verdict}
 use Rattle.mqb_streams.specs.Runs.{after, IsRun}
 use Rattle.mqb_streams.specs.ExactlyOnce.{ExactlyOnce, IsNumbered, Differ}
 use Rattle.mqb_streams.specs.Growth.{Grows}
 use Rattle.mqb_streams.proofs.Positions.{precedes_tells}
-use Rattle.mqb_streams.proofs.Members.{In_from_decided, kept_is_not_expired}
+use Rattle.mqb_streams.proofs.Members.{In_from_decided, kept_is_not_expired, decided_from_In}
 use Rattle.mqb_streams.proofs.Numbers.{kept_within}
 use Rattle.mqb_streams.proofs.Decisions.{RiseOf, decided_within}
+use Rattle.mqb_streams.proofs.Judging.{duplicate_within, stale_precedes}
 use Rattle.mqb_streams.proofs.Growing.{grows, grows_none, grows_trans}
 use Rattle.mqb_streams.proofs.Committing.{CommitsRise, numbered_stays, commits_rise}
 use Rattle.mqb_streams.proofs.Transferring.{TransfersTruthful, transfers_truthful}
@@ -22,7 +24,8 @@ use Rattle.mqb_streams.proofs.Telling.{OrderAcksTrue, FatesTrue, FinalAcksTrue, 
 use Rattle.mqb_streams.proofs.Expiring.{ExpiriesDue, expiries_due, expiries_differ}
 use Rattle.mqb_streams.proofs.Beginning.{BegunInOrder, begun_in_order}
 
-pub record Invariant (w : StreamWorld) : Type 0 where
+-- what each step keeps
+pub record StreamInvariant (w : StreamWorld) : Type 0 where
   pub numbered : IsNumbered w.committed
   pub commits : CommitsRise w.committed
   pub rise : RiseOf w.decided
@@ -37,7 +40,7 @@ pub record Invariant (w : StreamWorld) : Type 0 where
   pub differ : Differ w.expired
   pub begun : BegunInOrder w
 
-at_start : (channel : Channel) → Invariant (start channel)
+at_start : (channel : Channel) → StreamInvariant (start channel)
 at_start channel = record {
   numbered = tt;
   commits = tt;
@@ -54,10 +57,10 @@ at_start channel = record {
   begun = λ s offered. absurd (omega arith);
 }
 
-pub step_grows : (w : StreamWorld) (x : StreamStep) → Invariant w → May w x → Grows w (happens w x)
+pub step_grows : (w : StreamWorld) (x : StreamStep) → StreamInvariant w → May w x → Grows w (happens w x)
 step_grows w x i may = grows w x i.numbered (λ s. (i.marks s).offered) i.rise may
 
-stays : (w : StreamWorld) (x : StreamStep) → Invariant w → May w x → Grows w (happens w x) → Invariant (happens w x)
+stays : (w : StreamWorld) (x : StreamStep) → StreamInvariant w → May w x → Grows w (happens w x) → StreamInvariant (happens w x)
 stays w x i may g = record {
   numbered = numbered_stays w x i.numbered;
   commits = commits_rise w x i.numbered i.commits may;
@@ -74,10 +77,10 @@ stays w x i may g = record {
   begun = begun_in_order w x i.begun (λ s. (i.marks s).offered) may g;
 }
 
-pub always : (channel : Channel) (xs : List StreamStep) → IsRun channel xs → Invariant (after channel xs)
+pub always : (channel : Channel) (xs : List StreamStep) → IsRun channel xs → StreamInvariant (after channel xs)
 always channel [] run = at_start channel
 always channel (x ∷ xs) run =
-    let i : Invariant (after channel xs) = always channel xs run.1 in
+    let i : StreamInvariant (after channel xs) = always channel xs run.1 in
     stays (after channel xs) x i run.0 (step_grows (after channel xs) x i run.0)
 
 pub run_of_earlier : (channel : Channel) (more xs : List StreamStep) → IsRun channel (more ++ xs) → IsRun channel xs
@@ -92,7 +95,7 @@ run_grows channel (x ∷ more) xs run =
 
 -- ---- exactly once
 
-module _ (w : StreamWorld) (i : Invariant w) where
+module _ (w : StreamWorld) (i : StreamInvariant w) where
   pub decided_kept : (p : Position) → is_decided w.decided p ≡ true → (kept w p ≡ true) × (p.number ≤ w.offered p.sequence)
   decided_kept p h =
       let found = In_from_decided w.decided p h in
@@ -103,13 +106,13 @@ module _ (w : StreamWorld) (i : Invariant w) where
   acknowledged_is_decided p is_kept within = i.skipped p is_kept (le_trans within (i.marks p.sequence).acknowledged_was_decided)
 
   none_is_skipped : (p q : Position) → kept w p ≡ true → is_decided w.decided q ≡ true → precedes p q ≡ true → is_decided w.decided p ≡ true
-  none_is_skipped p q is_kept decided before = at (precedes_tells p q before)
+  none_is_skipped p q is_kept decided order = at (precedes_tells p q order)
     where
       begun : 0 < w.offered q.sequence
       begun = let k = decided_kept q decided in lt_of_lt_of_le (kept_within w.committed w.expired q i.numbered k.0).0 k.1
 
       at : (earlier p.sequence q.sequence ≡ true) ⊎ ((p.sequence ≡ q.sequence) × (p.number < q.number)) → is_decided w.decided p ≡ true
-      at (inl before) = acknowledged_is_decided p is_kept (i.begun q.sequence begun p before is_kept)
+      at (inl is_earlier) = acknowledged_is_decided p is_kept (i.begun q.sequence begun p is_earlier is_kept)
       at (inr h) = i.skipped p is_kept (subst (λ s. p.number ≤ last w.decided s) (sym h.0)
           (let within : q.number ≤ last w.decided q.sequence = decided_within w.decided q i.rise decided in omega (arith, h.1)))
 
@@ -125,17 +128,34 @@ module _ (w : StreamWorld) (i : Invariant w) where
     | inr within ↦ absurd (true≢false (sym (acknowledged_is_decided p is_kept within) ∙ not_decided))
   ]
 
+  -- what was committed is kept or expired
+  none_is_skipped_or_expired : (p q : Position) → is_committed w.committed p ≡ true → is_decided w.decided q ≡ true → precedes p q ≡ true → (is_decided w.decided p ≡ true) ⊎ (is_expired w.expired p ≡ true)
+  none_is_skipped_or_expired p q committed decided order = at (is_expired w.expired p) refl
+    where
+      at : (b : Bool) → is_expired w.expired p ≡ b → (is_decided w.decided p ≡ true) ⊎ (is_expired w.expired p ≡ true)
+      at true expired = inr expired
+      at false lasts = inl (none_is_skipped p q (and_from (is_committed w.committed p) (not (is_expired w.expired p)) committed (ap not lasts)) decided order)
+
+  pub dropped_is_decided : (t : Transfer) → In t w.transfers → (verdict w t ≡ Duplicate) ⊎ (verdict w t ≡ Stale) → is_decided w.decided (position_of t.head) ≡ true
+  dropped_is_decided t inside (inl duplicate) =
+      let is_kept = (i.truthful t inside).kept in
+      i.skipped (position_of t.head) is_kept
+      (duplicate_within w.channel w.decided t.head (kept_within w.committed w.expired (position_of t.head) i.numbered is_kept).0 duplicate)
+  dropped_is_decided t inside (inr stale) =
+      let d = stale_precedes w.channel w.decided t.head stale in
+      none_is_skipped (position_of t.head) d.0.position (i.truthful t inside).kept (decided_from_In d.0 w.decided d.1) d.2
+
   pub is_exactly_once : ExactlyOnce w
   is_exactly_once = record {
     numbered = i.numbered;
     committed_in_order = i.commits;
     decided_in_order = i.rise;
     decided_committed = λ d inside. let s = i.settled d inside in (s.0, s.2.committed, s.2.position, same_but_reach s.0.message d.message s.1.sent_at s.2.message);
-    none_skipped = none_is_skipped;
+    none_skipped = none_is_skipped_or_expired;
     expired_due = i.expiries;
     expired_undecided = undecided;
     expired_once = i.differ;
-    late_was_due = λ d inside. let s = i.settled d inside in (s.0, s.1, s.2.committed, s.2.sent, s.2.position, s.2.head, s.2.late);
+    late_was_due = λ d inside. let s = i.settled d inside in (s.0, s.1, s.2.committed, s.2.position, s.2.sent, s.2.head, s.2.heard, s.2.late);
     waiting = waits;
     begun_in_order = i.begun;
   }

@@ -37,6 +37,7 @@ pub record IsSettled (w : StreamWorld) (d : Decision) (c : Commitment) (t : Tran
   pub sent : In t w.transfers
   pub position : c.position ≡ d.position
   pub head : position_of t.head ≡ d.position
+  pub heard : t.message ≡ d.message
   pub message : d.message ≡ carried c.message t.sent_at
   pub late : is_late d.outcome ≡ due c.message t.sent_at
 
@@ -51,6 +52,7 @@ stays_settled v w d c t g is = record {
   sent = g.transfers t is.sent;
   position = is.position;
   head = is.head;
+  heard = is.heard;
   message = is.message;
   late = is.late;
 }
@@ -71,6 +73,7 @@ new_settled w t outcome true_of inside timed = (
     sent = inside;
     position = true_of.message.2;
     head = refl;
+    heard = refl;
     message = true_of.message.3;
     late = timed ∙ (ap (λ m. m.reach == 0) true_of.message.3 ∙ none_left_where_due _ _ t.sent_at);
   },

@@ -7,7 +7,7 @@ use Rattle.mqb_orders.specs.declared.judging.Verdict.TheVariants.{Next}
 use Rattle.mqb_streams.specs.Outcomes.{Outcome, Refused}
 use Rattle.mqb_streams.specs.World.{Position, Commitment, Expiry, Decision, KnownFate, Transfer, OrderAck, FinalAck, StreamWorld}
 use Rattle.mqb_streams.specs.Words.{In, same_position, position_of, is_committed, is_expired, kept, count, last}
-use Rattle.mqb_streams.specs.Steps.{StreamStep, Commit, Expire, Offer, Send, Arrive, Fate, Acknowledge, Acknowledged, Tell, Told, marked, raised, commitment, decision, decided_after, fates_after, verdict, happens, May}
+use Rattle.mqb_streams.specs.Steps.{StreamStep, Commit, Expire, Offer, Send, Arrive, Fate, Acknowledge, Acknowledged, Tell, Told, Connect, marked, raised, commitment, decision, decided_after, fates_after, verdict, happens, May}
 use Rattle.mqb_streams.specs.ExactlyOnce.{IsNumbered}
 use Rattle.mqb_streams.specs.Growth.{Grows}
 use Rattle.mqb_streams.specs.Truths.{IsMark}
@@ -15,6 +15,14 @@ use Rattle.mqb_streams.proofs.Positions.{same_sequence_is, same_position_is}
 use Rattle.mqb_streams.proofs.Numbers.{kept_within}
 use Rattle.mqb_streams.proofs.Decisions.{RiseOf}
 use Rattle.mqb_streams.proofs.Judging.{IsNew, next_is_new}
+
+channel_stays : (w : StreamWorld) (x : StreamStep) → (happens w x).channel ≡ w.channel
+channel_stays w (Commit s m) = refl
+channel_stays w _ = refl
+
+connection_grows : (w : StreamWorld) (x : StreamStep) → w.connection ≤ (happens w x).connection
+connection_grows w Connect = omega arith
+connection_grows w _ = omega arith
 
 -- ---- the lists
 
@@ -122,6 +130,8 @@ kept_stay w _ numbered marks may = λ p offered. refl
 
 pub grows : (w : StreamWorld) (x : StreamStep) → IsNumbered w.committed → ((s : SequenceId) → IsMark w s (w.offered s)) → RiseOf w.decided → May w x → Grows w (happens w x)
 grows w x numbered marks rise may = record {
+  channel = channel_stays w x;
+  connection = connection_grows w x;
   kept = kept_stay w x numbered marks may;
   offered = offered_grow w x may;
   acknowledged = acknowledged_grow w x may;
@@ -139,6 +149,8 @@ grows w x numbered marks rise may = record {
 
 pub grows_none : (w : StreamWorld) → Grows w w
 grows_none w = record {
+  channel = refl;
+  connection = omega arith;
   kept = λ p offered. refl;
   offered = λ s. omega arith;
   acknowledged = λ s. omega arith;
@@ -154,6 +166,8 @@ grows_none w = record {
 
 pub grows_trans : (u v w : StreamWorld) → Grows u v → Grows v w → Grows u w
 grows_trans u v w g h = record {
+  channel = h.channel ∙ g.channel;
+  connection = le_trans g.connection h.connection;
   kept = λ p offered. h.kept p (le_trans offered (g.offered p.sequence)) ∙ g.kept p offered;
   offered = λ s. le_trans (g.offered s) (h.offered s);
   acknowledged = λ s. le_trans (g.acknowledged s) (h.acknowledged s);

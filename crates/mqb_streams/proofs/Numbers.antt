@@ -1,11 +1,12 @@
 -- Where messages are numbered 1, 2 and so on, each number is at most the count of its sequence.
-use Rattle.std.proofs.Common.{◌≡◌, ℕ, suc, ◌<◌, ◌≤◌, inl, inr, Bool, true, false, cond, List, [], ◌∷◌, subst, arith}
+use Rattle.std.proofs.Common.{◌≡◌, ℕ, suc, ◌<◌, ◌≤◌, inl, inr, Bool, true, false, cond, List, [], ◌∷◌, subst, arith, ◌⊎◌, ◌==◌, sym}
+use Rattle.std.proofs.lemmas.Bool.{cases_eq, and_from, eq-eqb}
 use Rattle.mqb_base.specs.Sequences.{same_sequence}
 use Rattle.mqb_streams.specs.World.{Position, Commitment, Expiry}
-use Rattle.mqb_streams.specs.Words.{In, is_committed, is_kept, count}
+use Rattle.mqb_streams.specs.Words.{In, same_position, is_committed, is_kept, count}
 use Rattle.mqb_streams.specs.ExactlyOnce.{IsNumbered}
-use Rattle.mqb_streams.proofs.Positions.{same_sequence_refl}
-use Rattle.mqb_streams.proofs.Members.{In_from_committed, kept_is_committed}
+use Rattle.mqb_streams.proofs.Positions.{same_sequence_is, same_sequence_refl}
+use Rattle.mqb_streams.proofs.Members.{or_left, or_right, In_from_committed, kept_is_committed}
 
 count_rises : (b : Bool) (n : ℕ) → n ≤ cond b (suc n) n
 count_rises true n = omega arith
@@ -28,3 +29,30 @@ committed_within cs p numbered h =
 
 pub kept_within : (cs : List Commitment) (es : List Expiry) (p : Position) → IsNumbered cs → is_kept cs es p ≡ true → (0 < p.number) × (p.number ≤ count cs p.sequence)
 kept_within cs es p numbered h = committed_within cs p numbered (kept_is_committed cs es p h)
+
+-- each number up to the count was committed
+pub counted_is_committed : (cs : List Commitment) (p : Position) → IsNumbered cs → 0 < p.number → p.number ≤ count cs p.sequence
+    → is_committed cs p ≡ true
+counted_is_committed [] p numbered above within = absurd (omega arith)
+counted_is_committed (c ∷ cs) p numbered above within =
+    at (same_sequence c.position.sequence p.sequence) refl (cases_eq p.number c.position.number) (counted_is_committed cs p numbered.1 above) within
+  where
+    behind : is_committed cs p ≡ true → is_committed (c ∷ cs) p ≡ true
+    behind h = or_right (same_position c.position p) (is_committed cs p) h
+
+    in_front : same_sequence c.position.sequence p.sequence ≡ true → p.number ≡ c.position.number → is_committed (c ∷ cs) p ≡ true
+    in_front same is =
+        let equal = eq-eqb c.position.number p.number (sym is) in
+        let at_head = and_from (same_sequence c.position.sequence p.sequence) (c.position.number == p.number) same equal in
+        or_left (same_position c.position p) (is_committed cs p) at_head
+
+    number : same_sequence c.position.sequence p.sequence ≡ true → c.position.number ≡ suc (count cs p.sequence)
+    number same = subst (λ s. c.position.number ≡ suc (count cs s)) (same_sequence_is c.position.sequence p.sequence same) numbered.0
+
+    at : (b : Bool) → same_sequence c.position.sequence p.sequence ≡ b
+        → (p.number ≡ c.position.number) ⊎ (p.number ≡ c.position.number → ⊥)
+        → (p.number ≤ count cs p.sequence → is_committed cs p ≡ true)
+        → p.number ≤ cond b (suc (count cs p.sequence)) (count cs p.sequence) → is_committed (c ∷ cs) p ≡ true
+    at true same (inl is) rest within = in_front same is
+    at true same (inr not) rest within = behind (rest (omega (arith, number same)))
+    at false other _ rest within = behind (rest within)

@@ -1,9 +1,9 @@
-use Rattle.std.specs.Prelude.{◌≡◌, suc, ◌<◌, IsTrue, IsFalse, List, [], ◌∷◌, ⊤}
+use Rattle.std.specs.Prelude.{◌≡◌, suc, ◌<◌, IsTrue, IsFalse, List, [], ◌∷◌, ⊤, ◌⊎◌}
 use Rattle.mqb_base.specs.declared.ids.SequenceId.{SequenceId}
 use Rattle.mqb_base.specs.declared.message.Message.{Message}
 use Rattle.mqb_streams.specs.Outcomes.{is_late}
 use Rattle.mqb_streams.specs.World.{Position, Commitment, Expiry, Decision, Transfer, StreamWorld}
-use Rattle.mqb_streams.specs.Words.{In, precedes, position_of, is_expired, is_decided, kept, count, due}
+use Rattle.mqb_streams.specs.Words.{In, precedes, position_of, is_committed, is_expired, is_decided, kept, count, due}
 use Rattle.mqb_streams.specs.Steps.{EarlierAcknowledged}
 
 -- the messages of each sequence are numbered 1, 2, and so on
@@ -29,23 +29,25 @@ SameButReach a b = b ≡ record a { reach = b.reach }
 pub record ExactlyOnce (w : StreamWorld) : Type 0 where
   -- The messages of each sequence are numbered 1, 2, and so on.
   pub numbered : IsNumbered w.committed
-  -- Messages are committed in the order of their positions: sequence after sequence.
+  -- They are committed in the order of their positions: one sequence after another.
   pub committed_in_order : Rises (λ c. c.position) w.committed
-  -- So they are decided, each once: decided numbers of a sequence rise strictly, and none is decided once one of a later sequence was.
+  -- They are decided in this order, each once: decided numbers rise strictly, and nothing is decided of a sequence once something is of a later one.
   pub decided_in_order : Rises (λ d. d.position) w.decided
-  -- Each message that was decided was committed, and is the committed one in every field but the time to reach its queue.
+  -- What is decided was committed, and it is the same message in every field but the time to reach its queue.
   pub decided_committed : (d : Decision) → In d w.decided → (c : Commitment) × In c w.committed × (c.position ≡ d.position) × SameButReach c.message d.message
-  -- None is skipped: each kept message that stands before a decided one was decided.
-  pub none_skipped : (p q : Position) → IsTrue (kept w p) → IsTrue (is_decided w.decided q) → IsTrue (precedes p q) → IsTrue (is_decided w.decided p)
-  -- A message that expired was due at that moment.
+  -- None is skipped: what was committed before a message that is decided was itself decided, or it expired.
+  pub none_skipped : (p q : Position) → IsTrue (is_committed w.committed p) → IsTrue (is_decided w.decided q) → IsTrue (precedes p q)
+      → IsTrue (is_decided w.decided p) ⊎ IsTrue (is_expired w.expired p)
+  -- What expired was due at that moment.
   pub expired_due : (e : Expiry) → In e w.expired → (c : Commitment) × In c w.committed × (c.position ≡ e.position) × IsTrue (due c.message e.moment)
   -- It was never decided.
   pub expired_undecided : (p : Position) → IsTrue (is_expired w.expired p) → IsFalse (is_decided w.decided p)
   -- It expired once.
   pub expired_once : Differ w.expired
-  -- A message was refused as too late exactly where it was due when the packet that was heard was sent.
-  pub late_was_due : (d : Decision) → In d w.decided → (c : Commitment) × (t : Transfer) × In c w.committed × In t w.transfers × (c.position ≡ d.position) × (position_of t.head ≡ d.position) × (is_late d.outcome ≡ due c.message t.sent_at)
-  -- A kept message that was not decided waits above the acknowledged mark of its sequence.
+  -- A message is refused as too late exactly where it was due when the packet that brought it was sent.
+  pub late_was_due : (d : Decision) → In d w.decided → (c : Commitment) × (t : Transfer) × In c w.committed × (c.position ≡ d.position)
+      × In t w.transfers × (position_of t.head ≡ d.position) × (t.message ≡ d.message) × (is_late d.outcome ≡ due c.message t.sent_at)
+  -- What is neither decided nor expired waits above the acknowledged mark of its sequence.
   pub waiting : (p : Position) → IsTrue (kept w p) → IsFalse (is_decided w.decided p) → w.acknowledged p.sequence < p.number
-  -- Sequences are begun in order: of none a message is offered before each kept one of the earlier sequences is acknowledged.
+  -- Sequences are begun in order: nothing of one is offered before each kept message of the earlier ones is acknowledged.
   pub begun_in_order : (s : SequenceId) → 0 < w.offered s → EarlierAcknowledged w s

@@ -5,6 +5,9 @@ use Rattle.mqb_streams.specs.Words.{In, kept, last}
 
 -- What no step takes back, from a world to a later one.
 pub record Grows (v w : StreamWorld) : Type 0 where
+  -- the channel is the same, and connections are numbered on
+  pub channel : w.channel ≡ v.channel
+  pub connection : v.connection ≤ w.connection
   -- of the numbers that were offered, the same ones are kept
   pub kept : (p : Position) → p.number ≤ v.offered p.sequence → kept w p ≡ kept v p
   -- the marks never fall

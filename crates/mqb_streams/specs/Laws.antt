@@ -1,36 +1,47 @@
-use Rattle.std.specs.Prelude.{◌≡◌, ℕ, ◌≤◌, List, ◌∷◌, ◌++◌}
+use Rattle.std.specs.Prelude.{◌≡◌, ℕ, ◌<◌, ◌≤◌, ◌⊎◌, ◌↔◌, IsTrue, IsFalse, List, [], ◌∷◌, ◌++◌}
 use Rattle.mqb_base.specs.declared.ids.SequenceId.{SequenceId}
-use Rattle.mqb_streams.specs.World.{Channel, Commitment, Expiry, KnownFate, Transfer, OrderAck, FinalAck}
-use Rattle.mqb_streams.specs.Words.{In, before}
-use Rattle.mqb_streams.specs.Steps.{StreamStep}
-use Rattle.mqb_streams.specs.Runs.{after, IsRun}
+use Rattle.mqb_base.specs.declared.message.Message.{Message}
+use Rattle.mqb_orders.specs.declared.judging.Verdict.TheVariants.{Duplicate, Stale}
+use Rattle.mqb_streams.specs.Outcomes.{Put}
+use Rattle.mqb_streams.specs.World.{Channel, Position, Commitment, Expiry, KnownFate, Transfer, OrderAck, FinalAck}
+use Rattle.mqb_streams.specs.Words.{In, position_of, is_committed, is_decided, count, before, due, carried}
+use Rattle.mqb_streams.specs.Steps.{StreamStep, verdict}
+use Rattle.mqb_streams.specs.Runs.{after, IsRun, AtEachPoint}
 use Rattle.mqb_streams.specs.ExactlyOnce.{ExactlyOnce}
 use Rattle.mqb_streams.specs.Growth.{Grows}
 use Rattle.mqb_streams.specs.Truths.{MarksStand, IsTruthful, IsAcknowledgement, IsFate, IsTold, IsGreatestKept}
 
--- At each point of each run a channel is exactly once.
-abbrev pub EachRunIsExactlyOnce : Type 0
-EachRunIsExactlyOnce = (channel : Channel) (xs : List StreamStep) → IsRun channel xs → ExactlyOnce (after channel xs)
+-- A channel is exactly once.
+abbrev pub AlwaysExactlyOnce : Type 0
+AlwaysExactlyOnce = AtEachPoint ExactlyOnce
 
--- The marks of each sequence are 0 or kept, and what is acknowledged was decided, and what was decided was offered.
+-- The numbers of a sequence are those from 1 to its count.
+abbrev pub CommittedAreCounted : Type 0
+CommittedAreCounted = AtEachPoint (λ w. (p : Position) → IsTrue (is_committed w.committed p) ↔ ((0 < p.number) × (p.number ≤ count w.committed p.sequence)))
+
+-- The marks of each sequence are 0 or kept. What is acknowledged was decided, and what was decided was offered.
 abbrev pub MarksAlwaysStand : Type 0
-MarksAlwaysStand = (channel : Channel) (xs : List StreamStep) → IsRun channel xs → (s : SequenceId) → MarksStand (after channel xs) s
+MarksAlwaysStand = AtEachPoint (λ w. (s : SequenceId) → MarksStand w s)
 
 -- Each packet that was ever sent is truthful.
 abbrev pub TransfersAreTruthful : Type 0
-TransfersAreTruthful = (channel : Channel) (xs : List StreamStep) → IsRun channel xs → (t : Transfer) → In t (after channel xs).transfers → IsTruthful (after channel xs) t
+TransfersAreTruthful = AtEachPoint (λ w. (t : Transfer) → In t w.transfers → IsTruthful w t)
+
+-- A packet that is dropped as a duplicate or as stale carries a message that was decided.
+abbrev pub DroppedWasDecided : Type 0
+DroppedWasDecided = AtEachPoint (λ w. (t : Transfer) → In t w.transfers → (verdict w t ≡ Duplicate) ⊎ (verdict w t ≡ Stale) → IsTrue (is_decided w.decided (position_of t.head)))
 
 -- Each order acknowledgement that was ever sent speaks of what was decided.
 abbrev pub OrderAcksAreTrue : Type 0
-OrderAcksAreTrue = (channel : Channel) (xs : List StreamStep) → IsRun channel xs → (a : OrderAck) → In a (after channel xs).order_acks → IsAcknowledgement (after channel xs) a
+OrderAcksAreTrue = AtEachPoint (λ w. (a : OrderAck) → In a w.order_acks → IsAcknowledgement w a)
 
 -- Each fate is that of a message that was decided so.
 abbrev pub FatesAreTrue : Type 0
-FatesAreTrue = (channel : Channel) (xs : List StreamStep) → IsRun channel xs → (f : KnownFate) → In f (after channel xs).fates → IsFate (after channel xs) f
+FatesAreTrue = AtEachPoint (λ w. (f : KnownFate) → In f w.fates → IsFate w f)
 
 -- Each final acknowledgement that was ever sent tells a fate.
 abbrev pub FinalAcksAreTrue : Type 0
-FinalAcksAreTrue = (channel : Channel) (xs : List StreamStep) → IsRun channel xs → (a : FinalAck) → In a (after channel xs).final_acks → IsTold (after channel xs) a
+FinalAcksAreTrue = AtEachPoint (λ w. (a : FinalAck) → In a w.final_acks → IsTold w a)
 
 -- A step takes nothing back.
 abbrev pub StepsGrow : Type 0
@@ -45,6 +56,12 @@ abbrev pub BeforeStays : Type 0
 BeforeStays = (channel : Channel) (more xs : List StreamStep) → IsRun channel (more ++ xs) → (s : SequenceId) (n : ℕ) → n ≤ (after channel xs).offered s
     → before (after channel (more ++ xs)).committed (after channel (more ++ xs)).expired s n ≡ before (after channel xs).committed (after channel xs).expired s n
 
--- What stands before a number is the greatest kept one below it.
+-- What stands before a number is the greatest kept one below it, and nothing else is.
 abbrev pub BeforeIsGreatest : Type 0
-BeforeIsGreatest = (committed : List Commitment) (expired : List Expiry) (s : SequenceId) (n : ℕ) → IsGreatestKept committed expired s n (before committed expired s n)
+BeforeIsGreatest = (committed : List Commitment) (expired : List Expiry) (s : SequenceId) (n m : ℕ)
+    → IsGreatestKept committed expired s n m ↔ (m ≡ before committed expired s n)
+
+-- A message that is sent before it is due can arrive and be put.
+abbrev pub OneArrives : Type 0
+OneArrives = (channel : Channel) (s : SequenceId) (m : Message) (moment : ℕ) → IsFalse (due m moment) → (xs : List StreamStep) × IsRun channel xs
+    × ((after channel xs).decided ≡ record { position = record { sequence = s; number = 1 }; message = carried m moment; outcome = Put } ∷ [])

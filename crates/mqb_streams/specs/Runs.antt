@@ -11,3 +11,7 @@ after channel (x ∷ xs) = happens (after channel xs) x
 abbrev pub IsRun : Channel → List StreamStep → Type 0
 IsRun channel [] = ⊤
 IsRun channel (x ∷ xs) = May (after channel xs) x × IsRun channel xs
+
+-- P holds at each point of each run
+abbrev pub AtEachPoint : (StreamWorld → Type 0) → Type 0
+AtEachPoint P = (channel : Channel) (xs : List StreamStep) → IsRun channel xs → P (after channel xs)

@@ -102,13 +102,26 @@ IsPresent w connection = IsTrue w.connected × (connection ≡ w.connection)
 -- the step can happen
 abbrev pub May : StreamWorld → StreamStep → Type 0
 May w (Commit s m) = (c : Commitment) → In c w.committed → IsFalse (earlier s c.position.sequence)
-May w (Expire c moment) = In c w.committed × IsTrue (kept w c.position) × (w.offered c.position.sequence < c.position.number) × IsTrue (due c.message moment)
+May w (Expire c moment) =
+    In c w.committed
+    × IsTrue (kept w c.position)
+    × (w.offered c.position.sequence < c.position.number)
+    × IsTrue (due c.message moment)
 May w (Offer p) = IsTrue (kept w p) × (w.offered p.sequence < p.number) × EarlierAcknowledged w p.sequence
-May w (Send c moment) = IsTrue w.connected × In c w.committed × IsTrue (kept w c.position) × (w.acknowledged c.position.sequence < c.position.number) × (c.position.number ≤ w.offered c.position.sequence)
+May w (Send c moment) =
+    IsTrue w.connected
+    × In c w.committed
+    × IsTrue (kept w c.position)
+    × (w.acknowledged c.position.sequence < c.position.number)
+    × (c.position.number ≤ w.offered c.position.sequence)
 May w (Arrive p outcome) = IsPresent w p.connection × In p w.transfers × (is_late outcome ≡ (p.message.reach == 0))
 May w (Fate p departure) = (d : Decision) × In d w.decided × (d.position ≡ p) × (d.outcome ≡ Put)
 May w (Acknowledge p) = IsTrue w.connected × (newest w.decided ≡ Some p)
-May w (Acknowledged a) = IsPresent w a.connection × In a w.order_acks × (w.acknowledged a.position.sequence < a.position.number) × (a.position.number ≤ w.offered a.position.sequence)
+May w (Acknowledged a) =
+    IsPresent w a.connection
+    × In a w.order_acks
+    × (w.acknowledged a.position.sequence < a.position.number)
+    × (a.position.number ≤ w.offered a.position.sequence)
 May w (Tell f) = IsTrue w.connected × In f w.fates
 May w (Told a) = IsPresent w a.connection × In a w.final_acks
 May w Connect = IsFalse w.connected

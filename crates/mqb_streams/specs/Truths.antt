@@ -38,6 +38,5 @@ IsTold w a = In (record { position = a.position; fate = a.fate }) w.fates
 
 -- m is the greatest kept number of a sequence below n, or 0 where there is none
 pub record IsGreatestKept (committed : List Commitment) (expired : List Expiry) (s : SequenceId) (n m : ℕ) : Type 0 where
-  pub below : 0 < n → m < n
-  pub kept : (m ≡ 0) ⊎ IsTrue (is_kept committed expired (record { sequence = s; number = m }))
+  pub member : (m ≡ 0) ⊎ ((m < n) × IsTrue (is_kept committed expired (record { sequence = s; number = m })))
   pub greatest : (k : ℕ) → k < n → IsTrue (is_kept committed expired (record { sequence = s; number = k })) → k ≤ m

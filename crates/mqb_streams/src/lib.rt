@@ -6,11 +6,16 @@
 //! body is empty.
 #![tactic(auto)]
 
-ghost use Rattle.mqb_streams.specs.Laws.{EachRunIsExactlyOnce, MarksAlwaysStand, TransfersAreTruthful, OrderAcksAreTrue, FatesAreTrue, FinalAcksAreTrue, StepsGrow, RunsGrow, BeforeStays, BeforeIsGreatest};
+ghost use Rattle.mqb_streams.specs.Laws.{AlwaysExactlyOnce, CommittedAreCounted, MarksAlwaysStand, TransfersAreTruthful, DroppedWasDecided, OrderAcksAreTrue, FatesAreTrue, FinalAcksAreTrue, StepsGrow, RunsGrow, BeforeStays, BeforeIsGreatest, OneArrives};
 
 /// The law itself.
 pub fn exactly_once()
-    ensures { EachRunIsExactlyOnce }
+    ensures { AlwaysExactlyOnce }
+{}
+
+/// A sequence with `count` messages has the numbers from 1 to `count`.
+pub fn committed_are_counted()
+    ensures { CommittedAreCounted }
 {}
 
 /// The acknowledged mark is at most the last decided number, and that at most the offered mark. Each is 0 or a kept number.
@@ -21,6 +26,11 @@ pub fn marks_stand()
 /// A packet carries a committed message that was offered, and links to the kept number before it.
 pub fn transfers_are_truthful()
     ensures { TransfersAreTruthful }
+{}
+
+/// Nothing is lost by dropping what is no gap and not next.
+pub fn dropped_was_decided()
+    ensures { DroppedWasDecided }
 {}
 
 /// An order acknowledgement names no number above the last decided one.
@@ -56,4 +66,9 @@ pub fn before_stays()
 /// The number that stands before another is the greatest kept one below it.
 pub fn before_is_greatest()
     ensures { BeforeIsGreatest }
+{}
+
+/// The law is not empty: there is a run in which a message arrives.
+pub fn one_arrives()
+    ensures { OneArrives }
 {}
