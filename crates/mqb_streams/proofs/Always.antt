@@ -4,7 +4,7 @@ use Rattle.std.proofs.lemmas.Bool.{and_from, cases_Bool, cases_lt, true≢false}
 use Rattle.mqb_base.specs.Sequences.{earlier}
 use Rattle.mqb_orders.specs.declared.judging.Verdict.TheVariants.{Duplicate, Stale}
 use Rattle.mqb_streams.specs.World.{Channel, Position, StreamWorld, start, Transfer}
-use Rattle.mqb_streams.specs.Words.{precedes, is_expired, is_decided, kept, before, last, is_committed, position_of, In}
+use Rattle.mqb_streams.specs.Words.{precedes, is_expired, is_decided, kept, last, is_committed, position_of, In}
 use Rattle.mqb_streams.specs.Steps.{StreamStep, happens, May, verdict}
 use Rattle.mqb_streams.specs.Runs.{after, IsRun}
 use Rattle.mqb_streams.specs.ExactlyOnce.{ExactlyOnce, IsNumbered, Differ}

@@ -1,6 +1,7 @@
 -- Where decisions rise, the last one of a sequence is its greatest, and nothing was decided of a later sequence than the newest one's.
 use Rattle.std.proofs.Common.{◌≡◌, ◌<◌, ◌≤◌, ◌⊎◌, inl, inr, Bool, true, false, cond, List, [], ◌∷◌, refl, sym, ap, subst, ◌∙◌, arith}
 use Rattle.std.proofs.lemmas.Bool.{true≢false}
+use Rattle.std.proofs.lemmas.Bool.Decides.{nat_tests}
 use Rattle.mqb_base.specs.declared.ids.SequenceId.{SequenceId}
 use Rattle.mqb_base.specs.Sequences.{same_sequence, earlier}
 use Rattle.mqb_streams.specs.World.{Position, Decision}
@@ -11,6 +12,12 @@ use Rattle.mqb_streams.proofs.Members.{In_from_decided}
 
 abbrev pub RiseOf : List Decision → Type 0
 RiseOf ds = Rises (λ (d : Decision). d.position) ds
+
+not_before_itself : (p q : Position) → p ≡ q → precedes p q ≡ false
+not_before_itself p q is = subst (λ (r : Position). precedes p r ≡ false) is (not_before p)
+  where
+    not_before : (p : Position) → precedes p p ≡ false
+    not_before p = grind (arith, nat_tests)
 
 -- of one sequence, the newer decision has the greater number
 newer_above : (d e : Decision) → precedes e.position d.position ≡ true → same_sequence d.position.sequence e.position.sequence ≡ true → e.position.number < d.position.number
@@ -71,3 +78,13 @@ none_of_later d ds s rise later = at (same_sequence d.position.sequence s) (earl
     at : (b : Bool) → b ≡ false → cond b d.position.number (last ds s) ≡ 0
     at true is = absurd (true≢false is)
     at false is = none_later ds d.position s rise.0 later
+
+-- Where positions rise, each is of one member.
+pub one_of_each : {A : Type 0} (position : A → Position) (xs : List A) (x y : A) → Rises position xs → In x xs → In y xs → position x ≡ position y → x ≡ y
+one_of_each position [] x y rise inside also same = absurd inside
+one_of_each position (z ∷ xs) x y rise (inl is) (inl also) same = sym is ∙ also
+one_of_each position (z ∷ xs) x y rise (inl is) (inr behind) same =
+    absurd (true≢false (sym (rise.0 y behind) ∙ not_before_itself (position y) (position z) (sym same ∙ ap position (sym is))))
+one_of_each position (z ∷ xs) x y rise (inr behind) (inl is) same =
+    absurd (true≢false (sym (rise.0 x behind) ∙ not_before_itself (position x) (position z) (same ∙ ap position (sym is))))
+one_of_each position (z ∷ xs) x y rise (inr inside) (inr also) same = one_of_each position xs x y rise.1 inside also same

@@ -1,5 +1,5 @@
 -- Where messages are numbered 1, 2 and so on, each number is at most the count of its sequence.
-use Rattle.std.proofs.Common.{◌≡◌, ℕ, suc, ◌<◌, ◌≤◌, inl, inr, Bool, true, false, cond, List, [], ◌∷◌, subst, arith, ◌⊎◌, ◌==◌, sym}
+use Rattle.std.proofs.Common.{◌≡◌, ℕ, suc, ◌<◌, ◌≤◌, inl, inr, Bool, true, false, cond, List, [], ◌∷◌, subst, arith, ◌⊎◌, ◌==◌, sym, refl}
 use Rattle.std.proofs.lemmas.Bool.{cases_eq, and_from, eq-eqb}
 use Rattle.mqb_base.specs.Sequences.{same_sequence}
 use Rattle.mqb_streams.specs.World.{Position, Commitment, Expiry}

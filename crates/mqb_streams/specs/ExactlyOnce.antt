@@ -31,21 +31,24 @@ pub record ExactlyOnce (w : StreamWorld) : Type 0 where
   pub numbered : IsNumbered w.committed
   -- They are committed in the order of their positions: one sequence after another.
   pub committed_in_order : Rises (λ c. c.position) w.committed
-  -- They are decided in this order, each once: decided numbers rise strictly, and nothing is decided of a sequence once something is of a later one.
+  -- They are decided in this order, each once: numbers rise strictly, and nothing of a sequence is decided once something of a later one is.
   pub decided_in_order : Rises (λ d. d.position) w.decided
   -- What is decided was committed, and it is the same message in every field but the time to reach its queue.
-  pub decided_committed : (d : Decision) → In d w.decided → (c : Commitment) × In c w.committed × (c.position ≡ d.position) × SameButReach c.message d.message
+  pub decided_committed : (d : Decision) → In d w.decided
+      → (c : Commitment) × In c w.committed × (c.position ≡ d.position) × SameButReach c.message d.message
   -- None is skipped: what was committed before a message that is decided was itself decided, or it expired.
   pub none_skipped : (p q : Position) → IsTrue (is_committed w.committed p) → IsTrue (is_decided w.decided q) → IsTrue (precedes p q)
       → IsTrue (is_decided w.decided p) ⊎ IsTrue (is_expired w.expired p)
   -- What expired was due at that moment.
-  pub expired_due : (e : Expiry) → In e w.expired → (c : Commitment) × In c w.committed × (c.position ≡ e.position) × IsTrue (due c.message e.moment)
+  pub expired_due : (e : Expiry) → In e w.expired
+      → (c : Commitment) × In c w.committed × (c.position ≡ e.position) × IsTrue (due c.message e.moment)
   -- It was never decided.
   pub expired_undecided : (p : Position) → IsTrue (is_expired w.expired p) → IsFalse (is_decided w.decided p)
   -- It expired once.
   pub expired_once : Differ w.expired
   -- A message is refused as too late exactly where it was due when the packet that brought it was sent.
-  pub late_was_due : (d : Decision) → In d w.decided → (c : Commitment) × (t : Transfer) × In c w.committed × (c.position ≡ d.position)
+  pub late_was_due : (d : Decision) → In d w.decided
+      → (c : Commitment) × (t : Transfer) × In c w.committed × (c.position ≡ d.position)
       × In t w.transfers × (position_of t.head ≡ d.position) × (t.message ≡ d.message) × (is_late d.outcome ≡ due c.message t.sent_at)
   -- What is neither decided nor expired waits above the acknowledged mark of its sequence.
   pub waiting : (p : Position) → IsTrue (kept w p) → IsFalse (is_decided w.decided p) → w.acknowledged p.sequence < p.number

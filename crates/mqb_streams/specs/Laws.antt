@@ -3,8 +3,8 @@ use Rattle.mqb_base.specs.declared.ids.SequenceId.{SequenceId}
 use Rattle.mqb_base.specs.declared.message.Message.{Message}
 use Rattle.mqb_orders.specs.declared.judging.Verdict.TheVariants.{Duplicate, Stale}
 use Rattle.mqb_streams.specs.Outcomes.{Put}
-use Rattle.mqb_streams.specs.World.{Channel, Position, Commitment, Expiry, KnownFate, Transfer, OrderAck, FinalAck}
-use Rattle.mqb_streams.specs.Words.{In, position_of, is_committed, is_decided, count, before, due, carried}
+use Rattle.mqb_streams.specs.World.{Channel, Position, Commitment, Expiry, Decision, KnownFate, Transfer, OrderAck, FinalAck}
+use Rattle.mqb_streams.specs.Words.{In, position_of, is_committed, is_decided, count, before, previous, due, carried}
 use Rattle.mqb_streams.specs.Steps.{StreamStep, verdict}
 use Rattle.mqb_streams.specs.Runs.{after, IsRun, AtEachPoint}
 use Rattle.mqb_streams.specs.ExactlyOnce.{ExactlyOnce}
@@ -17,7 +17,16 @@ AlwaysExactlyOnce = AtEachPoint ExactlyOnce
 
 -- The numbers of a sequence are those from 1 to its count.
 abbrev pub CommittedAreCounted : Type 0
-CommittedAreCounted = AtEachPoint (λ w. (p : Position) → IsTrue (is_committed w.committed p) ↔ ((0 < p.number) × (p.number ≤ count w.committed p.sequence)))
+CommittedAreCounted = AtEachPoint (λ w.
+    (p : Position) → IsTrue (is_committed w.committed p) ↔ ((0 < p.number) × (p.number ≤ count w.committed p.sequence)))
+
+-- Each position is of one message.
+abbrev pub CommittedOnce : Type 0
+CommittedOnce = AtEachPoint (λ w. (b c : Commitment) → In b w.committed → In c w.committed → b.position ≡ c.position → b ≡ c)
+
+-- Each is decided once.
+abbrev pub DecidedOnce : Type 0
+DecidedOnce = AtEachPoint (λ w. (d e : Decision) → In d w.decided → In e w.decided → d.position ≡ e.position → d ≡ e)
 
 -- The marks of each sequence are 0 or kept. What is acknowledged was decided, and what was decided was offered.
 abbrev pub MarksAlwaysStand : Type 0
@@ -29,7 +38,8 @@ TransfersAreTruthful = AtEachPoint (λ w. (t : Transfer) → In t w.transfers �
 
 -- A packet that is dropped as a duplicate or as stale carries a message that was decided.
 abbrev pub DroppedWasDecided : Type 0
-DroppedWasDecided = AtEachPoint (λ w. (t : Transfer) → In t w.transfers → (verdict w t ≡ Duplicate) ⊎ (verdict w t ≡ Stale) → IsTrue (is_decided w.decided (position_of t.head)))
+DroppedWasDecided = AtEachPoint (λ w.
+    (t : Transfer) → In t w.transfers → (verdict w t ≡ Duplicate) ⊎ (verdict w t ≡ Stale) → IsTrue (is_decided w.decided (position_of t.head)))
 
 -- Each order acknowledgement that was ever sent speaks of what was decided.
 abbrev pub OrderAcksAreTrue : Type 0
@@ -45,16 +55,19 @@ FinalAcksAreTrue = AtEachPoint (λ w. (a : FinalAck) → In a w.final_acks → I
 
 -- A step takes nothing back.
 abbrev pub StepsGrow : Type 0
-StepsGrow = (channel : Channel) (x : StreamStep) (xs : List StreamStep) → IsRun channel (x ∷ xs) → Grows (after channel xs) (after channel (x ∷ xs))
+StepsGrow = (channel : Channel) (x : StreamStep) (xs : List StreamStep) → IsRun channel (x ∷ xs)
+    → Grows (after channel xs) (after channel (x ∷ xs))
 
 -- Nor do more steps.
 abbrev pub RunsGrow : Type 0
-RunsGrow = (channel : Channel) (more xs : List StreamStep) → IsRun channel (more ++ xs) → Grows (after channel xs) (after channel (more ++ xs))
+RunsGrow = (channel : Channel) (more xs : List StreamStep) → IsRun channel (more ++ xs)
+    → Grows (after channel xs) (after channel (more ++ xs))
 
 -- What stands before an offered number never changes.
 abbrev pub BeforeStays : Type 0
-BeforeStays = (channel : Channel) (more xs : List StreamStep) → IsRun channel (more ++ xs) → (s : SequenceId) (n : ℕ) → n ≤ (after channel xs).offered s
-    → before (after channel (more ++ xs)).committed (after channel (more ++ xs)).expired s n ≡ before (after channel xs).committed (after channel xs).expired s n
+BeforeStays = (channel : Channel) (more xs : List StreamStep) → IsRun channel (more ++ xs)
+    → (s : SequenceId) (n : ℕ) → n ≤ (after channel xs).offered s
+    → previous (after channel (more ++ xs)) s n ≡ previous (after channel xs) s n
 
 -- What stands before a number is the greatest kept one below it, and nothing else is.
 abbrev pub BeforeIsGreatest : Type 0
@@ -63,5 +76,6 @@ BeforeIsGreatest = (committed : List Commitment) (expired : List Expiry) (s : Se
 
 -- A message that is sent before it is due can arrive and be put.
 abbrev pub OneArrives : Type 0
-OneArrives = (channel : Channel) (s : SequenceId) (m : Message) (moment : ℕ) → IsFalse (due m moment) → (xs : List StreamStep) × IsRun channel xs
+OneArrives = (channel : Channel) (s : SequenceId) (m : Message) (moment : ℕ) → IsFalse (due m moment)
+    → (xs : List StreamStep) × IsRun channel xs
     × ((after channel xs).decided ≡ record { position = record { sequence = s; number = 1 }; message = carried m moment; outcome = Put } ∷ [])

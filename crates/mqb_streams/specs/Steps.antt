@@ -7,11 +7,11 @@ use Rattle.mqb_orders.specs.declared.judging.Verdict.TheVariants.{Next}
 use Rattle.mqb_orders.specs.Judging.{verdict_of}
 use Rattle.mqb_streams.specs.Outcomes.{Outcome, Put, Refused, Departure, Was_put, Was_refused, is_late}
 use Rattle.mqb_streams.specs.World.{Position, Commitment, Decision, KnownFate, Transfer, OrderAck, FinalAck, StreamWorld}
-use Rattle.mqb_streams.specs.Words.{In, position_of, kept, count, before, newest, row, due, carried}
+use Rattle.mqb_streams.specs.Words.{In, position_of, kept, count, previous, newest, row, due, carried}
 
 -- A step carries its choices.
 pub data StreamStep : Type 0 where
-  -- a message joins a sequence
+  -- a message joins the last sequence, or begins a later one
   Commit : (sequence : SequenceId) → (message : Message) → StreamStep
   -- a message's time to reach its queue is over before it was offered
   Expire : (commitment : Commitment) → (moment : ℕ) → StreamStep
@@ -50,7 +50,7 @@ transfer w c moment = record {
   head = record {
     sequence = c.position.sequence;
     number = c.position.number;
-    previous = before w.committed w.expired c.position.sequence c.position.number;
+    previous = previous w c.position.sequence c.position.number;
   };
   message = carried c.message moment;
   sent_at = moment;

@@ -2,7 +2,7 @@ use Rattle.std.specs.Prelude.{◌≡◌, ℕ, ◌<◌, ◌≤◌, ◌⊎◌, IsT
 use Rattle.mqb_base.specs.declared.ids.SequenceId.{SequenceId}
 use Rattle.mqb_streams.specs.Outcomes.{Follows}
 use Rattle.mqb_streams.specs.World.{Commitment, Expiry, Decision, KnownFate, Transfer, OrderAck, FinalAck, StreamWorld}
-use Rattle.mqb_streams.specs.Words.{In, position_of, is_kept, kept, before, last, carried}
+use Rattle.mqb_streams.specs.Words.{In, position_of, is_kept, kept, previous, last, carried}
 
 -- 0, or a kept number of a sequence
 abbrev pub IsMark : StreamWorld → SequenceId → ℕ → Type 0
@@ -20,7 +20,7 @@ pub record MarksStand (w : StreamWorld) (s : SequenceId) : Type 0 where
 pub record IsTruthful (w : StreamWorld) (t : Transfer) : Type 0 where
   pub kept : IsTrue (kept w (position_of t.head))
   pub offered : t.head.number ≤ w.offered t.head.sequence
-  pub previous : t.head.previous ≡ before w.committed w.expired t.head.sequence t.head.number
+  pub previous : t.head.previous ≡ previous w t.head.sequence t.head.number
   pub message : (c : Commitment) × In c w.committed × (c.position ≡ position_of t.head) × (t.message ≡ carried c.message t.sent_at)
 
 -- what the destination acknowledged is kept, and no greater than what it decided last of that sequence

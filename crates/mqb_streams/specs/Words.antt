@@ -51,6 +51,9 @@ before committed expired s zero = 0
 before committed expired s (suc n) =
     if is_kept committed expired (record { sequence = s; number = n }) then n else before committed expired s n
 
+abbrev pub previous : StreamWorld → SequenceId → ℕ → ℕ
+previous w s n = before w.committed w.expired s n
+
 -- the number of a sequence that was decided last, or 0
 abbrev pub last : List Decision → SequenceId → ℕ
 last [] s = 0

@@ -6,7 +6,7 @@
 //! body is empty.
 #![tactic(auto)]
 
-ghost use Rattle.mqb_streams.specs.Laws.{AlwaysExactlyOnce, CommittedAreCounted, MarksAlwaysStand, TransfersAreTruthful, DroppedWasDecided, OrderAcksAreTrue, FatesAreTrue, FinalAcksAreTrue, StepsGrow, RunsGrow, BeforeStays, BeforeIsGreatest, OneArrives};
+ghost use Rattle.mqb_streams.specs.Laws.{AlwaysExactlyOnce, CommittedAreCounted, CommittedOnce, DecidedOnce, MarksAlwaysStand, TransfersAreTruthful, DroppedWasDecided, OrderAcksAreTrue, FatesAreTrue, FinalAcksAreTrue, StepsGrow, RunsGrow, BeforeStays, BeforeIsGreatest, OneArrives};
 
 /// The law itself.
 pub fn exactly_once()
@@ -16,6 +16,16 @@ pub fn exactly_once()
 /// A sequence with `count` messages has the numbers from 1 to `count`.
 pub fn committed_are_counted()
     ensures { CommittedAreCounted }
+{}
+
+/// No two messages have one position.
+pub fn committed_once()
+    ensures { CommittedOnce }
+{}
+
+/// No message is decided twice.
+pub fn decided_once()
+    ensures { DecidedOnce }
 {}
 
 /// The acknowledged mark is at most the last decided number, and that at most the offered mark. Each is 0 or a kept number.
