@@ -12,7 +12,7 @@ use Rattle.mqb_streams.specs.Growth.{Grows}
 use Rattle.mqb_streams.proofs.Positions.{precedes_tells}
 use Rattle.mqb_streams.proofs.Members.{In_from_decided, kept_is_not_expired, decided_from_In}
 use Rattle.mqb_streams.proofs.Numbers.{kept_within}
-use Rattle.mqb_streams.proofs.Decisions.{RiseOf, decided_within}
+use Rattle.mqb_streams.proofs.Decisions.{DecisionsRise, decided_within}
 use Rattle.mqb_streams.proofs.Judging.{duplicate_within, stale_precedes}
 use Rattle.mqb_streams.proofs.Growing.{grows, grows_none, grows_trans}
 use Rattle.mqb_streams.proofs.Committing.{CommitsRise, numbered_stays, commits_rise}
@@ -28,7 +28,7 @@ use Rattle.mqb_streams.proofs.Beginning.{BegunInOrder, begun_in_order}
 pub record StreamInvariant (w : StreamWorld) : Type 0 where
   pub numbered : IsNumbered w.committed
   pub commits : CommitsRise w.committed
-  pub rise : RiseOf w.decided
+  pub rise : DecisionsRise w.decided
   pub marks : AllMarksStand w
   pub truthful : TransfersTruthful w
   pub settled : DecisionsSettled w
@@ -45,7 +45,13 @@ at_start channel = record {
   numbered = tt;
   commits = tt;
   rise = tt;
-  marks = λ s. record { acknowledged = inl refl; decided = inl refl; offered = inl refl; acknowledged_was_decided = omega arith; decided_was_offered = omega arith };
+  marks = λ s. record {
+    acknowledged = inl refl;
+    decided = inl refl;
+    offered = inl refl;
+    acknowledged_was_decided = omega arith;
+    decided_was_offered = omega arith;
+  };
   truthful = λ t inside. absurd inside;
   settled = λ d inside. absurd inside;
   skipped = λ p is_kept within. absurd (true≢false (sym is_kept));
@@ -129,14 +135,18 @@ module _ (w : StreamWorld) (i : StreamInvariant w) where
   ]
 
   -- what was committed is kept or expired
-  none_is_skipped_or_expired : (p q : Position) → is_committed w.committed p ≡ true → is_decided w.decided q ≡ true → precedes p q ≡ true → (is_decided w.decided p ≡ true) ⊎ (is_expired w.expired p ≡ true)
+  none_is_skipped_or_expired : (p q : Position) → is_committed w.committed p ≡ true → is_decided w.decided q ≡ true → precedes p q ≡ true
+      → (is_decided w.decided p ≡ true) ⊎ (is_expired w.expired p ≡ true)
   none_is_skipped_or_expired p q committed decided order = at (is_expired w.expired p) refl
     where
       at : (b : Bool) → is_expired w.expired p ≡ b → (is_decided w.decided p ≡ true) ⊎ (is_expired w.expired p ≡ true)
       at true expired = inr expired
-      at false lasts = inl (none_is_skipped p q (and_from (is_committed w.committed p) (not (is_expired w.expired p)) committed (ap not lasts)) decided order)
+      at false lasts =
+          let is_kept = and_from (is_committed w.committed p) (not (is_expired w.expired p)) committed (ap not lasts) in
+          inl (none_is_skipped p q is_kept decided order)
 
-  pub dropped_is_decided : (t : Transfer) → In t w.transfers → (verdict w t ≡ Duplicate) ⊎ (verdict w t ≡ Stale) → is_decided w.decided (position_of t.head) ≡ true
+  pub dropped_is_decided : (t : Transfer) → In t w.transfers → (verdict w t ≡ Duplicate) ⊎ (verdict w t ≡ Stale)
+      → is_decided w.decided (position_of t.head) ≡ true
   dropped_is_decided t inside (inl duplicate) =
       let is_kept = (i.truthful t inside).kept in
       i.skipped (position_of t.head) is_kept
@@ -150,12 +160,16 @@ module _ (w : StreamWorld) (i : StreamInvariant w) where
     numbered = i.numbered;
     committed_in_order = i.commits;
     decided_in_order = i.rise;
-    decided_committed = λ d inside. let s = i.settled d inside in (s.0, s.2.committed, s.2.position, same_but_reach s.0.message d.message s.1.sent_at s.2.message);
+    decided_committed = λ d inside.
+        let s = i.settled d inside in
+        (s.0, s.2.committed, s.2.position, same_but_reach s.0.message d.message s.1.sent_at s.2.message);
     none_skipped = none_is_skipped_or_expired;
     expired_due = i.expiries;
     expired_undecided = undecided;
     expired_once = i.differ;
-    late_was_due = λ d inside. let s = i.settled d inside in (s.0, s.1, s.2.committed, s.2.position, s.2.sent, s.2.head, s.2.heard, s.2.late);
+    late_was_due = λ d inside.
+        let s = i.settled d inside in
+        (s.0, s.1, s.2.committed, s.2.position, s.2.sent, s.2.head, s.2.heard, s.2.late);
     waiting = waits;
     begun_in_order = i.begun;
   }

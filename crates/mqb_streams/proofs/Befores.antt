@@ -16,7 +16,8 @@ module _ (cs : List Commitment) (es : List Expiry) (s : SequenceId) where
       wider m (inl none) = inl none
       wider m (inr h) = inr (omega (arith, h.0), h.1)
 
-      strictly : (k : ℕ) → is_kept cs es (record { sequence = s; number = n }) ≡ false → k < suc n → is_kept cs es (record { sequence = s; number = k }) ≡ true → k < n
+      strictly : (k : ℕ) → is_kept cs es (record { sequence = s; number = n }) ≡ false → k < suc n
+          → is_kept cs es (record { sequence = s; number = k }) ≡ true → k < n
       strictly k is_not below h = elim (cases_eq k n) [
         | inl is ↦ absurd (true≢false (sym h ∙ (ap (λ m. is_kept cs es (record { sequence = s; number = m })) is ∙ is_not)))
         | inr not ↦ omega arith

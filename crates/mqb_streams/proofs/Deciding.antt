@@ -12,15 +12,16 @@ use Rattle.mqb_streams.specs.Steps.{StreamStep, Arrive, decision, decided_after,
 use Rattle.mqb_streams.specs.ExactlyOnce.{SameButReach}
 use Rattle.mqb_streams.specs.Growth.{Grows}
 use Rattle.mqb_streams.specs.Truths.{IsTruthful}
-use Rattle.mqb_streams.proofs.Decisions.{RiseOf}
+use Rattle.mqb_streams.proofs.Decisions.{DecisionsRise}
 use Rattle.mqb_streams.proofs.Judging.{IsNew, next_is_new}
 use Rattle.mqb_streams.proofs.Transferring.{TransfersTruthful, stays_truthful}
 
-rise_after : (ds : List Decision) (t : Transfer) (outcome : Outcome) (v : Verdict) → (v ≡ Next → IsNew ds t.head) → RiseOf ds → RiseOf (decided_after v (decision t outcome) ds)
+rise_after : (ds : List Decision) (t : Transfer) (outcome : Outcome) (v : Verdict) → (v ≡ Next → IsNew ds t.head) → DecisionsRise ds
+    → DecisionsRise (decided_after v (decision t outcome) ds)
 rise_after ds t outcome Next new rise = ((new refl).after_all, rise)
 rise_after ds t outcome _ new rise = rise
 
-pub decisions_rise : (w : StreamWorld) (x : StreamStep) → RiseOf w.decided → RiseOf (happens w x).decided
+pub decisions_rise : (w : StreamWorld) (x : StreamStep) → DecisionsRise w.decided → DecisionsRise (happens w x).decided
 decisions_rise w (Arrive p outcome) rise = rise_after w.decided p outcome (verdict w p) (next_is_new w.channel w.decided p.head rise) rise
 decisions_rise w _ rise = rise
 
@@ -79,14 +80,20 @@ new_settled w t outcome true_of inside timed = (
   },
 )
 
-pub decisions_settled : (w : StreamWorld) (x : StreamStep) → TransfersTruthful w → DecisionsSettled w → May w x → Grows w (happens w x) → DecisionsSettled (happens w x)
-decisions_settled w (Arrive p outcome) truthful settled may g = λ d inside. at d (from_decided_after (verdict w p) (decision p outcome) w.decided d inside)
+pub decisions_settled : (w : StreamWorld) (x : StreamStep) → TransfersTruthful w → DecisionsSettled w → May w x → Grows w (happens w x)
+    → DecisionsSettled (happens w x)
+decisions_settled w (Arrive p outcome) truthful settled may g = λ d inside.
+    at d (from_decided_after (verdict w p) (decision p outcome) w.decided d inside)
   where
-    at : (d : Decision) → (decision p outcome ≡ d) ⊎ In d w.decided → (c : Commitment) × (t : Transfer) × IsSettled (happens w (Arrive p outcome)) d c t
+    at : (d : Decision) → (decision p outcome ≡ d) ⊎ In d w.decided
+        → (c : Commitment) × (t : Transfer) × IsSettled (happens w (Arrive p outcome)) d c t
     at d (inl is) = subst (λ e. (c : Commitment) × (t : Transfer) × IsSettled (happens w (Arrive p outcome)) e c t) is
-        (new_settled (happens w (Arrive p outcome)) p outcome (stays_truthful w (happens w (Arrive p outcome)) p g (truthful p may.1)) (g.transfers p may.1) may.2)
+        (let is_truthful = stays_truthful w (happens w (Arrive p outcome)) p g (truthful p may.1) in
+        new_settled (happens w (Arrive p outcome)) p outcome is_truthful (g.transfers p may.1) may.2)
     at d (inr inside) = let old = settled d inside in (old.0, old.1, stays_settled w (happens w (Arrive p outcome)) d old.0 old.1 g old.2)
-decisions_settled w x truthful settled may g = λ d inside. let old = settled d inside in (old.0, old.1, stays_settled w (happens w x) d old.0 old.1 g old.2)
+decisions_settled w x truthful settled may g = λ d inside.
+    let old = settled d inside in
+    (old.0, old.1, stays_settled w (happens w x) d old.0 old.1 g old.2)
 
 -- what was carried is the same message but for its time to reach the queue
 pub same_but_reach : (m heard : Message) (moment : ℕ) → heard ≡ carried m moment → SameButReach m heard

@@ -13,7 +13,7 @@ use Rattle.mqb_streams.specs.Growth.{Grows}
 use Rattle.mqb_streams.specs.Truths.{IsMark}
 use Rattle.mqb_streams.proofs.Positions.{same_sequence_is, same_position_is}
 use Rattle.mqb_streams.proofs.Numbers.{kept_within}
-use Rattle.mqb_streams.proofs.Decisions.{RiseOf}
+use Rattle.mqb_streams.proofs.Decisions.{DecisionsRise}
 use Rattle.mqb_streams.proofs.Judging.{IsNew, next_is_new}
 
 channel_stays : (w : StreamWorld) (x : StreamStep) → (happens w x).channel ≡ w.channel
@@ -30,7 +30,8 @@ pub in_decided_after : (v : Verdict) (d : Decision) (ds : List Decision) (e : De
 in_decided_after Next d ds e inside = inr inside
 in_decided_after _ d ds e inside = inside
 
-pub in_fates_after : (v : Verdict) (p : Position) (outcome : Outcome) (fs : List KnownFate) (f : KnownFate) → In f fs → In f (fates_after v p outcome fs)
+pub in_fates_after : (v : Verdict) (p : Position) (outcome : Outcome) (fs : List KnownFate) (f : KnownFate) → In f fs
+    → In f (fates_after v p outcome fs)
 in_fates_after Next p (Refused reason) fs f inside = inr inside
 in_fates_after _ p _ fs f inside = inside
 
@@ -90,10 +91,12 @@ acknowledged_grow w _ may = λ s. omega arith
 
 last_after : (ds : List Decision) (t : Transfer) (outcome : Outcome) (v : Verdict) → (v ≡ Next → IsNew ds t.head) → (s : SequenceId)
     → last ds s ≤ last (decided_after v (decision t outcome) ds) s
-last_after ds t outcome Next new s = marked_above (position_of t.head) (last ds) s (let above : last ds t.head.sequence < t.head.number = (new refl).above in omega arith)
+last_after ds t outcome Next new s =
+    let above : last ds t.head.sequence < t.head.number = (new refl).above in
+    marked_above (position_of t.head) (last ds) s (omega arith)
 last_after ds t outcome _ new s = omega arith
 
-last_grow : (w : StreamWorld) (x : StreamStep) → RiseOf w.decided → May w x → (s : SequenceId) → last w.decided s ≤ last (happens w x).decided s
+last_grow : (w : StreamWorld) (x : StreamStep) → DecisionsRise w.decided → May w x → (s : SequenceId) → last w.decided s ≤ last (happens w x).decided s
 last_grow w (Arrive p outcome) rise may = last_after w.decided p outcome (verdict w p) (next_is_new w.channel w.decided p.head rise)
 last_grow w _ rise may = λ s. omega arith
 
@@ -116,7 +119,8 @@ kept_stay w (Commit s m) numbered marks may = λ p offered.
     apart : (p : Position) → p.number ≤ w.offered p.sequence → same_position (commitment w s m).position p ≡ true → ⊥
     apart p offered same =
         let is = same_position_is (commitment w s m).position p same in
-        let within : w.offered p.sequence ≤ count w.committed p.sequence = mark_within w p.sequence (w.offered p.sequence) numbered (marks p.sequence) in
+        let within : w.offered p.sequence ≤ count w.committed p.sequence =
+        mark_within w p.sequence (w.offered p.sequence) numbered (marks p.sequence) in
         let above : count w.committed p.sequence < p.number = subst (λ (q : Position). count w.committed q.sequence < q.number) is (omega arith) in
         omega arith
 kept_stay w (Expire c moment) numbered marks may = λ p offered.
@@ -124,11 +128,13 @@ kept_stay w (Expire c moment) numbered marks may = λ p offered.
   where
     apart : (p : Position) → p.number ≤ w.offered p.sequence → same_position c.position p ≡ true → ⊥
     apart p offered same =
-        let above : w.offered p.sequence < p.number = subst (λ (q : Position). w.offered q.sequence < q.number) (same_position_is c.position p same) may.2 in
+        let is = same_position_is c.position p same in
+        let above : w.offered p.sequence < p.number = subst (λ (q : Position). w.offered q.sequence < q.number) is may.2 in
         omega arith
 kept_stay w _ numbered marks may = λ p offered. refl
 
-pub grows : (w : StreamWorld) (x : StreamStep) → IsNumbered w.committed → ((s : SequenceId) → IsMark w s (w.offered s)) → RiseOf w.decided → May w x → Grows w (happens w x)
+pub grows : (w : StreamWorld) (x : StreamStep) → IsNumbered w.committed → ((s : SequenceId) → IsMark w s (w.offered s)) → DecisionsRise w.decided
+    → May w x → Grows w (happens w x)
 grows w x numbered marks rise may = record {
   channel = channel_stays w x;
   connection = connection_grows w x;

@@ -12,7 +12,7 @@ use Rattle.mqb_streams.specs.Steps.{StreamStep, Offer, Arrive, Acknowledged, Tol
 use Rattle.mqb_streams.specs.Growth.{Grows}
 use Rattle.mqb_streams.specs.Truths.{IsMark, MarksStand, IsTruthful, IsAcknowledgement}
 use Rattle.mqb_streams.proofs.Positions.{same_sequence_is}
-use Rattle.mqb_streams.proofs.Decisions.{RiseOf}
+use Rattle.mqb_streams.proofs.Decisions.{DecisionsRise}
 use Rattle.mqb_streams.proofs.Judging.{IsNew, next_is_new}
 
 abbrev pub AllMarksStand : StreamWorld → Type 0
@@ -33,7 +33,8 @@ stand_still v w s g m acknowledged decided offered = record {
   decided_was_offered = rw (decided, offered) m.decided_was_offered;
 }
 
-after_offer : (w : StreamWorld) (p : Position) (s : SequenceId) → MarksStand w s → kept w p ≡ true → w.offered p.sequence < p.number → MarksStand (happens w (Offer p)) s
+after_offer : (w : StreamWorld) (p : Position) (s : SequenceId) → MarksStand w s → kept w p ≡ true → w.offered p.sequence < p.number
+    → MarksStand (happens w (Offer p)) s
 after_offer w p s m is_kept above = record {
   acknowledged = m.acknowledged;
   decided = m.decided;
@@ -51,13 +52,17 @@ after_offer w p s m is_kept above = record {
     higher false other = omega arith
 
 -- the last decided number stays, or it is that of a packet that is truthful and new
-after_decision : (w : StreamWorld) (t : Transfer) (outcome : Outcome) (s : SequenceId) → MarksStand w s → IsTruthful w t → (v : Verdict) → (v ≡ Next → IsNew w.decided t.head)
-    → IsMark w s (last (decided_after v (decision t outcome) w.decided) s) × (w.acknowledged s ≤ last (decided_after v (decision t outcome) w.decided) s)
+after_decision : (w : StreamWorld) (t : Transfer) (outcome : Outcome) (s : SequenceId) → MarksStand w s → IsTruthful w t → (v : Verdict)
+    → (v ≡ Next → IsNew w.decided t.head)
+    → IsMark w s (last (decided_after v (decision t outcome) w.decided) s)
+    × (w.acknowledged s ≤ last (decided_after v (decision t outcome) w.decided) s)
     × (last (decided_after v (decision t outcome) w.decided) s ≤ w.offered s)
 after_decision w t outcome s m true_of Next new = at (same_sequence t.head.sequence s) refl
   where
     at : (b : Bool) → same_sequence t.head.sequence s ≡ b
-        → IsMark w s (cond b t.head.number (last w.decided s)) × (w.acknowledged s ≤ cond b t.head.number (last w.decided s)) × (cond b t.head.number (last w.decided s) ≤ w.offered s)
+        → IsMark w s (cond b t.head.number (last w.decided s))
+        × (w.acknowledged s ≤ cond b t.head.number (last w.decided s))
+        × (cond b t.head.number (last w.decided s) ≤ w.offered s)
     at true same =
         let is : t.head.sequence ≡ s = same_sequence_is t.head.sequence s same in
         let above : last w.decided s < t.head.number = subst (λ r. last w.decided r < t.head.number) is (new refl).above in (
@@ -78,14 +83,17 @@ after_mark w p s n m is_kept decided (inl set) = (
 after_mark w p s n m is_kept decided (inr same) = (rw same m.acknowledged, rw same m.acknowledged_was_decided)
 
 -- what a mark may be afterwards
-marked_tells : (p : Position) (marks : SequenceId → ℕ) (s : SequenceId) → ((p.sequence ≡ s) × (marked p marks s ≡ p.number)) ⊎ (marked p marks s ≡ marks s)
+marked_tells : (p : Position) (marks : SequenceId → ℕ) (s : SequenceId)
+    → ((p.sequence ≡ s) × (marked p marks s ≡ p.number)) ⊎ (marked p marks s ≡ marks s)
 marked_tells p marks s = at (same_sequence p.sequence s) refl
   where
-    at : (b : Bool) → same_sequence p.sequence s ≡ b → ((p.sequence ≡ s) × (cond b p.number (marks s) ≡ p.number)) ⊎ (cond b p.number (marks s) ≡ marks s)
+    at : (b : Bool) → same_sequence p.sequence s ≡ b
+        → ((p.sequence ≡ s) × (cond b p.number (marks s) ≡ p.number)) ⊎ (cond b p.number (marks s) ≡ marks s)
     at true same = inl (same_sequence_is p.sequence s same, refl)
     at false other = inr refl
 
-raised_tells : (p : Position) (marks : SequenceId → ℕ) (s : SequenceId) → ((p.sequence ≡ s) × (raised p marks s ≡ p.number)) ⊎ (raised p marks s ≡ marks s)
+raised_tells : (p : Position) (marks : SequenceId → ℕ) (s : SequenceId)
+    → ((p.sequence ≡ s) × (raised p marks s ≡ p.number)) ⊎ (raised p marks s ≡ marks s)
 raised_tells p marks s = at (same_sequence p.sequence s) refl (cases_lt (marks s) p.number)
   where
     at : (b : Bool) → same_sequence p.sequence s ≡ b → (marks s < p.number) ⊎ (p.number ≤ marks s)
@@ -94,7 +102,7 @@ raised_tells p marks s = at (same_sequence p.sequence s) refl (cases_lt (marks s
     at true same (inr within) = inr (omega arith)
     at false other _ = inr refl
 
-pub marks_stand : (w : StreamWorld) (x : StreamStep) → AllMarksStand w → RiseOf w.decided
+pub marks_stand : (w : StreamWorld) (x : StreamStep) → AllMarksStand w → DecisionsRise w.decided
     → ((t : Transfer) → In t w.transfers → IsTruthful w t)
     → ((a : OrderAck) → In a w.order_acks → IsAcknowledgement w a)
     → ((a : FinalAck) → In a w.final_acks → (kept w a.position ≡ true) × (a.position.number ≤ last w.decided a.position.sequence))
@@ -111,7 +119,8 @@ marks_stand w (Arrive p outcome) marks rise truthful acks finals may g = λ s.
     }
 marks_stand w (Acknowledged a) marks rise truthful acks finals may g = λ s.
     let is = acks a may.1 in
-    let told = after_mark w a.position s (marked a.position w.acknowledged s) (marks s) is.kept is.decided (marked_tells a.position w.acknowledged s) in
+    let tells = marked_tells a.position w.acknowledged s in
+    let told = after_mark w a.position s (marked a.position w.acknowledged s) (marks s) is.kept is.decided tells in
     record {
       acknowledged = told.0;
       decided = (marks s).decided;
@@ -121,7 +130,8 @@ marks_stand w (Acknowledged a) marks rise truthful acks finals may g = λ s.
     }
 marks_stand w (Told a) marks rise truthful acks finals may g = λ s.
     let is = finals a may.1 in
-    let told = after_mark w a.position s (raised a.position w.acknowledged s) (marks s) is.0 is.1 (raised_tells a.position w.acknowledged s) in
+    let tells = raised_tells a.position w.acknowledged s in
+    let told = after_mark w a.position s (raised a.position w.acknowledged s) (marks s) is.0 is.1 tells in
     record {
       acknowledged = told.0;
       decided = (marks s).decided;

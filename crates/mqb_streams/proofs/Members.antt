@@ -22,7 +22,8 @@ pub In_from_any : {A : Type 0} (test : A → Bool) (xs : List A) → list_any te
 In_from_any test [] h = absurd (true≢false (sym h))
 In_from_any {A} test (x ∷ xs) h = found (or_cases (test x) (list_any test xs) h) (λ k. In_from_any test xs k)
   where
-    found : (test x ≡ true) ⊎ (list_any test xs ≡ true) → (list_any test xs ≡ true → (y : A) × In y xs × (test y ≡ true)) → (y : A) × In y (x ∷ xs) × (test y ≡ true)
+    found : (test x ≡ true) ⊎ (list_any test xs ≡ true) → (list_any test xs ≡ true → (y : A) × In y xs × (test y ≡ true))
+        → (y : A) × In y (x ∷ xs) × (test y ≡ true)
     found (inl at) rest = (x, inl refl, at)
     found (inr behind) rest = let f = rest behind in (f.0, inr f.1, f.2)
 

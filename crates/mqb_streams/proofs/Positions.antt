@@ -29,7 +29,8 @@ earlier_from a b (inr h) = grind (arith, nat_tests)
 pub earlier_trans : (a b c : SequenceId) → earlier a b ≡ true → earlier b c ≡ true → earlier a c ≡ true
 earlier_trans a b c h k = earlier_from a c (joined (earlier_tells a b h) (earlier_tells b c k))
   where
-    joined : (a.ordinal < b.ordinal) ⊎ ((a.ordinal ≡ b.ordinal) × (a.stamp < b.stamp)) → (b.ordinal < c.ordinal) ⊎ ((b.ordinal ≡ c.ordinal) × (b.stamp < c.stamp))
+    joined : (a.ordinal < b.ordinal) ⊎ ((a.ordinal ≡ b.ordinal) × (a.stamp < b.stamp))
+        → (b.ordinal < c.ordinal) ⊎ ((b.ordinal ≡ c.ordinal) × (b.stamp < c.stamp))
         → (a.ordinal < c.ordinal) ⊎ ((a.ordinal ≡ c.ordinal) × (a.stamp < c.stamp))
     joined (inl h) (inl k) = inl (omega arith)
     joined (inl h) (inr k) = inl (omega arith)
@@ -55,7 +56,8 @@ pub same_position_refl : (p : Position) → same_position p p ≡ true
 same_position_refl p = grind (arith, nat_tests)
 
 -- what `precedes` tells
-pub precedes_tells : (p q : Position) → precedes p q ≡ true → (earlier p.sequence q.sequence ≡ true) ⊎ ((p.sequence ≡ q.sequence) × (p.number < q.number))
+pub precedes_tells : (p q : Position) → precedes p q ≡ true
+    → (earlier p.sequence q.sequence ≡ true) ⊎ ((p.sequence ≡ q.sequence) × (p.number < q.number))
 precedes_tells p q h = told (or_cases _ _ h)
   where
     told : (earlier p.sequence q.sequence ≡ true) ⊎ ((same_sequence p.sequence q.sequence && nat_lt p.number q.number) ≡ true)
@@ -68,7 +70,8 @@ precedes_earlier p q h = rw h refl
 
 pub precedes_below : (p q : Position) → p.sequence ≡ q.sequence → p.number < q.number → precedes p q ≡ true
 precedes_below p q same below = or_right (earlier p.sequence q.sequence) (same_sequence p.sequence q.sequence && nat_lt p.number q.number)
-    (and_from (same_sequence p.sequence q.sequence) (nat_lt p.number q.number) (subst (λ s. same_sequence s q.sequence ≡ true) (sym same) (same_sequence_refl q.sequence)) (lt-ltb p.number q.number below))
+    (and_from (same_sequence p.sequence q.sequence) (nat_lt p.number q.number)
+    (subst (λ s. same_sequence s q.sequence ≡ true) (sym same) (same_sequence_refl q.sequence)) (lt-ltb p.number q.number below))
   where
     or_right : (a b : Bool) → b ≡ true → (a || b) ≡ true
     or_right true b h = refl

@@ -9,7 +9,7 @@ use Rattle.mqb_streams.specs.Words.{In, position_of, kept, last, newest}
 use Rattle.mqb_streams.specs.Steps.{StreamStep, Arrive, Fate, Acknowledge, Tell, decision, decided_after, fates_after, verdict, happens, May}
 use Rattle.mqb_streams.specs.Growth.{Grows}
 use Rattle.mqb_streams.specs.Truths.{MarksStand, IsAcknowledgement, IsFate, IsTold}
-use Rattle.mqb_streams.proofs.Decisions.{RiseOf, last_greatest}
+use Rattle.mqb_streams.proofs.Decisions.{DecisionsRise, last_greatest}
 use Rattle.mqb_streams.proofs.Deciding.{DecisionsSettled}
 
 -- ---- order acknowledgements
@@ -24,14 +24,16 @@ stays_true v w a g m is = record {
 }
 
 -- a decision is kept, and its number is at most the last one of its sequence
-pub decided_is_kept : (w : StreamWorld) (d : Decision) → RiseOf w.decided → DecisionsSettled w → In d w.decided → (kept w d.position ≡ true) × (d.position.number ≤ last w.decided d.position.sequence)
+pub decided_is_kept : (w : StreamWorld) (d : Decision) → DecisionsRise w.decided → DecisionsSettled w → In d w.decided
+    → (kept w d.position ≡ true) × (d.position.number ≤ last w.decided d.position.sequence)
 decided_is_kept w d rise settled inside = ((settled d inside).2.kept, last_greatest w.decided d rise inside)
 
 newest_was_decided : (ds : List Decision) (p : Position) → newest ds ≡ Some p → (d : Decision) × In d ds × (d.position ≡ p)
 newest_was_decided [] p is = absurd (grind arith)
 newest_was_decided (d ∷ ds) p is = (d, inl refl, grind arith)
 
-pub order_acks_true : (w : StreamWorld) (x : StreamStep) → OrderAcksTrue w → ((s : SequenceId) → MarksStand w s) → RiseOf w.decided → DecisionsSettled w → May w x → Grows w (happens w x)
+pub order_acks_true : (w : StreamWorld) (x : StreamStep) → OrderAcksTrue w → ((s : SequenceId) → MarksStand w s) → DecisionsRise w.decided
+    → DecisionsSettled w → May w x → Grows w (happens w x)
     → OrderAcksTrue (happens w x)
 order_acks_true w (Acknowledge p) acks marks rise settled may g = sent
   where
@@ -54,7 +56,8 @@ stays_fate : (v w : StreamWorld) (f : KnownFate) → Grows v w → IsFate v f �
 stays_fate v w f g is = (is.0, g.decided is.0 is.1, is.2, is.3)
 
 -- a fate is that of what was refused now, or was known before
-from_fates_after : (v : Verdict) (d : Decision) (ds : List Decision) (fs : List KnownFate) (f : KnownFate) → In f (fates_after v d.position d.outcome fs)
+from_fates_after : (v : Verdict) (d : Decision) (ds : List Decision) (fs : List KnownFate) (f : KnownFate)
+    → In f (fates_after v d.position d.outcome fs)
     → (In d (decided_after v d ds) × (d.position ≡ f.position) × Follows d.outcome f.fate) ⊎ In f fs
 from_fates_after v d ds fs f inside = at v d.outcome refl inside
   where
@@ -72,7 +75,9 @@ from_fates_after v d ds fs f inside = at v d.outcome refl inside
 pub fates_true : (w : StreamWorld) (x : StreamStep) → FatesTrue w → May w x → Grows w (happens w x) → FatesTrue (happens w x)
 fates_true w (Arrive p outcome) fates may g = λ f inside. at f (from_fates_after (verdict w p) (decision p outcome) w.decided w.fates f inside)
   where
-    at : (f : KnownFate) → (In (decision p outcome) (decided_after (verdict w p) (decision p outcome) w.decided) × (position_of p.head ≡ f.position) × Follows outcome f.fate) ⊎ In f w.fates
+    at : (f : KnownFate)
+        → (In (decision p outcome) (decided_after (verdict w p) (decision p outcome) w.decided)
+        × (position_of p.head ≡ f.position) × Follows outcome f.fate) ⊎ In f w.fates
         → IsFate (happens w (Arrive p outcome)) f
     at f (inl new) = (decision p outcome, new.0, new.1, new.2)
     at f (inr inside) = stays_fate w (happens w (Arrive p outcome)) f g (fates f inside)
@@ -98,7 +103,7 @@ final_acks_true w (Tell f) acks may g = sent
 final_acks_true w x acks may g = λ a inside. g.fates (record { position = a.position; fate = a.fate }) (acks a inside)
 
 -- what a final acknowledgement speaks of was decided
-pub told_was_decided : (w : StreamWorld) → RiseOf w.decided → DecisionsSettled w → FatesTrue w → FinalAcksTrue w → (a : FinalAck) → In a w.final_acks
+pub told_was_decided : (w : StreamWorld) → DecisionsRise w.decided → DecisionsSettled w → FatesTrue w → FinalAcksTrue w → (a : FinalAck) → In a w.final_acks
     → (kept w a.position ≡ true) × (a.position.number ≤ last w.decided a.position.sequence)
 told_was_decided w rise settled fates acks a inside =
     let fate = fates (record { position = a.position; fate = a.fate }) (acks a inside) in

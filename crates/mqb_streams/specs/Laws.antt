@@ -74,8 +74,22 @@ abbrev pub BeforeIsGreatest : Type 0
 BeforeIsGreatest = (committed : List Commitment) (expired : List Expiry) (s : SequenceId) (n m : ℕ)
     → IsGreatestKept committed expired s n m ↔ (m ≡ before committed expired s n)
 
+-- a message that arrived as it was sent at a moment, and was put
+abbrev pub put : Position → Message → ℕ → Decision
+put p m moment = record { position = p; message = carried m moment; outcome = Put }
+
 -- A message that is sent before it is due can arrive and be put.
 abbrev pub OneArrives : Type 0
 OneArrives = (channel : Channel) (s : SequenceId) (m : Message) (moment : ℕ) → IsFalse (due m moment)
+    → (xs : List StreamStep) × IsRun channel xs × ((after channel xs).decided ≡ put (record { sequence = s; number = 1 }) m moment ∷ [])
+
+-- Two messages of one sequence can arrive, and then, once they are acknowledged, one of the next sequence.
+abbrev pub SequencesRollOver : Type 0
+SequencesRollOver = (channel : Channel) (one two three : Message) (moment : ℕ)
+    → IsFalse (due one moment) → IsFalse (due two moment) → IsFalse (due three moment)
     → (xs : List StreamStep) × IsRun channel xs
-    × ((after channel xs).decided ≡ record { position = record { sequence = s; number = 1 }; message = carried m moment; outcome = Put } ∷ [])
+    × ((after channel xs).decided
+    ≡ put (record { sequence = record { ordinal = 2; stamp = 1000 }; number = 1 }) three moment
+    ∷ put (record { sequence = record { ordinal = 1; stamp = 1000 }; number = 2 }) two moment
+    ∷ put (record { sequence = record { ordinal = 1; stamp = 1000 }; number = 1 }) one moment
+    ∷ [])

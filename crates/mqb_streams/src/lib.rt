@@ -6,7 +6,7 @@
 //! body is empty.
 #![tactic(auto)]
 
-ghost use Rattle.mqb_streams.specs.Laws.{AlwaysExactlyOnce, CommittedAreCounted, CommittedOnce, DecidedOnce, MarksAlwaysStand, TransfersAreTruthful, DroppedWasDecided, OrderAcksAreTrue, FatesAreTrue, FinalAcksAreTrue, StepsGrow, RunsGrow, BeforeStays, BeforeIsGreatest, OneArrives};
+ghost use Rattle.mqb_streams.specs.Laws.{AlwaysExactlyOnce, CommittedAreCounted, CommittedOnce, DecidedOnce, MarksAlwaysStand, TransfersAreTruthful, DroppedWasDecided, OrderAcksAreTrue, FatesAreTrue, FinalAcksAreTrue, StepsGrow, RunsGrow, BeforeStays, BeforeIsGreatest, OneArrives, SequencesRollOver};
 
 /// The law itself.
 pub fn exactly_once()
@@ -81,4 +81,9 @@ pub fn before_is_greatest()
 /// The law is not empty: there is a run in which a message arrives.
 pub fn one_arrives()
     ensures { OneArrives }
+{}
+
+/// Nor is it empty where a sequence is full and the next begins.
+pub fn sequences_roll_over()
+    ensures { SequencesRollOver }
 {}

@@ -5,4 +5,5 @@ use Rattle.mqb_streams.proofs.Always.{always}
 use Rattle.mqb_streams.proofs.committed_once.Goals as goal
 
 pub returns : goal.returns
-returns c = λ channel xs run x y. let i = always channel xs run in one_of_each (λ (z : Commitment). z.position) (after channel xs).committed x y i.commits
+returns c = λ channel xs run x y.
+    one_of_each (λ (z : Commitment). z.position) (after channel xs).committed x y (always channel xs run).commits

@@ -5,4 +5,5 @@ use Rattle.mqb_streams.proofs.Always.{always}
 use Rattle.mqb_streams.proofs.decided_once.Goals as goal
 
 pub returns : goal.returns
-returns c = λ channel xs run x y. let i = always channel xs run in one_of_each (λ (z : Decision). z.position) (after channel xs).decided x y i.rise
+returns c = λ channel xs run x y.
+    one_of_each (λ (z : Decision). z.position) (after channel xs).decided x y (always channel xs run).rise

@@ -35,7 +35,9 @@ module _ (channel : Channel) (s : SequenceId) (m : Message) (moment : ℕ) (earl
   none_earlier p before is_kept = at (same_position first p) refl (and_parts _ _ is_kept).0
     where
       at : (b : Bool) → same_position first p ≡ b → (b || false) ≡ true → p.number ≤ 0
-      at true same _ = absurd (true≢false (sym before ∙ subst (λ (q : Position). earlier q.sequence s ≡ false) (same_position_is first p same) (not_earlier_itself s)))
+      at true same _ =
+          let not_before = subst (λ (q : Position). earlier q.sequence s ≡ false) (same_position_is first p same) (not_earlier_itself s) in
+          absurd (true≢false (sym before ∙ not_before))
       at false other none = absurd (true≢false (sym none))
 
   first_offered : 1 ≤ offered.offered s
@@ -51,7 +53,8 @@ module _ (channel : Channel) (s : SequenceId) (m : Message) (moment : ℕ) (earl
       same true = refl
       same false = refl
 
-  arrived : decided_after (verdict_of None (transfer offered c moment).head) (decision (transfer offered c moment) Put) [] ≡ decision (transfer offered c moment) Put ∷ []
+  arrived : decided_after (verdict_of None (transfer offered c moment).head) (decision (transfer offered c moment) Put) []
+      ≡ decision (transfer offered c moment) Put ∷ []
   arrived = ap (λ n. decided_after (cond (nat_lt 0 n) Gap Next) (decision (transfer offered c moment) Put) []) first_of_all
 
 pub returns : goal.returns
