@@ -1,5 +1,5 @@
 -- What holds at each point of each run, and that it makes a channel exactly once.
-use Rattle.std.proofs.Common.{◌≡◌, ◌<◌, ◌≤◌, ◌⊎◌, inl, inr, true, false, not, List, [], ◌∷◌, ◌++◌, refl, sym, subst, ◌∙◌, le_trans, lt_of_lt_of_le, arith, Bool, ap}
+use Rattle.std.proofs.Common.{◌≡◌, ◌<◌, ◌≤◌, ◌⊎◌, inl, inr, true, false, not, List, [], ◌∷◌, ◌++◌, refl, sym, subst, ◌∙◌, le_trans, lt_of_lt_of_le, arith, Bool, ap, ◌↔◌}
 use Rattle.std.proofs.lemmas.Bool.{and_from, cases_Bool, cases_lt, true≢false}
 use Rattle.mqb_base.specs.Sequences.{earlier}
 use Rattle.mqb_orders.specs.declared.judging.Verdict.TheVariants.{Duplicate, Stale}
@@ -107,6 +107,9 @@ module _ (w : StreamWorld) (i : StreamInvariant w) where
       let found = In_from_decided w.decided p h in
       let settled = i.settled found.0 found.1 in
       subst (λ (q : Position). (kept w q ≡ true) × (q.number ≤ w.offered q.sequence)) found.2 (settled.2.kept, settled.2.offered)
+
+  pub decided_up_to_last : (p : Position) → (is_decided w.decided p ≡ true) ↔ ((kept w p ≡ true) × (p.number ≤ last w.decided p.sequence))
+  decided_up_to_last p = (λ h. ((decided_kept p h).0, decided_within w.decided p i.rise h), λ h. i.skipped p h.0 h.1)
 
   acknowledged_is_decided : (p : Position) → kept w p ≡ true → p.number ≤ w.acknowledged p.sequence → is_decided w.decided p ≡ true
   acknowledged_is_decided p is_kept within = i.skipped p is_kept (le_trans within (i.marks p.sequence).acknowledged_was_decided)

@@ -96,7 +96,8 @@ last_after ds t outcome Next new s =
     marked_above (position_of t.head) (last ds) s (omega arith)
 last_after ds t outcome _ new s = omega arith
 
-last_grow : (w : StreamWorld) (x : StreamStep) → DecisionsRise w.decided → May w x → (s : SequenceId) → last w.decided s ≤ last (happens w x).decided s
+last_grow : (w : StreamWorld) (x : StreamStep) → DecisionsRise w.decided → May w x
+    → (s : SequenceId) → last w.decided s ≤ last (happens w x).decided s
 last_grow w (Arrive p outcome) rise may = last_after w.decided p outcome (verdict w p) (next_is_new w.channel w.decided p.head rise)
 last_grow w _ rise may = λ s. omega arith
 
@@ -129,7 +130,8 @@ kept_stay w (Expire c moment) numbered marks may = λ p offered.
     apart : (p : Position) → p.number ≤ w.offered p.sequence → same_position c.position p ≡ true → ⊥
     apart p offered same =
         let is = same_position_is c.position p same in
-        let above : w.offered p.sequence < p.number = subst (λ (q : Position). w.offered q.sequence < q.number) is may.2 in
+        let unoffered : w.offered c.position.sequence < c.position.number = omega (arith, may.2) in
+        let above : w.offered p.sequence < p.number = subst (λ (q : Position). w.offered q.sequence < q.number) is unoffered in
         omega arith
 kept_stay w _ numbered marks may = λ p offered. refl
 

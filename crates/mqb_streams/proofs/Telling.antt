@@ -103,7 +103,8 @@ final_acks_true w (Tell f) acks may g = sent
 final_acks_true w x acks may g = λ a inside. g.fates (record { position = a.position; fate = a.fate }) (acks a inside)
 
 -- what a final acknowledgement speaks of was decided
-pub told_was_decided : (w : StreamWorld) → DecisionsRise w.decided → DecisionsSettled w → FatesTrue w → FinalAcksTrue w → (a : FinalAck) → In a w.final_acks
+pub told_was_decided : (w : StreamWorld) → DecisionsRise w.decided → DecisionsSettled w → FatesTrue w → FinalAcksTrue w
+    → (a : FinalAck) → In a w.final_acks
     → (kept w a.position ≡ true) × (a.position.number ≤ last w.decided a.position.sequence)
 told_was_decided w rise settled fates acks a inside =
     let fate = fates (record { position = a.position; fate = a.fate }) (acks a inside) in

@@ -25,7 +25,7 @@ transfers_truthful w (Send c moment) truthful may g = sent
     new : IsTruthful (happens w (Send c moment)) (transfer w c moment)
     new = record {
       kept = may.2;
-      offered = may.4;
+      offered = omega (arith, may.4);
       previous = refl;
       message = (c, may.1, refl, refl);
     }

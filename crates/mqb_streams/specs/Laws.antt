@@ -4,7 +4,7 @@ use Rattle.mqb_base.specs.declared.message.Message.{Message}
 use Rattle.mqb_orders.specs.declared.judging.Verdict.TheVariants.{Duplicate, Stale}
 use Rattle.mqb_streams.specs.Outcomes.{Put}
 use Rattle.mqb_streams.specs.World.{Channel, Position, Commitment, Expiry, Decision, KnownFate, Transfer, OrderAck, FinalAck}
-use Rattle.mqb_streams.specs.Words.{In, position_of, is_committed, is_decided, count, before, previous, due, carried}
+use Rattle.mqb_streams.specs.Words.{In, position_of, is_committed, is_decided, kept, count, before, previous, last, due, carried}
 use Rattle.mqb_streams.specs.Steps.{StreamStep, verdict}
 use Rattle.mqb_streams.specs.Runs.{after, IsRun, AtEachPoint}
 use Rattle.mqb_streams.specs.ExactlyOnce.{ExactlyOnce}
@@ -31,6 +31,11 @@ DecidedOnce = AtEachPoint (λ w. (d e : Decision) → In d w.decided → In e w.
 -- The marks of each sequence are 0 or kept. What is acknowledged was decided, and what was decided was offered.
 abbrev pub MarksAlwaysStand : Type 0
 MarksAlwaysStand = AtEachPoint (λ w. (s : SequenceId) → MarksStand w s)
+
+-- What was decided of a sequence is what is kept of it up to the last decided number.
+abbrev pub DecidedUpToLast : Type 0
+DecidedUpToLast = AtEachPoint (λ w.
+    (p : Position) → IsTrue (is_decided w.decided p) ↔ (IsTrue (kept w p) × (p.number ≤ last w.decided p.sequence)))
 
 -- Each packet that was ever sent is truthful.
 abbrev pub TransfersAreTruthful : Type 0

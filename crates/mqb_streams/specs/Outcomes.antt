@@ -1,6 +1,6 @@
 use Rattle.std.specs.Prelude.{◌≡◌, Bool, true, false, ⊤}
 
--- why a destination refuses a message
+-- why a destination refuses a message, in the order of the classes 0x8002, 0x8000, 0x8009 and 0x8003
 pub data Refusal : Type 0 where
   Reach_timeout : Refusal
   Bad_destination : Refusal
@@ -12,7 +12,7 @@ pub data Outcome : Type 0 where
   Put : Outcome
   Refused : (reason : Refusal) → Outcome
 
--- how a message that was put left its queue
+-- how a message that was put left its queue, in the order of the classes 0x4000, 0xC001 and 0xC002
 pub data Departure : Type 0 where
   Received : Departure
   Queue_purged : Departure

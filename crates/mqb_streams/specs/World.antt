@@ -37,7 +37,7 @@ pub record KnownFate : Type 0 where
   pub position : Position
   pub fate : MessageFate
 
--- a transactional packet. Its message's time to reach its queue is what was left at the moment of its sending, which no packet shows
+-- A transactional packet. Of its message's time to reach its queue it has what was left when it was sent. It does not show that moment.
 pub record Transfer : Type 0 where
   pub head : TxHead
   pub message : Message

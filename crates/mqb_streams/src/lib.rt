@@ -6,7 +6,7 @@
 //! body is empty.
 #![tactic(auto)]
 
-ghost use Rattle.mqb_streams.specs.Laws.{AlwaysExactlyOnce, CommittedAreCounted, CommittedOnce, DecidedOnce, MarksAlwaysStand, TransfersAreTruthful, DroppedWasDecided, OrderAcksAreTrue, FatesAreTrue, FinalAcksAreTrue, StepsGrow, RunsGrow, BeforeStays, BeforeIsGreatest, OneArrives, SequencesRollOver};
+ghost use Rattle.mqb_streams.specs.Laws.{AlwaysExactlyOnce, CommittedAreCounted, CommittedOnce, DecidedOnce, MarksAlwaysStand, DecidedUpToLast, TransfersAreTruthful, DroppedWasDecided, OrderAcksAreTrue, FatesAreTrue, FinalAcksAreTrue, StepsGrow, RunsGrow, BeforeStays, BeforeIsGreatest, OneArrives, SequencesRollOver};
 
 /// The law itself.
 pub fn exactly_once()
@@ -31,6 +31,11 @@ pub fn decided_once()
 /// The acknowledged mark is at most the last decided number, and that at most the offered mark. Each is 0 or a kept number.
 pub fn marks_stand()
     ensures { MarksAlwaysStand }
+{}
+
+/// Of a sequence the kept numbers up to the last decided one are decided, and no others.
+pub fn decided_up_to_last()
+    ensures { DecidedUpToLast }
 {}
 
 /// A packet carries a committed message that was offered, and links to the kept number before it.
