@@ -89,10 +89,6 @@ always channel (x ∷ xs) run =
     let i : StreamInvariant (after channel xs) = always channel xs run.1 in
     stays (after channel xs) x i run.0 (step_grows (after channel xs) x i run.0)
 
-pub run_of_earlier : (channel : Channel) (more xs : List StreamStep) → IsRun channel (more ++ xs) → IsRun channel xs
-run_of_earlier channel [] xs run = run
-run_of_earlier channel (x ∷ more) xs run = run_of_earlier channel more xs run.1
-
 pub run_grows : (channel : Channel) (more xs : List StreamStep) → IsRun channel (more ++ xs) → Grows (after channel xs) (after channel (more ++ xs))
 run_grows channel [] xs run = grows_none (after channel xs)
 run_grows channel (x ∷ more) xs run =

@@ -1,3 +1,4 @@
+pub mod Either
 pub mod Positions
 pub mod Members
 pub mod Numbers

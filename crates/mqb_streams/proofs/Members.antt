@@ -1,17 +1,11 @@
 -- What the members of a list tell, and what they tell of a longer one.
-use Rattle.std.proofs.Common.{◌≡◌, ◌⊎◌, inl, inr, Bool, true, false, ◌||◌, List, [], ◌∷◌, refl, sym, subst}
+use Rattle.std.proofs.Common.{◌≡◌, ◌⊎◌, inl, inr, Bool, true, false, List, [], ◌∷◌, refl, sym, subst}
 use Rattle.std.specs.List.{list_any}
 use Rattle.std.proofs.lemmas.Bool.{and_parts, not-true, or_cases, true≢false}
 use Rattle.mqb_streams.specs.World.{Position, Commitment, Expiry, Decision}
 use Rattle.mqb_streams.specs.Words.{In, same_position, is_committed, is_expired, is_decided, is_kept}
+use Rattle.mqb_streams.proofs.Either.{or_left, or_right}
 use Rattle.mqb_streams.proofs.Positions.{same_position_is, same_position_refl}
-
-pub or_right : (a b : Bool) → b ≡ true → (a || b) ≡ true
-or_right true b h = refl
-or_right false b h = h
-
-pub or_left : (a b : Bool) → a ≡ true → (a || b) ≡ true
-or_left a b h = rw h refl
 
 pub any_from_In : {A : Type 0} (test : A → Bool) (x : A) (xs : List A) → In x xs → test x ≡ true → list_any test xs ≡ true
 any_from_In test x [] (inside) h = absurd inside
@@ -26,9 +20,6 @@ In_from_any {A} test (x ∷ xs) h = found (or_cases (test x) (list_any test xs) 
         → (y : A) × In y (x ∷ xs) × (test y ≡ true)
     found (inl at) rest = (x, inl refl, at)
     found (inr behind) rest = let f = rest behind in (f.0, inr f.1, f.2)
-
-pub committed_from_In : (c : Commitment) (cs : List Commitment) → In c cs → is_committed cs c.position ≡ true
-committed_from_In c cs inside = any_from_In (λ d. same_position d.position c.position) c cs inside (same_position_refl c.position)
 
 pub decided_from_In : (d : Decision) (ds : List Decision) → In d ds → is_decided ds d.position ≡ true
 decided_from_In d ds inside = any_from_In (λ e. same_position e.position d.position) d ds inside (same_position_refl d.position)

@@ -5,8 +5,9 @@ use Rattle.mqb_base.specs.Sequences.{same_sequence}
 use Rattle.mqb_streams.specs.World.{Position, Commitment, Expiry}
 use Rattle.mqb_streams.specs.Words.{In, same_position, is_committed, is_kept, count}
 use Rattle.mqb_streams.specs.ExactlyOnce.{IsNumbered}
+use Rattle.mqb_streams.proofs.Either.{or_left, or_right}
 use Rattle.mqb_streams.proofs.Positions.{same_sequence_is, same_sequence_refl}
-use Rattle.mqb_streams.proofs.Members.{or_left, or_right, In_from_committed, kept_is_committed}
+use Rattle.mqb_streams.proofs.Members.{In_from_committed, kept_is_committed}
 
 count_rises : (b : Bool) (n : ℕ) → n ≤ cond b (suc n) n
 count_rises true n = omega arith

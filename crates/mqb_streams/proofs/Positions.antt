@@ -1,11 +1,12 @@
 -- The order of sequences and of positions.
-use Rattle.std.proofs.Common.{◌≡◌, ℕ, ◌<◌, ◌⊎◌, inl, inr, Bool, true, false, ◌&&◌, ◌||◌, nat_lt, refl, sym, ap₂, subst, ◌∙◌, arith}
+use Rattle.std.proofs.Common.{◌≡◌, ℕ, ◌<◌, ◌⊎◌, inl, inr, true, false, ◌&&◌, nat_lt, refl, sym, ap₂, subst, ◌∙◌, arith}
 use Rattle.std.proofs.lemmas.Bool.{and_parts, and_from, eqb-true, ltb-true, lt-ltb, or_cases}
 use Rattle.std.proofs.lemmas.Bool.Decides.{nat_tests}
 use Rattle.mqb_base.specs.declared.ids.SequenceId.{SequenceId}
 use Rattle.mqb_base.specs.Sequences.{same_sequence, earlier}
 use Rattle.mqb_streams.specs.World.{Position}
 use Rattle.mqb_streams.specs.Words.{same_position, precedes}
+use Rattle.mqb_streams.proofs.Either.{or_right}
 
 pub same_sequence_is : (a b : SequenceId) → same_sequence a b ≡ true → a ≡ b
 same_sequence_is a b h =
@@ -72,10 +73,6 @@ pub precedes_below : (p q : Position) → p.sequence ≡ q.sequence → p.number
 precedes_below p q same below = or_right (earlier p.sequence q.sequence) (same_sequence p.sequence q.sequence && nat_lt p.number q.number)
     (and_from (same_sequence p.sequence q.sequence) (nat_lt p.number q.number)
     (subst (λ s. same_sequence s q.sequence ≡ true) (sym same) (same_sequence_refl q.sequence)) (lt-ltb p.number q.number below))
-  where
-    or_right : (a b : Bool) → b ≡ true → (a || b) ≡ true
-    or_right true b h = refl
-    or_right false b h = h
 
 pub precedes_trans : (p q r : Position) → precedes p q ≡ true → precedes q r ≡ true → precedes p r ≡ true
 precedes_trans p q r h k = joined (precedes_tells p q h) (precedes_tells q r k)

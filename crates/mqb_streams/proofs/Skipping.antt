@@ -11,8 +11,8 @@ use Rattle.mqb_streams.specs.Words.{In, same_position, position_of, is_decided, 
 use Rattle.mqb_streams.specs.Steps.{StreamStep, Arrive, decision, decided_after, verdict, happens, May}
 use Rattle.mqb_streams.specs.Growth.{Grows}
 use Rattle.mqb_streams.specs.Truths.{MarksStand, IsTruthful}
+use Rattle.mqb_streams.proofs.Either.{or_left, or_right}
 use Rattle.mqb_streams.proofs.Positions.{same_sequence_is, same_position_refl}
-use Rattle.mqb_streams.proofs.Members.{or_left, or_right}
 use Rattle.mqb_streams.proofs.Befores.{before_is_greatest}
 use Rattle.mqb_streams.proofs.Decisions.{DecisionsRise}
 use Rattle.mqb_streams.proofs.Judging.{IsNew, next_is_new}
