@@ -15,7 +15,7 @@ pub data StreamStep : Type 0 where
   Commit : (sequence : SequenceId) → (message : Message) → StreamStep
   -- a message's time to reach its queue is over before it was offered
   Expire : (commitment : Commitment) → (moment : ℕ) → StreamStep
-  -- a message may be sent from now on, and never expires at its source any more
+  -- the messages of a sequence up to this one may be sent from now on, and no longer expire
   Offer : (position : Position) → StreamStep
   Send : (commitment : Commitment) → (moment : ℕ) → StreamStep
   -- a packet is heard, and this is decided where it is next

@@ -1,5 +1,5 @@
-//! The law of streams: whatever is lost, repeated and reordered, and whenever connections end and managers crash, a destination takes from a
-//! source each message that was kept there exactly once, in the order of the commits.
+//! The law of streams: whatever is lost, repeated and reordered, and whenever connections end and managers crash, a destination decides each message
+//! of a source exactly once, in the order of the commits, and skips none but those that expired.
 //!
 //! `specs/World.antt` has what a source and a destination know of one channel, over all its sequences, and `specs/Steps.antt` what may happen to
 //! it. `specs/ExactlyOnce.antt` says what holds at each point of each run. Each function here stands for a law: its contract is the law, and its
