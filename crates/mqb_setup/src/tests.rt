@@ -63,6 +63,7 @@ fn a_session_header_is_put_and_read(rt: HostRuntime) {
 }
 
 #[test]
+#[tactic(auto, using(crate::proofs::Parts::length_filler))]
 fn an_establish_has_a_filler(rt: HostRuntime) {
     for (refused, flags) in [(false, 2), (true, 18)] {
         let part = Internal::Establish(Establish {
