@@ -1,5 +1,5 @@
 -- What was put is read again, whatever follows.
-use Rattle.std.proofs.Common.{◌≡◌, ℕ, ◌+◌, ◌-◌, ◌/◌, ◌%◌, ◌^◌, ◌<◌, ◌≤◌, Bool, true, false, cond, ◌==◌, ltb, List, [], ◌∷◌, ◌++◌, length, take, drop, Ok, refl, sym, ap, ◌∙◌, arith, length-append, length-drop, append_assoc}
+use Rattle.std.proofs.Common.{◌≡◌, ℕ, ◌+◌, ◌-◌, ◌^◌, ◌<◌, Bool, true, false, cond, ltb, List, ◌++◌, length, drop, Ok, refl, sym, ap, ◌∙◌, arith, length-append, length-drop}
 use Rattle.std.proofs.lemmas.Bool.{le-ltb}
 use Rattle.std.proofs.lemmas.List.{take_at, drop_at, drop-drop}
 use Rattle.mqb_base.specs.declared.heads.SessionHead.{SessionHead}
@@ -11,7 +11,7 @@ use Rattle.mqb_setup.specs.declared.internal.Establish.{Establish}
 use Rattle.mqb_setup.specs.declared.internal.Parameters.{Parameters}
 use Rattle.mqb_setup.specs.declared.internal.Internal.{Internal}
 use Rattle.mqb_setup.specs.declared.internal.Internal.TheVariants as part
-use Rattle.mqb_setup.specs.Internals.{establish_at, filler, flags_of, internal_at, parameters_at, plain_establish, plain_internal, plain_parameters, plain_part, type_of, is_refused}
+use Rattle.mqb_setup.specs.Internals.{establish_at, filler, internal_at, parameters_at, plain_establish, plain_internal, plain_parameters, type_of, is_refused}
 use Rattle.mqb_setup.specs.Sessions.{session_at, plain_session}
 use Rattle.mqb_setup.specs.Widths.{IsSessionHead, IsEstablish, IsParameters, IsInternal}
 use Rattle.mqb_setup.proofs.Parts.{length_filler}

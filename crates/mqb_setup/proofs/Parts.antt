@@ -1,5 +1,5 @@
 -- Parts that are put one behind another are put as one.
-use Rattle.std.proofs.Common.{◌≡◌, ℕ, ◌+◌, ◌-◌, ◌≤◌, List, [], ◌∷◌, ◌++◌, length, take, drop, refl, sym, ap, ◌∙◌, append_assoc, arith, length-append, length-drop}
+use Rattle.std.proofs.Common.{◌≡◌, ℕ, ◌+◌, ◌-◌, ◌≤◌, List, [], ◌++◌, length, take, drop, refl, sym, ap, ◌∙◌, append_assoc, arith, length-append, length-drop}
 use Rattle.std.proofs.lemmas.List.{length-take-le, drop-drop, drop_all, take_all, append-nil, length-replicate}
 use borrow.Rule.Slice.PartMut.{put_mid}
 use Rattle.mqb_fields.specs.Writing.{put_at}
