@@ -1,5 +1,5 @@
 -- The peer's window is kept.
-use Rattle.std.proofs.Common.{◌≡◌, ◌≤◌, ◌<◌, ℕ, ◌+◌, ◌-◌, Bool, true, false, not, ◌&&◌, ◌==◌, ltb, max, if◌then◌else◌, refl, arith}
+use Rattle.std.proofs.Common.{◌≡◌, ◌≤◌, ◌<◌, ℕ, ◌+◌, ◌-◌, Bool, true, false, if◌then◌else◌, List, [], ◌∷◌, refl, arith}
 use Rattle.std.specs.Prelude.{IsTrue}
 use Rattle.std.proofs.lemmas.Bool.{and_parts, ltb-true}
 use Rattle.mqb_base.specs.declared.heads.SessionHead.{SessionHead}
@@ -7,17 +7,15 @@ use Rattle.mqb_base.specs.declared.heard.Cause.{Cause}
 use Rattle.mqb_base.specs.declared.heard.Cause.TheVariants.{BadAck, Early}
 use Rattle.mqb_session.specs.declared.heads.HeadHeard.{HeadHeard}
 use Rattle.mqb_session.specs.declared.heads.HeadHeard.TheVariants as heard
-use Rattle.mqb_session.specs.declared.heads.Kind.{Kind}
 use Rattle.mqb_session.specs.declared.heads.Kind.TheVariants.{Plain, Recoverable, Ack}
 use Rattle.mqb_session.specs.declared.phase.Phase.{Phase}
 use Rattle.mqb_session.specs.declared.phase.Phase.TheVariants.{Start, WaitEstablish, OweEstablish, OweRefusal, OweParameters, WaitParameters, Ready, Closed}
 use Rattle.mqb_session.specs.declared.phase.Role.{Role}
-use Rattle.mqb_session.specs.declared.phase.Role.TheVariants.{Initiator, Acceptor}
 use Rattle.mqb_session.specs.State.{State}
 use Rattle.mqb_session.specs.Phases.{phase_after_owed, phase_after_establish, phase_after_parameters}
 use Rattle.mqb_session.specs.Hearing.{window_after, closed_by, closing, counted, acknowledged, is_bad_ack, order_of, head_in}
 use Rattle.mqb_session.specs.Sending.{is_ready, may_send}
-use Rattle.mqb_session.specs.Calls.{Call, HearEstablish, HearParameters, HearHead, Owed, Stamp, NoteStored, Close, after, IsAllowed, IsSettingUp, IsWithinWindow}
+use Rattle.mqb_session.specs.Calls.{Call, HearEstablish, HearParameters, HearHead, Owed, Stamp, NoteStored, Close, after, after_all, IsAllowed, AreAllowed, IsSettingUp, IsWithinWindow}
 
 -- No call goes back to the set-up.
 owed_first : (phase : Phase) (role : Role) → IsSettingUp (phase_after_owed phase role) → IsSettingUp phase
@@ -119,7 +117,7 @@ may_go s may =
     let counts = and_parts _ _ parts.1 in
     record { ready = parts.0; room = ltb-true _ _ counts.1 }
 
-pub stays_within : (call : Call) (s : State) → IsAllowed call s → IsWithinWindow s → IsWithinWindow (after call s)
+stays_within : (call : Call) (s : State) → IsAllowed call s → IsWithinWindow s → IsWithinWindow (after call s)
 stays_within (HearEstablish e known) s allowed within = record { outstanding = within.outstanding; first = λ p. within.first (establish_first s.phase s.role _ p) }
 stays_within (HearParameters p) s allowed within = record {
   outstanding = window_heard s.phase s.sent s.acked p.window s.peer_window within.outstanding within.first;
@@ -134,3 +132,40 @@ stays_within (Stamp Recoverable) s allowed within = let may = may_go s allowed i
 stays_within (Stamp Ack) s allowed within = record { outstanding = within.outstanding; first = within.first }
 stays_within NoteStored s allowed within = record { outstanding = within.outstanding; first = within.first }
 stays_within (Close cause) s allowed within = record { outstanding = within.outstanding; first = λ p. within.first (closed_first s.phase cause p) }
+
+pub all_within : (calls : List Call) (s : State) → AreAllowed calls s → IsWithinWindow s → IsWithinWindow (after_all calls s)
+all_within [] s allowed within = within
+all_within (call ∷ calls) s allowed within = all_within calls (after call s) allowed.1 (stays_within call s allowed.0 within)
+
+counted_window : (order : HeadHeard) (s : State) → (counted order s).peer_window ≡ s.peer_window
+counted_window (heard.Closed cause) s = refl
+counted_window heard.InOrder s = refl
+counted_window heard.OutOfOrder s = refl
+counted_window heard.AckOnly s = refl
+
+ready_window : (bad : Bool) (h : SessionHead) (s : State)
+    → (if bad then closing BadAck s else (order_of h s, counted (order_of h s) (acknowledged h s))).1.peer_window ≡ s.peer_window
+ready_window true h s = refl
+ready_window false h s = counted_window (order_of h s) (acknowledged h s)
+
+-- no header changes the window
+head_window : (phase : Phase) (h : SessionHead) (s : State) → (head_in phase h s).1.peer_window ≡ s.peer_window
+head_window Start h s = refl
+head_window WaitEstablish h s = refl
+head_window OweEstablish h s = refl
+head_window OweRefusal h s = refl
+head_window OweParameters h s = refl
+head_window WaitParameters h s = refl
+head_window Ready h s = ready_window (is_bad_ack h s) h s
+head_window (Closed cause) h s = refl
+
+pub window_stays : (call : Call) (s : State) → s.phase ≡ Ready → (after call s).peer_window ≡ s.peer_window
+window_stays (HearEstablish e known) s ready = refl
+window_stays (HearParameters p) s ready = rw ready refl
+window_stays (HearHead h) s ready = head_window s.phase h s
+window_stays (Owed now) s ready = refl
+window_stays (Stamp Plain) s ready = refl
+window_stays (Stamp Recoverable) s ready = refl
+window_stays (Stamp Ack) s ready = refl
+window_stays NoteStored s ready = refl
+window_stays (Close cause) s ready = refl

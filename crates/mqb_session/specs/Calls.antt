@@ -5,7 +5,7 @@ use Rattle.mqb_base.specs.declared.heard.Cause.{Cause}
 use Rattle.mqb_setup.specs.declared.internal.Establish.{Establish}
 use Rattle.mqb_setup.specs.declared.internal.Parameters.{Parameters}
 use Rattle.mqb_session.specs.declared.heads.Kind.{Kind}
-use Rattle.mqb_session.specs.declared.heads.Kind.TheVariants.{Plain, Recoverable, Ack}
+use Rattle.mqb_session.specs.declared.heads.Kind.TheVariants.{Plain, Recoverable}
 use Rattle.mqb_session.specs.declared.phase.Phase.{Phase}
 use Rattle.mqb_session.specs.declared.phase.Phase.TheVariants.{Ready, Closed}
 use Rattle.mqb_session.specs.State.{State}
@@ -38,6 +38,17 @@ IsAllowed (Stamp kind) s = IsTrue (may_go kind s)
 IsAllowed NoteStored s = s.stored < s.got
 IsAllowed _ s = Unit {0}
 
+-- what they leave, one after another
+abbrev pub after_all : List Call → State → State
+after_all [] s = s
+after_all (call ∷ calls) s = after_all calls (after call s)
+
+-- each meets its condition in its turn
+abbrev pub AreAllowed : List Call → State → Type 0
+AreAllowed [] s = Unit {0}
+AreAllowed (call ∷ calls) s = IsAllowed call s × AreAllowed calls (after call s)
+
+-- before it is ready
 abbrev pub IsSettingUp : Phase → Type 0
 IsSettingUp Ready = ⊥
 IsSettingUp (Closed cause) = ⊥
@@ -48,16 +59,18 @@ pub record IsWithinWindow (s : State) : Type 0 where
   pub outstanding : s.sent ≤ s.acked + s.peer_window
   pub first : IsSettingUp s.phase → s.sent ≡ 0
 
--- the headers of these calls that number a user packet, in order
+-- the header of a call that numbers a user packet
 abbrev pub user_heads : Call → State → List SessionHead
 user_heads (Stamp Plain) s = (stamped Plain s).0 ∷ []
 user_heads (Stamp Recoverable) s = (stamped Recoverable s).0 ∷ []
 user_heads _ s = []
 
+-- and one that numbers it among the recoverable ones
 abbrev pub recoverable_heads : Call → State → List SessionHead
 recoverable_heads (Stamp Recoverable) s = (stamped Recoverable s).0 ∷ []
 recoverable_heads _ s = []
 
+-- the headers of a run, in order
 abbrev pub heads_of : (Call → State → List SessionHead) → List Call → State → List SessionHead
 heads_of heads [] s = []
 heads_of heads (call ∷ calls) s = heads call s ++ heads_of heads calls (after call s)

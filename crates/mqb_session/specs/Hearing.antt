@@ -1,5 +1,5 @@
 -- What a session makes of the packets that it hears, and of a set-up packet that it sends.
-use Rattle.std.specs.Prelude.{ℕ, ◌+◌, Bool, true, false, not, ◌&&◌, ◌||◌, ◌==◌, nat_lt, max, Option, Some, None, if◌then◌else◌}
+use Rattle.std.specs.Prelude.{ℕ, ◌+◌, Bool, true, not, ◌&&◌, ◌||◌, ◌==◌, nat_lt, max, Option, Some, if◌then◌else◌}
 use Rattle.mqb_base.specs.declared.heads.SessionHead.{SessionHead}
 use Rattle.mqb_base.specs.declared.ids.Guid.{Guid}
 use Rattle.mqb_base.specs.declared.heard.Cause.{Cause}
@@ -10,7 +10,7 @@ use Rattle.mqb_setup.specs.declared.internal.Parameters.{Parameters}
 use Rattle.mqb_session.specs.declared.heads.HeadHeard.{HeadHeard}
 use Rattle.mqb_session.specs.declared.heads.HeadHeard.TheVariants as heard
 use Rattle.mqb_session.specs.declared.phase.Phase.{Phase}
-use Rattle.mqb_session.specs.declared.phase.Phase.TheVariants.{Start, WaitEstablish, OweEstablish, OweRefusal, OweParameters, WaitParameters, Ready, Closed}
+use Rattle.mqb_session.specs.declared.phase.Phase.TheVariants.{Start, WaitEstablish, WaitParameters, Ready, Closed}
 use Rattle.mqb_session.specs.declared.phase.Role.{Role}
 use Rattle.mqb_session.specs.declared.phase.Role.TheVariants.{Initiator, Acceptor}
 use Rattle.mqb_session.specs.State.{State, no_guid}
@@ -53,7 +53,10 @@ stamp_after Start now stamp = now
 stamp_after _ now stamp = stamp
 
 abbrev pub after_owed : ℕ → State → State
-after_owed now s = record s { phase = phase_after_owed s.phase s.role; establish = record s.establish { stamp = stamp_after s.phase now s.establish.stamp } }
+after_owed now s = record s {
+  phase = phase_after_owed s.phase s.role;
+  establish = record s.establish { stamp = stamp_after s.phase now s.establish.stamp };
+}
 
 -- the phase of a session that is closed by this cause: a closed one keeps its own
 abbrev pub closed_by : Cause → Phase → Phase

@@ -1,5 +1,5 @@
 -- The numbers of the packets that a session sends.
-use Rattle.std.specs.Prelude.{ℕ, ◌+◌, ◌-◌, Bool, true, false, not, ◌&&◌, ◌==◌, nat_lt}
+use Rattle.std.specs.Prelude.{◌+◌, ◌-◌, Bool, true, false, not, ◌&&◌, ◌==◌, nat_lt}
 use Rattle.mqb_base.specs.declared.heads.SessionHead.{SessionHead}
 use Rattle.mqb_session.specs.declared.heads.Kind.{Kind}
 use Rattle.mqb_session.specs.declared.heads.Kind.TheVariants.{Plain, Recoverable, Ack}

@@ -57,10 +57,14 @@ new_session phase role own peer establish window = record {
   owes = false;
 }
 
+-- an Establish of a client to a server
+abbrev pub asking : Guid → Guid → ℕ → Establish
+asking client server stamp = record { client = client; server = server; stamp = stamp; refused = false }
+
 -- it asks its peer: the moment of its Establish is not known yet
 abbrev pub new_initiator : Guid → Guid → ℕ → State
-new_initiator own peer window = new_session Start Initiator own (Some peer) (record { client = own; server = peer; stamp = 0; refused = false }) window
+new_initiator own peer window = new_session Start Initiator own (Some peer) (asking own peer 0) window
 
 -- it waits for an Establish, and has none yet
 abbrev pub new_acceptor : Guid → ℕ → State
-new_acceptor own window = new_session WaitEstablish Acceptor own None (record { client = no_guid; server = no_guid; stamp = 0; refused = false }) window
+new_acceptor own window = new_session WaitEstablish Acceptor own None (asking no_guid no_guid 0) window

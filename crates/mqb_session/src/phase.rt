@@ -7,9 +7,12 @@ use mqb_base::Cause;
 /// How far the set-up of a session is.
 #[derive(Clone, Copy, Debug, PartialEq, Eq)]
 pub enum Phase {
+    /// The initiator owes the Establish with which it asks.
     Start,
     WaitEstablish,
+    /// The acceptor owes its answer.
     OweEstablish,
+    /// The acceptor owes its answer, which refuses.
     OweRefusal,
     OweParameters,
     WaitParameters,

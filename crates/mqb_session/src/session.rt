@@ -1,7 +1,8 @@
 ghost use Rattle.std.specs.Prelude.{◌≡◌, ◌<◌, IsTrue, IsFalse};
 ghost use Rattle.mqb_session.specs.State.{IsKept, new_acceptor, new_initiator, new_session};
 ghost use Rattle.mqb_session.specs.Phases.{owed_by, own_parameters};
-ghost use Rattle.mqb_session.specs.Hearing.{acknowledged, after_owed, closing, counted, heard_head, is_bad_ack, is_wanted, on_close, on_establish, on_parameters, order_of};
+ghost use Rattle.mqb_session.specs.Hearing.{after_owed, heard_head, is_wanted, on_close, on_establish, on_parameters};
+ghost use Rattle.mqb_session.specs.Hearing.{acknowledged, closing, counted, is_bad_ack, order_of};
 ghost use Rattle.mqb_session.specs.Sending.{is_spent, may_go, may_send, noted_stored, stamped};
 
 use crate::heads::{HeadHeard, Kind};
