@@ -1,5 +1,7 @@
 -- What was read at a place.
-use Rattle.std.proofs.Common.{◌≡◌, ℕ, zero, suc, ◌+◌, ◌<◌, ◌≤◌, List, [], ◌∷◌, ◌++◌, length, get_or, take, drop, sym, ◌∙◌, ap, arith, length-append, length-drop}
+use Rattle.std.proofs.Common.{◌≡◌, ℕ, zero, suc, ◌+◌, ◌<◌, ◌≤◌, List, [], ◌∷◌, ◌++◌, length, get_or, take, drop, refl, sym, ◌∙◌, ap, arith, length-append, length-drop}
+use Rattle.std.specs.Int.{from_le_bytes, w32}
+use Rattle.mqb_fields.specs.Reading.{number_of}
 use Rattle.std.proofs.lemmas.List.{take-append-drop, drop-drop, take_at, drop_all, drop_more, get_or-drop, get_or-take}
 
 pub read_split : (at n : ℕ) (c buf : List ℕ) → buf ≡ take n (drop at c) → drop at c ≡ buf ++ drop (at + n) c
@@ -25,3 +27,17 @@ drop_spelled (suc n) i l is = drop_more l i 0 (omega arith) ∙ ap (λ (r : List
 
 pub header_spelled : (front l : List ℕ) → take 8 l ≡ front → length l ≡ 24 → l ≡ front ++ spelled 16 8 l
 header_spelled front l is long = sym (take-append-drop 8 l) ∙ ap (λ (f : List ℕ). f ++ drop 8 l) is ∙ ap (λ (r : List ℕ). front ++ r) (drop_spelled 16 8 l long)
+
+pub number_is : (bs : List ℕ) (n : ℕ) → n ≡ from_le_bytes w32 bs → n ≡ number_of 4 bs
+number_is bs n is = omega (arith, is)
+
+first_four : (l : List ℕ) → number_of 4 (take 4 l) ≡ number_of 4 l
+first_four [] = refl
+first_four (a ∷ []) = refl
+first_four (a ∷ b ∷ []) = refl
+first_four (a ∷ b ∷ c ∷ []) = refl
+first_four (a ∷ b ∷ c ∷ d ∷ l) = refl
+
+-- the number in the four bytes at a place
+pub read_number : (at n : ℕ) (c buf : List ℕ) → n ≡ number_of 4 buf → buf ≡ take 4 (drop at c) → n ≡ number_of 4 (drop at c)
+read_number at n c buf number is = number ∙ ap (λ (l : List ℕ). number_of 4 l) is ∙ first_four (drop at c)

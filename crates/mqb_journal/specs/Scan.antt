@@ -1,6 +1,6 @@
 use Rattle.std.specs.Prelude.{◌≡◌, ◌≢◌, ◌⊎◌, ℕ, ◌+◌, ◌<◌, ◌≤◌, List, ◌∷◌, ◌++◌, [], length, take, drop, Option, Some, None, Result, Ok, Err}
 use Rattle.std.specs.List.{All}
-use Rattle.std.specs.Int.{to_le_bytes, w32}
+use Rattle.mqb_fields.specs.Reading.{number_of}
 use Rattle.mqb_outside.specs.Faults.{Rose}
 use Rattle.mqb_journal.specs.Store.{MAGIC, header, framed, chain}
 use Rattle.mqb_journal.specs.declared.faults.OpenFault.{OpenFault}
@@ -23,9 +23,9 @@ abbrev pub IsNext : ℕ → Option (List ℕ) → List ℕ → Type 0
 IsNext gate None c = IsClosedAt gate c
 IsNext gate (Some entry) c = HasNext gate entry c
 
--- behind an open gate there is no length, or one over the limit, or the record or the gate behind it passes the end
+-- Behind an open gate the length is over the limit, or the length, the record or the gate behind it passes the end.
 abbrev pub IsCutShort : List ℕ → Type 0
-IsCutShort rest = (length rest < 5) ⊎ ((n : ℕ) × (behind : List ℕ) × (rest ≡ to_le_bytes w32 n ++ behind) × ((8388608 < n) ⊎ (length behind < n + 1)))
+IsCutShort rest = (8388608 < number_of 4 rest) ⊎ (length rest < 5 + number_of 4 rest)
 
 -- the gate at this place is open, and no record stands behind it
 pub record IsBadAt (gate : ℕ) (c : List ℕ) : Type 0 where
@@ -40,7 +40,7 @@ OpenFaults before after _ = after ≡ before
 -- the header of a store is not there, which is told as place 0
 pub record HasNoHeader (at : ℕ) (image : List ℕ) : Type 0 where
   pub place : at ≡ 0
-  pub none : (length image < 25) ⊎ (take 8 (take 24 image) ≢ MAGIC)
+  pub none : (length image < 25) ⊎ (take 8 image ≢ MAGIC)
 
 -- behind the header and some records an open gate stands at this place, and no record behind it
 pub record BreaksOff (at : ℕ) (image : List ℕ) : Type 0 where

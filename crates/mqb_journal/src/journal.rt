@@ -1,5 +1,5 @@
 ghost use Rattle.std.specs.Prelude.{◌≡◌, ◌↔◌, ◌+◌, ◌^◌, ◌<◌, ◌≤◌, ℕ, List, [], ◌∷◌, ◌++◌, length, vec_capacity, true, false, unwrap_or, slice_get, Err, IfOk, OnOk, OnErr};
-ghost use Rattle.std.specs.Int.{to_le_bytes, w32};
+ghost use Rattle.mqb_fields.specs.Writing.{bytes_of};
 ghost use Rattle.mqb_outside.specs.Faults.{Rose};
 ghost use Rattle.mqb_devices.specs.Images.{Each};
 ghost use Rattle.mqb_devices.specs.Disk.{IsSettled, LeavesOnly, OnlyReads};
@@ -166,7 +166,7 @@ impl Journal {
 // Makes a record's block: its length, its bytes, and the closed gate behind it.
 fn frame(block: &mut Vec<u8>, entry: &[u8]) -> Result<(), Memory>
     requires { length entry.now ≤ 8388608 }
-    ensures framed { OnOk result (block.new.items ≡ to_le_bytes w32 (length entry.now) ++ entry.now ++ 0 ∷ []) }
+    ensures framed { OnOk result (block.new.items ≡ bytes_of 4 (length entry.now) ++ entry.now ++ 0 ∷ []) }
     ensures full { OnErr result (vec_capacity block.old < length entry.now + 5) }
 {
     block.clear();
