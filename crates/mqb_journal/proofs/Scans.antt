@@ -1,5 +1,5 @@
 -- What was read at a place.
-use Rattle.std.proofs.Common.{◌≡◌, ℕ, zero, suc, ◌+◌, ◌<◌, ◌≤◌, List, [], ◌∷◌, ◌++◌, length, get_or, take, drop, refl, sym, ◌∙◌, ap, arith, length-append, length-drop}
+use Rattle.std.proofs.Common.{◌≡◌, ℕ, zero, suc, ◌+◌, ◌<◌, List, [], ◌∷◌, ◌++◌, length, get_or, take, drop, refl, sym, ◌∙◌, ap, arith}
 use Rattle.std.specs.Int.{from_le_bytes, w32}
 use Rattle.mqb_fields.specs.Reading.{number_of}
 use Rattle.std.proofs.lemmas.List.{take-append-drop, drop-drop, take_at, drop_all, drop_more, get_or-drop, get_or-take}

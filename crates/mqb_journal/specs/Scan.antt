@@ -1,4 +1,4 @@
-use Rattle.std.specs.Prelude.{◌≡◌, ◌≢◌, ◌⊎◌, ℕ, ◌+◌, ◌<◌, ◌≤◌, List, ◌∷◌, ◌++◌, [], length, take, drop, Option, Some, None, Result, Ok, Err}
+use Rattle.std.specs.Prelude.{◌≡◌, ◌≢◌, ◌⊎◌, ◌↔◌, ℕ, ◌+◌, ◌<◌, ◌≤◌, List, ◌∷◌, ◌++◌, length, take, drop, Option, Some, None, Result, Err}
 use Rattle.std.specs.List.{All}
 use Rattle.mqb_fields.specs.Reading.{number_of}
 use Rattle.mqb_outside.specs.Faults.{Rose}
@@ -53,3 +53,9 @@ pub record BreaksOff (at : ℕ) (image : List ℕ) : Type 0 where
 
 abbrev pub IsBadStore : ℕ → List ℕ → Type 0
 IsBadStore at image = HasNoHeader at image ⊎ BreaksOff at image
+
+-- What a call answers of a store, unless memory runs out or a call of the disk fails: BadStore tells exactly where it is bad.
+abbrev pub TellsBad : {T : Type 0} → Result T OpenFault → List ℕ → Type 0
+TellsBad (Err fault.Memory) image = Unit {0}
+TellsBad (Err fault.DiskFault) image = Unit {0}
+TellsBad result image = (at : ℕ) → (result ≡ Err (fault.BadStore at)) ↔ IsBadStore at image

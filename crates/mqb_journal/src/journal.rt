@@ -34,7 +34,7 @@ pub struct Journal {
 impl Journal {
     ghost use Rattle.mqb_journal.specs.Store.{StandsFor, IsBeforeOrAfter};
     ghost use Rattle.mqb_journal.specs.Journals.{IsAt, room, Refused, DiskFaults};
-    ghost use Rattle.mqb_journal.specs.Scan.{IsBadStore, OpenFaults};
+    ghost use Rattle.mqb_journal.specs.Scan.{IsBadStore, TellsBad, OpenFaults};
 
     /// Makes an empty disk a store without records.
     pub fn format<D: Disk>(alloc: Global, disk: &mut D, guid: Guid) -> Result<Journal, OpenFault>
@@ -69,6 +69,7 @@ impl Journal {
         ensures started { IfOk result (λ journal. Each (D.view disk.old).reads (StandsFor journal.guid.0 journal.kept)) }
         ensures goes_on { IsSettled (D.view disk.old) → IfOk result (λ journal. IsAt (D.view disk.new) journal journal.kept) }
         ensures bad { (at : ℕ) → result ≡ Err (OpenFault.BadStore at) → Each (D.view disk.old).reads (IsBadStore at) }
+        ensures exact { Each (D.view disk.old).reads (TellsBad result) }
         ensures reads { OnlyReads (D.view disk.old) (D.view disk.new) }
         ensures cause { OpenFaults (D.view disk.old).faults (D.view disk.new).faults result }
         ensures not_empty { result ≡ Err OpenFault.NotEmpty → ⊥ }
