@@ -65,6 +65,14 @@ written_of d = d.bytes.items
 abbrev pub reads_of : TraceDisk → List (ℕ × ℕ)
 reads_of d = d.reads.items
 
+-- how many bytes it can hold
+abbrev pub room : TraceDisk → ℕ
+room d = d.current.room
+
+-- how many calls it still takes
+abbrev pub calls_left : TraceDisk → ℕ
+calls_left d = d.left
+
 -- a call that answered Ok is kept, and no other
 abbrev pub Keeps : {T E : Type 0} → Event → TraceDisk → TraceDisk → Result T E → Type 0
 Keeps event old new (Ok _) = history_of new ≡ event ∷ history_of old

@@ -31,3 +31,7 @@ memory_lawful d = record {
 -- what a restart by this pick leaves of a disk in memory
 abbrev pub left_after : Pick → MemoryDisk → List ℕ
 left_after pick d = left_by pick (standing d.current) d.changes.items d.safe.contents
+
+-- how many bytes it can hold
+abbrev pub room : MemoryDisk → ℕ
+room d = d.current.room

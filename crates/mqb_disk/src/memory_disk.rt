@@ -39,12 +39,13 @@ pub struct MemoryDisk {
 }
 
 impl MemoryDisk {
-    ghost use Rattle.mqb_disk.specs.Views.{memory_view};
+    ghost use Rattle.mqb_disk.specs.Views.{memory_view, room};
     ghost use Rattle.mqb_disk.specs.declared.change.Change.TheVariants.{Wrote, Cut};
 
     /// It has room for `capacity` bytes.
     pub fn new(alloc: Global, capacity: usize) -> Result<MemoryDisk, Memory>
         ensures empty { IfOk result (λ disk. (⟦<MemoryDisk as Disk>⟧.view disk).reads []) }
+        ensures room { IfOk result (λ disk. room disk ≡ capacity) }
         ensures settled { IfOk result (λ disk. IsSettled (⟦<MemoryDisk as Disk>⟧.view disk)) }
         ensures faults { IfOk result (λ disk. (⟦<MemoryDisk as Disk>⟧.view disk).faults ≡ 0) }
         ensures armed { IfOk result (λ disk. ⟦<MemoryDisk as Power>⟧.armed disk ≡ None) }

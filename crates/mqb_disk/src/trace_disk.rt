@@ -36,11 +36,13 @@ pub struct TraceDisk {
 
 impl TraceDisk {
     ghost use Rattle.mqb_disk.specs.History.{Wrote as wrote, WasCut as was_cut};
-    ghost use Rattle.mqb_disk.specs.TraceViews.{history_of, calls_of, written_of, reads_of};
+    ghost use Rattle.mqb_disk.specs.TraceViews.{history_of, calls_of, written_of, reads_of, room, calls_left};
 
     /// It keeps `calls` calls and `capacity` written bytes. A call past that fails.
     pub fn new(alloc: Global, capacity: usize, calls: u32) -> Result<TraceDisk, Memory>
         ensures empty { IfOk result (λ disk. (⟦<TraceDisk as Disk>⟧.view disk).reads []) }
+        ensures room { IfOk result (λ disk. room disk ≡ capacity) }
+        ensures calls { IfOk result (λ disk. calls_left disk ≡ calls) }
         ensures settled { IfOk result (λ disk. IsSettled (⟦<TraceDisk as Disk>⟧.view disk)) }
         ensures faults { IfOk result (λ disk. (⟦<TraceDisk as Disk>⟧.view disk).faults ≡ 0) }
     {
