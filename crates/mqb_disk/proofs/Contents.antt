@@ -1,9 +1,7 @@
 -- What the buffer of an image holds after a call.
-use Rattle.std.proofs.Common.{◌≡◌, ℕ, ◌+◌, ◌-◌, ◌≤◌, max, List, ◌++◌, length, take, drop, replicate, sym, ◌∙◌, ap, arith, length-append, length-drop, append_assoc}
-use Rattle.std.proofs.lemmas.List.{length-take-le, length-replicate, take_at, take-take, take-append-drop}
+use Rattle.std.proofs.Common.{◌≡◌, ℕ, ◌+◌, ◌-◌, ◌≤◌, max, List, ◌++◌, length, take, drop, sym, ◌∙◌, ap, arith, length-append, length-drop}
+use Rattle.std.proofs.lemmas.List.{length-take-le, take_at, take-take, take-append-drop}
 use Rattle.std.proofs.lemmas.Slice.{between_is}
-use Rattle.mqb_devices.specs.Images.{Torn}
-use Rattle.mqb_devices.proofs.Steps.{written_torn}
 use Rattle.std.proofs.Math.Seq.{take-append-add}
 
 -- a part of the front of a list
@@ -22,13 +20,14 @@ written_front at len bytes buffer place within =
     ∙ ap (λ (l : List ℕ). front ++ l) (sym (drop_take_any (at + length bytes) len buffer))
     ∙ ap (λ (l : List ℕ). l ++ bytes ++ drop (at + length bytes) (take len buffer)) (sym (take-take at len buffer place))
 
-pub filled_torn : (at len n : ℕ) (buffer : List ℕ) → at ≤ len → len ≤ length buffer → at + n ≤ length buffer → Torn at n (take len buffer) (take (max len (at + n)) (take at buffer ++ replicate n 1 ++ drop (at + n) buffer))
-filled_torn at len n buffer place within fits =
-    let ones : List ℕ = replicate n 1 in
-    let size : length ones ≡ n = length-replicate n 1 in
-    let is : take (max len (at + n)) (take at buffer ++ ones ++ drop (at + n) buffer) ≡ take at (take len buffer) ++ ones ++ drop (at + length ones) (take len buffer) =
-    ap (λ (k : ℕ). take (max len (at + k)) (take at buffer ++ ones ++ drop (at + k) buffer)) (sym size) ∙ written_front at len ones buffer place within in
-    written_torn at n ones (take len buffer) _ (omega (arith, length-take-le len buffer within)) (omega (arith, size)) is
+-- the same where the length of the bytes has another name
+pub filled_front : (at len n : ℕ) (bytes buffer : List ℕ) → length bytes ≡ n → at ≤ len → len ≤ length buffer → take (max len (at + n)) (take at buffer ++ bytes ++ drop (at + n) buffer) ≡ take at (take len buffer) ++ bytes ++ drop (at + length bytes) (take len buffer)
+filled_front at len n bytes buffer size place within =
+    ap (λ (k : ℕ). take (max len (at + k)) (take at buffer ++ bytes ++ drop (at + k) buffer)) (sym size) ∙ written_front at len bytes buffer place within
+
+-- a range of what stands in a buffer
+pub standing_range : (at n len : ℕ) (buffer : List ℕ) → take n (drop at (take len buffer ++ drop len buffer)) ≡ take n (drop at buffer)
+standing_range at n len buffer = ap (λ (l : List ℕ). take n (drop at l)) (take-append-drop len buffer)
 
 -- a buffer that takes the rest of another, which it is like up to there
 pub followed : (from : ℕ) (buffer other : List ℕ) → from ≤ length other → length other ≤ length buffer → take from buffer ≡ take from other → take (length other) (take from buffer ++ drop from other ++ drop (from + length (drop from other)) buffer) ≡ other

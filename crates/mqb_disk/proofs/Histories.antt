@@ -1,16 +1,16 @@
 -- What a call more makes of a history.
-use Rattle.std.proofs.Common.{◌≡◌, inl, inr, ⊎_elim, ℕ, ◌+◌, ◌≤◌, List, [], ◌∷◌, ◌++◌, length, take, drop, map, reverse, refl, sym, ◌∙◌, ap, subst, arith, length-drop}
+use Rattle.std.proofs.Common.{◌≡◌, inl, inr, ℕ, ◌≤◌, List, [], ◌∷◌, ◌++◌, length, take, drop, map, reverse, refl, sym, ◌∙◌, ap, subst, arith, length-drop}
 use Rattle.std.specs.List.{All}
 use Rattle.std.proofs.lemmas.List.{map-append, reverse-append, take-append-le, drop-append-le, drop_at, take_all}
 use Rattle.std.proofs.lemmas.List.Elements.{All-head, All-tail, All-push, All-weaker}
-use Rattle.mqb_devices.specs.Images.{Each, Torn, Written, IsCut, MayBeCut, Follows}
-use Rattle.mqb_devices.specs.Disk.{View, Unchanged, Elapses, OnlyReads}
+use Rattle.mqb_devices.specs.Images.{Torn, MayBeCut, Follows}
+use Rattle.mqb_devices.specs.Disk.{Unchanged, Elapses, OnlyReads}
 use Rattle.mqb_devices.proofs.Steps.{written_torn, nothing_torn}
 use Rattle.mqb_devices.proofs.Runs.{reads_once}
 use Rattle.mqb_disk.specs.declared.trace_disk.Call.{Call}
 use Rattle.mqb_disk.specs.declared.trace_disk.Call.TheVariants as call
 use Rattle.mqb_disk.specs.TraceViews.{is_left, view_of, lawful_of}
-use Rattle.mqb_disk.specs.History.{Event, Wrote, WasCut, Synced, end_of, fits, event_of, history, held, ImageAt, Since}
+use Rattle.mqb_disk.specs.History.{Event, Wrote, WasCut, end_of, fits, event_of, history, held, ImageAt}
 
 same_event : (bytes more : List ℕ) (one : Call) → fits (length bytes) one → event_of (bytes ++ more) one ≡ event_of bytes one
 same_event bytes more (call.Wrote at from n) within =

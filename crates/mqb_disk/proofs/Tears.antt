@@ -1,8 +1,12 @@
 -- What a crash leaves of a list of changes.
-use Rattle.std.proofs.Common.{◌≡◌, inl, inr, ◌⊎◌, ⊎_elim, ℕ, ◌+◌, ◌-◌, ◌≤◌, ◌<◌, List, [], ◌∷◌, ◌++◌, length, get_or, take, drop, refl, sym, ◌∙◌, ap, subst, arith}
-use Rattle.std.proofs.lemmas.List.{drop-drop, take_more}
+use Rattle.std.proofs.Common.{◌≡◌, inl, inr, ◌⊎◌, ℕ, ◌+◌, ◌/◌, ◌≤◌, Bool, true, false, nat_le, if◌then◌else◌, List, [], ◌∷◌, ◌++◌, length, take, drop, refl, sym, subst, arith}
+use Rattle.std.proofs.lemmas.Bool.{leb-true}
+use Rattle.std.proofs.lemmas.List.{length-take, length-replicate}
+use Rattle.mqb_devices.specs.declared.power.Pick.{Pick}
+use Rattle.mqb_devices.specs.declared.power.Pick.TheVariants.{Old, New, Half, Ones}
 use Rattle.mqb_devices.specs.Images.{Follows, Written, Torn, IsCut, MayBeCut}
-use Rattle.mqb_devices.proofs.Steps.{written_torn}
+use Rattle.mqb_devices.proofs.Steps.{written_torn, nothing_torn}
+use Rattle.mqb_disk.specs.Picks.{begun, stands, left_of, left_by}
 use Rattle.mqb_disk.specs.Changes.{Step, Left}
 use Rattle.mqb_disk.specs.declared.change.Change.{Change}
 use Rattle.mqb_disk.specs.declared.change.Change.TheVariants.{Wrote, Cut}
@@ -44,19 +48,23 @@ pub cut_leaves_as : (changes later : List Change) (safe later_safe old new : Lis
 cut_leaves_as changes later safe later_safe old new n noted same cut c left =
     cut_leaves changes safe old new n cut c (subst (λ (l : List Change). Leaves l safe new c) noted (subst (λ (l : List ℕ). Leaves later l new c) same left))
 
--- one step of a replay
-pub left_more : (changes : List Change) (i : ℕ) (default : Change) (safe between new : List ℕ) → i < length changes → Left (take i changes) safe between → Step (get_or changes i default) between new → Left (take (i + 1) changes) safe new
-left_more changes i default safe between new within left step =
-    subst (λ (l : List Change). Left l safe new) (sym (take_more changes i default within)) (left_push (take i changes) (get_or changes i default) safe between new left step)
+chosen : (b : Bool) (P : List ℕ → Type 0) (x y : List ℕ) → (b ≡ true → P x) → P y → P (if b then x else y)
+chosen true P x y first second = first refl
+chosen false P x y first second = second
 
--- a shorter range within the range
-pub torn_more : (at m n : ℕ) (old new : List ℕ) → m ≤ n → Torn at m old new → Torn at n old new
-torn_more at m n old new le torn =
-    let split : (l : List ℕ) → drop (at + n) l ≡ drop (n - m) (drop (at + m) l) =
-    λ l. (let same : at + n ≡ at + m + (n - m) = omega arith in ap (λ (k : ℕ). drop k l) same ∙ sym (drop-drop (n - m) (at + m) l)) in
-    record {
-      before = torn.before;
-      after = split new ∙ ap (λ (l : List ℕ). drop (n - m) l) torn.after ∙ sym (split old);
-      no_shorter = torn.no_shorter;
-      no_longer = omega (arith, torn.no_longer);
-    }
+begun_short : (pick : Pick) (at n : ℕ) (written : List ℕ) → length (begun pick at n written) ≤ n
+begun_short Old at n written = omega arith
+begun_short New at n written = omega (arith, length-take n (drop at written))
+begun_short Half at n written = omega (arith, length-take (n / 2) (drop at written))
+begun_short Ones at n written = omega (arith, length-replicate {A = ℕ} n 1)
+
+-- what a pick leaves of a change is one of the contents that a crash may leave of it
+left_step : (pick : Pick) (written : List ℕ) (change : Change) (c : List ℕ) → Step change c (left_of pick written change c)
+left_step pick written (Wrote at n) c =
+    chosen (nat_le at (length c)) (Torn at n c) (take at c ++ begun pick at n written ++ drop (at + length (begun pick at n written)) c) c
+    (λ reached. written_torn at n (begun pick at n written) c _ (leb-true at (length c) reached) (begun_short pick at n written) refl) (nothing_torn at n c)
+left_step pick written (Cut n) c = chosen (stands pick) (MayBeCut n c) (take n c) c (λ is. inr refl) (inl refl)
+
+pub left_by_pick : (pick : Pick) (written : List ℕ) (changes : List Change) (safe : List ℕ) → Left changes safe (left_by pick written changes safe)
+left_by_pick pick written [] safe = refl
+left_by_pick pick written (change ∷ changes) safe = (left_of pick written change safe, left_step pick written change safe, left_by_pick pick written changes (left_of pick written change safe))

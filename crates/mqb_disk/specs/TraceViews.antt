@@ -1,7 +1,8 @@
-use Rattle.std.specs.Prelude.{◌≡◌, ℕ, ◌≤◌, List, [], ◌∷◌, length, true, None, refl}
-use Rattle.std.proofs.Common.{inl, inr, ⊎_elim, sym, ◌∙◌, subst, arith}
+use Rattle.std.specs.Prelude.{◌≡◌, ℕ, ◌≤◌, List, [], ◌∷◌, ◌++◌, length, true, None, Result, Ok, Err, refl}
+use Rattle.std.proofs.Common.{inl, ⊎_elim, sym, ◌∙◌, subst, arith}
 use Rattle.mqb_devices.specs.Disk.{View, Lawful}
 use Rattle.mqb_disk.specs.History.{Event, Wrote, WasCut, Synced, history, held, ImageAt, Since}
+use Rattle.mqb_disk.specs.declared.trace_disk.Call.{Call}
 use Rattle.mqb_disk.specs.declared.trace_disk.TraceDisk.{TraceDisk}
 
 pub is_left : (events : List Event) → ImageAt events (held events)
@@ -34,8 +35,12 @@ view_of events faults = record {
   switch = record { arms = 0; restarts = 0; last_pick = None };
 }
 
+-- the calls that changed it, the last of them first
+abbrev pub history_of : TraceDisk → List Event
+history_of d = history d.bytes.items d.calls.items
+
 abbrev pub trace_view : TraceDisk → View
-trace_view d = view_of (history d.bytes.items d.calls.items) d.faults
+trace_view d = view_of (history_of d) d.faults
 
 pub lawful_of : (events : List Event) (faults : ℕ) → Lawful (view_of events faults)
 lawful_of events faults = record {
@@ -46,8 +51,34 @@ lawful_of events faults = record {
 }
 
 pub trace_lawful : (d : TraceDisk) → Lawful (trace_view d)
-trace_lawful d = lawful_of (history d.bytes.items d.calls.items) d.faults
+trace_lawful d = lawful_of (history_of d) d.faults
+
+-- the calls that changed it so far, in order
+abbrev pub calls_of : TraceDisk → List Call
+calls_of d = d.calls.items
+
+-- the bytes of all writes so far, in order
+abbrev pub written_of : TraceDisk → List ℕ
+written_of d = d.bytes.items
 
 -- the place and the length of each read so far
 abbrev pub reads_of : TraceDisk → List (ℕ × ℕ)
 reads_of d = d.reads.items
+
+-- how many bytes it can hold
+abbrev pub room : TraceDisk → ℕ
+room d = d.current.room
+
+-- how many calls it still takes
+abbrev pub calls_left : TraceDisk → ℕ
+calls_left d = d.left
+
+-- a call that answered Ok is kept, and no other
+abbrev pub Keeps : {T E : Type 0} → Event → TraceDisk → TraceDisk → Result T E → Type 0
+Keeps event old new (Ok _) = history_of new ≡ event ∷ history_of old
+Keeps event old new (Err _) = history_of new ≡ history_of old
+
+-- a read that answered Ok is listed, and no other
+abbrev pub Lists : {T E : Type 0} → ℕ → ℕ → TraceDisk → TraceDisk → Result T E → Type 0
+Lists at count old new (Ok _) = reads_of new ≡ reads_of old ++ (at, count) ∷ []
+Lists at count old new (Err _) = reads_of new ≡ reads_of old

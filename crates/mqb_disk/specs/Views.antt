@@ -1,7 +1,10 @@
-use Rattle.std.specs.Prelude.{◌≡◌, ◌⊎◌, Bool, false, cond}
+use Rattle.std.specs.Prelude.{◌≡◌, ◌⊎◌, ℕ, List, Bool, false, cond}
 use Rattle.std.proofs.Common.{inl, sym, ◌∙◌, subst}
 use Rattle.mqb_devices.specs.Disk.{View, Lawful}
+use Rattle.mqb_devices.specs.declared.power.Pick.{Pick}
 use Rattle.mqb_disk.specs.Changes.{Left}
+use Rattle.mqb_disk.specs.Extent.{standing}
+use Rattle.mqb_disk.specs.Picks.{left_by}
 use Rattle.mqb_disk.specs.declared.memory_disk.MemoryDisk.{MemoryDisk}
 
 -- what a disk in memory tells: its images now, and none of past moments
@@ -24,3 +27,11 @@ memory_lawful d = record {
   only_now = λ c none. absurd none;
   counts_now = λ keeps t le c left. absurd (subst (λ (b : Bool). cond b ⊥ (Unit {0})) keeps tt);
 }
+
+-- what a restart by this pick leaves of a disk in memory
+abbrev pub left_after : Pick → MemoryDisk → List ℕ
+left_after pick d = left_by pick (standing d.current) d.changes.items d.safe.contents
+
+-- how many bytes it can hold
+abbrev pub room : MemoryDisk → ℕ
+room d = d.current.room

@@ -1,6 +1,6 @@
 ghost use Rattle.std.specs.Prelude.{◌≡◌, ◌+◌, ◌≤◌, ℕ, [], length, take, drop, replicate, IfOk, ◌++◌};
-ghost use Rattle.mqb_devices.specs.Images.{Written, Torn};
-ghost use Rattle.mqb_disk.specs.Extent.{Extent};
+ghost use Rattle.mqb_devices.specs.Images.{Written};
+ghost use Rattle.mqb_disk.specs.Extent.{Extent, standing};
 
 use mqb_base::Memory;
 use std::alloc::Global;
@@ -14,12 +14,12 @@ pub(crate) struct Image {
 }
 
 impl Model for Image {
-    ghost use Rattle.std.specs.Prelude.{◌≤◌, take, vec_len};
+    ghost use Rattle.std.specs.Prelude.{◌≤◌, take, drop, vec_len};
     ghost use Rattle.mqb_disk.specs.Extent.{Extent};
 
     ghost Value = { Extent };
 
-    ghost view = { λ i. record { contents = take i.len i.buffer.items; room = vec_len i.buffer } };
+    ghost view = { λ i. record { contents = take i.len i.buffer.items; room = vec_len i.buffer; behind = drop i.len i.buffer.items } };
 
     ghost invariant = { λ i. i.len ≤ vec_len i.buffer };
 }
@@ -91,24 +91,24 @@ impl Image {
         self.len = other.len;
     }
 
-    /// Takes the other's bytes in this range.
-    #[tactic(auto, using(mqb_devices::proofs::Steps::written_torn))]
+    /// Takes the bytes that stand in this range of the other.
+    #[tactic(auto, using(crate::proofs::Contents::standing_range))]
     pub(crate) fn take_range(&mut self, other: &Image, at: usize, n: usize)
         requires room { self.old.room ≡ other.now.room }
         requires place { at ≤ length self.old.contents }
         requires fits { at + n ≤ self.old.room }
-        ensures torn { Torn at n self.old.contents self.new.contents }
+        ensures written { Written at (take n (drop at (standing other.now))) self.old.contents self.new.contents }
         ensures room { self.new.room ≡ self.old.room }
     {
         self.write(at, &other.buffer[at..at + n]);
     }
 
     /// Puts the byte 1 in each place of this range.
-    #[tactic(auto, using(crate::proofs::Contents::filled_torn))]
+    #[tactic(auto, using(crate::proofs::Contents::filled_front))]
     pub(crate) fn fill_range(&mut self, at: usize, n: usize)
         requires place { at ≤ length self.old.contents }
         requires fits { at + n ≤ self.old.room }
-        ensures torn { Torn at n self.old.contents self.new.contents }
+        ensures written { Written at (replicate n 1) self.old.contents self.new.contents }
         ensures room { self.new.room ≡ self.old.room }
     {
         fill(&mut self.buffer, at, n);

@@ -11,7 +11,7 @@ mod switch;
 mod trace_disk;
 
 pub use memory_disk::MemoryDisk;
-pub use trace_disk::TraceDisk;
+pub use trace_disk::{Call, TraceDisk};
 
 #[cfg(test)]
 mod tests;

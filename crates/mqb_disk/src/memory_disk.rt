@@ -1,6 +1,8 @@
 ghost use Rattle.std.specs.Prelude.{◌≡◌, ◌+◌, ◌≤◌, ◌<◌, ◌^◌, [], ◌∷◌, ◌++◌, length, take, IfOk, vec_len, vec_capacity, false, None, true, IsTrue};
 ghost use Rattle.mqb_devices.specs.Images.{Written, IsCut};
 ghost use Rattle.mqb_devices.specs.Disk.{IsSettled};
+ghost use Rattle.mqb_disk.specs.Picks.{lies_within};
+ghost use Rattle.std.specs.List.{All};
 
 use crate::change::{Change, replay};
 use crate::image::Image;
@@ -33,15 +35,17 @@ pub struct MemoryDisk {
     ghost clean_safe: { clean ≤ length safe.contents },
     ghost alike: { take clean current.contents ≡ take clean safe.contents },
     ghost no_more: { 64 ≤ vec_capacity changes },
+    ghost fit: { All (lies_within current.room) changes.items },
 }
 
 impl MemoryDisk {
-    ghost use Rattle.mqb_disk.specs.Views.{memory_view};
+    ghost use Rattle.mqb_disk.specs.Views.{memory_view, room};
     ghost use Rattle.mqb_disk.specs.declared.change.Change.TheVariants.{Wrote, Cut};
 
     /// It has room for `capacity` bytes.
     pub fn new(alloc: Global, capacity: usize) -> Result<MemoryDisk, Memory>
         ensures empty { IfOk result (λ disk. (⟦<MemoryDisk as Disk>⟧.view disk).reads []) }
+        ensures room { IfOk result (λ disk. room disk ≡ capacity) }
         ensures settled { IfOk result (λ disk. IsSettled (⟦<MemoryDisk as Disk>⟧.view disk)) }
         ensures faults { IfOk result (λ disk. (⟦<MemoryDisk as Disk>⟧.view disk).faults ≡ 0) }
         ensures armed { IfOk result (λ disk. ⟦<MemoryDisk as Power>⟧.armed disk ≡ None) }
@@ -192,7 +196,10 @@ impl Power for MemoryDisk {
 
     ghost is_stopped = { λ d. d.switch.stopped };
 
-    ghost use Rattle.std.specs.Prelude.{refl};
+    ghost use Rattle.std.specs.Prelude.{refl, Some};
+    ghost use Rattle.mqb_devices.specs.Images.{Each};
+    ghost use Rattle.mqb_devices.specs.Disk.{Elapses, Counted};
+    ghost use Rattle.mqb_disk.specs.Views.{memory_view, left_after};
 
     ghost tells = { λ d. (d.current.contents, refl) };
 
@@ -204,7 +211,18 @@ impl Power for MemoryDisk {
         self.switch.stopped
     }
 
-    fn restart(&mut self, pick: Pick) {
+    fn restart(&mut self, pick: Pick)
+        ensures left { (memory_view self.new).reads (left_after pick self.old) }
+        ensures settled { IsSettled (memory_view self.new) }
+        ensures one_of { Each (memory_view self.new).reads (memory_view self.old).leaves }
+        ensures armed { self.new.switch.armed ≡ None }
+        ensures arms { self.new.switch.arms ≡ self.old.switch.arms }
+        ensures restarts { Counted self.old.switch.restarts self.new.switch.restarts }
+        ensures pick { self.new.switch.last_pick ≡ Some pick }
+        ensures stopped { self.new.switch.stopped ≡ false }
+        ensures time { Elapses (memory_view self.old) (memory_view self.new) }
+        ensures faults { self.new.switch.faults ≡ self.old.switch.faults }
+    {
         self.switch.restart(pick);
         replay(&mut self.safe, &self.current, &self.changes, pick);
         self.current.follow(&self.safe, 0);

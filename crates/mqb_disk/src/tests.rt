@@ -1,4 +1,4 @@
-use crate::{MemoryDisk, TraceDisk};
+use crate::{Call, MemoryDisk, TraceDisk};
 use mqb_base::Failed;
 use mqb_devices::{Disk, Mode, Pick, Power};
 use std::alloc::{AllocError, Global};
@@ -98,5 +98,16 @@ fn a_trace_keeps_its_calls(rt: HostRuntime) -> Result<(), Fail> {
     assert_eq!(rt; disk.reads(), [(0, 2)].as_slice());
     assert_eq!(rt; disk.sync(), Ok(()));
     assert!(rt; disk.len().is_err());
+    let wrote = Call::Wrote {
+        at: 0,
+        from: 0,
+        len: 4,
+    };
+    let cut = Call::Cut { len: 2 };
+    assert_eq!(rt;
+        disk.calls(),
+        [wrote, Call::Synced, cut, Call::Synced].as_slice()
+    );
+    assert_eq!(rt; disk.written(), b"abcd".as_slice());
     Ok(())
 }

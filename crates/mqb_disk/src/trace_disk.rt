@@ -10,9 +10,9 @@ use mqb_base::{Failed, Memory};
 use mqb_devices::Disk;
 use std::alloc::Global;
 
-/// A call that changed a disk. The bytes that were written stand in the list of these, from `from` on.
+/// A call that changed a disk. The bytes of a write stand among those of all writes, from `from` on.
 #[derive(Clone, Copy, Debug, PartialEq, Eq)]
-pub(crate) enum Call {
+pub enum Call {
     Wrote { at: usize, from: usize, len: usize },
     Cut { len: usize },
     Synced,
@@ -36,11 +36,13 @@ pub struct TraceDisk {
 
 impl TraceDisk {
     ghost use Rattle.mqb_disk.specs.History.{Wrote as wrote, WasCut as was_cut};
-    ghost use Rattle.mqb_disk.specs.TraceViews.{reads_of};
+    ghost use Rattle.mqb_disk.specs.TraceViews.{history_of, calls_of, written_of, reads_of, room, calls_left};
 
     /// It keeps `calls` calls and `capacity` written bytes. A call past that fails.
     pub fn new(alloc: Global, capacity: usize, calls: u32) -> Result<TraceDisk, Memory>
         ensures empty { IfOk result (λ disk. (⟦<TraceDisk as Disk>⟧.view disk).reads []) }
+        ensures room { IfOk result (λ disk. room disk ≡ capacity) }
+        ensures calls { IfOk result (λ disk. calls_left disk ≡ calls) }
         ensures settled { IfOk result (λ disk. IsSettled (⟦<TraceDisk as Disk>⟧.view disk)) }
         ensures faults { IfOk result (λ disk. (⟦<TraceDisk as Disk>⟧.view disk).faults ≡ 0) }
     {
@@ -54,6 +56,20 @@ impl TraceDisk {
         })
     }
 
+    /// The calls that changed it so far, in order.
+    pub fn calls(&self) -> &[Call]
+        ensures { result.now ≡ calls_of self.now }
+    {
+        self.calls.as_slice()
+    }
+
+    /// The bytes of all writes so far, in order.
+    pub fn written(&self) -> &[u8]
+        ensures { result.now ≡ written_of self.now }
+    {
+        self.bytes.as_slice()
+    }
+
     /// The place and the length of each read so far, in order.
     pub fn reads(&self) -> &[(u64, u64)]
         ensures { result.now ≡ reads_of self.now }
@@ -63,7 +79,8 @@ impl TraceDisk {
 
     fn fail(&mut self) -> Failed
         ensures fault { Rose self.old.faults self.new.faults }
-        ensures kept { history self.new.bytes.items self.new.calls.items ≡ history self.old.bytes.items self.old.calls.items }
+        ensures kept { history_of self.new ≡ history_of self.old }
+        ensures listed { reads_of self.new ≡ reads_of self.old }
     {
         self.faults = self.faults.saturating_add(1);
         Failed
@@ -75,7 +92,7 @@ impl TraceDisk {
         requires fits { at + length bytes.now ≤ self.old.current.room }
         requires left { 0 < self.old.left }
         requires room { vec_len self.old.bytes + length bytes.now ≤ vec_capacity self.old.bytes }
-        ensures kept { history self.new.bytes.items self.new.calls.items ≡ wrote at bytes.now ∷ history self.old.bytes.items self.old.calls.items }
+        ensures kept { history_of self.new ≡ wrote at bytes.now ∷ history_of self.old }
         ensures faults { self.new.faults ≡ self.old.faults }
     {
         let call = Call::Wrote {
@@ -95,7 +112,7 @@ impl TraceDisk {
     fn shorten(&mut self, len: usize)
         requires place { len ≤ length self.old.current.contents }
         requires left { 0 < self.old.left }
-        ensures kept { history self.new.bytes.items self.new.calls.items ≡ was_cut len ∷ history self.old.bytes.items self.old.calls.items }
+        ensures kept { history_of self.new ≡ was_cut len ∷ history_of self.old }
         ensures faults { self.new.faults ≡ self.old.faults }
     {
         self.current.cut(len);
@@ -105,7 +122,12 @@ impl TraceDisk {
 }
 
 impl Disk for TraceDisk {
-    ghost use Rattle.mqb_disk.specs.TraceViews.{trace_view, trace_lawful};
+    ghost use Rattle.std.specs.Prelude.{◌^◌, take, drop};
+    ghost use Rattle.mqb_devices.specs.Images.{Each, Same, Follows, Written, Torn, IsCut, MayBeCut};
+    ghost use Rattle.mqb_devices.specs.Disk.{OnlyReads, Elapses};
+    ghost use Rattle.mqb_outside.specs.Faults.{HasCause};
+    ghost use Rattle.mqb_disk.specs.History.{Wrote as wrote, WasCut as was_cut, Synced as was_synced};
+    ghost use Rattle.mqb_disk.specs.TraceViews.{trace_view, trace_lawful, Keeps, Lists};
 
     ghost view = { trace_view };
 
@@ -119,7 +141,13 @@ impl Disk for TraceDisk {
         Ok(self.current.len() as u64)
     }
 
-    fn read_at(&mut self, at: u64, buf: &mut [u8]) -> Result<(), Failed> {
+    fn read_at(&mut self, at: u64, buf: &mut [u8]) -> Result<(), Failed>
+        requires { Each (trace_view self.old).reads (λ c. at + length buf.old ≤ length c) }
+        ensures listed { Lists at (length buf.old) self.old self.new result }
+        ensures bytes { OnOk result (Each (trace_view self.old).reads (λ c. buf.new ≡ take (length buf.old) (drop at c))) }
+        ensures reads { OnlyReads (trace_view self.old) (trace_view self.new) }
+        ensures cause { HasCause self.old.faults self.new.faults result }
+    {
         if self.left == 0 {
             return Err(self.fail());
         }
@@ -129,7 +157,17 @@ impl Disk for TraceDisk {
         Ok(())
     }
 
-    fn write_at(&mut self, at: u64, bytes: &[u8]) -> Result<(), Failed> {
+    fn write_at(&mut self, at: u64, bytes: &[u8]) -> Result<(), Failed>
+        requires place { Each (trace_view self.old).reads (λ c. at ≤ length c) }
+        requires range { at + length bytes.now < 2 ^ 64 }
+        ensures kept { Keeps (wrote at bytes.now) self.old self.new result }
+        ensures written { OnOk result (Follows (Written at bytes.now) (trace_view self.old).reads (trace_view self.new).reads) }
+        ensures bound { OnOk result (at + length bytes.now ≤ 2 ^ 62) }
+        ensures leaves { Follows (Torn at (length bytes.now)) (trace_view self.old).leaves (trace_view self.new).leaves }
+        ensures time { Elapses (trace_view self.old) (trace_view self.new) }
+        ensures switch { (trace_view self.new).switch ≡ (trace_view self.old).switch }
+        ensures cause { HasCause self.old.faults self.new.faults result }
+    {
         let end = at + bytes.len() as u64;
         let room = self.bytes.capacity() - self.bytes.len();
         if self.left == 0
@@ -143,7 +181,15 @@ impl Disk for TraceDisk {
         Ok(())
     }
 
-    fn cut(&mut self, len: u64) -> Result<(), Failed> {
+    fn cut(&mut self, len: u64) -> Result<(), Failed>
+        requires { Each (trace_view self.old).reads (λ c. len ≤ length c) }
+        ensures kept { Keeps (was_cut len) self.old self.new result }
+        ensures cut { OnOk result (Follows (IsCut len) (trace_view self.old).reads (trace_view self.new).reads) }
+        ensures leaves { Follows (MayBeCut len) (trace_view self.old).leaves (trace_view self.new).leaves }
+        ensures time { Elapses (trace_view self.old) (trace_view self.new) }
+        ensures switch { (trace_view self.new).switch ≡ (trace_view self.old).switch }
+        ensures cause { HasCause self.old.faults self.new.faults result }
+    {
         if self.left == 0 || len > self.current.room() as u64 {
             return Err(self.fail());
         }
@@ -151,7 +197,15 @@ impl Disk for TraceDisk {
         Ok(())
     }
 
-    fn sync(&mut self) -> Result<(), Failed> {
+    fn sync(&mut self) -> Result<(), Failed>
+        ensures kept { Keeps was_synced self.old self.new result }
+        ensures durable { OnOk result (IsSettled (trace_view self.new)) }
+        ensures reads { Same (trace_view self.old).reads (trace_view self.new).reads }
+        ensures leaves { Each (trace_view self.new).leaves (trace_view self.old).leaves }
+        ensures time { Elapses (trace_view self.old) (trace_view self.new) }
+        ensures switch { (trace_view self.new).switch ≡ (trace_view self.old).switch }
+        ensures cause { HasCause self.old.faults self.new.faults result }
+    {
         if self.left == 0 {
             return Err(self.fail());
         }

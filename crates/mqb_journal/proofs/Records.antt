@@ -1,7 +1,7 @@
 -- What an image with a record more or less stands for.
-use Rattle.std.proofs.Common.{◌≡◌, ◌≢◌, inl, inr, ⊎_elim, ℕ, ◌+◌, ◌≤◌, ◌<◌, List, [], ◌∷◌, ◌++◌, length, take, drop, sym, ◌∙◌, ap, subst, arith, append_assoc, length-append}
+use Rattle.std.proofs.Common.{◌≡◌, inl, inr, ⊎_elim, ℕ, ◌+◌, ◌≤◌, ◌<◌, List, [], ◌∷◌, ◌++◌, length, take, drop, sym, ◌∙◌, ap, subst, arith, append_assoc, length-append}
 use Rattle.std.specs.List.{All}
-use Rattle.std.specs.Int.{to_le_bytes, w32}
+use Rattle.mqb_fields.specs.Writing.{bytes_of}
 use Rattle.std.proofs.lemmas.List.{append-nil, take-append-drop}
 use Rattle.std.proofs.lemmas.List.Elements.{All-push}
 use Rattle.mqb_devices.specs.Disk.{View, IsSettled, LeavesOnly, OnlyReads}
@@ -23,7 +23,7 @@ front_of guid records = header guid ++ chain records
 
 -- what is written behind that gate
 abbrev pub block_of : List ℕ → List ℕ
-block_of entry = to_le_bytes w32 (length entry) ++ entry ++ 0 ∷ []
+block_of entry = bytes_of 4 (length entry) ++ entry ++ 0 ∷ []
 
 pub length-front : (guid : List ℕ) (records : List (List ℕ)) → length (front_of guid records) ≡ 24 + length (chain records)
 length-front guid records = length-append (header guid) (chain records)
@@ -49,7 +49,7 @@ stands_after guid records entry c small fits has = record {
   closed = λ is. absurd (omega arith);
   small = All-push IsSmall records entry small fits;
   is = has.is
-      ∙ regroup (front_of guid records) (to_le_bytes w32 (length entry)) entry has.rest
+      ∙ regroup (front_of guid records) (bytes_of 4 (length entry)) entry has.rest
       ∙ ap (λ (l : List ℕ). l ++ 0 ∷ has.rest) (append_assoc (header guid) (chain records) (framed entry) ∙ ap (λ (l : List ℕ). header guid ++ l) (sym (chain-push records entry)));
 }
 
@@ -63,11 +63,11 @@ run_before_or_after old new guid records entry block small fits is run =
 
 pub length-chain-push : (records : List (List ℕ)) (entry : List ℕ) → length (chain (records ++ entry ∷ [])) ≡ length (chain records) + length (block_of entry)
 length-chain-push records entry =
-    ap length (chain-push records entry) ∙ omega (arith, length-append (chain records) (framed entry), length-append (to_le_bytes w32 (length entry)) entry, length-append (to_le_bytes w32 (length entry) ++ entry) (0 ∷ []))
+    ap length (chain-push records entry) ∙ omega (arith, length-append (chain records) (framed entry), length-append (bytes_of 4 (length entry)) entry, length-append (bytes_of 4 (length entry) ++ entry) (0 ∷ []))
 
 pub length-chain-more : (records : List (List ℕ)) (entry : List ℕ) → length (chain (records ++ entry ∷ [])) ≡ length (chain records) + 5 + length entry
 length-chain-more records entry =
-    length-chain-push records entry ∙ omega (arith, length-append (to_le_bytes w32 (length entry)) entry, length-append (to_le_bytes w32 (length entry) ++ entry) (0 ∷ []))
+    length-chain-push records entry ∙ omega (arith, length-append (bytes_of 4 (length entry)) entry, length-append (bytes_of 4 (length entry) ++ entry) (0 ∷ []))
 
 -- each record takes a byte at least
 pub count_within : (records : List (List ℕ)) → length records ≤ length (chain records)

@@ -1,5 +1,5 @@
 ghost use Rattle.std.specs.Prelude.{◌≡◌, ◌↔◌, ◌+◌, ◌^◌, ◌<◌, ◌≤◌, ℕ, List, [], ◌∷◌, ◌++◌, length, vec_capacity, true, false, unwrap_or, slice_get, Err, IfOk, OnOk, OnErr};
-ghost use Rattle.std.specs.Int.{to_le_bytes, w32};
+ghost use Rattle.mqb_fields.specs.Writing.{bytes_of};
 ghost use Rattle.mqb_outside.specs.Faults.{Rose};
 ghost use Rattle.mqb_devices.specs.Images.{Each};
 ghost use Rattle.mqb_devices.specs.Disk.{IsSettled, LeavesOnly, OnlyReads};
@@ -34,7 +34,7 @@ pub struct Journal {
 impl Journal {
     ghost use Rattle.mqb_journal.specs.Store.{StandsFor, IsBeforeOrAfter};
     ghost use Rattle.mqb_journal.specs.Journals.{IsAt, room, Refused, DiskFaults};
-    ghost use Rattle.mqb_journal.specs.Scan.{IsBadStore, OpenFaults};
+    ghost use Rattle.mqb_journal.specs.Scan.{IsBadStore, TellsBad, OpenFaults};
 
     /// Makes an empty disk a store without records.
     pub fn format<D: Disk>(alloc: Global, disk: &mut D, guid: Guid) -> Result<Journal, OpenFault>
@@ -69,6 +69,7 @@ impl Journal {
         ensures started { IfOk result (λ journal. Each (D.view disk.old).reads (StandsFor journal.guid.0 journal.kept)) }
         ensures goes_on { IsSettled (D.view disk.old) → IfOk result (λ journal. IsAt (D.view disk.new) journal journal.kept) }
         ensures bad { (at : ℕ) → result ≡ Err (OpenFault.BadStore at) → Each (D.view disk.old).reads (IsBadStore at) }
+        ensures exact { Each (D.view disk.old).reads (TellsBad result) }
         ensures reads { OnlyReads (D.view disk.old) (D.view disk.new) }
         ensures cause { OpenFaults (D.view disk.old).faults (D.view disk.new).faults result }
         ensures not_empty { result ≡ Err OpenFault.NotEmpty → ⊥ }
@@ -166,7 +167,7 @@ impl Journal {
 // Makes a record's block: its length, its bytes, and the closed gate behind it.
 fn frame(block: &mut Vec<u8>, entry: &[u8]) -> Result<(), Memory>
     requires { length entry.now ≤ 8388608 }
-    ensures framed { OnOk result (block.new.items ≡ to_le_bytes w32 (length entry.now) ++ entry.now ++ 0 ∷ []) }
+    ensures framed { OnOk result (block.new.items ≡ bytes_of 4 (length entry.now) ++ entry.now ++ 0 ∷ []) }
     ensures full { OnErr result (vec_capacity block.old < length entry.now + 5) }
 {
     block.clear();

@@ -9,8 +9,10 @@ mod durable;
 mod faults;
 mod header;
 mod journal;
+mod laws;
 mod record;
 mod scan;
 
 pub use faults::{AppendFault, OpenFault};
 pub use journal::Journal;
+pub use laws::{bad_at_one_place, records_are_not_bad, records_or_bad, stands_for_one_list};

@@ -1,5 +1,6 @@
 ghost use Rattle.std.specs.Prelude.{◌≡◌, ◌≢◌, ◌+◌, ◌^◌, ◌<◌, ◌≤◌, ℕ, List, ◌∷◌, ◌++◌, length, take, drop, None, Err, IfOk, IfSome};
-ghost use Rattle.std.specs.Int.{to_le_bytes, w32};
+ghost use Rattle.mqb_fields.specs.Reading.{number_of};
+ghost use Rattle.mqb_fields.specs.Writing.{bytes_of};
 ghost use Rattle.mqb_outside.specs.Faults.{HasCause};
 ghost use Rattle.mqb_devices.specs.Images.{Each};
 ghost use Rattle.mqb_devices.specs.Disk.{OnlyReads};
@@ -28,17 +29,19 @@ fn byte_at<D: Disk>(disk: &mut D, at: u64) -> Result<u8, Failed>
     Ok(buf[0])
 }
 
-#[tactic(auto, using(std::proofs::lemmas::Nat::le_bytes_4))]
+#[tactic(auto, using(std::proofs::lemmas::Nat::le_bytes_4, crate::proofs::Scans::number_is))]
 fn number_of(bytes: [u8; 4]) -> u32
-    ensures { to_le_bytes w32 result ≡ bytes }
+    ensures spelled { bytes_of 4 result ≡ bytes }
+    ensures number { result ≡ number_of 4 bytes }
 {
     u32::from_le_bytes(bytes)
 }
 
-#[tactic(auto, using(crate::proofs::Scans::read_split))]
+#[tactic(auto, using(crate::proofs::Scans::read_split, crate::proofs::Scans::read_number))]
 fn number_at<D: Disk>(disk: &mut D, at: u64) -> Result<u32, Failed>
     requires { Each (D.view disk.old).reads (λ c. at + 4 ≤ length c) }
-    ensures number { IfOk result (λ n. Each (D.view disk.old).reads (λ c. drop at c ≡ to_le_bytes w32 n ++ drop (at + 4) c)) }
+    ensures spelled { IfOk result (λ n. Each (D.view disk.old).reads (λ c. drop at c ≡ bytes_of 4 n ++ drop (at + 4) c)) }
+    ensures number { IfOk result (λ n. Each (D.view disk.old).reads (λ c. n ≡ number_of 4 (drop at c))) }
     ensures reads { OnlyReads (D.view disk.old) (D.view disk.new) }
     ensures cause { HasCause (D.view disk.old).faults (D.view disk.new).faults result }
 {
@@ -68,7 +71,7 @@ fn record_at<D: Disk>(alloc: Global, disk: &mut D, at: u64, n: usize) -> Result<
 pub(crate) fn header_at<D: Disk>(disk: &mut D) -> Result<Option<Guid>, Failed>
     requires { Each (D.view disk.old).reads (λ c. 24 ≤ length c) }
     ensures header { IfOk result (λ found. IfSome found (λ guid. Each (D.view disk.old).reads (λ c. take 24 c ≡ header guid.0))) }
-    ensures none { IfOk result (λ found. found ≡ None → Each (D.view disk.old).reads (λ c. take 8 (take 24 c) ≢ MAGIC)) }
+    ensures none { IfOk result (λ found. found ≡ None → Each (D.view disk.old).reads (λ c. take 8 c ≢ MAGIC)) }
     ensures reads { OnlyReads (D.view disk.old) (D.view disk.new) }
     ensures cause { HasCause (D.view disk.old).faults (D.view disk.new).faults result }
 {

@@ -1,9 +1,10 @@
-use Rattle.std.proofs.Common.{◌≡◌, take}
-use Rattle.mqb_disk.specs.Changes.{Left}
+use Rattle.std.proofs.Common.{◌≡◌, drop}
+use Rattle.mqb_disk.specs.Extent.{standing}
+use Rattle.mqb_disk.specs.Picks.{left_by}
 use Rattle.mqb_disk.proofs.change.replay.Given as goal
 
 abbrev pub invariant-loop-change : goal.invariant-loop-change
 invariant-loop-change l = record {
   room : l.image.room ≡ l.initial.image.room;
-  left : Left (take l.change-index l.changes) l.initial.image.contents l.image.contents;
+  left : left_by l.pick (standing l.now) (drop l.change-index l.changes) l.image.contents ≡ left_by l.pick (standing l.now) l.changes l.initial.image.contents;
 }

@@ -1,4 +1,3 @@
-use Rattle.std.proofs.Common.{refl}
 use Rattle.mqb_disk.specs.History.{history}
 use Rattle.mqb_disk.proofs.Histories.{quiet_time, quiet_cut, kept_cut}
 use Rattle.mqb_disk.proofs.trace_disk.TraceDiskDisk.cut.Goals as goal

@@ -1,4 +1,3 @@
-use Rattle.std.proofs.Common.{refl}
 use Rattle.mqb_disk.specs.History.{history}
 use Rattle.mqb_disk.proofs.Histories.{quiet_time}
 use Rattle.mqb_disk.proofs.trace_disk.TraceDiskDisk.sync.Goals as goal

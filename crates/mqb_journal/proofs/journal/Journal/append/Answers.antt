@@ -1,8 +1,8 @@
 use Rattle.std.proofs.Common.{◌≡◌, ◌≤◌, [], ◌∷◌, ◌++◌, ℕ, List, length, sym, ◌∙◌, ap, subst, arith, length-append}
 use Rattle.std.proofs.lemmas.List.Elements.{All-push}
 use Rattle.mqb_devices.specs.Images.{Each}
-use Rattle.mqb_journal.specs.Gates.{HasClosedGate, HasRecord}
-use Rattle.mqb_journal.specs.Store.{StandsFor, chain}
+use Rattle.mqb_journal.specs.Gates.{HasRecord}
+use Rattle.mqb_journal.specs.Store.{StandsFor}
 use Rattle.mqb_journal.proofs.Outcomes.{ok_fact}
 use Rattle.mqb_journal.proofs.Records.{IsSmall, front_of, block_of, length-front, has_gate, stands_after, run_before_or_after, length-chain-push}
 use Rattle.mqb_journal.proofs.journal.Journal.append.Goals as goal

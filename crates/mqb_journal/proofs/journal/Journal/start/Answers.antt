@@ -1,10 +1,11 @@
-use Rattle.std.proofs.Common.{◌≡◌, ◌+◌, ◌≤◌, ◌<◌, ◌++◌, ◌∷◌, [], ℕ, List, Option, length, take, drop, refl, sym, ◌∙◌, ap, subst, arith}
+use Rattle.std.proofs.Common.{◌≡◌, ◌+◌, ◌≤◌, ◌<◌, ◌++◌, ◌∷◌, [], ℕ, List, Option, length, take, drop, refl, sym, ◌∙◌, ap, subst, arith, rules}
 use Rattle.std.specs.List.{All}
 use Rattle.std.proofs.lemmas.List.Elements.{All-push}
 use Rattle.mqb_devices.specs.Disk.{OnlyReads}
 use Rattle.mqb_devices.proofs.Runs.{reads_then}
 use Rattle.mqb_journal.specs.Scan.{IsNext, HasNext, IsClosedAt}
-use Rattle.mqb_journal.specs.Store.{header, chain, StandsFor}
+use Rattle.mqb_journal.specs.Store.{header, chain}
+use Rattle.mqb_journal.proofs.Chains.{tells_records, tells_error}
 use Rattle.mqb_journal.proofs.Outcomes.{some_fact}
 use Rattle.mqb_journal.proofs.Records.{IsSmall, count_within, length-chain-more, chained_more, stands_read, settled_read}
 use Rattle.mqb_journal.proofs.journal.Journal.start.Goals as goal
@@ -48,6 +49,19 @@ started g c d told =
 
 pub returns-clause-started : goal.returns-clause-started
 returns-clause-started = started
+
+pub returns-clause-exact : goal.returns-clause-exact
+returns-clause-exact g c d told = tells_records _ c.in-Some.guid.0 c.records.kept d (started g c d told)
+
+pub returns-in_err-record-clause-bad : goal.returns-in_err-record-clause-bad
+returns-in_err-record-clause-bad g c = search rules
+
+pub returns-in_err-record-clause-not_empty : goal.returns-in_err-record-clause-not_empty
+returns-in_err-record-clause-not_empty g c = search rules
+
+pub returns-in_err-record-clause-exact : goal.returns-in_err-record-clause-exact
+returns-in_err-record-clause-exact g c d told =
+    tells_error c.from_residual-in_err-record.result d c.from_residual-in_err-record.ensures.0 (λ at is. returns-in_err-record-clause-bad g c at is d told) (returns-in_err-record-clause-not_empty g c)
 
 pub returns-clause-goes_on : goal.returns-clause-goes_on
 returns-clause-goes_on g c settled =
