@@ -1,1 +1,4 @@
 pub mod Lent
+pub mod Firsts
+pub mod Distinct
+pub mod Splits

@@ -2,9 +2,10 @@ use Rattle.std.specs.Prelude.{◌≡◌, ℕ, false, List, map, position, slice_
 use Rattle.std.specs.Option.{option_map, option_map_or}
 use Rattle.mqb_base.specs.declared.queues.Place.{Place}
 use Rattle.mqb_base.specs.declared.queues.Place.TheVariants as place
+use Rattle.mqb_base.specs.declared.queues.QueuePlan.{QueuePlan}
 use Rattle.mqb_base.specs.Same.{same_ignoring_case}
 use Rattle.mqb_queue.specs.declared.queue.Queue.{Queue}
-use Rattle.mqb_queue.specs.Lists.{Lists}
+use Rattle.mqb_queue.specs.Lists.{Lists, no_messages}
 
 -- the queues, how many more are taken without memory, and the lists that every manager has
 pub record Places : Type 0 where
@@ -13,6 +14,10 @@ pub record Places : Type 0 where
   pub dead : Lists
   pub dead_xact : Lists
   pub journal : Lists
+
+-- a queue without messages
+abbrev pub new_queue : QueuePlan → Queue
+new_queue plan = record { plan = plan; lists = no_messages; journal = no_messages }
 
 -- the number of the queue with a name, from 0, the case of letters left aside
 abbrev pub found : List Queue → List ℕ → Option ℕ

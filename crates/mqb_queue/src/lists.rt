@@ -47,7 +47,8 @@ impl Lists {
     }
 
     pub fn durable(&self) -> &[Message]
-        ensures { result.now ≡ self.now.durable }
+        ensures within { length self.now.durable ≤ 0xFFFFFFFF }
+        ensures messages { result.now ≡ self.now.durable }
     {
         self.durable.as_slice()
     }

@@ -1,4 +1,4 @@
-ghost use Rattle.std.specs.Prelude.{◌≡◌, ◌<◌, length};
+ghost use Rattle.std.specs.Prelude.{◌≡◌, ◌<◌, length, IfSome};
 ghost use Rattle.mqb_queue.specs.Places.{found};
 
 use crate::lists::Lists;
@@ -14,7 +14,8 @@ pub struct Queue {
 
 /// The number of the queue with this name.
 pub(crate) fn found(queues: &[Queue], name: &Name) -> Option<usize>
-    ensures { result ≡ found queues.now name.now }
+    ensures found { result ≡ found queues.now name.now }
+    ensures within { IfSome result (λ k. k < length queues.now) }
 {
     queues
         .iter()
