@@ -23,21 +23,29 @@ at_most free held first (before, behind, is, h) =
 
 later_stays : (free : Message → Bool) (xs ys : List Message) (first : Message) → First free xs (Some first)
     → All (λ m. free m ≡ true → m.priority ≤ first.priority) ys → First free (xs ++ ys) (Some first)
-later_stays free xs ys first (before, behind, is, h) low =
-    (before, behind ++ ys, ap (λ ms. ms ++ ys) is ∙ append_assoc before (first ∷ behind) ys, record {
-      first_is_free = h.first_is_free;
-      before_lower = h.before_lower;
-      behind_no_higher = All-append (λ m. free m ≡ true → m.priority ≤ first.priority) behind ys h.behind_no_higher low;
-    })
+later_stays free xs ys first (before, behind, is, h) low = (
+  before,
+  behind ++ ys,
+  ap (λ ms. ms ++ ys) is ∙ append_assoc before (first ∷ behind) ys,
+  record {
+    first_is_free = h.first_is_free;
+    before_lower = h.before_lower;
+    behind_no_higher = All-append (λ m. free m ≡ true → m.priority ≤ first.priority) behind ys h.behind_no_higher low;
+  },
+)
 
 latter_is_first : (free : Message → Bool) (xs ys : List Message) (first : Message) → All (λ m. free m ≡ true → m.priority < first.priority) xs
     → First free ys (Some first) → First free (xs ++ ys) (Some first)
-latter_is_first free xs ys first low (before, behind, is, h) =
-    (xs ++ before, behind, ap (λ ms. xs ++ ms) is ∙ sym (append_assoc xs before (first ∷ behind)), record {
-      first_is_free = h.first_is_free;
-      before_lower = All-append (λ m. free m ≡ true → m.priority < first.priority) xs before low h.before_lower;
-      behind_no_higher = h.behind_no_higher;
-    })
+latter_is_first free xs ys first low (before, behind, is, h) = (
+  xs ++ before,
+  behind,
+  ap (λ ms. xs ++ ms) is ∙ sym (append_assoc xs before (first ∷ behind)),
+  record {
+    first_is_free = h.first_is_free;
+    before_lower = All-append (λ m. free m ≡ true → m.priority < first.priority) xs before low h.before_lower;
+    behind_no_higher = h.behind_no_higher;
+  },
+)
 
 pub First-append : (free : Message → Bool) (xs ys : List Message) (a b : Option Message) → First free xs a → First free ys b → First free (xs ++ ys) (higher a b)
 First-append free xs ys None None first second = All-append (λ m. free m ≡ false) xs ys first second

@@ -45,9 +45,9 @@ pub still_differ : {queues : List Queue} {name : List ℕ} {k : ℕ} {q : Queue}
 still_differ {queues} {name} {k} {q} h r same differ =
     let name_of : Queue → List ℕ = λ s. s.plan.name in
     let names : map name_of (set queues k r) ≡ map name_of queues =
-        map-set name_of queues k r
-        ∙ (ap (λ n. set (map name_of queues) k n) (ap (λ p. p.name) same ∙ (ap name_of h.is ∙ sym (get_or-map name_of queues k q (name_of q) (within h))))
-        ∙ set-get_or (map name_of queues) k (name_of q)) in
+    map-set name_of queues k r
+    ∙ (ap (λ n. set (map name_of queues) k n) (ap (λ p. p.name) same ∙ (ap name_of h.is ∙ sym (get_or-map name_of queues k q (name_of q) (within h))))
+    ∙ set-get_or (map name_of queues) k (name_of q)) in
     subst (λ ns. AllPairs (λ a b. same_ignoring_case a b ≡ false) ns) (sym names) differ
 
 -- Where a queue is lent, its place has what is written.

@@ -6,13 +6,13 @@ use Rattle.mqb_base.specs.Times.{is_due}
 use Rattle.mqb_queue.specs.Lists.{Lists}
 
 -- messages of a queue can be due, and none in a journal or a dead-letter queue
-abbrev pub keeps_time : Place → Bool
-keeps_time (place.Queue name) = true
-keeps_time _ = false
+abbrev pub can_be_due : Place → Bool
+can_be_due (place.Queue name) = true
+can_be_due _ = false
 
 -- a message of a place can be taken, since it is not due
 abbrev pub is_free : Place → ℕ → Message → Bool
-is_free p now m = not (keeps_time p && is_due m.sent m.life now)
+is_free p now m = not (can_be_due p && is_due m.sent m.life now)
 
 -- A message stands between others and is the first of them: it is free, each free one before it has a lesser priority, and each free one
 -- behind it no greater priority.

@@ -11,7 +11,7 @@ fn length_met(lists: &Lists, recorded: bool) -> u32
     if recorded {
         lists.durable().len() as u32
     } else {
-        lists.len()
+        lists.count()
     }
 }
 

@@ -1,4 +1,7 @@
-//! The queues of a manager and their messages.
+//! The queues of a manager, and the messages in them, in their journals and in the lists that every manager has.
+//!
+//! A place has a durable list, which survives a restart, and an express list, which does not. Contracts see `Queues` as the record `Places` of plain
+//! lists, and each change as one place changed. The rules stand beside it: why an arrival is refused, and which message of a place is first.
 #![tactic(auto)]
 
 mod arrival;
@@ -13,3 +16,6 @@ pub use laws::at_most_one_first;
 pub use lists::Lists;
 pub use queue::Queue;
 pub use queues::Queues;
+
+#[cfg(test)]
+mod tests;

@@ -20,13 +20,9 @@ impl Model for Lists {
 
     ghost Value = { Lists };
 
-    ghost view = {
-        λ l. record { durable = l.durable.messages; express = l.express.messages; spare_durable = l.durable.spare; spare_express = l.express.spare }
-    };
+    ghost view = { λ l. record { durable = l.durable.messages; express = l.express.messages; spare_durable = l.durable.spare; spare_express = l.express.spare } };
 
-    ghost invariant = {
-        λ l. (length l.durable.messages + l.durable.spare) + (length l.express.messages + l.express.spare) ≤ 0xFFFFFFFF
-    };
+    ghost invariant = { λ l. (length l.durable.messages + l.durable.spare) + (length l.express.messages + l.express.spare) ≤ 0xFFFFFFFF };
 }
 
 impl Lists {
@@ -40,7 +36,8 @@ impl Lists {
         }
     }
 
-    pub fn len(&self) -> u32
+    /// How many messages there are, durable and express ones.
+    pub fn count(&self) -> u32
         ensures { result ≡ count self.now }
     {
         self.durable.len() as u32 + self.express.len() as u32
@@ -69,7 +66,7 @@ impl Lists {
         let durable = durable.max(before);
         let express = express.max(self.express.spare());
         let room = u64::from(durable) + u64::from(express);
-        if u64::from(self.len()) + room > u64::from(u32::MAX) {
+        if u64::from(self.count()) + room > u64::from(u32::MAX) {
             return Err(Memory);
         }
         self.durable.reserve(durable)?;

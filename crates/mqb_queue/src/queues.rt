@@ -31,13 +31,9 @@ impl Model for Queues {
 
     ghost Value = { Places };
 
-    ghost view = {
-        λ q. record { queues = q.queues.items; spare_queues = q.spare; dead = q.dead; dead_xact = q.dead_xact; journal = q.journal }
-    };
+    ghost view = { λ q. record { queues = q.queues.items; spare_queues = q.spare; dead = q.dead; dead_xact = q.dead_xact; journal = q.journal } };
 
-    ghost invariant = {
-        λ q. (vec_len q.queues + q.spare ≤ vec_capacity q.queues) × (vec_len q.queues + q.spare ≤ 0xFFFFFFFF) × NamesDiffer q.queues.items
-    };
+    ghost invariant = { λ q. (vec_len q.queues + q.spare ≤ vec_capacity q.queues) × (vec_len q.queues + q.spare ≤ 0xFFFFFFFF) × NamesDiffer q.queues.items };
 }
 
 impl Queues {
@@ -110,7 +106,7 @@ impl Queues {
     pub fn len(&self, place: &Place) -> Option<u32>
         ensures { result ≡ option_map count (lists_at self.now place.now) }
     {
-        Some(self.lists(place)?.len())
+        Some(self.lists(place)?.count())
     }
 
     /// The durable messages of a place, the oldest first.
