@@ -8,3 +8,6 @@ mod notices;
 
 pub use asking::goes_dead;
 pub use notices::{admin_for, final_for};
+
+#[cfg(test)]
+mod tests;

@@ -118,5 +118,14 @@ pub fn final_for(
         number,
     };
     let source = order_layer(alloc, &peer.host)?;
-    notice_about(alloc, message, class, Delivery::Recoverable, source, id, now).map(Some)
+    notice_about(
+        alloc,
+        message,
+        class,
+        Delivery::Recoverable,
+        source,
+        id,
+        now,
+    )
+    .map(Some)
 }
