@@ -2,3 +2,4 @@ pub mod Lent
 pub mod Firsts
 pub mod Distinct
 pub mod Splits
+pub mod Changes

@@ -12,7 +12,7 @@ mod messages;
 mod queue;
 mod queues;
 
-pub use laws::at_most_one_first;
+pub use laws::{at_most_one_first, found_by_its_name, one_place_changes, plans_stay};
 pub use lists::Lists;
 pub use queue::Queue;
 pub use queues::Queues;
