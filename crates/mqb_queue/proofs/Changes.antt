@@ -9,7 +9,7 @@ use Rattle.std.proofs.lemmas.List.{length-set, length-map, map-set, set-get_or, 
 use Rattle.std.proofs.lemmas.List.Folds.{position_or_len-set}
 use Rattle.std.proofs.lemmas.List.Quantifiers.{position-Some}
 use Rattle.std.proofs.lemmas.List.Sums.{position_or_len_is}
-use Rattle.std.proofs.lemmas.Option.{slice_get_within, get_or_from_slice_get, same_Some, none-some}
+use Rattle.std.proofs.lemmas.Option.{slice_get_within, get_or_from_slice_get, none-some}
 use Rattle.mqb_base.specs.declared.queues.Place.{Place}
 use Rattle.mqb_base.specs.declared.queues.Place.TheVariants as place
 use Rattle.mqb_base.specs.declared.queues.QueuePlan.{QueuePlan}

@@ -5,7 +5,7 @@ use Rattle.std.proofs.lemmas.Bool.{ltb-true, ltb-false, true≢false}
 use Rattle.std.proofs.lemmas.List.{take_more}
 use Rattle.std.proofs.lemmas.List.Elements.{All-nil, All-cons, All-append, All-weaker}
 use Rattle.mqb_base.specs.declared.message.Message.{Message}
-use Rattle.mqb_queue.specs.First.{First, IsFirst, higher}
+use Rattle.mqb_queue.specs.First.{First, higher}
 
 -- where none is free, each free one is anything
 vacuous : (free : Message → Bool) (P : Message → Type 0) (held : List Message) → All (λ m. free m ≡ false) held → All (λ m. free m ≡ true → P m) held

@@ -1,4 +1,4 @@
-use Rattle.std.specs.Prelude.{◌≡◌, ℕ, false, List, map, position, slice_get, slice_set, AllPairs, Option, Some, None, option_and_then}
+use Rattle.std.specs.Prelude.{◌≡◌, ℕ, false, List, map, position, slice_get, slice_set, AllPairs, Option, Some, option_and_then}
 use Rattle.std.specs.Option.{option_map, option_map_or}
 use Rattle.mqb_base.specs.declared.queues.Place.{Place}
 use Rattle.mqb_base.specs.declared.queues.Place.TheVariants as place

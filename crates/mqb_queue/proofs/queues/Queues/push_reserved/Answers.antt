@@ -1,4 +1,4 @@
-use Rattle.std.proofs.Common.{◌≡◌, ◌<◌, ◌≤◌, ◌+◌, ◌-◌, Option, None, sym, ap, ◌∙◌, subst, arith}
+use Rattle.std.proofs.Common.{◌≡◌, ◌<◌, None, sym, ap, ◌∙◌, subst, arith}
 use Rattle.mqb_queue.specs.Places.{NamesDiffer, found}
 use Rattle.mqb_queue.proofs.Distinct.{new_differs}
 use Rattle.mqb_queue.proofs.queues.Queues.push_reserved.Goals as goal
