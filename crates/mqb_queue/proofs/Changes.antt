@@ -53,17 +53,20 @@ same_found : (queues : List Queue) (a b : List ℕ) → same_ignoring_case a b �
 same_found queues a b e = ap (λ low. position (λ (q : Queue). same_bytes (map to_ascii_lowercase q.plan.name) low) queues) (sym (same_lower a b e))
 
 -- where two names find one queue, they are the same
-same_from_found : (queues : List Queue) (a b : List ℕ) (k : ℕ) (q : Queue) → found queues a ≡ Some k → found queues b ≡ Some k → same_ignoring_case a b ≡ true
+same_from_found : (queues : List Queue) (a b : List ℕ) (k : ℕ) (q : Queue) → found queues a ≡ Some k → found queues b ≡ Some k
+    → same_ignoring_case a b ≡ true
 same_from_found queues a b k q at_a at_b =
     let has : List ℕ → Queue → Bool = λ name r. same_ignoring_case r.plan.name name in
     let name : List ℕ = (get_or queues k q).plan.name in
     from_lower a b (sym (same_lower name a (position-Some (has a) queues k q at_a).1) ∙ same_lower name b (position-Some (has b) queues k q at_b).1)
 
 -- the queue at k is written, and its plan stays
-named_after_write : (queues : List Queue) (a b : List ℕ) (k : ℕ) (q r : Queue) → found queues a ≡ Some k → slice_get queues k ≡ Some q → r.plan ≡ q.plan
+named_after_write : (queues : List Queue) (a b : List ℕ) (k : ℕ) (q r : Queue) → found queues a ≡ Some k → slice_get queues k ≡ Some q
+    → r.plan ≡ q.plan
     → queue_named (set queues k r) b ≡ cond (same_ignoring_case a b) (Some r) (queue_named queues b)
 named_after_write queues a b k q r at got same =
-    ap (λ (o : Option ℕ). option_and_then (λ i. slice_get (set queues k r) i) o) still_found ∙ by_name (same_ignoring_case a b) refl (found queues b) refl
+    ap (λ (o : Option ℕ). option_and_then (λ i. slice_get (set queues k r) i) o) still_found
+    ∙ by_name (same_ignoring_case a b) refl (found queues b) refl
   where
     still_found : found (set queues k r) b ≡ found queues b
     still_found = position-set (λ s. same_ignoring_case s.plan.name b) queues k r q
@@ -79,12 +82,14 @@ named_after_write queues a b k q r at got same =
         (λ j_is. true≢false (sym (same_from_found queues a b k q at (is ∙ ap (λ n. Some n) (sym j_is))) ∙ e))
 
 -- the queue with a name is changed, and its plan stays
-named_after : (queues : List Queue) (a b : List ℕ) (q : Queue) (change : Queue → Queue) → ((r : Queue) → (change r).plan ≡ r.plan) → queue_named queues a ≡ Some q
+named_after : (queues : List Queue) (a b : List ℕ) (q : Queue) (change : Queue → Queue) → ((r : Queue) → (change r).plan ≡ r.plan)
+    → queue_named queues a ≡ Some q
     → queue_named (changed_queue queues a change) b ≡ cond (same_ignoring_case a b) (Some (change q)) (queue_named queues b)
 named_after queues a b q change keeps is = at (found queues a) refl is
   where
     at : (o : Option ℕ) → found queues a ≡ o → option_and_then (λ i. slice_get queues i) o ≡ Some q
-        → queue_named (option_map_or (λ i. changed_at queues i change) o queues) b ≡ cond (same_ignoring_case a b) (Some (change q)) (queue_named queues b)
+        → queue_named (option_map_or (λ i. changed_at queues i change) o queues) b ≡ cond (same_ignoring_case a b) (Some (change q))
+        (queue_named queues b)
     at None found_a got = absurd (none-some q got)
     at (Some k) found_a got =
         subst (λ qs. queue_named qs b ≡ cond (same_ignoring_case a b) (Some (change q)) (queue_named queues b))
@@ -92,9 +97,11 @@ named_after queues a b q change keeps is = at (found queues a) refl is
         (named_after_write queues a b k q (change q) found_a got (keeps q))
 
 -- a part of the queue with a name is given, as the queue's own list or its journal's
-part_after : (queues : List Queue) (a b : List ℕ) (q : Queue) (change : Queue → Queue) (part : Queue → Lists) (l : Lists) → ((r : Queue) → (change r).plan ≡ r.plan)
+part_after : (queues : List Queue) (a b : List ℕ) (q : Queue) (change : Queue → Queue) (part : Queue → Lists) (l : Lists) → ((r : Queue)
+    → (change r).plan ≡ r.plan)
     → part (change q) ≡ l → queue_named queues a ≡ Some q
-    → option_map part (queue_named (changed_queue queues a change) b) ≡ cond (same_ignoring_case a b) (Some l) (option_map part (queue_named queues b))
+    → option_map part (queue_named (changed_queue queues a change) b) ≡ cond (same_ignoring_case a b) (Some l) (option_map part
+    (queue_named queues b))
 part_after queues a b q change part l keeps is_l is =
     ap (λ (o : Option Queue). option_map part o) (named_after queues a b q change keeps is) ∙ at (same_ignoring_case a b)
   where
@@ -103,12 +110,16 @@ part_after queues a b q change part l keeps is_l is =
     at false = refl
 
 -- the other part stays
-other_after : (queues : List Queue) (a b : List ℕ) (q : Queue) (change : Queue → Queue) (part : Queue → Lists) → ((r : Queue) → (change r).plan ≡ r.plan)
-    → part (change q) ≡ part q → queue_named queues a ≡ Some q → option_map part (queue_named (changed_queue queues a change) b) ≡ option_map part (queue_named queues b)
+other_after : (queues : List Queue) (a b : List ℕ) (q : Queue) (change : Queue → Queue) (part : Queue → Lists) → ((r : Queue)
+    → (change r).plan ≡ r.plan)
+    → part (change q) ≡ part q → queue_named queues a ≡ Some q
+    → option_map part (queue_named (changed_queue queues a change) b) ≡ option_map part (queue_named queues b)
 other_after queues a b q change part keeps same is = part_after queues a b q change part (part q) keeps same is ∙ at (same_ignoring_case a b) refl
   where
-    at : (t : Bool) → same_ignoring_case a b ≡ t → cond t (Some (part q)) (option_map part (queue_named queues b)) ≡ option_map part (queue_named queues b)
-    at true e = sym (ap (λ (o : Option Queue). option_map part o) (ap (λ (o : Option ℕ). option_and_then (λ i. slice_get queues i) o) (same_found queues a b e) ∙ is))
+    at : (t : Bool) → same_ignoring_case a b ≡ t
+        → cond t (Some (part q)) (option_map part (queue_named queues b)) ≡ option_map part (queue_named queues b)
+    at true e = sym (ap (λ (o : Option Queue). option_map part o) (ap (λ (o : Option ℕ). option_and_then (λ i. slice_get queues i) o)
+        (same_found queues a b e) ∙ is))
     at false e = refl
 
 -- ---- one place is changed
@@ -118,7 +129,8 @@ the_queue : {P : Type 0} (part : Queue → Lists) (o : Option Queue) → IsSome 
 the_queue part None there then = absurd (true≢false (sym there))
 the_queue part (Some q) there then = then q refl
 
-pub one_place : (s : Places) (p q : Place) (l : Lists) → IsSome (lists_at s p) → lists_at (with_lists s p l) q ≡ cond (same_place p q) (Some l) (lists_at s q)
+pub one_place : (s : Places) (p q : Place) (l : Lists) → IsSome (lists_at s p)
+    → lists_at (with_lists s p l) q ≡ cond (same_place p q) (Some l) (lists_at s q)
 one_place s (place.Queue a) (place.Queue b) l there = the_queue (λ r. r.lists) (queue_named s.queues a) there
     (λ r is. part_after s.queues a b r (λ t. record t { lists = l }) (λ t. t.lists) l (λ t. refl) refl is)
 one_place s (place.Queue a) (place.JournalOf b) l there = the_queue (λ r. r.lists) (queue_named s.queues a) there
@@ -151,7 +163,8 @@ one_place s place.Journal place.Journal l there = refl
 
 -- ---- plans
 
-plans_kept : (queues : List Queue) (a : List ℕ) (change : Queue → Queue) → ((r : Queue) → (change r).plan ≡ r.plan) → plans (changed_queue queues a change) ≡ plans queues
+plans_kept : (queues : List Queue) (a : List ℕ) (change : Queue → Queue) → ((r : Queue) → (change r).plan ≡ r.plan)
+    → plans (changed_queue queues a change) ≡ plans queues
 plans_kept queues a change keeps = at (found queues a)
   where
     plan_of : Queue → QueuePlan
@@ -161,10 +174,12 @@ plans_kept queues a change keeps = at (found queues a)
     written k q got =
         map-set plan_of queues k (change q)
         ∙ (ap (λ p. set (map plan_of queues) k p)
-        (keeps q ∙ (ap plan_of (sym (get_or_from_slice_get queues k q q got)) ∙ sym (get_or-map plan_of queues k q (plan_of q) (slice_get_within queues k q got))))
+        (keeps q ∙ (ap plan_of (sym (get_or_from_slice_get queues k q q got))
+        ∙ sym (get_or-map plan_of queues k q (plan_of q) (slice_get_within queues k q got))))
         ∙ set-get_or (map plan_of queues) k (plan_of q))
 
-    in_place : (k : ℕ) (o : Option Queue) → slice_get queues k ≡ o → map plan_of (option_map_or (λ q. set queues k (change q)) o queues) ≡ map plan_of queues
+    in_place : (k : ℕ) (o : Option Queue) → slice_get queues k ≡ o
+        → map plan_of (option_map_or (λ q. set queues k (change q)) o queues) ≡ map plan_of queues
     in_place k None got = refl
     in_place k (Some q) got = written k q got
 
@@ -182,13 +197,15 @@ plans_stay s place.Journal l = refl
 -- ---- each queue is found by its name
 
 at_place : (p : Queue → Bool) (queues : List Queue) (k : ℕ) → k < length queues → position_or_len p queues ≡ k → position p queues ≡ Some k
-at_place p queues k within is = subst (λ n. cond (ltb n (length queues)) (Some n) None ≡ Some k) (sym is) (at (ltb k (length queues)) (λ f. ltb-false k (length queues) f))
+at_place p queues k within is = subst (λ n. cond (ltb n (length queues)) (Some n) None ≡ Some k) (sym is) (at (ltb k (length queues))
+    (λ f. ltb-false k (length queues) f))
   where
     at : (t : Bool) → (t ≡ false → length queues ≤ k) → cond t (Some k) None ≡ Some k
     at true beyond = refl
     at false beyond = let h : length queues ≤ k = beyond refl in absurd (omega (arith, within))
 
-pub found_by_its_name : (queues : List Queue) (k : ℕ) (q : Queue) → NamesDiffer queues → slice_get queues k ≡ Some q → found queues q.plan.name ≡ Some k
+pub found_by_its_name : (queues : List Queue) (k : ℕ) (q : Queue) → NamesDiffer queues → slice_get queues k ≡ Some q
+    → found queues q.plan.name ≡ Some k
 found_by_its_name queues k q differ got =
     at_place has queues k within (position_or_len_is has queues k q (omega (arith, within)) before (λ _. is_itself))
   where

@@ -18,7 +18,8 @@ past_the_end p queues none = at (ltb (position_or_len p queues) (length queues))
     at true beyond e = absurd (none-some (position_or_len p queues) (sym e))
     at false beyond e = beyond refl
 
-none_has : (queues : List Queue) (name : List ℕ) → found queues name ≡ None → (k : ℕ) (d : List ℕ) → k < length (map (λ (q : Queue). q.plan.name) queues)
+none_has : (queues : List Queue) (name : List ℕ) → found queues name ≡ None → (k : ℕ) (d : List ℕ)
+    → k < length (map (λ (q : Queue). q.plan.name) queues)
     → same_ignoring_case (get_or (map (λ (q : Queue). q.plan.name) queues) k d) name ≡ false
 none_has queues name none k d within = at (slice_get_cases queues k).1
   where
@@ -31,7 +32,8 @@ none_has queues name none k d within = at (slice_get_cases queues k).1
     inside : k < length queues
     inside = subst (λ n. k < n) (length-map queues name_of) within
 
-    at : ((q : Queue) × (k < length queues) × (slice_get queues k ≡ Some q) × (get_or queues k q ≡ q)) ⊎ ((length queues ≤ k) × (slice_get queues k ≡ None))
+    at : ((q : Queue) × (k < length queues) × (slice_get queues k ≡ Some q) × (get_or queues k q ≡ q)) ⊎ ((length queues ≤ k) ×
+        (slice_get queues k ≡ None))
         → same_ignoring_case (get_or (map name_of queues) k d) name ≡ false
     at (inl (q, there, got, is)) =
         ap (λ n. same_ignoring_case n name) (get_or-map name_of queues k q d inside)

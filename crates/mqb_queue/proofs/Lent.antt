@@ -20,7 +20,8 @@ pub record IsFound (queues : List Queue) (name : List ℕ) (k : ℕ) (q : Queue)
   pub is : q ≡ get_or queues k q
 
 -- as a search and a read tell it
-pub is_found : {queues items : List Queue} (name : List ℕ) {k : ℕ} {q : Queue} {number : Option ℕ} → queues ≡ items → number ≡ found queues name → number ≡ Some k
+pub is_found : {queues items : List Queue} (name : List ℕ) {k : ℕ} {q : Queue} {number : Option ℕ} → queues ≡ items
+    → number ≡ found queues name → number ≡ Some k
     → q ≡ get_or items k q → IsFound items name k q
 is_found name same number some read = record { at = ap (λ qs. found qs name) (sym same) ∙ (sym number ∙ some); is = read }
 
@@ -46,7 +47,8 @@ still_differ {queues} {name} {k} {q} h r same differ =
     let name_of : Queue → List ℕ = λ s. s.plan.name in
     let names : map name_of (set queues k r) ≡ map name_of queues =
     map-set name_of queues k r
-    ∙ (ap (λ n. set (map name_of queues) k n) (ap (λ p. p.name) same ∙ (ap name_of h.is ∙ sym (get_or-map name_of queues k q (name_of q) (within h))))
+    ∙ (ap (λ n. set (map name_of queues) k n) (ap (λ p. p.name) same ∙ (ap name_of h.is
+    ∙ sym (get_or-map name_of queues k q (name_of q) (within h))))
     ∙ set-get_or (map name_of queues) k (name_of q)) in
     subst (λ ns. AllPairs (λ a b. same_ignoring_case a b ≡ false) ns) (sym names) differ
 
@@ -81,11 +83,13 @@ unchanged_queue queues name part change l same is = at (found queues name) is
     set_same : (k : ℕ) (q : Queue) → slice_get queues k ≡ Some q → change q ≡ q → set queues k (change q) ≡ queues
     set_same k q got is_q = ap (λ r. set queues k r) (is_q ∙ sym (get_or_from_slice_get queues k q q got)) ∙ set-get_or queues k q
 
-    in_place : (k : ℕ) (o : Option Queue) → slice_get queues k ≡ o → option_map part o ≡ Some l → option_map_or (λ q. set queues k (change q)) o queues ≡ queues
+    in_place : (k : ℕ) (o : Option Queue) → slice_get queues k ≡ o → option_map part o ≡ Some l
+        → option_map_or (λ q. set queues k (change q)) o queues ≡ queues
     in_place k None got h = absurd (none-some l h)
     in_place k (Some q) got h = set_same k q got (same q (same_Some (part q) l h))
 
-    at : (o : Option ℕ) → option_map part (option_and_then (λ k. slice_get queues k) o) ≡ Some l → option_map_or (λ k. changed_at queues k change) o queues ≡ queues
+    at : (o : Option ℕ) → option_map part (option_and_then (λ k. slice_get queues k) o) ≡ Some l
+        → option_map_or (λ k. changed_at queues k change) o queues ≡ queues
     at None h = absurd (none-some l h)
     at (Some k) h = in_place k (slice_get queues k) refl h
 
@@ -102,6 +106,7 @@ restored s place.DeadXact l is = ap (λ m. record s { dead_xact = m }) (sym (sam
 restored s place.Journal l is = ap (λ m. record s { journal = m }) (sym (same_Some s.journal l is))
 
 -- the same after a refusal that left the lists
-pub restored_on_err : {A B : Type 0} (r : Result A B) (s : Places) (p : Place) (l m : Lists) → lists_at s p ≡ Some l → OnErr r (m ≡ l) → OnErr r (with_lists s p m ≡ s)
+pub restored_on_err : {A B : Type 0} (r : Result A B) (s : Places) (p : Place) (l m : Lists) → lists_at s p ≡ Some l → OnErr r (m ≡ l)
+    → OnErr r (with_lists s p m ≡ s)
 restored_on_err (Ok x) s p l m is same = same
 restored_on_err (Err e) s p l m is same = ap (λ n. with_lists s p n) same ∙ restored s p l is

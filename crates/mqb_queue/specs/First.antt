@@ -24,7 +24,8 @@ pub record IsFirst (free : Message → Bool) (before : List Message) (first : Me
 -- the first message of a list, where one is free
 abbrev pub First : (Message → Bool) → List Message → Option Message → Type 0
 First free held None = All (λ m. free m ≡ false) held
-First free held (Some first) = (before : List Message) × (behind : List Message) × (held ≡ before ++ first ∷ behind) × IsFirst free before first behind
+First free held (Some first) = (before : List Message) × (behind : List Message) ×
+    (held ≡ before ++ first ∷ behind) × IsFirst free before first behind
 
 -- of two messages the one of the greater priority, else the former
 abbrev pub higher : Option Message → Option Message → Option Message

@@ -24,7 +24,8 @@ same_place _ _ = false
 
 -- A place that is there and is given lists has them, and every other place has what it had.
 abbrev pub OnePlaceChanges : Type 0
-OnePlaceChanges = (s : Places) (p q : Place) (l : Lists) → IsSome (lists_at s p) → lists_at (with_lists s p l) q ≡ (if same_place p q then Some l else lists_at s q)
+OnePlaceChanges = (s : Places) (p q : Place) (l : Lists) → IsSome (lists_at s p)
+    → lists_at (with_lists s p l) q ≡ (if same_place p q then Some l else lists_at s q)
 
 abbrev pub plans : List Queue → List QueuePlan
 plans queues = map (λ q. q.plan) queues

@@ -1,4 +1,4 @@
-use Rattle.std.specs.Prelude.{◌≡◌, ℕ, false, List, map, position, slice_get, slice_set, AllPairs, Option, Some, option_and_then}
+use Rattle.std.specs.Prelude.{◌≡◌, ℕ, ◌-◌, max, false, List, [], ◌∷◌, ◌++◌, map, position, slice_get, slice_set, AllPairs, Option, Some, option_and_then}
 use Rattle.std.specs.Option.{option_map, option_map_or}
 use Rattle.mqb_base.specs.declared.queues.Place.{Place}
 use Rattle.mqb_base.specs.declared.queues.Place.TheVariants as place
@@ -18,6 +18,18 @@ pub record Places : Type 0 where
 -- a queue without messages
 abbrev pub new_queue : QueuePlan → Queue
 new_queue plan = record { plan = plan; lists = no_messages; journal = no_messages }
+
+-- no queues, and no messages
+abbrev pub nothing : Places
+nothing = record { queues = []; spare_queues = 0; dead = no_messages; dead_xact = no_messages; journal = no_messages }
+
+-- a queue without messages joins the others at the end
+abbrev pub with_queue : Places → QueuePlan → Places
+with_queue s plan = record s { queues = s.queues ++ new_queue plan ∷ []; spare_queues = s.spare_queues - 1 }
+
+-- there is room for one more queue
+abbrev pub with_queue_room : Places → Places
+with_queue_room s = record s { spare_queues = max s.spare_queues 1 }
 
 -- the number of the queue with a name, from 0, the case of letters left aside
 abbrev pub found : List Queue → List ℕ → Option ℕ

@@ -1,10 +1,10 @@
-ghost use Rattle.std.specs.Prelude.{◌≡◌, ◌<◌, ◌≤◌, ◌-◌, max, [], ◌∷◌, ◌++◌, length, slice_get, Some, None, IsSome, IfSome, IsSomeAnd, OnOk, OnErr, IfErr, IsOk, option_copied, option_and_then};
+ghost use Rattle.std.specs.Prelude.{◌≡◌, ◌<◌, ◌≤◌, ◌-◌, [], ◌∷◌, ◌++◌, length, slice_get, Some, None, IsSome, IfSome, IsSomeAnd, OnOk, OnErr, IfErr, IsOk, option_copied, option_and_then};
 ghost use Rattle.std.specs.Borrow.{sem};
 ghost use Rattle.std.specs.Option.{option_map};
 ghost use Rattle.mqb_queue.specs.Arrival.{arrival_refusal};
 ghost use Rattle.mqb_queue.specs.First.{FirstAt};
-ghost use Rattle.mqb_queue.specs.Lists.{no_messages, count, put, put_express, without, without_express, with_room};
-ghost use Rattle.mqb_queue.specs.Places.{NamesDiffer, found, lists_at, changed, new_queue};
+ghost use Rattle.mqb_queue.specs.Lists.{count, put, put_express, without, without_express, with_room};
+ghost use Rattle.mqb_queue.specs.Places.{NamesDiffer, found, lists_at, changed, nothing, with_queue, with_queue_room};
 ghost use Rattle.mqb_queue.specs.Lending.{LendsLists};
 
 use crate::arrival::queue_refusal;
@@ -39,7 +39,7 @@ impl Model for Queues {
 impl Queues {
     /// No queues, and places without messages.
     pub fn new(alloc: Global) -> Queues
-        ensures { result ≡ record { queues = []; spare_queues = 0; dead = no_messages; dead_xact = no_messages; journal = no_messages } }
+        ensures { result ≡ nothing }
     {
         Queues {
             queues: Vec::new(alloc),
@@ -175,7 +175,7 @@ impl Queues {
 
     /// Makes room for a queue with this name.
     pub fn reserve_queue(&mut self, _name: &Name) -> Result<(), Memory>
-        ensures ok { OnOk result (self.new ≡ record self.old { spare_queues = max self.old.spare_queues 1 }) }
+        ensures ok { OnOk result (self.new ≡ with_queue_room self.old) }
         ensures ready { 0 < self.old.spare_queues → IsOk result }
         ensures err { OnErr result (self.new ≡ self.old) }
     {
@@ -192,7 +192,7 @@ impl Queues {
     /// Adds a queue without messages at the end.
     pub fn add_queue(&mut self, plan: QueuePlan) -> Result<(), (QueuePlan, Memory)>
         requires { found self.old.queues plan.name ≡ None }
-        ensures ok { OnOk result (self.new ≡ record self.old { queues = self.old.queues ++ new_queue plan ∷ []; spare_queues = self.old.spare_queues - 1 }) }
+        ensures ok { OnOk result (self.new ≡ with_queue self.old plan) }
         ensures ready { 0 < self.old.spare_queues → IsOk result }
         ensures err { OnErr result (self.new ≡ self.old) }
         ensures handed_back { IfErr result (λ back. back.0 ≡ plan) }
