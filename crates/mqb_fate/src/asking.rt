@@ -1,0 +1,75 @@
+ghost use Rattle.std.specs.Prelude.{◌≡◌};
+ghost use Rattle.mqb_fate.specs.Asking.{is_ordinary, is_transactional, matching_bit, asks_for, keeps_dead, final_is_due, goes_dead};
+
+use mqb_base::{Class, Delivery, Guid, Message, Place};
+
+/// The bit of `Message::journal` by which dead letters are kept.
+const DEAD_LETTER: u8 = 1;
+
+pub(crate) fn is_ordinary(message: &Message) -> bool
+    ensures { result ≡ is_ordinary message.now }
+{
+    message.class == Class::NORMAL
+}
+
+fn is_transactional(delivery: Delivery) -> bool
+    ensures { result ≡ is_transactional delivery }
+{
+    matches!(delivery, Delivery::Transactional)
+}
+
+/// The bit of `Message::ack` by which a message asks to hear of a class.
+fn matching_bit(class: Class) -> Option<u8>
+    ensures { result ≡ matching_bit class.0 }
+{
+    match class.0 {
+        0x0002 => Some(1),
+        0x4000 => Some(2),
+        0x8000..=0xBFFF => Some(4),
+        0xC000..=0xFFFF => Some(8),
+        _ => None,
+    }
+}
+
+pub(crate) fn asks_for(message: &Message, class: Class) -> bool
+    ensures { result ≡ asks_for message.now class }
+{
+    match matching_bit(class) {
+        Some(bit) => message.ack & bit != 0,
+        None => false,
+    }
+}
+
+fn keeps_dead(message: &Message) -> bool
+    ensures { result ≡ keeps_dead message.now }
+{
+    message.journal & DEAD_LETTER != 0
+}
+
+/// Whether a final acknowledgement is due to the source of a message that meets a class.
+pub(crate) fn final_is_due(message: &Message, class: Class, own: Guid) -> bool
+    ensures { result ≡ final_is_due message.now class own }
+{
+    is_ordinary(message)
+        && is_transactional(message.delivery)
+        && message.id.qm != own
+        && keeps_dead(message)
+        && class != Class::REACHED_QUEUE
+}
+
+/// The dead-letter queue into which a message goes that meets a class, where it goes into one.
+pub fn goes_dead(message: &Message, class: Class, own: Guid) -> Option<Place>
+    ensures { result ≡ goes_dead message.now class own }
+{
+    if !is_ordinary(message) || !class.is_negative() || !keeps_dead(message) {
+        return None;
+    }
+    if final_is_due(message, class, own) {
+        return None;
+    }
+    Some(if is_transactional(message.delivery) {
+        Place::DeadXact
+    } else {
+        Place::Dead
+    })
+}

@@ -1,0 +1,47 @@
+-- A queue with a new name joins a list.
+use Rattle.std.proofs.Common.{◌≡◌, ℕ, ◌<◌, ◌≤◌, Bool, true, false, cond, ltb, List, [], ◌∷◌, ◌++◌, length, get_or, map, Some, None, ◌⊎◌, inl, inr, refl, sym, ap, ◌∙◌, subst, arith}
+use Rattle.std.specs.List.{AllPairs, position, position_or_len, slice_get}
+use Rattle.std.proofs.lemmas.Bool.{ltb-false}
+use Rattle.std.proofs.lemmas.List.{map-append, get_or-map, length-map}
+use Rattle.std.proofs.lemmas.List.Quantifiers.{all_pairs_push}
+use Rattle.std.proofs.lemmas.List.Sums.{fails_before_first}
+use Rattle.std.proofs.lemmas.Option.{slice_get_cases, none-some}
+use Rattle.mqb_base.specs.Same.{same_ignoring_case}
+use Rattle.mqb_queue.specs.declared.queue.Queue.{Queue}
+use Rattle.mqb_queue.specs.Places.{NamesDiffer, found}
+
+past_the_end : (p : Queue → Bool) (queues : List Queue) → position p queues ≡ None → length queues ≤ position_or_len p queues
+past_the_end p queues none = at (ltb (position_or_len p queues) (length queues)) (λ f. ltb-false (position_or_len p queues) (length queues) f) none
+  where
+    at : (b : Bool) → (b ≡ false → length queues ≤ position_or_len p queues) → cond b (Some (position_or_len p queues)) None ≡ None
+        → length queues ≤ position_or_len p queues
+    at true beyond e = absurd (none-some (position_or_len p queues) (sym e))
+    at false beyond e = beyond refl
+
+none_has : (queues : List Queue) (name : List ℕ) → found queues name ≡ None → (k : ℕ) (d : List ℕ)
+    → k < length (map (λ (q : Queue). q.plan.name) queues)
+    → same_ignoring_case (get_or (map (λ (q : Queue). q.plan.name) queues) k d) name ≡ false
+none_has queues name none k d within = at (slice_get_cases queues k).1
+  where
+    name_of : Queue → List ℕ
+    name_of q = q.plan.name
+
+    has : Queue → Bool
+    has q = same_ignoring_case q.plan.name name
+
+    inside : k < length queues
+    inside = subst (λ n. k < n) (length-map queues name_of) within
+
+    at : ((q : Queue) × (k < length queues) × (slice_get queues k ≡ Some q) × (get_or queues k q ≡ q)) ⊎ ((length queues ≤ k) ×
+        (slice_get queues k ≡ None))
+        → same_ignoring_case (get_or (map name_of queues) k d) name ≡ false
+    at (inl (q, there, got, is)) =
+        ap (λ n. same_ignoring_case n name) (get_or-map name_of queues k q d inside)
+        ∙ fails_before_first has queues k q (omega (arith, inside, past_the_end has queues none))
+    at (inr (past, nothing)) = absurd (omega (arith, inside))
+
+pub new_differs : (queues : List Queue) (q : Queue) → found queues q.plan.name ≡ None → NamesDiffer queues → NamesDiffer (queues ++ q ∷ [])
+new_differs queues q none differ =
+    let name_of : Queue → List ℕ = λ r. r.plan.name in
+    subst (λ ns. AllPairs (λ a b. same_ignoring_case a b ≡ false) ns) (sym (map-append name_of queues (q ∷ [])))
+    (all_pairs_push (λ a b. same_ignoring_case a b ≡ false) (map name_of queues) q.plan.name differ (none_has queues q.plan.name none))

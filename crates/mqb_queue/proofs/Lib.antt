@@ -1,0 +1,5 @@
+pub mod Lent
+pub mod Firsts
+pub mod Distinct
+pub mod Splits
+pub mod Changes

@@ -1,0 +1,6 @@
+pub mod Lists
+pub mod Places
+pub mod Arrival
+pub mod First
+pub mod Laws
+pub mod Lending
