@@ -1,0 +1,4 @@
+pub mod Passing
+pub mod Formats
+pub mod FieldFormats
+pub mod ListFormats

@@ -1,0 +1,18 @@
+//! The entries of a store: each record is one entry, which says how the durable state changes.
+#![tactic(auto)]
+
+mod entry;
+mod faults;
+mod fields;
+mod kinds;
+mod lists;
+mod members;
+mod reading;
+mod slices;
+
+pub use entry::{ArrivedPart, Entry, EntryPlace, IdentityView, QueueView};
+pub use faults::EntryFault;
+pub use lists::{Marks, Numbers, Ops};
+pub use members::{Mark, OpView};
+pub use reading::entry_view;
+pub use slices::{NameSlice, PacketSlice};
