@@ -64,11 +64,11 @@ unfoldable pub place_at : Reading → Result (EntryPlace × Reading) EntryFault
 place_at r = do
   byte ← u8_at r
   if byte.0 == 1 then queue_in r place.Queue byte.1
-    else if byte.0 == 2 then queue_in r place.JournalOf byte.1
-    else if byte.0 == 3 then Ok (place.Dead, byte.1)
-    else if byte.0 == 4 then Ok (place.DeadXact, byte.1)
-    else if byte.0 == 5 then Ok (place.Journal, byte.1)
-    else outside r
+      else if byte.0 == 2 then queue_in r place.JournalOf byte.1
+      else if byte.0 == 3 then Ok (place.Dead, byte.1)
+      else if byte.0 == 4 then Ok (place.DeadXact, byte.1)
+      else if byte.0 == 5 then Ok (place.Journal, byte.1)
+      else outside r
 
 -- a packet as it was heard
 abbrev pub heard_at : (List ℕ → ArrivedPart) → Reading → Result (ArrivedPart × Reading) EntryFault
@@ -86,11 +86,11 @@ unfoldable pub part_at : Reading → Result (ArrivedPart × Reading) EntryFault
 part_at r = do
   byte ← u8_at r
   if byte.0 == 0 then Ok (part.Nothing, byte.1)
-    else if byte.0 == 1 then heard_at part.Decided byte.1
-    else if byte.0 == 2 then heard_at part.Stored byte.1
-    else if byte.0 == 3 then acknowledged_at byte.1
-    else if byte.0 == 4 then heard_at part.Final byte.1
-    else outside r
+      else if byte.0 == 1 then heard_at part.Decided byte.1
+      else if byte.0 == 2 then heard_at part.Stored byte.1
+      else if byte.0 == 3 then acknowledged_at byte.1
+      else if byte.0 == 4 then heard_at part.Final byte.1
+      else outside r
 
 abbrev pub commit_at : Reading → Result (Entry × Reading) EntryFault
 commit_at r = do

@@ -124,3 +124,24 @@ IsEntry (Arrived now released part) = IsWord now × AreNumbers released × IsPar
 IsEntry (Taken now place id) = IsWord now × IsPlace place × IsId id
 IsEntry (Purged now place) = IsWord now × IsPlace place
 IsEntry (Ticked now) = IsWord now
+
+-- a part whose length is that of the grammar
+abbrev pub FitsPart : ArrivedPart → Type 0
+FitsPart part.Nothing = Unit {0}
+FitsPart (part.Decided packet) = IsPacket packet
+FitsPart (part.Stored packet) = IsPacket packet
+FitsPart (part.OrderAcknowledged ordinal number) = Unit {0}
+FitsPart (part.Final packet) = IsPacket packet
+
+-- an entry whose counts and lengths are those of the grammar
+abbrev pub Fits : Entry → Type 0
+Fits (Identity identity) = Unit {0}
+Fits (Peer peer) = Unit {0}
+Fits (CreateQueue queue) = Unit {0}
+Fits (Commit now ops) = IsFew (length ops)
+Fits (Plain now packet) = IsPacket packet
+Fits (Offered marks) = IsFew (length marks)
+Fits (Arrived now released part) = (length released ≤ 0xFFFF) × FitsPart part
+Fits (Taken now place id) = Unit {0}
+Fits (Purged now place) = Unit {0}
+Fits (Ticked now) = Unit {0}

@@ -5,10 +5,12 @@ mod entry;
 mod faults;
 mod fields;
 mod kinds;
+mod lengths;
 mod lists;
 mod members;
 mod reading;
 mod slices;
+mod writing;
 
 pub use entry::{ArrivedPart, Entry, EntryPlace, IdentityView, QueueView};
 pub use faults::EntryFault;
@@ -16,3 +18,4 @@ pub use lists::{Marks, Numbers, Ops};
 pub use members::{Mark, OpView};
 pub use reading::entry_view;
 pub use slices::{NameSlice, PacketSlice};
+pub use writing::{put_entry, put_mark, put_number, put_op};
