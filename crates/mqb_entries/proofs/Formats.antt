@@ -107,7 +107,7 @@ part_format count = record { again = part_again count; took = part_took count }
 field_again : {X : Type 0} (r : Reading) (read : Result X Short) (x : X) → read ≡ Ok x → field r read ≡ Ok x
 field_again r read x e = rw e refl
 
-field_gives : {X : Type 0} (r : Reading) (read : Result X Short) (x : X) → field r read ≡ Ok x → read ≡ Ok x
+pub field_gives : {X : Type 0} (r : Reading) (read : Result X Short) (x : X) → field r read ≡ Ok x → read ≡ Ok x
 field_gives {X = X} r (Ok y) x e = ap (λ (z : X). Ok z) (ok_same EntryFault y x e)
 field_gives r (Err short) x e = absurd cc
 
@@ -127,7 +127,7 @@ abbrev pub behind : {A B : Type 0} → (E : Type 0) → A → B × Reading → R
 behind E a x = Ok ((a, x.0), x.1)
 
 -- the same, seen otherwise
-map_again : {A B E : Type 0} (read : Result (A × Reading) E) (to : A → B) (a : A) (b : B) (after : Reading) → read ≡ Ok (a, after) → to a ≡ b
+pub map_again : {A B E : Type 0} (read : Result (A × Reading) E) (to : A → B) (a : A) (b : B) (after : Reading) → read ≡ Ok (a, after) → to a ≡ b
     → (read >>= seen E to) ≡ Ok (b, after)
 map_again read to a b after e same = rw (e, same) refl
 

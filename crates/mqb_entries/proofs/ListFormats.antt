@@ -102,7 +102,7 @@ op_format = record { again = op_again; took = op_took }
 abbrev ended : {X : Type 0} → List X × Reading → Result Reading EntryFault
 ended xs = Ok xs.1
 
-nothing_left : (r : Reading) (text : List ℕ) → rest_of r ≡ text → length (rest_of (moved (length text) r)) ≡ 0
+pub nothing_left : (r : Reading) (text : List ℕ) → rest_of r ≡ text → length (rest_of (moved (length text) r)) ≡ 0
 nothing_left r text e = ap (λ (t : List ℕ). length t) (rest_again r text [] (e ∙ sym (append-nil text)))
 
 -- what is spelled is what the bytes have as members

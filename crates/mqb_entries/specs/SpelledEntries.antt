@@ -21,7 +21,7 @@ abbrev pub spelled_identity : IdentityView → List ℕ
 spelled_identity m = spelled_name m.host ++ spelled_guid m.guid ++ m.address
 
 abbrev pub spelled_queue : QueueView → List ℕ
-spelled_queue q = (spelled_name q.name ++ bytes_of 4 q.number ++ spelled_public q.public)
+spelled_queue q = spelled_name q.name ++ bytes_of 4 q.number ++ spelled_public q.public
     ++ spelled_flag q.transactional ++ bytes_of 4 q.quota ++ spelled_flag q.journal
 
 abbrev pub spelled_ops : List OpView → List ℕ

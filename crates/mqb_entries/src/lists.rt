@@ -1,4 +1,4 @@
-ghost use Rattle.std.specs.Prelude.{◌≡◌, [], ◌∷◌, length, MatchOption};
+ghost use Rattle.std.specs.Prelude.{◌≡◌, [], ◌∷◌, length, IfOk, IfSome, MatchOption};
 ghost use Rattle.std.specs.List.{flat_map};
 ghost use Rattle.mqb_fields.specs.Reading.{Moves, Reads};
 ghost use Rattle.mqb_fields.specs.Writing.{bytes_of};
@@ -47,7 +47,8 @@ impl<'a> Ops<'a> {
     /// The ops that bytes spell, where all of the bytes are so many.
     #[tactic(auto, unfolding(crate::specs::Lists::members_of))]
     pub fn new(bytes: &'a [u8], count: u16) -> Option<Ops<'a>>
-        ensures { result ≡ members_of op_at count bytes.now }
+        ensures members { result ≡ members_of op_at count bytes.now }
+        ensures count { IfSome result (λ ops. length ops ≡ count) }
     {
         let mut cursor = Cursor::new(bytes);
         let ops = Ops::read(&mut cursor, count).ok()?;
@@ -59,7 +60,8 @@ impl<'a> Ops<'a> {
     }
 
     pub(crate) fn read(cursor: &mut Cursor<'a>, count: u16) -> Result<Ops<'a>, EntryFault>
-        ensures { Reads (many op_at count) cursor.old cursor.new result }
+        ensures read { Reads (many op_at count) cursor.old cursor.new result }
+        ensures count { IfOk result (λ ops. length ops ≡ count) }
     {
         let start = cursor.at();
         let bytes = cursor.rest();
@@ -139,7 +141,8 @@ impl<'a> Marks<'a> {
     /// The marks that bytes spell, where all of the bytes are so many.
     #[tactic(auto, unfolding(crate::specs::Lists::members_of))]
     pub fn new(bytes: &'a [u8], count: u16) -> Option<Marks<'a>>
-        ensures { result ≡ members_of mark_at count bytes.now }
+        ensures members { result ≡ members_of mark_at count bytes.now }
+        ensures count { IfSome result (λ marks. length marks ≡ count) }
     {
         let mut cursor = Cursor::new(bytes);
         let marks = Marks::read(&mut cursor, count).ok()?;
@@ -151,7 +154,8 @@ impl<'a> Marks<'a> {
     }
 
     pub(crate) fn read(cursor: &mut Cursor<'a>, count: u16) -> Result<Marks<'a>, EntryFault>
-        ensures { Reads (many mark_at count) cursor.old cursor.new result }
+        ensures read { Reads (many mark_at count) cursor.old cursor.new result }
+        ensures count { IfOk result (λ marks. length marks ≡ count) }
     {
         let start = cursor.at();
         let bytes = cursor.rest();
@@ -231,7 +235,8 @@ impl<'a> Numbers<'a> {
     /// The numbers that bytes spell, where all of the bytes are so many.
     #[tactic(auto, unfolding(crate::specs::Lists::members_of))]
     pub fn new(bytes: &'a [u8], count: u16) -> Option<Numbers<'a>>
-        ensures { result ≡ members_of u32_at count bytes.now }
+        ensures members { result ≡ members_of u32_at count bytes.now }
+        ensures count { IfSome result (λ numbers. length numbers ≡ count) }
     {
         let mut cursor = Cursor::new(bytes);
         let numbers = Numbers::read(&mut cursor, count).ok()?;
@@ -243,7 +248,8 @@ impl<'a> Numbers<'a> {
     }
 
     pub(crate) fn read(cursor: &mut Cursor<'a>, count: u16) -> Result<Numbers<'a>, EntryFault>
-        ensures { Reads (many u32_at count) cursor.old cursor.new result }
+        ensures read { Reads (many u32_at count) cursor.old cursor.new result }
+        ensures count { IfOk result (λ numbers. length numbers ≡ count) }
     {
         let start = cursor.at();
         let bytes = cursor.rest();

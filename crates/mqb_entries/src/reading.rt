@@ -1,7 +1,8 @@
-ghost use Rattle.std.specs.Prelude.{◌≡◌};
+ghost use Rattle.std.specs.Prelude.{◌≡◌, IfOk};
 ghost use Rattle.mqb_fields.specs.Reading.{Reads, ReadsAs};
 ghost use Rattle.mqb_entries.specs.Entries.{entry_of, fields_at, identity_at, kind_at, marks_at, numbers_at, ops_at, part_at, place_at, queue_at};
 ghost use Rattle.mqb_entries.specs.Lists.{count_at};
+ghost use Rattle.mqb_entries.specs.SpelledEntries.{Fits};
 
 use crate::entry::{ArrivedPart, Entry, EntryPlace, IdentityView, QueueView};
 use crate::faults::EntryFault;
@@ -181,9 +182,8 @@ fn fields<'a>(kind: EntryKind, cursor: &mut Cursor<'a>) -> Result<Entry<'a>, Ent
     }
 }
 
-/// The entry that bytes are, all of them.
 #[tactic(auto, unfolding(crate::specs::Entries::entry_of))]
-pub fn entry_view(bytes: &[u8]) -> Result<Entry<'_>, EntryFault>
+fn entry(bytes: &[u8]) -> Result<Entry<'_>, EntryFault>
     ensures { result ≡ entry_of bytes.now }
 {
     let mut cursor = Cursor::new(bytes);
@@ -194,4 +194,13 @@ pub fn entry_view(bytes: &[u8]) -> Result<Entry<'_>, EntryFault>
     } else {
         Err(EntryFault { at: cursor.at() })
     }
+}
+
+/// The entry that bytes are, all of them.
+pub fn entry_view(bytes: &[u8]) -> Result<Entry<'_>, EntryFault>
+    ensures entry { result ≡ entry_of bytes.now }
+    // It can be put again.
+    ensures fits { IfOk result (λ entry. Fits entry) }
+{
+    entry(bytes)
 }

@@ -1,7 +1,6 @@
 use Rattle.std.proofs.lemmas.Result.{err_from_is_err_and}
 use Rattle.mqb_entries.specs.Lists.{passed}
 use Rattle.mqb_entries.specs.Fields.{u32_at}
-use Rattle.mqb_entries.proofs.Formats.{many_format}
 use Rattle.mqb_entries.proofs.Passing.{goes_on, ends, is_done}
 use Rattle.mqb_entries.proofs.lists.pass_numbers.Goals as goal
 

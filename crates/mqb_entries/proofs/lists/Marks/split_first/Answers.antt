@@ -1,11 +1,10 @@
-use Rattle.std.proofs.Common.{◌≡◌, ◌-◌, ◌<◌, ℕ, List, [], Ok, sym, ap, ◌∙◌, arith}
+use Rattle.std.proofs.Common.{◌-◌, ◌<◌, ℕ, List, [], sym, ap, ◌∙◌, arith}
 use Rattle.std.specs.Prelude.{unwrap_or}
-use Rattle.mqb_fields.specs.Reading.{Reading}
 use Rattle.mqb_entries.specs.declared.members.Mark.{Mark}
 use Rattle.mqb_entries.specs.Lists.{members_of}
 use Rattle.mqb_entries.specs.Members.{mark_at}
 use Rattle.mqb_entries.specs.Spelled.{spelled_mark, IsMark}
-use Rattle.mqb_entries.proofs.ListFormats.{mark_format, IsSplit, IsHead, split_here, split_as, read_apart}
+use Rattle.mqb_entries.proofs.ListFormats.{mark_format, IsHead, split_here, split_as, read_apart}
 use Rattle.mqb_entries.proofs.lists.Marks.split_first.Goals as goal
 
 abbrev all_of : List ℕ → ℕ → List Mark

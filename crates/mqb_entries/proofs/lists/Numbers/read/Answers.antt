@@ -9,8 +9,8 @@ use Rattle.mqb_entries.proofs.Formats.{IsBytes, are_bytes}
 use Rattle.mqb_entries.proofs.ListFormats.{IsCut, cut_at, cut_as, passing_fails}
 use Rattle.mqb_entries.proofs.lists.Numbers.read.Goals as goal
 
-pub returns-in_err-pass_numbers : goal.returns-in_err-pass_numbers
-returns-in_err-pass_numbers c =
+pub returns-in_err-pass_numbers-clause-read : goal.returns-in_err-pass_numbers-clause-read
+returns-in_err-pass_numbers-clause-read c =
     let p = err_from_is_err_and c.from_residual.result c.from_residual.ensures.1 in
     rw (p.1, p.2) (passing_fails u32_at c.args.count c.args.cursor.now c.in_err-pass_numbers.field-0.0 c.in_err-pass_numbers.ensures)
 
@@ -33,6 +33,10 @@ pub invariant_of-result : goal.invariant_of-result
 invariant_of-result c =
     (cut_as c.args.count c.args.cursor.now c.pass_numbers.new.cursor (cut_of c) (c.at-end.result - c.at-start.result) c.rest-bytes.result.now (used_is c) c.rest-bytes.ensures).spelled
 
-pub returns : goal.returns
-returns c =
+pub returns-clause-read : goal.returns-clause-read
+returns-clause-read c =
     (cut_as c.args.count c.args.cursor.now c.pass_numbers.new.cursor (cut_of c) (c.at-end.result - c.at-start.result) c.rest-bytes.result.now (used_is c) c.rest-bytes.ensures).read
+
+pub returns-clause-count : goal.returns-clause-count
+returns-clause-count c =
+    (cut_as c.args.count c.args.cursor.now c.pass_numbers.new.cursor (cut_of c) (c.at-end.result - c.at-start.result) c.rest-bytes.result.now (used_is c) c.rest-bytes.ensures).spelled.count

@@ -1,12 +1,11 @@
-use Rattle.std.proofs.Common.{◌≡◌, ◌-◌, ◌<◌, ℕ, List, [], Ok, sym, ap, ◌∙◌, arith}
+use Rattle.std.proofs.Common.{◌-◌, ◌<◌, ℕ, List, [], sym, ap, ◌∙◌, arith}
 use Rattle.std.specs.Prelude.{unwrap_or}
-use Rattle.mqb_fields.specs.Reading.{Reading}
 use Rattle.mqb_entries.specs.Lists.{members_of}
 use Rattle.mqb_entries.specs.Fields.{u32_at}
 use Rattle.mqb_fields.specs.Writing.{bytes_of}
 use Rattle.mqb_entries.specs.Spelled.{IsWord}
 use Rattle.mqb_entries.proofs.FieldFormats.{u32_format}
-use Rattle.mqb_entries.proofs.ListFormats.{IsSplit, IsHead, split_here, split_as, read_apart}
+use Rattle.mqb_entries.proofs.ListFormats.{IsHead, split_here, split_as, read_apart}
 use Rattle.mqb_entries.proofs.lists.Numbers.split_first.Goals as goal
 
 abbrev all_of : List ℕ → ℕ → List ℕ

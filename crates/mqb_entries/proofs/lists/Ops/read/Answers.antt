@@ -7,8 +7,8 @@ use Rattle.mqb_entries.proofs.Formats.{IsBytes, are_bytes}
 use Rattle.mqb_entries.proofs.ListFormats.{op_format, IsCut, cut_at, cut_as, passing_fails}
 use Rattle.mqb_entries.proofs.lists.Ops.read.Goals as goal
 
-pub returns-in_err-pass_ops : goal.returns-in_err-pass_ops
-returns-in_err-pass_ops c =
+pub returns-in_err-pass_ops-clause-read : goal.returns-in_err-pass_ops-clause-read
+returns-in_err-pass_ops-clause-read c =
     let p = err_from_is_err_and c.from_residual.result c.from_residual.ensures.1 in
     rw (p.1, p.2) (passing_fails op_at c.args.count c.args.cursor.now c.in_err-pass_ops.field-0.0 c.in_err-pass_ops.ensures)
 
@@ -31,6 +31,10 @@ pub invariant_of-result : goal.invariant_of-result
 invariant_of-result c =
     (cut_as c.args.count c.args.cursor.now c.pass_ops.new.cursor (cut_of c) (c.at-end.result - c.at-start.result) c.rest-bytes.result.now (used_is c) c.rest-bytes.ensures).spelled
 
-pub returns : goal.returns
-returns c =
+pub returns-clause-read : goal.returns-clause-read
+returns-clause-read c =
     (cut_as c.args.count c.args.cursor.now c.pass_ops.new.cursor (cut_of c) (c.at-end.result - c.at-start.result) c.rest-bytes.result.now (used_is c) c.rest-bytes.ensures).read
+
+pub returns-clause-count : goal.returns-clause-count
+returns-clause-count c =
+    (cut_as c.args.count c.args.cursor.now c.pass_ops.new.cursor (cut_of c) (c.at-end.result - c.at-start.result) c.rest-bytes.result.now (used_is c) c.rest-bytes.ensures).spelled.count
