@@ -1,36 +1,21 @@
 -- Each entry is read as it is spelled.
-use Rattle.std.proofs.Common.{◌≡◌, ◌≤◌, ◌<◌, ℕ, zero, suc, ◌+◌, ◌^◌, Bool, true, false, cond, eqb, leb, ◌&&◌, List, [], ◌∷◌, ◌++◌, length, Option, Some, None, Result, Ok, Err, refl, sym, ap, subst, ◌∙◌, inl, inr, arith, append_assoc, find}
+use Rattle.std.proofs.Common.{◌≡◌, ◌≤◌, ℕ, Bool, true, leb, ◌&&◌, List, ◌++◌, length, Option, Result, Ok, refl, sym, ap, subst, ◌∙◌, arith, append_assoc}
 use Rattle.std.specs.List.{flat_map, AllByRecursion}
-use Rattle.std.proofs.lemmas.Bool.{eqb-true}
 use Rattle.std.proofs.lemmas.Bool.Decides.{nat_tests}
-use Rattle.std.proofs.lemmas.List.{nil_from_length, append-nil}
 use Rattle.mqb_base.specs.declared.ids.Guid.{Guid}
-use Rattle.mqb_base.specs.declared.ids.MessageId.{MessageId}
-use Rattle.mqb_fields.specs.Reading.{◌>>=◌, Reading, rest_of, moved, number_at}
+use Rattle.mqb_fields.specs.Reading.{◌>>=◌, Reading, rest_of, moved}
 use Rattle.mqb_fields.specs.Writing.{bytes_of}
 use Rattle.mqb_entries.specs.declared.faults.EntryFault.{EntryFault}
-use Rattle.mqb_entries.specs.declared.kinds.EntryKind.{EntryKind}
-use Rattle.mqb_entries.specs.declared.kinds.EntryKind.TheVariants as kind
-use Rattle.mqb_entries.specs.declared.members.Mark.{Mark}
-use Rattle.mqb_entries.specs.declared.members.OpView.{OpView}
 use Rattle.mqb_entries.specs.declared.entry.IdentityView.{IdentityView}
 use Rattle.mqb_entries.specs.declared.entry.QueueView.{QueueView}
-use Rattle.mqb_entries.specs.declared.entry.EntryPlace.{EntryPlace}
-use Rattle.mqb_entries.specs.declared.entry.EntryPlace.TheVariants as place
-use Rattle.mqb_entries.specs.declared.entry.ArrivedPart.{ArrivedPart}
-use Rattle.mqb_entries.specs.declared.entry.ArrivedPart.TheVariants as part
-use Rattle.mqb_entries.specs.declared.entry.Entry.{Entry}
-use Rattle.mqb_entries.specs.declared.entry.Entry.TheVariants.{Identity, Peer, CreateQueue, Commit, Plain, Offered, Arrived, Taken, Purged, Ticked}
-use Rattle.mqb_entries.specs.Fields.{field, outside, u8_at, u16_at, u32_at, address_at, guid_at, id_at, name_at, packet_at, flag_at, public_at}
-use Rattle.mqb_entries.specs.Lists.{many, count_at, start}
-use Rattle.mqb_entries.specs.Members.{op_at, mark_at}
-use Rattle.mqb_entries.specs.Kinds.{kinds, code_of}
-use Rattle.mqb_entries.specs.Spelled.{spelled_guid, spelled_id, spelled_name, spelled_packet, spelled_flag, spelled_public, spelled_op, spelled_mark, IsWord, IsName, IsPacket, IsGuid, IsId, IsOp, IsMark}
-use Rattle.mqb_entries.specs.SpelledEntries.{spelled_identity, spelled_queue, spelled_ops, spelled_marks, spelled_numbers, spelled_place, spelled_part, kind_of, spelled_fields, spelled, IsFew, AreOps, AreMarks, AreNumbers, IsIdentity, IsQueue, IsPlace, IsPart, IsEntry}
-use Rattle.mqb_entries.specs.Entries.{identity_at, queue_at, ops_at, marks_at, numbers_at, queue_in, place_at, heard_at, acknowledged_at, part_at, commit_at, plain_at, arrived_at, taken_at, purged_at, fields_at, kind_in, kind_at, entry_of}
-use Rattle.mqb_entries.proofs.Formats.{IsBytes, Took, IsFormat, bind_gives, bind_assoc, bind_same, ok_same, rest_again, both_moved, bytes_stay, field_format, map_again, map_format, pair_format, test_format, part_format, many_format, read_same, seen, behind}
-use Rattle.mqb_entries.proofs.FieldFormats.{number_format, one_byte, two_bytes, four_bytes, u8_format, u32_format, address_format, guid_format, id_format, name_format, packet_format, flag_format, public_format, chosen, Spans, spans, spans_both, took_of, byte_is, outside_apart}
-use Rattle.mqb_entries.proofs.ListFormats.{op_format, mark_format, nothing_left}
+use Rattle.mqb_entries.specs.Fields.{u32_at, address_at, guid_at, name_at, flag_at, public_at}
+use Rattle.mqb_entries.specs.Lists.{many, count_at}
+use Rattle.mqb_entries.specs.Spelled.{spelled_guid, spelled_name, spelled_flag, spelled_public}
+use Rattle.mqb_entries.specs.SpelledEntries.{spelled_identity, spelled_queue, spelled_ops, spelled_marks, spelled_numbers, IsFew, AreOps, AreMarks, AreNumbers, IsIdentity, IsQueue}
+use Rattle.mqb_entries.specs.Entries.{identity_at, queue_at, ops_at, marks_at, numbers_at}
+use Rattle.mqb_entries.proofs.Formats.{IsBytes, Took, IsFormat, bind_gives, bind_assoc, bind_same, rest_again, both_moved, bytes_stay, field_format, map_format, pair_format, test_format, many_format, read_same, seen, behind}
+use Rattle.mqb_entries.proofs.FieldFormats.{number_format, two_bytes, u8_format, u32_format, address_format, guid_format, name_format, flag_format, public_format, Spans, spans, spans_both, took_of}
+use Rattle.mqb_entries.proofs.ListFormats.{op_format, mark_format}
 
 abbrev pub Fault : Type 0
 Fault = EntryFault

@@ -1,6 +1,6 @@
 -- Each field is read as it is spelled.
-use Rattle.std.proofs.Common.{◌≡◌, ◌≤◌, ◌<◌, ℕ, zero, suc, ◌+◌, ◌*◌, ◌/◌, ◌%◌, ◌^◌, Bool, true, false, cond, ltb, eqb, ◌||◌, List, [], ◌∷◌, ◌++◌, length, map, slice_index, Option, Some, None, Result, Ok, Err, refl, sym, ap, subst, ◌∙◌, ◌⊎◌, inl, inr, arith, append_assoc, length-append}
-use Rattle.std.specs.Prelude.{IfSome, is_none, position, option_map}
+use Rattle.std.proofs.Common.{◌≡◌, ◌≤◌, ◌<◌, ℕ, ◌^◌, Bool, true, false, cond, ltb, eqb, ◌||◌, List, [], ◌∷◌, ◌++◌, length, Option, Some, None, Result, Ok, refl, sym, ap, subst, ◌∙◌, ◌⊎◌, inl, inr, arith, append_assoc}
+use Rattle.std.specs.Prelude.{IfSome, is_none}
 use Rattle.std.specs.Int.{byte_at}
 use Rattle.std.proofs.lemmas.Bool.{eqb-true, ltb-false}
 use Rattle.mqb_base.specs.declared.ids.Guid.{Guid}
@@ -13,7 +13,7 @@ use Rattle.mqb_fields.specs.Reading.{◌>>=◌, Reading, rest_of, moved, part_at
 use Rattle.mqb_fields.specs.Writing.{bytes_of}
 use Rattle.mqb_fields.proofs.Again.{swapped_twice, number_back}
 use Rattle.mqb_entries.specs.declared.faults.EntryFault.{EntryFault}
-use Rattle.mqb_entries.specs.Fields.{field, outside, u8_at, u16_at, u32_at, address_at, guid_part, guid_at, id_part, id_at, counted_part, name_at, packet_at, flag_at, public_at}
+use Rattle.mqb_entries.specs.Fields.{outside, u8_at, u16_at, u32_at, address_at, guid_part, guid_at, id_part, id_at, counted_part, name_at, packet_at, flag_at, public_at}
 use Rattle.mqb_entries.specs.Spelled.{spelled_guid, spelled_id, spelled_name, spelled_packet, spelled_flag, spelled_public, IsWord, IsName, IsPacket, IsGuid, IsId}
 use Rattle.mqb_entries.proofs.Formats.{IsBytes, Took, IsFormat, bind_gives, ok_same, rest_again, both_moved, bytes_stay, part_format, field_format, map_format, pair_format, test_format, seen, behind, read_same, bind_assoc, bind_same}
 

@@ -1,9 +1,8 @@
 -- Members are read as they are spelled, and the bytes of a list are those of its members.
-use Rattle.std.proofs.Common.{◌≡◌, ◌≤◌, ◌<◌, ℕ, zero, suc, ◌+◌, ◌-◌, ◌^◌, Bool, true, false, cond, eqb, List, [], ◌∷◌, ◌++◌, length, take, drop, Option, Some, None, Result, Ok, Err, refl, sym, ap, subst, ◌∙◌, inl, inr, arith, length-append, length-drop}
-use Rattle.std.specs.Prelude.{IsSome, unwrap_or}
+use Rattle.std.proofs.Common.{◌≡◌, ◌≤◌, ◌<◌, ℕ, suc, ◌+◌, ◌-◌, cond, eqb, List, [], ◌∷◌, ◌++◌, length, take, Option, Some, Result, Ok, Err, refl, sym, ap, subst, ◌∙◌, inl, inr, arith, length-append}
+use Rattle.std.specs.Prelude.{unwrap_or}
 use Rattle.std.specs.List.{flat_map, AllByRecursion}
-use Rattle.std.proofs.lemmas.Bool.{eqb-true}
-use Rattle.std.proofs.lemmas.List.{take_at, drop_all, nil_from_length, append-nil}
+use Rattle.std.proofs.lemmas.List.{take_at, append-nil}
 use Rattle.mqb_base.specs.declared.ids.MessageId.{MessageId}
 use Rattle.mqb_fields.specs.Reading.{◌>>=◌, Reading, rest_of, moved}
 use Rattle.mqb_fields.specs.Writing.{bytes_of}
@@ -12,11 +11,11 @@ use Rattle.mqb_entries.specs.declared.members.Mark.{Mark}
 use Rattle.mqb_entries.specs.declared.members.OpView.{OpView}
 use Rattle.mqb_entries.specs.declared.members.OpView.TheVariants.{Send, Take}
 use Rattle.mqb_entries.specs.Fields.{outside, u8_at, u32_at, id_at, packet_at}
-use Rattle.mqb_entries.specs.Lists.{many, passed, start, whole, members_of, AreSpelled}
+use Rattle.mqb_entries.specs.Lists.{many, passed, start, members_of, AreSpelled}
 use Rattle.mqb_entries.specs.Members.{send_at, take_at as taking_at, op_at, mark_at}
-use Rattle.mqb_entries.specs.Spelled.{spelled_id, spelled_packet, spelled_op, spelled_mark, IsOp, IsMark, IsId}
-use Rattle.mqb_entries.proofs.Formats.{IsBytes, Took, IsFormat, bind_gives, bind_assoc, bind_same, ok_same, rest_again, both_moved, further, map_format, pair_format, many_format, read_same, seen, behind}
-use Rattle.mqb_entries.proofs.FieldFormats.{u8_format, u32_format, id_format, packet_format, chosen, Spans, spans, spans_both, took_of, byte_is, outside_apart}
+use Rattle.mqb_entries.specs.Spelled.{spelled_id, spelled_packet, spelled_op, spelled_mark, IsOp, IsMark}
+use Rattle.mqb_entries.proofs.Formats.{IsBytes, Took, IsFormat, bind_gives, bind_assoc, bind_same, ok_same, rest_again, both_moved, map_format, pair_format, many_format, read_same, seen, behind}
+use Rattle.mqb_entries.proofs.FieldFormats.{u8_format, u32_format, id_format, packet_format, chosen, spans, spans_both, took_of, byte_is, outside_apart}
 
 -- marks
 abbrev made_mark : ℕ × ℕ → Mark

@@ -1,5 +1,5 @@
 -- The entries of a store: their grammar, and the first field outside it.
-use Rattle.std.specs.Prelude.{ℕ, ◌==◌, List, length, find, Option, Some, None, option_map, Result, Ok, Err, if◌then◌else◌}
+use Rattle.std.specs.Prelude.{ℕ, ◌==◌, List, length, find, Option, Some, None, Result, Ok, if◌then◌else◌}
 use Rattle.mqb_fields.specs.Reading.{◌>>=◌, Reading, rest_of, number_at}
 use Rattle.mqb_entries.specs.declared.faults.EntryFault.{EntryFault}
 use Rattle.mqb_entries.specs.declared.kinds.EntryKind.{EntryKind}

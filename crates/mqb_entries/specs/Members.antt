@@ -1,5 +1,5 @@
 -- What the lists of entries have as members.
-use Rattle.std.specs.Prelude.{ℕ, ◌==◌, Result, Ok, if◌then◌else◌}
+use Rattle.std.specs.Prelude.{◌==◌, Result, Ok, if◌then◌else◌}
 use Rattle.mqb_fields.specs.Reading.{◌>>=◌, Reading}
 use Rattle.mqb_entries.specs.declared.faults.EntryFault.{EntryFault}
 use Rattle.mqb_entries.specs.declared.members.Mark.{Mark}
