@@ -1,4 +1,4 @@
-ghost use Rattle.std.specs.Prelude.{◌≡◌, ◌+◌, ◌-◌, ◌<◌, ◌≤◌, [], ◌∷◌, ◌++◌, length, max, remove, slice_get, filter, count_by, nat_le, not, take, take_while, Some, IsSome, IsOk, OnOk, OnErr, option_map};
+ghost use Rattle.std.specs.Prelude.{◌≡◌, ◌+◌, ◌-◌, ◌<◌, ◌≤◌, [], ◌∷◌, ◌++◌, length, max, remove, slice_get, vec_capacity, filter, count_by, drop, nat_le, not, take, take_while, Some, IsSome, IsOk, OnOk, OnErr, option_map};
 ghost use Rattle.mqb_plain.specs.Lists.{InOrder, first_unsent, greatest_mark, is_sent_by, marked_next, messages_of, unmarked, unsent};
 
 use mqb_base::{Memory, Message};
@@ -30,6 +30,39 @@ fn count_up_to(marks: &[u16], number: u16) -> usize
     ensures { result ≡ length (take_while (λ mark. nat_le mark number) marks.now) }
 {
     marks.iter().take_while(|mark| **mark <= number).count()
+}
+
+fn drop_first<T: Drop>(list: &mut Vec<T>, count: usize)
+    requires { count ≤ length list.old.items }
+    ensures items { list.new.items ≡ drop count list.old.items }
+    ensures room { vec_capacity list.new ≡ vec_capacity list.old }
+{
+    list.drain(..count);
+}
+
+fn message_at(messages: &[Message], at: usize) -> Option<&Message>
+    ensures { option_map (λ message. message.now) result ≡ slice_get messages.now at }
+{
+    messages.get(at)
+}
+
+fn remove_message(messages: &mut Vec<Message>, at: usize) -> Message
+    requires { at < length messages.old.items }
+    ensures removed { slice_get messages.old.items at ≡ Some result }
+    ensures rest { messages.new.items ≡ remove messages.old.items at }
+    ensures room { vec_capacity messages.new ≡ vec_capacity messages.old }
+{
+    messages.remove(at)
+}
+
+/// Takes out the number at a place, if there is one.
+fn remove_mark(marks: &mut Vec<u16>, at: usize)
+    ensures marks { marks.new.items ≡ remove marks.old.items at }
+    ensures room { vec_capacity marks.new ≡ vec_capacity marks.old }
+{
+    if at < marks.len() {
+        marks.remove(at);
+    }
 }
 
 impl OutList {
@@ -91,14 +124,15 @@ impl OutList {
     pub(crate) fn first_unsent(&self) -> Option<&Message>
         ensures { option_map (λ message. message.now) result ≡ first_unsent self.now.items }
     {
-        self.messages.get(self.marks.len())
+        message_at(self.messages.as_slice(), self.marks.len())
     }
 
     /// Marks the first unsent message with a number.
     pub(crate) fn mark_next(&mut self, number: u16)
         requires unsent { IsSome (first_unsent self.old.items) }
         requires above { greatest_mark self.old.items < number }
-        ensures { self.new ≡ record self.old { items = marked_next number self.old.items } }
+        ensures marked { self.new ≡ record self.old { items = marked_next number self.old.items } }
+        ensures len { length self.new.items ≡ length self.old.items }
     {
         self.marks.push_reserved(number);
     }
@@ -115,10 +149,11 @@ impl OutList {
     pub(crate) fn drop_sent_by(&mut self, number: u16)
         ensures dropped { self.new.items ≡ filter (λ o. not (is_sent_by number o)) self.old.items }
         ensures spare { self.new.spare ≡ self.old.spare + count_by (is_sent_by number) self.old.items }
+        ensures total { length self.new.items + self.new.spare ≡ length self.old.items + self.old.spare }
     {
         let count = count_up_to(self.marks.as_slice(), number);
-        self.messages.drain(..count);
-        self.marks.drain(..count);
+        drop_first(&mut self.messages, count);
+        drop_first(&mut self.marks, count);
         self.spare += count as u32;
     }
 
@@ -136,10 +171,9 @@ impl OutList {
         ensures rest { self.new ≡ record { items = remove self.old.items at; spare = self.old.spare + 1 } }
     {
         let at = at as usize;
-        if at < self.marks.len() {
-            self.marks.remove(at);
-        }
+        let message = remove_message(&mut self.messages, at);
+        remove_mark(&mut self.marks, at);
         self.spare += 1;
-        self.messages.remove(at)
+        message
     }
 }
