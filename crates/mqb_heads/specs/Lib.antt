@@ -1,0 +1,7 @@
+pub mod Flags
+pub mod Fields
+pub mod Base
+pub mod User
+pub mod Transactions
+pub mod Properties
+pub mod Values
