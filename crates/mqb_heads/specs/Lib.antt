@@ -1,5 +1,6 @@
 pub mod Flags
 pub mod Fields
+pub mod Writing
 pub mod Base
 pub mod User
 pub mod Transactions

@@ -5,6 +5,7 @@ use Rattle.mqb_base.specs.declared.class.Class.{Class}
 use Rattle.mqb_base.specs.declared.ids.MessageId.{MessageId}
 use Rattle.mqb_base.specs.declared.message.Message.{Message}
 use Rattle.mqb_base.specs.Classes.{is_class}
+use Rattle.mqb_base.specs.Messages.{IsWellFormed}
 use Rattle.mqb_fields.specs.declared.faults.HeadFault.{HeadFault}
 use Rattle.mqb_fields.specs.declared.faults.HeadKind.TheVariants as fault
 use Rattle.mqb_fields.specs.Reading.{◌>>=◌, Reading}
@@ -121,6 +122,12 @@ props_at r = do
 -- the bytes of a label
 abbrev pub label_bytes : List ℕ → List ℕ
 label_bytes units = flat_map (bytes_of 2) units
+
+-- a message whose properties header may be written: the sizes of its parts fit their fields
+pub record FitsProps (m : Message) : Type 0 where
+  pub message : IsWellFormed m
+  pub extension : length m.extension < 2 ^ 32
+  pub body : length m.body < 2 ^ 32
 
 -- the fields of a message's properties header before its parts
 abbrev pub props_fields : Message → List ℕ

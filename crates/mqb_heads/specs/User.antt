@@ -1,5 +1,5 @@
 -- The user header.
-use Rattle.std.specs.Prelude.{ℕ, ◌+◌, ◌*◌, Bool, true, false, ◌&&◌, ◌||◌, nat_le, List, ◌++◌, length, Option, option_map, Result, Ok, if◌then◌else◌}
+use Rattle.std.specs.Prelude.{ℕ, ◌+◌, Bool, true, false, ◌&&◌, ◌||◌, nat_le, List, ◌++◌, length, Option, option_map, Result, Ok, if◌then◌else◌}
 use Rattle.mqb_base.specs.declared.ids.Guid.{Guid}
 use Rattle.mqb_base.specs.declared.message.Delivery.{Delivery}
 use Rattle.mqb_base.specs.declared.message.Delivery.TheVariants.{Express, Recoverable, Transactional}
@@ -14,7 +14,7 @@ use Rattle.mqb_heads.specs.declared.user.UserHead.{UserHead}
 use Rattle.mqb_heads.specs.declared.user.UserFlags.{UserFlags}
 use Rattle.mqb_heads.specs.declared.user.Names as declared
 use Rattle.mqb_heads.specs.Fields.{WireName, seen_name, wire_name, kind_or_none, wire_or_none, fault_at, field_at, source_at, name_at, optional_name_at, padded_at, padding, padded}
-use Rattle.mqb_heads.specs.Flags.{bit, bits, flag}
+use Rattle.mqb_heads.specs.Flags.{bit, bits, flag, placed}
 
 -- what a user header says
 pub record User : Type 0 where
@@ -119,7 +119,8 @@ is_transactional Transactional = true
 
 -- the user flags of a message
 abbrev pub user_flags : Message → ℕ
-user_flags m = flag 0 (is_durable m.delivery) + flag 1 (is_transactional m.delivery) + 4 * kind_of m.destination + 32 * kind_or_none m.admin + 256 * kind_or_none m.response + 2048 * m.journal
+user_flags m = flag 0 (is_durable m.delivery) + flag 1 (is_transactional m.delivery) + placed 2 (kind_of m.destination) + placed 5 (kind_or_none m.admin)
+    + placed 8 (kind_or_none m.response) + placed 11 m.journal
 
 -- the fields of a message's user header before its names
 abbrev pub user_fields : Message → Guid → List ℕ

@@ -1,8 +1,11 @@
-ghost use Rattle.std.specs.Prelude.{◌≡◌};
+ghost use Rattle.std.specs.Prelude.{◌≡◌, ◌≤◌, length};
 ghost use Rattle.mqb_fields.specs.Reading.{Moves, Reads};
-ghost use Rattle.mqb_heads.specs.Base.{base_at, base_of, flags_at, signature_at, size_at, version_at};
+ghost use Rattle.mqb_fields.specs.Writing.{put_at};
+ghost use Rattle.mqb_heads.specs.Writing.{Wrote};
+ghost use Rattle.mqb_heads.specs.Base.{IsBaseHead, base_at, base_flags, base_of, flags_at, signature_at, plain_base, size_at, version_at};
 
-use crate::flags::{bit, bits};
+use crate::flags::{bit, bits, flag};
+use crate::writing::{put_bytes, put_half, put_word};
 use mqb_fields::{Cursor, HeadFault, HeadKind};
 
 /// The size of the least packet, in bytes.
@@ -111,4 +114,34 @@ pub fn read_base(bytes: &[u8]) -> Result<BaseHead, HeadFault>
         });
     }
     base_at(&mut Cursor::new(bytes))
+}
+
+fn base_flags(head: &BaseHead) -> u16
+    requires { head.now.priority ≤ 7 }
+    ensures { result ≡ base_flags head.now }
+{
+    let flags = u32::from(head.priority) + flag(3, head.internal) + flag(4, head.session);
+    flags as u16
+}
+
+fn put_fields(head: &BaseHead, to: &mut [u8]) -> usize
+    requires priority { head.now.priority ≤ 7 }
+    requires room { 16 ≤ length to.old }
+    ensures { Wrote to.old 0 (plain_base head.now) to.new result }
+{
+    let flags = put_bytes(to, 0, &[VERSION, 0]);
+    let signature = put_half(to, flags, base_flags(head));
+    let size = put_word(to, signature, SIGNATURE);
+    let reach = put_word(to, size, head.size);
+    put_word(to, reach, head.reach)
+}
+
+/// Writes the header at the start of a buffer, and tells how many bytes it has.
+pub fn put_base(head: &BaseHead, to: &mut [u8]) -> usize
+    requires head { IsBaseHead head.now }
+    requires room { length (plain_base head.now) ≤ length to.old }
+    ensures put { to.new ≡ put_at to.old 0 (plain_base head.now) }
+    ensures len { result ≡ length (plain_base head.now) }
+{
+    put_fields(head, to)
 }

@@ -11,9 +11,10 @@ mod flags;
 mod properties;
 mod transaction;
 mod user;
+mod writing;
 
-pub use base::{BaseHead, GREATEST_PACKET, LEAST_PACKET, read_base};
+pub use base::{BaseHead, GREATEST_PACKET, LEAST_PACKET, put_base, read_base};
 pub use mqb_fields::{HeadFault, HeadKind};
-pub use properties::{PropsHead, read_props};
-pub use transaction::read_tx;
-pub use user::{UserHead, read_user};
+pub use properties::{PropsHead, props_len, put_props, read_props};
+pub use transaction::{put_tx, read_tx};
+pub use user::{UserHead, put_user, read_user, user_len};

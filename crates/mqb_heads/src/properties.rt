@@ -1,10 +1,14 @@
-ghost use Rattle.std.specs.Prelude.{◌≡◌, ◌≤◌, IfOk};
+ghost use Rattle.std.specs.Prelude.{◌≡◌, ◌≤◌, ◌<◌, ◌+◌, ◌^◌, IfOk, length};
 ghost use Rattle.mqb_fields.specs.Reading.{Moves, Reads, ReadsAs};
-ghost use Rattle.mqb_heads.specs.Properties.{allocated_at, class_at, label_len_at, marks_at, parts_at, props_at, seen_parts, seen_props, sizes_at, unsecured_at};
+ghost use Rattle.mqb_base.specs.Messages.{IsWellFormed};
+ghost use Rattle.mqb_fields.specs.Writing.{put_at};
+ghost use Rattle.mqb_heads.specs.Writing.{Wrote};
+ghost use Rattle.mqb_heads.specs.Properties.{allocated_at, class_at, label_len_at, marks_at, FitsProps, parts_at, plain_props, props_at, props_fields, props_parts, props_size, seen_parts, seen_props, sizes_at, unsecured_at};
 
-use crate::fields::{read_id, skip_padding};
+use crate::fields::{padding, read_id, skip_padding};
 use crate::flags::bits;
-use mqb_base::{Class, MessageId};
+use crate::writing::{put_bytes, put_half, put_id, put_label, put_word, put_zeros};
+use mqb_base::{Class, Message, MessageId};
 use mqb_fields::{Cursor, HeadFault, HeadKind};
 
 /// The greatest count of a label's units.
@@ -172,4 +176,61 @@ pub fn read_props<'a>(cursor: &mut Cursor<'a>) -> Result<PropsHead<'a>, HeadFaul
         extension: parts.extension,
         body: parts.body,
     })
+}
+
+fn put_fields(message: &Message, to: &mut [u8]) -> usize
+    requires message { FitsProps message.now }
+    requires room { 56 ≤ length to.old }
+    ensures { Wrote to.old 0 (props_fields message.now) to.new result }
+{
+    let label_len = message.label.as_slice().len() as u8;
+    let body_len = message.body.as_slice().len() as u32;
+    let class = put_bytes(to, 0, &[message.ack, label_len]);
+    let correlation = put_half(to, class, message.class.0);
+    let body_type = put_id(to, correlation, &message.correlation);
+    let tag = put_word(to, body_type, message.body_type);
+    let body = put_word(to, tag, message.tag);
+    let allocated = put_word(to, body, body_len);
+    let privacy = put_word(to, allocated, body_len);
+    let extension = put_zeros(to, privacy, 12);
+    put_word(to, extension, message.extension.as_slice().len() as u32)
+}
+
+fn put_parts(message: &Message, to: &mut [u8], at: usize) -> usize
+    requires { at + length (props_parts message.now) ≤ length to.old }
+    ensures { Wrote to.old at (props_parts message.now) to.new result }
+{
+    let extension = put_label(to, at, message.label.as_slice());
+    let body = put_bytes(to, extension, message.extension.as_slice());
+    put_bytes(to, body, message.body.as_slice())
+}
+
+fn put_padded(message: &Message, to: &mut [u8]) -> usize
+    requires message { FitsProps message.now }
+    requires room { length (plain_props message.now) ≤ length to.old }
+    ensures { Wrote to.old 0 (plain_props message.now) to.new result }
+{
+    let parts = put_fields(message, to);
+    let end = put_parts(message, to, parts);
+    put_zeros(to, end, padding(end))
+}
+
+/// How many bytes the properties header of a message has.
+pub fn props_len(message: &Message) -> usize
+    requires { FitsProps message.now }
+    ensures { result ≡ props_size message.now }
+{
+    let label = 2 * message.label.as_slice().len();
+    let len = 56 + label + message.extension.as_slice().len() + message.body.as_slice().len();
+    len + padding(len)
+}
+
+/// Writes the properties header of a message at the start of a buffer, and tells how many bytes it has.
+pub fn put_props(message: &Message, to: &mut [u8]) -> usize
+    requires message { FitsProps message.now }
+    requires room { length (plain_props message.now) ≤ length to.old }
+    ensures put { to.new ≡ put_at to.old 0 (plain_props message.now) }
+    ensures len { result ≡ length (plain_props message.now) }
+{
+    put_padded(message, to)
 }

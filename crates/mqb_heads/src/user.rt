@@ -1,12 +1,16 @@
-ghost use Rattle.std.specs.Prelude.{◌≡◌};
+ghost use Rattle.std.specs.Prelude.{◌≡◌, ◌≤◌, ◌+◌, length};
 ghost use Rattle.mqb_fields.specs.Reading.{Reads, ReadsAs};
-ghost use Rattle.mqb_heads.specs.User.{flags_of, have_types, names_at, seen_names, seen_user, user_at, user_flags_at};
+ghost use Rattle.mqb_base.specs.Messages.{IsWellFormed};
+ghost use Rattle.mqb_fields.specs.Writing.{put_at};
+ghost use Rattle.mqb_heads.specs.Writing.{Wrote};
+ghost use Rattle.mqb_heads.specs.User.{flags_of, have_types, names_at, plain_user, seen_names, seen_user, user_at, user_fields, user_flags, user_flags_at, user_names, user_size};
 
-use crate::fields::{read_guid, read_name, read_optional_name, skip_padding};
-use crate::flags::{bit, bits};
-use mqb_base::Guid;
+use crate::fields::{padding, read_guid, read_name, read_optional_name, skip_padding};
+use crate::flags::{bit, bits, flag, placed};
+use crate::writing::{kind_of, kind_or_none, len_or_none, put_guid, put_name, put_optional_name, put_word, put_zeros};
+use mqb_base::{Delivery, Guid, Message};
 use mqb_fields::{Cursor, HeadFault, HeadKind};
-use mqb_names::NameView;
+use mqb_names::{NameView, wire_len};
 
 /// The user header. `life` is the seconds from `sent` on within which the message is to be received, and `number` that of the message at its source.
 /// `transaction` says that a transaction header follows. Bits of `journal`: 1 dead letter, 2 journal.
@@ -127,4 +131,69 @@ pub fn read_user<'a>(cursor: &mut Cursor<'a>) -> Result<UserHead<'a>, HeadFault>
         admin: names.admin,
         response: names.response,
     })
+}
+
+fn user_flags(message: &Message) -> u32
+    ensures { result ≡ user_flags message.now }
+{
+    flag(0, !matches!(message.delivery, Delivery::Express))
+        + flag(1, matches!(message.delivery, Delivery::Transactional))
+        + placed(2, kind_of(&message.destination))
+        + placed(5, kind_or_none(&message.admin))
+        + placed(8, kind_or_none(&message.response))
+        + placed(11, message.journal)
+}
+
+fn put_fields(message: &Message, target: &Guid, to: &mut [u8]) -> usize
+    requires { 48 ≤ length to.old }
+    ensures { Wrote to.old 0 (user_fields message.now target.now) to.new result }
+{
+    let to_target = put_guid(to, 0, &message.id.qm);
+    let life = put_guid(to, to_target, target);
+    let sent = put_word(to, life, message.life);
+    let number = put_word(to, sent, message.sent);
+    let flags = put_word(to, number, message.id.number);
+    put_word(to, flags, user_flags(message))
+}
+
+fn put_names(message: &Message, to: &mut [u8], at: usize) -> usize
+    requires message { IsWellFormed message.now }
+    requires room { at + length (user_names message.now) ≤ length to.old }
+    ensures { Wrote to.old at (user_names message.now) to.new result }
+{
+    let admin = put_name(to, at, &message.destination);
+    let response = put_optional_name(to, admin, &message.admin);
+    put_optional_name(to, response, &message.response)
+}
+
+fn put_padded(message: &Message, target: &Guid, to: &mut [u8]) -> usize
+    requires message { IsWellFormed message.now }
+    requires room { length (plain_user message.now target.now) ≤ length to.old }
+    ensures { Wrote to.old 0 (plain_user message.now target.now) to.new result }
+{
+    let names = put_fields(message, target, to);
+    let end = put_names(message, to, names);
+    put_zeros(to, end, padding(end))
+}
+
+/// How many bytes the user header of a message has, to whichever manager it goes.
+pub fn user_len(message: &Message) -> usize
+    requires { IsWellFormed message.now }
+    ensures { result ≡ user_size message.now }
+{
+    let names = wire_len(&message.destination) as usize
+        + len_or_none(&message.admin)
+        + len_or_none(&message.response);
+    let len = 48 + names;
+    len + padding(len)
+}
+
+/// Writes the user header of a message to the manager `target` at the start of a buffer, and tells how many bytes it has.
+pub fn put_user(message: &Message, target: &Guid, to: &mut [u8]) -> usize
+    requires message { IsWellFormed message.now }
+    requires room { length (plain_user message.now target.now) ≤ length to.old }
+    ensures put { to.new ≡ put_at to.old 0 (plain_user message.now target.now) }
+    ensures len { result ≡ length (plain_user message.now target.now) }
+{
+    put_padded(message, target, to)
 }
