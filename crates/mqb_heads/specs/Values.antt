@@ -1,5 +1,6 @@
--- What holds of each message that a program has.
-use Rattle.std.specs.Prelude.{◌<◌, ◌^◌, All, length, IfSome}
+-- What holds of each header and message that a program has: its numbers fit their types.
+use Rattle.std.specs.Prelude.{◌<◌, ◌^◌, All, IfSome}
+use Rattle.mqb_base.specs.declared.heads.TxHead.{TxHead}
 use Rattle.mqb_base.specs.declared.message.Message.{Message}
 use Rattle.mqb_base.specs.declared.ids.MessageId.{MessageId}
 use Rattle.mqb_names.specs.Values.{AreBytes, IsQueueName}
@@ -8,7 +9,13 @@ pub record IsMessageId (id : MessageId) : Type 0 where
   pub qm : AreBytes 16 id.qm.0
   pub number : id.number < 2 ^ 32
 
--- its numbers fit their types, and its names are names
+pub record IsTxHead (head : TxHead) : Type 0 where
+  pub ordinal : head.sequence.ordinal < 2 ^ 32
+  pub stamp : head.sequence.stamp < 2 ^ 32
+  pub number : head.number < 2 ^ 32
+  pub previous : head.previous < 2 ^ 32
+
+-- Its names are names.
 pub record IsMessage (m : Message) : Type 0 where
   pub id : IsMessageId m.id
   pub sent : m.sent < 2 ^ 32

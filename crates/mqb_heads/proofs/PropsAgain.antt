@@ -1,0 +1,1 @@
+-- A properties header that is written is read again.

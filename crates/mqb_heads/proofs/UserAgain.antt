@@ -1,0 +1,1 @@
+-- A user header that is written is read again.
