@@ -18,6 +18,7 @@ pub record IsTxHead (head : TxHead) : Type 0 where
 -- Its names are names.
 pub record IsMessage (m : Message) : Type 0 where
   pub id : IsMessageId m.id
+  pub class : m.class.0 < 2 ^ 16
   pub sent : m.sent < 2 ^ 32
   pub life : m.life < 2 ^ 32
   pub destination : IsQueueName m.destination
