@@ -4,3 +4,4 @@ pub mod FieldsAgain
 pub mod HeadsAgain
 pub mod UserAgain
 pub mod PropsAgain
+pub mod ReadLaws

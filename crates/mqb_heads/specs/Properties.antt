@@ -1,5 +1,5 @@
 -- The properties header.
-use Rattle.std.specs.Prelude.{ℕ, ◌+◌, ◌*◌, ◌<◌, ◌^◌, ◌==◌, ◌&&◌, nat_le, nat_lt, List, [], ◌∷◌, ◌++◌, length, take, replicate, Result, Ok, if◌then◌else◌}
+use Rattle.std.specs.Prelude.{◌≡◌, ℕ, ◌+◌, ◌*◌, ◌<◌, ◌≤◌, IsTrue, ◌^◌, ◌==◌, ◌&&◌, nat_le, nat_lt, List, [], ◌∷◌, ◌++◌, length, take, replicate, Result, Ok, if◌then◌else◌}
 use Rattle.std.specs.List.{flat_map}
 use Rattle.mqb_base.specs.declared.class.Class.{Class}
 use Rattle.mqb_base.specs.declared.ids.MessageId.{MessageId}
@@ -39,6 +39,12 @@ seen_props head = record {
   extension = head.extension.now;
   body = head.body.now;
 }
+
+-- what holds of each properties header that was read
+pub record IsPropsRead (props : Props) : Type 0 where
+  pub ack : props.ack ≤ 15
+  pub class : IsTrue (is_class props.class.0)
+  pub label : (units : ℕ) × (units ≤ 250) × (length props.label ≡ 2 * units)
 
 -- the count of the label's units
 abbrev pub label_len_at : Reading → Result (ℕ × Reading) HeadFault

@@ -1,5 +1,5 @@
 -- The user header.
-use Rattle.std.specs.Prelude.{ℕ, ◌+◌, Bool, true, false, ◌&&◌, ◌||◌, nat_le, List, ◌++◌, length, Option, option_map, Result, Ok, if◌then◌else◌}
+use Rattle.std.specs.Prelude.{ℕ, ◌+◌, ◌≤◌, IfSome, Bool, true, false, ◌&&◌, ◌||◌, nat_le, List, ◌++◌, length, Option, option_map, Result, Ok, if◌then◌else◌}
 use Rattle.mqb_base.specs.declared.ids.Guid.{Guid}
 use Rattle.mqb_base.specs.declared.message.Delivery.{Delivery}
 use Rattle.mqb_base.specs.declared.message.Delivery.TheVariants.{Express, Recoverable, Transactional}
@@ -9,7 +9,7 @@ use Rattle.mqb_fields.specs.declared.faults.HeadKind.TheVariants.{Secured, Name}
 use Rattle.mqb_fields.specs.Guids.{swapped}
 use Rattle.mqb_fields.specs.Reading.{◌>>=◌, Reading}
 use Rattle.mqb_fields.specs.Writing.{bytes_of}
-use Rattle.mqb_names.specs.Wire.{kind_of, wire}
+use Rattle.mqb_names.specs.Wire.{kind_of, wire, IsWireForm}
 use Rattle.mqb_heads.specs.declared.user.UserHead.{UserHead}
 use Rattle.mqb_heads.specs.declared.user.UserFlags.{UserFlags}
 use Rattle.mqb_heads.specs.declared.user.Names as declared
@@ -44,6 +44,17 @@ seen_user head = record {
   admin = option_map seen_name head.admin;
   response = option_map seen_name head.response;
 }
+
+-- The bytes of a name are the wire form of a name of its type.
+abbrev pub IsNameRead : WireName → Type 0
+IsNameRead name = IsWireForm name.kind name.part
+
+-- what holds of each user header that was read
+pub record IsUserRead (user : User) : Type 0 where
+  pub journal : user.journal ≤ 3
+  pub destination : IsNameRead user.destination
+  pub admin : IfSome user.admin IsNameRead
+  pub response : IfSome user.response IsNameRead
 
 -- Bit 0 is set in a recoverable packet, and bit 1 where a transaction header is there, which makes it recoverable whatever bit 0 is. Bits 2 to 4 are
 -- the destination's type, 5 to 7 the admin name's, 8 to 10 the response name's. Bit 11 asks for a dead letter, and bit 12 for a journal's copy.

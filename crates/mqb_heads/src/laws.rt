@@ -7,8 +7,8 @@ ghost use Rattle.mqb_fields.specs.Reading.{Reading, moved, rest_of};
 ghost use Rattle.mqb_heads.specs.declared.base.BaseHead.{BaseHead};
 ghost use Rattle.mqb_heads.specs.Base.{IsBaseHead, base_of, plain_base};
 ghost use Rattle.mqb_heads.specs.Transactions.{plain_tx, tx_at};
-ghost use Rattle.mqb_heads.specs.Properties.{FitsProps, plain_props, props_at, props_of, props_size};
-ghost use Rattle.mqb_heads.specs.User.{plain_user, user_at, user_of, user_size};
+ghost use Rattle.mqb_heads.specs.Properties.{FitsProps, IsPropsRead, Props, plain_props, props_at, props_of, props_size};
+ghost use Rattle.mqb_heads.specs.User.{IsUserRead, User, plain_user, user_at, user_of, user_size};
 ghost use Rattle.mqb_heads.specs.Values.{IsMessage, IsTxHead};
 ghost use Rattle.mqb_names.specs.Values.{AreBytes};
 
@@ -39,4 +39,14 @@ pub fn props_is_read()
 pub fn sizes()
     ensures user { (m : Message) (target : Guid) → length (plain_user m target) ≡ user_size m }
     ensures props { (m : Message) → length (plain_props m) ≡ props_size m }
+{}
+
+/// What holds of each user header that was read.
+pub fn user_is_well_formed()
+    ensures { (r end : Reading) (user : User) → user_at r ≡ Ok (user, end) → IsUserRead user }
+{}
+
+/// What holds of each properties header that was read.
+pub fn props_are_well_formed()
+    ensures { (r end : Reading) (props : Props) → props_at r ≡ Ok (props, end) → IsPropsRead props }
 {}
