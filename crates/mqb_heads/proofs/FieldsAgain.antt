@@ -1,5 +1,5 @@
 -- A field that stands at a place is read there.
-use Rattle.std.proofs.Common.{◌≡◌, ◌≤◌, ◌<◌, ℕ, ◌+◌, ◌-◌, ◌^◌, ◌==◌, true, false, ltb, List, [], ◌∷◌, ◌++◌, length, take, drop, replicate, Option, Some, None, option_map, Result, Ok, Err, refl, sym, ap, subst, ◌∙◌, arith, length-append, length-drop, append_assoc}
+use Rattle.std.proofs.Common.{◌≡◌, ◌<◌, ℕ, ◌+◌, ◌-◌, ◌^◌, ◌==◌, false, ltb, List, ◌++◌, length, take, replicate, Option, Some, None, option_map, Ok, refl, ap, ◌∙◌, arith, length-append, length-drop}
 use Rattle.std.specs.Prelude.{IfSome, IsTrue}
 use Rattle.std.proofs.lemmas.Bool.{le-ltb}
 use Rattle.std.proofs.lemmas.List.{take_at, length-replicate}
@@ -8,7 +8,6 @@ use Rattle.mqb_base.specs.declared.ids.MessageId.{MessageId}
 use Rattle.mqb_base.specs.declared.queue_names.QueueName.{QueueName}
 use Rattle.mqb_base.specs.declared.queue_names.QueueName.TheVariants.{Public, Private, Direct, Machine}
 use Rattle.mqb_base.specs.QueueNames.{names_queue, absent_or_queue}
-use Rattle.mqb_fields.specs.declared.faults.HeadFault.{HeadFault}
 use Rattle.mqb_fields.specs.Faults.{in_packet}
 use Rattle.mqb_fields.specs.Guids.{swapped}
 use Rattle.mqb_fields.specs.Reading.{Reading, rest_of, moved, part_at}
@@ -18,7 +17,7 @@ use Rattle.mqb_names.specs.Values.{AreBytes, IsQueueName}
 use Rattle.mqb_names.specs.Wire.{kind_of, wire, wire_at}
 use Rattle.mqb_names.proofs.Again.{rest_again}
 use Rattle.mqb_names.proofs.WireAgain.{wire_again}
-use Rattle.mqb_heads.specs.Fields.{WireName, field_at, source_at, id_at, lent_at, skipped, in_name, name_at, optional_name_at, padding, padded_at, plain_id, wire_name, kind_or_none, wire_or_none}
+use Rattle.mqb_heads.specs.Fields.{field_at, source_at, id_at, lent_at, skipped, name_at, optional_name_at, padding, padded_at, plain_id, wire_name, kind_or_none, wire_or_none}
 use Rattle.mqb_heads.specs.Values.{IsMessageId}
 
 pub part_again : (r : Reading) (part rest : List ℕ) (count : ℕ) → length part ≡ count → rest_of r ≡ part ++ rest → part_at count r ≡ Ok (part, moved count r)

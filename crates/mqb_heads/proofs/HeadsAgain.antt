@@ -1,5 +1,5 @@
 -- Base and transaction headers that are written are read again.
-use Rattle.std.proofs.Common.{◌≡◌, ◌≤◌, ◌<◌, ℕ, ◌+◌, ◌^◌, true, false, ◌&&◌, leb, ltb, List, [], ◌∷◌, ◌++◌, length, Ok, refl, sym, ap, ◌∙◌, arith, length-append}
+use Rattle.std.proofs.Common.{◌≡◌, ◌<◌, ℕ, ◌^◌, true, false, leb, ltb, List, [], ◌∷◌, ◌++◌, length, Ok, refl, ap, arith, length-append}
 use Rattle.std.proofs.lemmas.Bool.{le-ltb, le-leb}
 use Rattle.mqb_base.specs.declared.heads.TxHead.{TxHead}
 use Rattle.mqb_fields.specs.Reading.{Reading, rest_of, moved}
@@ -8,7 +8,7 @@ use Rattle.mqb_names.specs.Wire.{start}
 use Rattle.mqb_names.proofs.Again.{rest_again}
 use Rattle.mqb_heads.specs.declared.base.BaseHead.{BaseHead}
 use Rattle.mqb_heads.specs.Base.{version_at, flags_at, signature_at, size_at, base_at, base_of, head_of, IsBaseHead, base_flags, plain_base}
-use Rattle.mqb_heads.specs.Fields.{field_at, skipped}
+use Rattle.mqb_heads.specs.Fields.{skipped}
 use Rattle.mqb_heads.specs.Transactions.{tx_at, plain_tx}
 use Rattle.mqb_heads.specs.Values.{IsTxHead}
 use Rattle.mqb_heads.proofs.FieldsAgain.{field_again, skip_again, moved_to}
@@ -62,7 +62,11 @@ tx_again r head rest valid e =
     let at_number : rest_of r12 ≡ number = rest_again r8 (bytes_of 4 head.sequence.stamp) number 4 refl at_stamp in
     let r16 = moved 4 r12 in
     let at_previous : rest_of r16 ≡ previous = rest_again r12 (bytes_of 4 head.number) previous 4 refl at_number in
-    rw (skip_again r (bytes_of 4 0) ordinal 4 refl e, field_again r4 4 head.sequence.ordinal stamp refl (omega (arith, valid.ordinal)) at_ordinal,
-        field_again r8 4 head.sequence.stamp number refl (omega (arith, valid.stamp)) at_stamp, field_again r12 4 head.number previous refl (omega (arith, valid.number)) at_number,
-        field_again r16 4 head.previous rest refl (omega (arith, valid.previous)) at_previous)
+    rw (
+      skip_again r (bytes_of 4 0) ordinal 4 refl e,
+      field_again r4 4 head.sequence.ordinal stamp refl (omega (arith, valid.ordinal)) at_ordinal,
+      field_again r8 4 head.sequence.stamp number refl (omega (arith, valid.stamp)) at_stamp,
+      field_again r12 4 head.number previous refl (omega (arith, valid.number)) at_number,
+      field_again r16 4 head.previous rest refl (omega (arith, valid.previous)) at_previous,
+    )
     (ap (λ (end : Reading). Ok (head, end)) (moved_to r _ 20 (omega arith)))

@@ -1,5 +1,5 @@
 -- A properties header that is written is read again.
-use Rattle.std.proofs.Common.{◌≡◌, ◌≤◌, ◌<◌, ℕ, ◌+◌, ◌*◌, ◌-◌, ◌/◌, ◌%◌, ◌^◌, ◌==◌, Bool, true, false, ltb, List, [], ◌∷◌, ◌++◌, length, take, replicate, Ok, refl, sym, ap, ◌∙◌, arith, length-append, append_assoc}
+use Rattle.std.proofs.Common.{◌≡◌, ◌<◌, ℕ, ◌*◌, ◌-◌, ◌^◌, true, false, ltb, List, [], ◌∷◌, ◌++◌, length, take, replicate, Ok, refl, sym, ap, ◌∙◌, arith, append_assoc}
 use Rattle.std.proofs.lemmas.Bool.{le-ltb}
 use Rattle.std.proofs.lemmas.List.{take_all}
 use Rattle.mqb_base.specs.declared.message.Message.{Message}
@@ -8,10 +8,9 @@ use Rattle.mqb_fields.specs.Guids.{swapped}
 use Rattle.mqb_fields.specs.Reading.{Reading, rest_of, moved}
 use Rattle.mqb_fields.specs.Writing.{bytes_of}
 use Rattle.mqb_names.proofs.Again.{rest_again}
-use Rattle.mqb_heads.specs.declared.properties.Sizes.{Sizes}
-use Rattle.mqb_heads.specs.Fields.{padding, padded_at, plain_id}
+use Rattle.mqb_heads.specs.Fields.{padding, plain_id}
 use Rattle.mqb_heads.specs.Flags.{bits}
-use Rattle.mqb_heads.specs.Properties.{Parts, label_len_at, class_at, marks_at, allocated_at, unsecured_at, sizes_at, parts_at, props_at, FitsProps, label_bytes, props_fields, props_parts, plain_props, props_of}
+use Rattle.mqb_heads.specs.Properties.{label_len_at, class_at, marks_at, allocated_at, unsecured_at, sizes_at, parts_at, props_at, FitsProps, label_bytes, props_fields, props_parts, plain_props, props_of}
 use Rattle.mqb_heads.specs.Values.{IsMessage}
 use Rattle.mqb_heads.proofs.FieldsAgain.{field_again, id_again, lent_again, padding_again, moved_to}
 use Rattle.mqb_heads.proofs.Put.{length_padded, length_props, length_label}
@@ -62,10 +61,17 @@ sizes_again r body extension rest body_fits extension_fits e =
     let r5 = moved 4 r4 in
     let at_last : rest_of r5 ≡ last = rest_again r4 (bytes_of 4 0) last 4 refl at_cipher in
     let enough : ltb body body ≡ false = le-ltb _ _ (omega arith) in
-    let allocated_is : allocated_at body r1 ≡ Ok (body, r2) = rw (field_again r1 4 body privacy refl (omega arith) at_allocated, enough) refl in
-    (rw (field_again r 4 body allocated refl (omega arith) e, allocated_is, unsecured_again r2 hash at_privacy, unsecured_again r3 cipher at_hash, unsecured_again r4 last at_cipher,
-        field_again r5 4 extension rest refl (omega arith) at_last) refl,
-    rest_again r5 (bytes_of 4 extension) rest 4 refl at_last)
+    let allocated_is : allocated_at body r1 ≡ Ok (body, r2) = rw (field_again r1 4 body privacy refl (omega arith) at_allocated, enough) refl in (
+      rw (
+        field_again r 4 body allocated refl (omega arith) e,
+        allocated_is,
+        unsecured_again r2 hash at_privacy,
+        unsecured_again r3 cipher at_hash,
+        unsecured_again r4 last at_cipher,
+        field_again r5 4 extension rest refl (omega arith) at_last,
+      ) refl,
+      rest_again r5 (bytes_of 4 extension) rest 4 refl at_last,
+    )
 
 -- where the parts end
 abbrev behind_parts : Message → Reading → Reading
@@ -73,7 +79,7 @@ behind_parts m r = moved (length m.body) (moved (length m.extension) (moved (2 *
 
 parts_again : (r : Reading) (m : Message) (rest : List ℕ) → rest_of r ≡ label_bytes m.label ++ (m.extension ++ (m.body ++ rest))
     → (parts_at (length m.label) (record { body = length m.body; allocated = length m.body; extension = length m.extension }) r
-        ≡ Ok (record { label = label_bytes m.label; extension = m.extension; body = m.body }, behind_parts m r))
+    ≡ Ok (record { label = label_bytes m.label; extension = m.extension; body = m.body }, behind_parts m r))
     × (rest_of (behind_parts m r) ≡ rest)
 parts_again r m rest e =
     let body = m.body ++ rest in
@@ -82,10 +88,15 @@ parts_again r m rest e =
     let at_extension = rest_again r (label_bytes m.label) extension (2 * length m.label) (length_label m.label) e in
     let r2 = moved (length m.extension) r1 in
     let at_body = rest_again r1 m.extension body (length m.extension) refl at_extension in
-    let whole : take (length m.body) m.body ≡ m.body = take_all (length m.body) m.body (omega arith) in
-    (rw (lent_again r (label_bytes m.label) extension (2 * length m.label) (length_label m.label) e, lent_again r1 m.extension body (length m.extension) refl at_extension,
-        lent_again r2 m.body rest (length m.body) refl at_body, whole) refl,
-    rest_again r2 m.body rest (length m.body) refl at_body)
+    let whole : take (length m.body) m.body ≡ m.body = take_all (length m.body) m.body (omega arith) in (
+      rw (
+        lent_again r (label_bytes m.label) extension (2 * length m.label) (length_label m.label) e,
+        lent_again r1 m.extension body (length m.extension) refl at_extension,
+        lent_again r2 m.body rest (length m.body) refl at_body,
+        whole,
+      ) refl,
+      rest_again r2 m.body rest (length m.body) refl at_body,
+    )
 
 regrouped : (a b c z rest : List ℕ) → ((a ++ b ++ c) ++ z) ++ rest ≡ a ++ (b ++ (c ++ (z ++ rest)))
 regrouped a b c z rest = simp append_assoc
@@ -118,7 +129,13 @@ props_again r m rest valid value e =
     let parted = parts_again r56 m (zeros ++ rest) (sized.1 ∙ regrouped (label_bytes m.label) m.extension m.body zeros rest) in
     let counts = length_props m in
     let behind : (behind_parts m r56).at - r.at ≡ len = omega (arith, counts) in
-    rw (marks_again r m correlation valid value e, id_again r4 m.correlation body_type value.correlation at_correlation,
-        field_again r24 4 m.body_type tag refl (omega (arith, value.body_type)) at_body_type, field_again r28 4 m.tag sizes refl (omega (arith, value.tag)) at_tag,
-        sized.0, parted.0, padding_again (behind_parts m r56) r.at len rest behind parted.1)
+    rw (
+      marks_again r m correlation valid value e,
+      id_again r4 m.correlation body_type value.correlation at_correlation,
+      field_again r24 4 m.body_type tag refl (omega (arith, value.body_type)) at_body_type,
+      field_again r28 4 m.tag sizes refl (omega (arith, value.tag)) at_tag,
+      sized.0,
+      parted.0,
+      padding_again (behind_parts m r56) r.at len rest behind parted.1,
+    )
     (ap (λ (end : Reading). Ok (props_of m, end)) (moved_to r _ (length (plain_props m)) (omega (arith, counts, length_padded (props_fields m ++ props_parts m)))))

@@ -1,25 +1,24 @@
 -- What holds of each header that was read.
-use Rattle.std.proofs.Common.{◌≡◌, ◌≤◌, ◌<◌, ℕ, ◌+◌, ◌*◌, ◌-◌, ◌%◌, ◌==◌, Bool, true, false, cond, ltb, not, List, length, take, is_some, Option, Some, None, Result, Ok, Err, refl, sym, ap, subst, ◌∙◌, arith, length-drop}
+use Rattle.std.proofs.Common.{◌≡◌, ◌≤◌, ℕ, ◌*◌, ◌-◌, ◌==◌, Bool, true, false, ◌&&◌, cond, ltb, leb, List, length, take, is_some, Option, Some, None, Result, Ok, Err, refl, sym, ap, subst, ◌∙◌, arith, length-drop}
 use Rattle.std.specs.Prelude.{IfSome, IsTrue}
-use Rattle.std.proofs.lemmas.Bool.{ltb-false}
+use Rattle.std.proofs.lemmas.Bool.{ltb-false, leb-true, and_parts}
 use Rattle.std.proofs.lemmas.List.{length-take-le}
 use Rattle.mqb_base.specs.declared.class.Class.{Class}
-use Rattle.mqb_base.specs.declared.ids.MessageId.{MessageId}
 use Rattle.mqb_base.specs.Classes.{is_class}
 use Rattle.mqb_fields.specs.declared.faults.HeadFault.{HeadFault}
-use Rattle.mqb_fields.specs.declared.faults.HeadKind.{HeadKind}
-use Rattle.mqb_fields.specs.declared.faults.HeadKind.TheVariants as fault
 use Rattle.mqb_fields.specs.declared.faults.Short as fields
 use Rattle.mqb_fields.specs.Faults.{in_packet}
-use Rattle.mqb_fields.specs.Reading.{◌>>=◌, Reading, rest_of, part_at, moved}
+use Rattle.mqb_fields.specs.Reading.{◌>>=◌, Reading, rest_of, part_at, number_at, moved}
 use Rattle.mqb_names.specs.declared.wire.WireFault.{WireFault}
 use Rattle.mqb_names.specs.declared.wire.WireFault.TheVariants.{Short, Bad}
-use Rattle.mqb_names.specs.Wire.{length_at, spelled, wire_at, IsWireForm}
+use Rattle.mqb_names.specs.Wire.{start, length_at, spelled, wire_at, IsWireForm}
 use Rattle.mqb_names.proofs.Lengths.{length_taken}
+use Rattle.mqb_heads.specs.declared.base.BaseHead.{BaseHead}
 use Rattle.mqb_heads.specs.declared.properties.Marks.{Marks}
 use Rattle.mqb_heads.specs.declared.properties.Sizes.{Sizes}
 use Rattle.mqb_heads.specs.declared.user.UserFlags.{UserFlags}
-use Rattle.mqb_heads.specs.Fields.{WireName, fault_at, field_at, source_at, id_at, lent_at, in_name, name_at, some_name, optional_name_at, padded_at}
+use Rattle.mqb_heads.specs.Base.{IsBaseRead, version_at, flags_at, signature_at, size_at, base_at, head_of, base_of}
+use Rattle.mqb_heads.specs.Fields.{skipped, WireName, field_at, source_at, id_at, lent_at, in_name, name_at, some_name, optional_name_at, padded_at}
 use Rattle.mqb_heads.specs.Flags.{bit, bits}
 use Rattle.mqb_heads.specs.Properties.{Props, Parts, IsPropsRead, label_len_at, class_at, marks_at, sizes_at, parts_at, props_at}
 use Rattle.mqb_heads.specs.User.{User, Names, IsNameRead, IsUserRead, flags_of, have_types, user_flags_at, names_at, user_at}
@@ -187,3 +186,41 @@ props_read r props end e =
       class = are.class;
       label = (marks.0.0.label_len, are.label_len, label_read marks.0.0.label_len sizes.0.0 sizes.0.1 parts.0.0 parts.0.1 parts.1);
     })
+
+few_priorities : (word : ℕ) → bits 0 3 word ≤ 7
+few_priorities word = omega arith
+
+size_read : (r : Reading) (size : ℕ) (end : Reading) → size_at r ≡ Ok (size, end) → (20 ≤ size) × (size ≤ 4194304)
+size_read r size end e =
+    let field = bind_ok (field_at 4 r) _ (size, end) e in
+    let fits = if_ok (leb 20 field.0.0 && leb field.0.0 4194304) _ field.0 (size, end) field.2 in
+    let both = and_parts (leb 20 field.0.0) (leb field.0.0 4194304) fits.0 in
+    subst (λ (p : ℕ × Reading). (20 ≤ p.0) × (p.0 ≤ 4194304)) fits.1 (leb-true _ _ both.0, leb-true _ _ both.1)
+
+base_at_read : (r : Reading) (head : BaseHead) (end : Reading) → base_at r ≡ Ok (head, end) → IsBaseRead head
+unfolding base_at
+base_at_read r head end e =
+    let version = bind_ok (version_at r) _ (head, end) e in
+    let reserved = bind_ok (skipped 1 version.0) _ (head, end) version.2 in
+    let flags = bind_ok (flags_at reserved.0) _ (head, end) reserved.2 in
+    let signature = bind_ok (signature_at flags.0.1) _ (head, end) flags.2 in
+    let size = bind_ok (size_at signature.0) _ (head, end) signature.2 in
+    let reach = bind_ok (field_at 4 size.0.1) _ (head, end) size.2 in
+    let range = size_read signature.0 size.0.0 size.0.1 size.1 in
+    subst (λ (p : BaseHead × Reading). IsBaseRead p.0) (ok_is _ _ reach.2) (record { priority = few_priorities flags.0.0; least = range.0; most = range.1 })
+
+head_read : (read : Result (BaseHead × Reading) HeadFault) (head : BaseHead) → ((h : BaseHead) (end : Reading) → read ≡ Ok (h, end) → IsBaseRead h) → head_of read ≡ Ok head → IsBaseRead head
+head_read (Ok x) head is e = subst (λ (h : BaseHead). IsBaseRead h) (ok_is _ _ e) (is x.0 x.1 refl)
+head_read (Err d) head is e = absurd cc
+
+pub base_read : (bytes : List ℕ) (head : BaseHead) → base_of bytes ≡ Ok head → IsBaseRead head
+base_read bytes head e =
+    let long = unless_ok (ltb (length bytes) 16) _ (head_of (base_at (start bytes))) head e in
+    head_read (base_at (start bytes)) head (λ h end. base_at_read (start bytes) h end) long.1
+
+-- A number that was read leaves the bytes as they are.
+pub number_keeps : (width : ℕ) (r : Reading) (number : ℕ) (end : Reading) → number_at width r ≡ Ok (number, end) → end.bytes ≡ r.bytes
+number_keeps width r number end e =
+    let part = bind_ok (part_at width r) _ (number, end) e in
+    let read = unless_ok (ltb (length r.bytes - r.at) width) _ (Ok (take width (rest_of r), moved width r)) part.0 part.1 in
+    sym (ap (λ (p : ℕ × Reading). p.1.bytes) (ok_is _ _ part.2)) ∙ sym (ap (λ (p : List ℕ × Reading). p.1.bytes) (ok_is _ _ read.1))

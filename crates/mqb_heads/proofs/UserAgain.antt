@@ -1,6 +1,6 @@
 -- A user header that is written is read again.
-use Rattle.std.proofs.Common.{◌≡◌, ◌≤◌, ◌<◌, ℕ, ◌+◌, ◌-◌, ◌/◌, ◌%◌, ◌^◌, ◌==◌, ◌&&◌, ◌||◌, Bool, true, false, leb, List, [], ◌++◌, length, replicate, Option, Some, None, option_map, Ok, refl, sym, ap, ◌∙◌, arith, length-append, append_assoc}
-use Rattle.std.specs.Prelude.{IfSome, IsTrue}
+use Rattle.std.proofs.Common.{◌≡◌, ◌≤◌, ◌<◌, ℕ, ◌+◌, ◌-◌, ◌/◌, ◌%◌, ◌^◌, ◌==◌, ◌||◌, true, false, leb, List, ◌++◌, length, replicate, Option, Some, None, option_map, Ok, refl, ap, ◌∙◌, arith, length-append, append_assoc}
+use Rattle.std.specs.Prelude.{IsTrue}
 use Rattle.std.proofs.lemmas.Bool.{le-leb}
 use Rattle.mqb_base.specs.declared.ids.Guid.{Guid}
 use Rattle.mqb_base.specs.declared.message.Delivery.{Delivery}
@@ -9,16 +9,16 @@ use Rattle.mqb_base.specs.declared.message.Message.{Message}
 use Rattle.mqb_base.specs.declared.queue_names.QueueName.{QueueName}
 use Rattle.mqb_base.specs.declared.queue_names.QueueName.TheVariants.{Public, Private, Direct, Machine}
 use Rattle.mqb_base.specs.Messages.{IsWellFormed}
-use Rattle.mqb_base.specs.QueueNames.{names_queue, absent_or_queue}
+use Rattle.mqb_base.specs.QueueNames.{names_queue}
 use Rattle.mqb_fields.specs.Guids.{swapped}
 use Rattle.mqb_fields.specs.Reading.{Reading, rest_of, moved}
 use Rattle.mqb_fields.specs.Writing.{bytes_of}
-use Rattle.mqb_names.specs.Values.{AreBytes, IsQueueName}
+use Rattle.mqb_names.specs.Values.{AreBytes}
 use Rattle.mqb_names.specs.Wire.{kind_of, wire}
 use Rattle.mqb_names.proofs.Again.{rest_again}
 use Rattle.mqb_heads.specs.declared.user.UserFlags.{UserFlags}
-use Rattle.mqb_heads.specs.Fields.{padding, padded_at, wire_name, kind_or_none, wire_or_none}
-use Rattle.mqb_heads.specs.Flags.{bit, bits, flag}
+use Rattle.mqb_heads.specs.Fields.{padding, wire_name, kind_or_none, wire_or_none}
+use Rattle.mqb_heads.specs.Flags.{bit, flag}
 use Rattle.mqb_heads.specs.User.{user_at, user_flags_at, flags_of, have_types, Names, names_at, is_durable, is_transactional, user_flags, user_fields, user_names, plain_user, user_of}
 use Rattle.mqb_heads.specs.Values.{IsMessage}
 use Rattle.mqb_heads.proofs.FieldsAgain.{field_again, source_again, name_again, optional_again, padding_again, moved_to}
@@ -78,9 +78,19 @@ flags_for m = record {
 flags_are : (m : Message) → IsWellFormed m → (flags_of (user_flags m) ≡ flags_for m) × (bit 13 (user_flags m) ≡ false) × (user_flags m < 256 ^ 4)
 flags_are m valid =
     let back = user_bits (low_of m.delivery) (kind_of m.destination) (kind_or_none m.admin) (kind_or_none m.response) m.journal
-        (low_few m.delivery) (few_kinds m.destination) (few_or_none m.admin) (few_or_none m.response) valid.journal in
-    (rw (first_bit m.delivery (user_flags m) back.first, second_bit m.delivery (user_flags m) back.second, recoverable_or_not m.delivery,
-        back.destination_type, back.admin_type, back.response_type, back.journal_bits) refl, back.secured, back.fits)
+    (low_few m.delivery) (few_kinds m.destination) (few_or_none m.admin) (few_or_none m.response) valid.journal in (
+      rw (
+        first_bit m.delivery (user_flags m) back.first,
+        second_bit m.delivery (user_flags m) back.second,
+        recoverable_or_not m.delivery,
+        back.destination_type,
+        back.admin_type,
+        back.response_type,
+        back.journal_bits,
+      ) refl,
+      back.secured,
+      back.fits,
+    )
 
 flags_again : (r : Reading) (m : Message) (rest : List ℕ) → IsWellFormed m → rest_of r ≡ bytes_of 4 (user_flags m) ++ rest → user_flags_at r ≡ Ok (flags_for m, moved 4 r)
 flags_again r m rest valid e =
@@ -108,10 +118,14 @@ names_again r m rest valid value e =
     let r1 = moved (length (wire m.destination)) r in
     let at_admin = rest_again r (wire m.destination) admin (length (wire m.destination)) refl e in
     let r2 = moved (length (wire_or_none m.admin)) r1 in
-    let at_response = rest_again r1 (wire_or_none m.admin) response (length (wire_or_none m.admin)) refl at_admin in
-    (rw (name_again r m.destination admin value.destination valid.destination e, optional_again r1 m.admin response value.admin valid.admin at_admin,
-        optional_again r2 m.response rest value.response valid.response at_response) refl,
-    rest_again r2 (wire_or_none m.response) rest (length (wire_or_none m.response)) refl at_response)
+    let at_response = rest_again r1 (wire_or_none m.admin) response (length (wire_or_none m.admin)) refl at_admin in (
+      rw (
+        name_again r m.destination admin value.destination valid.destination e,
+        optional_again r1 m.admin response value.admin valid.admin at_admin,
+        optional_again r2 m.response rest value.response valid.response at_response,
+      ) refl,
+      rest_again r2 (wire_or_none m.response) rest (length (wire_or_none m.response)) refl at_response,
+    )
 
 regrouped : (a b c z rest : List ℕ) → ((a ++ b ++ c) ++ z) ++ rest ≡ a ++ (b ++ (c ++ (z ++ rest)))
 regrouped a b c z rest = simp append_assoc
@@ -147,8 +161,14 @@ user_again r m target rest valid value goes e =
     let counts = length_user m target in
     let long = length_names m in
     let behind : (behind_names m r48).at - r.at ≡ len = omega (arith, counts, long) in
-    rw (source_again r m.id.qm to_target value.id.qm e, source_again r16 target life goes at_target,
-        field_again r32 4 m.life sent refl (omega (arith, value.life)) at_life, field_again r36 4 m.sent number refl (omega (arith, value.sent)) at_sent,
-        field_again r40 4 m.id.number flags refl (omega (arith, value.id.number)) at_number, flags_again r44 m names valid at_flags, named.0,
-        padding_again (behind_names m r48) r.at len rest behind named.1)
+    rw (
+      source_again r m.id.qm to_target value.id.qm e,
+      source_again r16 target life goes at_target,
+      field_again r32 4 m.life sent refl (omega (arith, value.life)) at_life,
+      field_again r36 4 m.sent number refl (omega (arith, value.sent)) at_sent,
+      field_again r40 4 m.id.number flags refl (omega (arith, value.id.number)) at_number,
+      flags_again r44 m names valid at_flags,
+      named.0,
+      padding_again (behind_names m r48) r.at len rest behind named.1,
+    )
     (ap (λ (end : Reading). Ok (user_of m target, end)) (moved_to r _ (length (plain_user m target)) (omega (arith, counts, long, length_padded (user_fields m target ++ user_names m)))))

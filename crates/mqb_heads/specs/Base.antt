@@ -49,7 +49,13 @@ head_of (Err fault) = Err fault
 abbrev pub base_of : List ℕ → Result BaseHead HeadFault
 base_of bytes = if nat_lt (length bytes) 16 then fault_at (length bytes) Short else head_of (base_at (start bytes))
 
--- a base header that may be written
+-- what holds of each base header that was read
+pub record IsBaseRead (head : BaseHead) : Type 0 where
+  pub priority : head.priority ≤ 7
+  pub least : 20 ≤ head.size
+  pub most : head.size ≤ 4194304
+
+-- A base header that may be written: an internal packet has no priority and no limit of time.
 pub record IsBaseHead (head : BaseHead) : Type 0 where
   pub priority : head.priority ≤ 7
   pub least : 20 ≤ head.size

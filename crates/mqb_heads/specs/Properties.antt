@@ -1,5 +1,5 @@
 -- The properties header.
-use Rattle.std.specs.Prelude.{◌≡◌, ℕ, ◌+◌, ◌*◌, ◌<◌, ◌≤◌, IsTrue, ◌^◌, ◌==◌, ◌&&◌, nat_le, nat_lt, List, [], ◌∷◌, ◌++◌, length, take, replicate, Result, Ok, if◌then◌else◌}
+use Rattle.std.specs.Prelude.{◌≡◌, ℕ, ◌+◌, ◌*◌, ◌<◌, ◌≤◌, IsTrue, ◌^◌, ◌==◌, nat_lt, List, [], ◌∷◌, ◌++◌, length, take, replicate, Result, Ok, if◌then◌else◌}
 use Rattle.std.specs.List.{flat_map}
 use Rattle.mqb_base.specs.declared.class.Class.{Class}
 use Rattle.mqb_base.specs.declared.ids.MessageId.{MessageId}
@@ -114,16 +114,19 @@ props_at r = do
   sizes ← sizes_at tag.1
   parts ← parts_at marks.0.label_len sizes.0 sizes.1
   end ← padded_at r.at parts.1
-  Ok (record {
-    ack = marks.0.ack;
-    class = marks.0.class;
-    correlation = correlation.0;
-    body_type = body_type.0;
-    tag = tag.0;
-    label = parts.0.label;
-    extension = parts.0.extension;
-    body = parts.0.body;
-  }, end)
+  Ok (
+    record {
+      ack = marks.0.ack;
+      class = marks.0.class;
+      correlation = correlation.0;
+      body_type = body_type.0;
+      tag = tag.0;
+      label = parts.0.label;
+      extension = parts.0.extension;
+      body = parts.0.body;
+    },
+    end,
+  )
 
 -- the bytes of a label
 abbrev pub label_bytes : List ℕ → List ℕ

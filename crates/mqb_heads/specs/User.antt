@@ -104,19 +104,22 @@ user_at r = do
   flags ← user_flags_at number.1
   names ← names_at flags.0 flags.1
   end ← padded_at r.at names.1
-  Ok (record {
-    source = source.0;
-    target = target.0;
-    life = life.0;
-    sent = sent.0;
-    number = number.0;
-    recoverable = flags.0.recoverable;
-    transaction = flags.0.transaction;
-    journal = flags.0.journal;
-    destination = names.0.destination;
-    admin = names.0.admin;
-    response = names.0.response;
-  }, end)
+  Ok (
+    record {
+      source = source.0;
+      target = target.0;
+      life = life.0;
+      sent = sent.0;
+      number = number.0;
+      recoverable = flags.0.recoverable;
+      transaction = flags.0.transaction;
+      journal = flags.0.journal;
+      destination = names.0.destination;
+      admin = names.0.admin;
+      response = names.0.response;
+    },
+    end,
+  )
 
 abbrev pub is_durable : Delivery → Bool
 is_durable Express = false

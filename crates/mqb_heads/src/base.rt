@@ -31,7 +31,8 @@ pub struct BaseHead {
 }
 
 fn read_version(cursor: &mut Cursor<'_>) -> Result<(), HeadFault>
-    ensures { Moves version_at cursor.old cursor.new result }
+    ensures read { Moves version_at cursor.old cursor.new result }
+    ensures same_bytes { cursor.new.bytes ≡ cursor.old.bytes }
 {
     let at = cursor.at();
     if cursor.u8()? != VERSION {
@@ -44,7 +45,8 @@ fn read_version(cursor: &mut Cursor<'_>) -> Result<(), HeadFault>
 }
 
 fn read_flags(cursor: &mut Cursor<'_>) -> Result<u16, HeadFault>
-    ensures { Reads flags_at cursor.old cursor.new result }
+    ensures read { Reads flags_at cursor.old cursor.new result }
+    ensures same_bytes { cursor.new.bytes ≡ cursor.old.bytes }
 {
     let at = cursor.at();
     let flags = cursor.u16()?;
@@ -58,7 +60,8 @@ fn read_flags(cursor: &mut Cursor<'_>) -> Result<u16, HeadFault>
 }
 
 fn read_signature(cursor: &mut Cursor<'_>) -> Result<(), HeadFault>
-    ensures { Moves signature_at cursor.old cursor.new result }
+    ensures read { Moves signature_at cursor.old cursor.new result }
+    ensures same_bytes { cursor.new.bytes ≡ cursor.old.bytes }
 {
     let at = cursor.at();
     if cursor.u32()? != SIGNATURE {
@@ -71,7 +74,8 @@ fn read_signature(cursor: &mut Cursor<'_>) -> Result<(), HeadFault>
 }
 
 fn read_size(cursor: &mut Cursor<'_>) -> Result<u32, HeadFault>
-    ensures { Reads size_at cursor.old cursor.new result }
+    ensures read { Reads size_at cursor.old cursor.new result }
+    ensures same_bytes { cursor.new.bytes ≡ cursor.old.bytes }
 {
     let at = cursor.at();
     let size = cursor.u32()?;
@@ -86,7 +90,8 @@ fn read_size(cursor: &mut Cursor<'_>) -> Result<u32, HeadFault>
 
 #[tactic(auto, unfolding(crate::specs::Base::base_at))]
 fn base_at(cursor: &mut Cursor<'_>) -> Result<BaseHead, HeadFault>
-    ensures { Reads base_at cursor.old cursor.new result }
+    ensures read { Reads base_at cursor.old cursor.new result }
+    ensures same_bytes { cursor.new.bytes ≡ cursor.old.bytes }
 {
     read_version(cursor)?;
     cursor.skip(1)?;

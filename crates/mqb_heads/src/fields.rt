@@ -14,13 +14,15 @@ const PAST_END: HeadFault = HeadFault {
 };
 
 pub(crate) fn read_guid(cursor: &mut Cursor<'_>) -> Result<Guid, HeadFault>
-    ensures { Reads source_at cursor.old cursor.new result }
+    ensures read { Reads source_at cursor.old cursor.new result }
+    ensures same_bytes { cursor.new.bytes ≡ cursor.old.bytes }
 {
     Ok(Guid(cursor.guid()?))
 }
 
 pub(crate) fn read_id(cursor: &mut Cursor<'_>) -> Result<MessageId, HeadFault>
-    ensures { Reads id_at cursor.old cursor.new result }
+    ensures read { Reads id_at cursor.old cursor.new result }
+    ensures same_bytes { cursor.new.bytes ≡ cursor.old.bytes }
 {
     let qm = read_guid(cursor)?;
     let number = cursor.u32()?;
@@ -28,7 +30,8 @@ pub(crate) fn read_id(cursor: &mut Cursor<'_>) -> Result<MessageId, HeadFault>
 }
 
 pub(crate) fn read_name<'a>(cursor: &mut Cursor<'a>, kind: u8) -> Result<NameView<'a>, HeadFault>
-    ensures { ReadsAs seen_name (name_at kind) cursor.old cursor.new result }
+    ensures read { ReadsAs seen_name (name_at kind) cursor.old cursor.new result }
+    ensures same_bytes { cursor.new.bytes ≡ cursor.old.bytes }
 {
     let at = cursor.at();
     match read_wire_name(kind, cursor.rest()) {
@@ -49,7 +52,8 @@ pub(crate) fn read_optional_name<'a>(
     cursor: &mut Cursor<'a>,
     kind: u8,
 ) -> Result<Option<NameView<'a>>, HeadFault>
-    ensures { ReadsAs (λ name. option_map seen_name name) (optional_name_at kind) cursor.old cursor.new result }
+    ensures read { ReadsAs (λ name. option_map seen_name name) (optional_name_at kind) cursor.old cursor.new result }
+    ensures same_bytes { cursor.new.bytes ≡ cursor.old.bytes }
 {
     if kind == 0 {
         return Ok(None);
@@ -66,7 +70,8 @@ pub(crate) fn padding(len: usize) -> usize
 
 /// Skips the padding of the header that began at `start`.
 pub(crate) fn skip_padding(cursor: &mut Cursor<'_>, start: usize) -> Result<(), HeadFault>
-    ensures { Moves (padded_at start) cursor.old cursor.new result }
+    ensures read { Moves (padded_at start) cursor.old cursor.new result }
+    ensures same_bytes { cursor.new.bytes ≡ cursor.old.bytes }
 {
     cursor.skip(padding(cursor.at().saturating_sub(start)))?;
     Ok(())

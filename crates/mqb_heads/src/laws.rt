@@ -5,7 +5,7 @@ ghost use Rattle.mqb_base.specs.declared.message.Message.{Message};
 ghost use Rattle.mqb_base.specs.Messages.{IsWellFormed};
 ghost use Rattle.mqb_fields.specs.Reading.{Reading, moved, rest_of};
 ghost use Rattle.mqb_heads.specs.declared.base.BaseHead.{BaseHead};
-ghost use Rattle.mqb_heads.specs.Base.{IsBaseHead, base_of, plain_base};
+ghost use Rattle.mqb_heads.specs.Base.{IsBaseHead, IsBaseRead, base_of, plain_base};
 ghost use Rattle.mqb_heads.specs.Transactions.{plain_tx, tx_at};
 ghost use Rattle.mqb_heads.specs.Properties.{FitsProps, IsPropsRead, Props, plain_props, props_at, props_of, props_size};
 ghost use Rattle.mqb_heads.specs.User.{IsUserRead, User, plain_user, user_at, user_of, user_size};
@@ -39,6 +39,11 @@ pub fn props_is_read()
 pub fn sizes()
     ensures user { (m : Message) (target : Guid) → length (plain_user m target) ≡ user_size m }
     ensures props { (m : Message) → length (plain_props m) ≡ props_size m }
+{}
+
+/// What holds of each base header that was read.
+pub fn base_is_well_formed()
+    ensures { (bytes : List ℕ) (head : BaseHead) → base_of bytes ≡ Ok head → IsBaseRead head }
 {}
 
 /// What holds of each user header that was read.

@@ -49,7 +49,8 @@ struct Parts<'a> {
 }
 
 fn read_label_len(cursor: &mut Cursor<'_>) -> Result<u8, HeadFault>
-    ensures { Reads label_len_at cursor.old cursor.new result }
+    ensures read { Reads label_len_at cursor.old cursor.new result }
+    ensures same_bytes { cursor.new.bytes ≡ cursor.old.bytes }
 {
     let at = cursor.at();
     let len = cursor.u8()?;
@@ -63,7 +64,8 @@ fn read_label_len(cursor: &mut Cursor<'_>) -> Result<u8, HeadFault>
 }
 
 fn read_class(cursor: &mut Cursor<'_>) -> Result<Class, HeadFault>
-    ensures { Reads class_at cursor.old cursor.new result }
+    ensures read { Reads class_at cursor.old cursor.new result }
+    ensures same_bytes { cursor.new.bytes ≡ cursor.old.bytes }
 {
     let at = cursor.at();
     let class = Class(cursor.u16()?);
@@ -77,7 +79,8 @@ fn read_class(cursor: &mut Cursor<'_>) -> Result<Class, HeadFault>
 }
 
 fn read_marks(cursor: &mut Cursor<'_>) -> Result<Marks, HeadFault>
-    ensures { Reads marks_at cursor.old cursor.new result }
+    ensures read { Reads marks_at cursor.old cursor.new result }
+    ensures same_bytes { cursor.new.bytes ≡ cursor.old.bytes }
 {
     let ack = bits(u32::from(cursor.u8()?), 0, 4);
     let label_len = read_label_len(cursor)?;
@@ -91,6 +94,7 @@ fn read_marks(cursor: &mut Cursor<'_>) -> Result<Marks, HeadFault>
 
 fn read_allocated(cursor: &mut Cursor<'_>, body: u32) -> Result<u32, HeadFault>
     ensures read { Reads (allocated_at body) cursor.old cursor.new result }
+    ensures same_bytes { cursor.new.bytes ≡ cursor.old.bytes }
     ensures enough { IfOk result (λ allocated. body ≤ allocated) }
 {
     let at = cursor.at();
@@ -105,7 +109,8 @@ fn read_allocated(cursor: &mut Cursor<'_>, body: u32) -> Result<u32, HeadFault>
 }
 
 fn skip_unsecured(cursor: &mut Cursor<'_>) -> Result<(), HeadFault>
-    ensures { Moves unsecured_at cursor.old cursor.new result }
+    ensures read { Moves unsecured_at cursor.old cursor.new result }
+    ensures same_bytes { cursor.new.bytes ≡ cursor.old.bytes }
 {
     let at = cursor.at();
     if cursor.u32()? != 0 {
@@ -119,6 +124,7 @@ fn skip_unsecured(cursor: &mut Cursor<'_>) -> Result<(), HeadFault>
 
 fn read_sizes(cursor: &mut Cursor<'_>) -> Result<Sizes, HeadFault>
     ensures read { Reads sizes_at cursor.old cursor.new result }
+    ensures same_bytes { cursor.new.bytes ≡ cursor.old.bytes }
     ensures enough { IfOk result (λ sizes. sizes.body ≤ sizes.allocated) }
 {
     let body = cursor.u32()?;
@@ -140,7 +146,8 @@ fn read_parts<'a>(
     sizes: &Sizes,
 ) -> Result<Parts<'a>, HeadFault>
     requires { sizes.now.body ≤ sizes.now.allocated }
-    ensures { ReadsAs seen_parts (parts_at label_len sizes.now) cursor.old cursor.new result }
+    ensures read { ReadsAs seen_parts (parts_at label_len sizes.now) cursor.old cursor.new result }
+    ensures same_bytes { cursor.new.bytes ≡ cursor.old.bytes }
 {
     let label = cursor.take(2 * usize::from(label_len))?;
     let extension = cursor.take(sizes.extension as usize)?;
@@ -153,10 +160,11 @@ fn read_parts<'a>(
     })
 }
 
-/// Reads a properties header, and lends its label, its extension and its body. After a fault the cursor may stand anywhere.
+/// Reads a properties header, and lends its label, its extension and its body.
 #[tactic(auto, unfolding(crate::specs::Properties::props_at))]
 pub fn read_props<'a>(cursor: &mut Cursor<'a>) -> Result<PropsHead<'a>, HeadFault>
-    ensures { ReadsAs seen_props props_at cursor.old cursor.new result }
+    ensures read { ReadsAs seen_props props_at cursor.old cursor.new result }
+    ensures same_bytes { cursor.new.bytes ≡ cursor.old.bytes }
 {
     let start = cursor.at();
     let marks = read_marks(cursor)?;
@@ -218,7 +226,8 @@ fn put_padded(message: &Message, to: &mut [u8]) -> usize
 /// How many bytes the properties header of a message has.
 pub fn props_len(message: &Message) -> usize
     requires { FitsProps message.now }
-    ensures { result ≡ props_size message.now }
+    ensures size { result ≡ props_size message.now }
+    ensures most { result < 2 ^ 34 }
 {
     let label = 2 * message.label.as_slice().len();
     let len = 56 + label + message.extension.as_slice().len() + message.body.as_slice().len();

@@ -8,10 +8,11 @@ use crate::writing::put_word;
 use mqb_base::{SequenceId, TxHead};
 use mqb_fields::{Cursor, HeadFault};
 
-/// Reads a transaction header. After a fault the cursor may stand anywhere.
+/// Reads a transaction header.
 #[tactic(auto, unfolding(crate::specs::Transactions::tx_at))]
 pub fn read_tx(cursor: &mut Cursor<'_>) -> Result<TxHead, HeadFault>
-    ensures { Reads tx_at cursor.old cursor.new result }
+    ensures read { Reads tx_at cursor.old cursor.new result }
+    ensures same_bytes { cursor.new.bytes ≡ cursor.old.bytes }
 {
     cursor.skip(4)?;
     let ordinal = cursor.u32()?;

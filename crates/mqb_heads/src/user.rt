@@ -1,4 +1,4 @@
-ghost use Rattle.std.specs.Prelude.{◌≡◌, ◌≤◌, ◌+◌, length};
+ghost use Rattle.std.specs.Prelude.{◌≡◌, ◌≤◌, ◌<◌, ◌+◌, ◌^◌, length};
 ghost use Rattle.mqb_fields.specs.Reading.{Reads, ReadsAs};
 ghost use Rattle.mqb_base.specs.Messages.{IsWellFormed};
 ghost use Rattle.mqb_fields.specs.Writing.{put_at};
@@ -7,7 +7,9 @@ ghost use Rattle.mqb_heads.specs.User.{flags_of, have_types, names_at, plain_use
 
 use crate::fields::{padding, read_guid, read_name, read_optional_name, skip_padding};
 use crate::flags::{bit, bits, flag, placed};
-use crate::writing::{kind_of, kind_or_none, len_or_none, put_guid, put_name, put_optional_name, put_word, put_zeros};
+use crate::writing::{
+    kind_of, kind_or_none, len_or_none, put_guid, put_name, put_optional_name, put_word, put_zeros,
+};
 use mqb_base::{Delivery, Guid, Message};
 use mqb_fields::{Cursor, HeadFault, HeadKind};
 use mqb_names::{NameView, wire_len};
@@ -64,7 +66,8 @@ impl UserFlags {
 }
 
 fn read_flags(cursor: &mut Cursor<'_>) -> Result<UserFlags, HeadFault>
-    ensures { Reads user_flags_at cursor.old cursor.new result }
+    ensures read { Reads user_flags_at cursor.old cursor.new result }
+    ensures same_bytes { cursor.new.bytes ≡ cursor.old.bytes }
 {
     let at = cursor.at();
     let word = cursor.u32()?;
@@ -92,7 +95,8 @@ struct Names<'a> {
 }
 
 fn read_names<'a>(cursor: &mut Cursor<'a>, flags: &UserFlags) -> Result<Names<'a>, HeadFault>
-    ensures { ReadsAs seen_names (names_at flags.now) cursor.old cursor.new result }
+    ensures read { ReadsAs seen_names (names_at flags.now) cursor.old cursor.new result }
+    ensures same_bytes { cursor.new.bytes ≡ cursor.old.bytes }
 {
     let destination = read_name(cursor, flags.destination)?;
     let admin = read_optional_name(cursor, flags.admin)?;
@@ -104,10 +108,11 @@ fn read_names<'a>(cursor: &mut Cursor<'a>, flags: &UserFlags) -> Result<Names<'a
     })
 }
 
-/// Reads a user header, and lends its names. After a fault the cursor may stand anywhere.
+/// Reads a user header, and lends its names.
 #[tactic(auto, unfolding(crate::specs::User::user_at))]
 pub fn read_user<'a>(cursor: &mut Cursor<'a>) -> Result<UserHead<'a>, HeadFault>
-    ensures { ReadsAs seen_user user_at cursor.old cursor.new result }
+    ensures read { ReadsAs seen_user user_at cursor.old cursor.new result }
+    ensures same_bytes { cursor.new.bytes ≡ cursor.old.bytes }
 {
     let start = cursor.at();
     let source = read_guid(cursor)?;
@@ -179,7 +184,8 @@ fn put_padded(message: &Message, target: &Guid, to: &mut [u8]) -> usize
 /// How many bytes the user header of a message has, to whichever manager it goes.
 pub fn user_len(message: &Message) -> usize
     requires { IsWellFormed message.now }
-    ensures { result ≡ user_size message.now }
+    ensures size { result ≡ user_size message.now }
+    ensures most { result < 2 ^ 34 }
 {
     let names = wire_len(&message.destination) as usize
         + len_or_none(&message.admin)

@@ -1,5 +1,4 @@
-use Rattle.std.proofs.Common.{◌++◌, length, ap}
-use Rattle.mqb_heads.specs.Fields.{padding}
+use Rattle.std.proofs.Common.{◌++◌}
 use Rattle.mqb_heads.specs.Properties.{props_fields, props_parts}
 use Rattle.mqb_heads.proofs.Put.{◌>>◌, said, padding_is}
 use Rattle.mqb_heads.proofs.properties.put_padded.Goals as goal
