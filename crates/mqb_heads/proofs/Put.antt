@@ -47,9 +47,11 @@ pub user_sizes : (m : Message) (target : Guid) → length (plain_user m target) 
 user_sizes m target =
     length_padded (user_fields m target ++ user_names m) ∙ ap (λ (n : ℕ). n + padding n) (length_user m target)
 
+pub length_parts : (m : Message) → length (props_parts m) ≡ 2 * length m.label + length m.extension + length m.body
+length_parts m = omega (arith, length-append (label_bytes m.label ++ m.extension) m.body, length-append (label_bytes m.label) m.extension, length_label m.label)
+
 pub length_props : (m : Message) → length (props_fields m ++ props_parts m) ≡ 56 + 2 * length m.label + length m.extension + length m.body
-length_props m =
-    omega (arith, length-append (props_fields m) (props_parts m), length-append (label_bytes m.label ++ m.extension) m.body, length-append (label_bytes m.label) m.extension, length_label m.label)
+length_props m = omega (arith, length-append (props_fields m) (props_parts m), length_parts m)
 
 pub props_sizes : (m : Message) → length (plain_props m) ≡ props_size m
 props_sizes m = length_padded (props_fields m ++ props_parts m) ∙ ap (λ (n : ℕ). n + padding n) (length_props m)

@@ -144,7 +144,7 @@ fn put_fields(head: &BaseHead, to: &mut [u8]) -> usize
 /// Writes the header at the start of a buffer, and tells how many bytes it has.
 pub fn put_base(head: &BaseHead, to: &mut [u8]) -> usize
     requires head { IsBaseHead head.now }
-    requires room { length (plain_base head.now) ≤ length to.old }
+    requires room { 16 ≤ length to.old }
     ensures put { to.new ≡ put_at to.old 0 (plain_base head.now) }
     ensures len { result ≡ length (plain_base head.now) }
 {

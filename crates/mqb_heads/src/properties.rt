@@ -215,7 +215,7 @@ fn put_parts(message: &Message, to: &mut [u8], at: usize) -> usize
 
 fn put_padded(message: &Message, to: &mut [u8]) -> usize
     requires message { FitsProps message.now }
-    requires room { length (plain_props message.now) ≤ length to.old }
+    requires room { props_size message.now ≤ length to.old }
     ensures { Wrote to.old 0 (plain_props message.now) to.new result }
 {
     let parts = put_fields(message, to);
@@ -237,7 +237,7 @@ pub fn props_len(message: &Message) -> usize
 /// Writes the properties header of a message at the start of a buffer, and tells how many bytes it has.
 pub fn put_props(message: &Message, to: &mut [u8]) -> usize
     requires message { FitsProps message.now }
-    requires room { length (plain_props message.now) ≤ length to.old }
+    requires room { props_size message.now ≤ length to.old }
     ensures put { to.new ≡ put_at to.old 0 (plain_props message.now) }
     ensures len { result ≡ length (plain_props message.now) }
 {

@@ -1,13 +1,16 @@
+ghost use Rattle.std.specs.Prelude.{IfOk, IsTrue};
+ghost use Rattle.mqb_base.specs.QueueNames.{names_queue};
+ghost use Rattle.mqb_heads.specs.Properties.{FitsProps};
+
 use crate::{
     BaseHead, HeadFault, HeadKind, props_len, put_base, put_props, put_tx, put_user, read_base,
     read_props, read_tx, read_user, user_len,
 };
 use mqb_base::{
-    Bytes, Class, Delivery, Guid, Message, MessageId, QueueName, SequenceId, TxHead, UNLIMITED,
-    Units,
+    Bytes, Class, Delivery, Guid, Host, Message, MessageId, Name, QueueName, SequenceId, TxHead,
+    UNLIMITED, Units,
 };
 use mqb_fields::Cursor;
-use mqb_names::read_name;
 use std::alloc::Global;
 use std::test::Fail;
 
@@ -37,24 +40,32 @@ const NO_ID: MessageId = MessageId {
     number: 0,
 };
 
-fn orders(alloc: Global) -> Result<QueueName, Fail> {
-    Ok(read_name(alloc, b"DIRECT=OS:beta\\PRIVATE$\\orders")?)
+fn named(alloc: Global, host: &[u8], queue: &[u8]) -> Result<QueueName, Fail>
+    ensures { IfOk result (λ name. IsTrue (names_queue name)) }
+{
+    Ok(QueueName::Direct {
+        host: Host::Os(Name::new(alloc, host)?),
+        queue: Name::new(alloc, queue)?,
+        journal: false,
+    })
 }
 
 /// The message of that packet.
-fn one(alloc: Global) -> Result<Message, Fail> {
+fn one(alloc: Global) -> Result<Message, Fail>
+    ensures { IfOk result (λ message. FitsProps message) }
+{
     Ok(Message {
         id: MessageId {
             qm: ALPHA,
             number: 1,
         },
-        class: Class::NORMAL,
+        class: Class(0),
         delivery: Delivery::Transactional,
         priority: 0,
         sent: 1000,
         reach: UNLIMITED,
         life: UNLIMITED,
-        destination: orders(alloc)?,
+        destination: named(alloc, b"beta", b"orders")?,
         admin: None,
         response: None,
         ack: 0,
@@ -66,6 +77,62 @@ fn one(alloc: Global) -> Result<Message, Fail> {
         extension: Bytes::from_slice(alloc, &[])?,
         body: Bytes::from_slice(alloc, b"one")?,
     })
+}
+
+/// A message with each part.
+fn full(alloc: Global) -> Result<Message, Fail>
+    ensures { IfOk result (λ message. FitsProps message) }
+{
+    Ok(Message {
+        id: MessageId {
+            qm: BETA,
+            number: 2,
+        },
+        class: Class(0xC002),
+        delivery: Delivery::Express,
+        priority: 7,
+        sent: 1001,
+        reach: 10,
+        life: 20,
+        destination: named(alloc, b"beta", b"orders")?,
+        admin: Some(QueueName::Public {
+            guid: ALPHA,
+            journal: false,
+        }),
+        response: Some(QueueName::Private {
+            qm: BETA,
+            number: 7,
+            journal: false,
+        }),
+        ack: 5,
+        journal: 2,
+        correlation: MessageId {
+            qm: BETA,
+            number: 9,
+        },
+        body_type: 3,
+        tag: 4,
+        label: Units::from_slice(alloc, &[0x68, 0x20AC])?,
+        extension: Bytes::from_slice(alloc, b"ext")?,
+        body: Bytes::from_slice(alloc, b"one")?,
+    })
+}
+
+/// The user header of a message to beta.
+fn user_bytes(alloc: Global, message: &Message) -> Result<Vec<u8>, Fail>
+    requires { FitsProps message.now }
+{
+    let mut bytes = vec![in alloc; 0xAA; user_len(message)]?;
+    put_user(message, &BETA, bytes.as_mut_slice());
+    Ok(bytes)
+}
+
+fn props_bytes(alloc: Global, message: &Message) -> Result<Vec<u8>, Fail>
+    requires { FitsProps message.now }
+{
+    let mut bytes = vec![in alloc; 0xAA; props_len(message)]?;
+    put_props(message, bytes.as_mut_slice());
+    Ok(bytes)
 }
 
 fn fault(at: usize, kind: HeadKind) -> HeadFault {
@@ -95,21 +162,19 @@ fn the_base_header_both_ways(rt: HostRuntime) {
 #[test]
 fn the_user_header_both_ways(rt: HostRuntime) -> Result<(), Fail> {
     let message = one(rt.alloc())?;
-    assert_eq!(rt; user_len(&message), 96);
-    let mut bytes = [0xAA; 97];
-    assert_eq!(rt; put_user(&message, &BETA, &mut bytes), 96);
-    assert_eq!(rt; &bytes[..96], USER.as_slice());
-    assert_eq!(rt; bytes[96], 0xAA);
+    assert_eq!(rt;
+        user_bytes(rt.alloc(), &message)?.as_slice(),
+        USER.as_slice()
+    );
     let mut cursor = Cursor::new(USER);
     let head = read_user(&mut cursor)?;
     assert_eq!(rt; cursor.at(), 96);
     assert_eq!(rt; [head.source, head.target], [ALPHA, BETA]);
     assert_eq!(rt; [head.life, head.sent, head.number], [UNLIMITED, 1000, 1]);
     assert_eq!(rt; [head.recoverable, head.transaction], [true, true]);
-    assert_eq!(rt; head.journal, 0);
-    assert_eq!(rt; head.destination.to_owned(rt.alloc())?, message.destination);
-    assert!(rt; head.admin.is_none());
-    assert!(rt; head.response.is_none());
+    assert_eq!(rt; head.destination.kind, 3);
+    assert_eq!(rt; head.destination.part.len(), 48);
+    assert!(rt; head.admin.is_none() && head.response.is_none());
     Ok(())
 }
 
@@ -136,15 +201,13 @@ fn the_transaction_header_both_ways(rt: HostRuntime) {
 #[test]
 fn the_properties_header_both_ways(rt: HostRuntime) -> Result<(), Fail> {
     let message = one(rt.alloc())?;
-    assert_eq!(rt; props_len(&message), 60);
-    let mut bytes = [0xAA; 61];
-    assert_eq!(rt; put_props(&message, &mut bytes), 60);
-    assert_eq!(rt; &bytes[..60], PROPS.as_slice());
-    assert_eq!(rt; bytes[60], 0xAA);
+    assert_eq!(rt;
+        props_bytes(rt.alloc(), &message)?.as_slice(),
+        PROPS.as_slice()
+    );
     let mut cursor = Cursor::new(PROPS);
     let head = read_props(&mut cursor)?;
     assert_eq!(rt; cursor.at(), 60);
-    assert_eq!(rt; head.class, Class::NORMAL);
     assert_eq!(rt; head.correlation, NO_ID);
     assert_eq!(rt; head.body, b"one".as_slice());
     assert_eq!(rt; head.label.len() + head.extension.len(), 0);
@@ -152,43 +215,24 @@ fn the_properties_header_both_ways(rt: HostRuntime) -> Result<(), Fail> {
 }
 
 #[test]
-fn each_field_is_read_again(rt: HostRuntime) -> Result<(), Fail> {
-    let message = Message {
-        delivery: Delivery::Express,
-        admin: Some(QueueName::Public {
-            guid: ALPHA,
-            journal: false,
-        }),
-        response: Some(QueueName::Private {
-            qm: BETA,
-            number: 7,
-            journal: false,
-        }),
-        ack: 5,
-        journal: 2,
-        class: Class::RECEIVE_TIMEOUT,
-        correlation: MessageId {
-            qm: BETA,
-            number: 9,
-        },
-        body_type: 3,
-        tag: 4,
-        label: Units::from_slice(rt.alloc(), &[0x68, 0x20AC])?,
-        extension: Bytes::from_slice(rt.alloc(), b"ext")?,
-        ..one(rt.alloc())?
-    };
-    let mut bytes = [0xAA; 200];
-    let user_end = put_user(&message, &BETA, &mut bytes);
-    assert_eq!(rt; user_end, 132);
-    assert_eq!(rt; put_props(&message, &mut bytes[132..]), 68);
-    let mut cursor = Cursor::new(&bytes);
-    let user = read_user(&mut cursor)?;
+fn the_user_header_of_a_full_message_is_read_again(rt: HostRuntime) -> Result<(), Fail> {
+    let bytes = user_bytes(rt.alloc(), &full(rt.alloc())?)?;
+    assert_eq!(rt; bytes.len(), 132);
+    let user = read_user(&mut Cursor::new(bytes.as_slice()))?;
+    assert_eq!(rt; [user.life, user.sent, user.number], [20, 1001, 2]);
     assert_eq!(rt; [user.recoverable, user.transaction], [false, false]);
     assert_eq!(rt; user.journal, 2);
     assert_eq!(rt; user.admin.map(|name| name.kind), Some(1));
     assert_eq!(rt; user.response.map(|name| name.part.len()), Some(20));
-    let props = read_props(&mut cursor)?;
-    assert_eq!(rt; cursor.at(), 200);
+    Ok(())
+}
+
+#[test]
+fn the_properties_of_a_full_message_are_read_again(rt: HostRuntime) -> Result<(), Fail> {
+    let message = full(rt.alloc())?;
+    let bytes = props_bytes(rt.alloc(), &message)?;
+    assert_eq!(rt; bytes.len(), 68);
+    let props = read_props(&mut Cursor::new(bytes.as_slice()))?;
     assert_eq!(rt; [props.body_type, props.tag], [3, 4]);
     assert_eq!(rt; props.ack, 5);
     assert_eq!(rt; props.class, Class::RECEIVE_TIMEOUT);

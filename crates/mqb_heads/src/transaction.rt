@@ -39,7 +39,7 @@ fn put_fields(head: &TxHead, to: &mut [u8]) -> usize
 
 /// Writes the header at the start of a buffer, and tells how many bytes it has.
 pub fn put_tx(head: &TxHead, to: &mut [u8]) -> usize
-    requires { length (plain_tx head.now) ≤ length to.old }
+    requires { 20 ≤ length to.old }
     ensures put { to.new ≡ put_at to.old 0 (plain_tx head.now) }
     ensures len { result ≡ length (plain_tx head.now) }
 {

@@ -173,7 +173,7 @@ fn put_names(message: &Message, to: &mut [u8], at: usize) -> usize
 
 fn put_padded(message: &Message, target: &Guid, to: &mut [u8]) -> usize
     requires message { IsWellFormed message.now }
-    requires room { length (plain_user message.now target.now) ≤ length to.old }
+    requires room { user_size message.now ≤ length to.old }
     ensures { Wrote to.old 0 (plain_user message.now target.now) to.new result }
 {
     let names = put_fields(message, target, to);
@@ -197,7 +197,7 @@ pub fn user_len(message: &Message) -> usize
 /// Writes the user header of a message to the manager `target` at the start of a buffer, and tells how many bytes it has.
 pub fn put_user(message: &Message, target: &Guid, to: &mut [u8]) -> usize
     requires message { IsWellFormed message.now }
-    requires room { length (plain_user message.now target.now) ≤ length to.old }
+    requires room { user_size message.now ≤ length to.old }
     ensures put { to.new ≡ put_at to.old 0 (plain_user message.now target.now) }
     ensures len { result ≡ length (plain_user message.now target.now) }
 {
