@@ -1,0 +1,5 @@
+use Rattle.mqb_heads.proofs.HeadsAgain.{tx_again}
+use Rattle.mqb_heads.proofs.laws.tx_is_read.Goals as goal
+
+pub returns : goal.returns
+returns c = tx_again

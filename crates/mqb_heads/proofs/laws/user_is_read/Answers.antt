@@ -1,0 +1,5 @@
+use Rattle.mqb_heads.proofs.UserAgain.{user_again}
+use Rattle.mqb_heads.proofs.laws.user_is_read.Goals as goal
+
+pub returns : goal.returns
+returns c = user_again

@@ -1,0 +1,5 @@
+use Rattle.mqb_heads.proofs.ReadLaws.{user_read}
+use Rattle.mqb_heads.proofs.laws.user_is_well_formed.Goals as goal
+
+pub returns : goal.returns
+returns c = λ r end user e. user_read r user end e

@@ -1,0 +1,5 @@
+use Rattle.mqb_heads.proofs.Put.{◌>>◌}
+use Rattle.mqb_heads.proofs.transaction.put_fields.Goals as goal
+
+pub returns : goal.returns
+returns c = c.put_word-ordinal.ensures >> c.put_word-stamp.ensures >> c.put_word-number.ensures >> c.put_word-previous.ensures >> c.put_word.ensures
