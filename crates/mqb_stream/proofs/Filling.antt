@@ -1,15 +1,15 @@
 -- How a packet is filled, whatever the pieces are.
-use Rattle.std.proofs.Common.{◌≡◌, ◌≤◌, ◌<◌, ℕ, zero, suc, ◌+◌, ◌-◌, Bool, true, false, cond, ltb, leb, List, [], ◌∷◌, ◌++◌, length, take, drop, Result, Ok, Err, refl, sym, ap, subst, ◌∙◌, ◌⊎◌, inl, inr, append_assoc, arith, length-append, length-drop}
-use Rattle.std.proofs.lemmas.Bool.{cases_lt, ltb-false, le-ltb, lt-ltb, leb-true, ltb-true}
-use Rattle.std.proofs.lemmas.List.{take_at, take-append-le, take-append-drop, take_all, drop_all, length-take, length-take-le, append-nil}
+use Rattle.std.proofs.Common.{◌≡◌, ◌≤◌, ◌<◌, ℕ, cond, ltb, leb, List, [], ◌++◌, length, take, drop, Result, Ok, Err, refl, sym, ap, subst, ◌∙◌, inl, inr, arith, length-append}
+use Rattle.std.proofs.lemmas.Bool.{cases_lt, ltb-false, le-ltb, lt-ltb, leb-true}
+use Rattle.std.proofs.lemmas.List.{take-append-le, take-append-drop, take_all, length-take, append-nil}
 use Rattle.mqb_fields.specs.declared.faults.HeadFault.{HeadFault}
 use Rattle.mqb_fields.specs.Faults.{past_end}
 use Rattle.mqb_fields.specs.Reading.{◌>>=◌}
 use Rattle.mqb_heads.specs.declared.base.BaseHead.{BaseHead}
-use Rattle.mqb_heads.specs.Base.{IsBaseRead, base_of}
+use Rattle.mqb_heads.specs.Base.{base_of}
 use Rattle.mqb_heads.proofs.ReadLaws.{bind_ok, if_ok, unless_ok, base_read}
-use Rattle.mqb_stream.specs.Cutting.{packet_size, IsFrame}
-use Rattle.mqb_stream.specs.Framing.{Framing, Answer, Whole, Broken, Wants, by_size, next, wants_more, end_by, packet_end, fed, IsFramer}
+use Rattle.mqb_stream.specs.Cutting.{packet_size}
+use Rattle.mqb_stream.specs.Framing.{end_by, packet_end}
 
 -- the size is that of the first 16 bytes
 pub same_size : (limit : ℕ) (held more : List ℕ) → 16 ≤ length held → packet_size limit (held ++ more) ≡ packet_size limit held

@@ -1,5 +1,5 @@
 -- What a framer holds, answers and takes.
-use Rattle.std.specs.Prelude.{◌≡◌, ℕ, ◌+◌, ◌-◌, ◌^◌, ◌<◌, ◌≤◌, Bool, true, false, nat_lt, List, [], ◌++◌, take, length, Result, Ok, Err, if◌then◌else◌}
+use Rattle.std.specs.Prelude.{ℕ, ◌+◌, ◌-◌, ◌^◌, ◌<◌, ◌≤◌, Bool, true, false, nat_lt, List, [], ◌++◌, take, length, Result, Ok, Err, if◌then◌else◌}
 use Rattle.mqb_fields.specs.declared.faults.HeadFault.{HeadFault}
 use Rattle.mqb_stream.specs.declared.framer.Full.{Full}
 use Rattle.mqb_stream.specs.declared.framer.Next.{Next}
@@ -36,6 +36,10 @@ abbrev pub wants_more : Answer → Bool
 wants_more (Wants need) = true
 wants_more other = false
 
+abbrev pub is_whole : Answer → Bool
+is_whole (Whole bytes) = true
+is_whole other = false
+
 abbrev pub end_by : Result ℕ HeadFault → ℕ
 end_by (Ok size) = size
 end_by (Err fault) = 16
@@ -50,7 +54,7 @@ fed f bytes = record f { held = take (packet_end f.limit (f.held ++ bytes)) (f.h
 
 -- how many of the bytes it takes, where no packet and no bad header waits
 abbrev pub taken_of : Framing → List ℕ → Result ℕ Full
-taken_of f bytes = if wants_more (next f) then Ok (length (fed f bytes).held - length f.held) else Err (record { })
+taken_of f bytes = if wants_more (next f) then Ok (length (fed f bytes).held - length f.held) else Err (record {})
 
 -- the framer once the packet was dropped
 abbrev pub advanced : Framing → Framing
@@ -59,6 +63,7 @@ advanced f = record f { place = f.place + length f.held; held = [] }
 -- The bytes that are held are of one packet, and there is room for the greatest.
 pub record IsFramer (limit place : ℕ) (held : List ℕ) (room : ℕ) : Type 0 where
   pub least : 20 ≤ limit
+  pub most : limit ≤ 4194304
   pub room_fits : limit ≤ room
   pub one_packet : length held ≤ packet_end limit held
   pub place_fits : place + length held < 2 ^ 64

@@ -1,6 +1,6 @@
-ghost use Rattle.std.specs.Prelude.{◌≡◌, ◌+◌, ◌-◌, ◌<◌, ◌≤◌, ◌^◌, [], ◌++◌, take, drop, length, vec_len, vec_capacity, IfOk, OnOk, OnErr};
-ghost use Rattle.mqb_stream.specs.Cutting.{IsFrame, packet_size};
-ghost use Rattle.mqb_stream.specs.Framing.{advanced, answer_of, fed, next, packet_end, taken_of, wants_more};
+ghost use Rattle.std.specs.Prelude.{◌≡◌, ◌+◌, ◌-◌, ◌<◌, ◌≤◌, ◌^◌, [], ◌++◌, take, drop, length, vec_len, vec_capacity, IfOk, IsTrue, OnOk, OnErr};
+ghost use Rattle.mqb_stream.specs.Cutting.{packet_size};
+ghost use Rattle.mqb_stream.specs.Framing.{advanced, answer_of, fed, is_whole, next, packet_end, taken_of, wants_more};
 
 use mqb_base::Memory;
 use mqb_fields::{HeadFault, HeadKind};
@@ -115,11 +115,13 @@ fn fill_packet(limit: u32, buffer: &mut Vec<u8>, bytes: &[u8]) -> usize
     requires one_packet { length buffer.old.items ≤ packet_end limit buffer.old.items }
     ensures held { buffer.new.items ≡ take (packet_end limit (buffer.old.items ++ bytes.now)) (buffer.old.items ++ bytes.now) }
     ensures taken { vec_len buffer.new ≡ vec_len buffer.old + result }
+    ensures within { result ≤ length bytes.now }
     ensures room { vec_capacity buffer.old ≤ vec_capacity buffer.new }
 {
     let begun = fill_head(buffer, bytes);
     let end = packet_end(limit, buffer.as_slice());
-    begun + fill(buffer, &bytes[begun..], end)
+    let (_, rest) = bytes.split_at(begun);
+    begun + fill(buffer, rest, end)
 }
 
 impl Framer {
@@ -179,6 +181,10 @@ impl Framer {
         ensures answer { result ≡ taken_of self.old bytes.now }
         ensures fed { OnOk result (self.new ≡ fed self.old bytes.now) }
         ensures full { OnErr result (self.new ≡ self.old) }
+
+        // What a caller who counts the bytes of the stream needs.
+        ensures place { self.new.place ≡ self.old.place }
+        ensures most { length self.new.held ≤ length self.old.held + length bytes.now }
     {
         if !self.wants_more() {
             return Err(Full);
@@ -188,7 +194,7 @@ impl Framer {
 
     /// Drops the packet that waits.
     pub fn advance(&mut self)
-        requires { IsFrame self.old.limit self.old.held }
+        requires { IsTrue (is_whole (next self.old)) }
         ensures { self.new ≡ advanced self.old }
     {
         self.place += self.buffer.len() as u64;

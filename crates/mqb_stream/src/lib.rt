@@ -5,5 +5,10 @@
 #![tactic(auto)]
 
 mod framer;
+mod laws;
 
 pub use framer::{Framer, Full, Next};
+pub use laws::{next_is_cut, one_cutting, pieces_do_not_matter};
+
+#[cfg(test)]
+mod tests;
