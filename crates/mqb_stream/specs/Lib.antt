@@ -1,0 +1,3 @@
+pub mod Cutting
+pub mod Framing
+pub mod Histories
