@@ -79,6 +79,13 @@ pub record Spells (packet : Packet) (bytes : List ℕ) : Type 0 where
   pub read : packet_of bytes ≡ Ok parts
   pub said : packet_in parts ≡ Some packet
 
+-- A user packet's view lends all of these bytes.
+abbrev pub Lends : List ℕ → PacketView → Type 0
+Lends bytes (view.User user) = user.whole.now ≡ bytes
+Lends bytes (view.Establish establish) = Unit {0}
+Lends bytes (view.Parameters parameters) = Unit {0}
+Lends bytes (view.Ack head) = Unit {0}
+
 -- A user packet's view is what was read of the bytes that it lends.
 abbrev pub IsLent : PacketView → Type 0
 IsLent (view.User user) = packet_of user.whole.now ≡ Ok (seen_packet (view.User user))

@@ -1,8 +1,9 @@
-ghost use Rattle.std.specs.Prelude.{◌≡◌, option_map};
+ghost use Rattle.std.specs.Prelude.{◌≡◌, ℕ, List, IfOk};
 ghost use Rattle.mqb_fields.specs.Reading.{Reads, ReadsAs};
 ghost use Rattle.mqb_heads.specs.Transactions.{tx_at};
 ghost use Rattle.mqb_setup.specs.Sessions.{session_at};
 ghost use Rattle.mqb_packet.specs.Parts.{head_if, internal_parts_at, packet_of, parts_at, seen, seen_packet, seen_user, user_packet_at, user_parts_at};
+ghost use Rattle.mqb_packet.specs.Spelled.{IsLent, Lends};
 
 use mqb_base::{SessionHead, TxHead};
 use mqb_fields::{Cursor, HeadFault, HeadKind};
@@ -62,7 +63,8 @@ fn read_user_parts<'a>(
     base: BaseHead,
     whole: &'a [u8],
 ) -> Result<UserView<'a>, HeadFault>
-    ensures { ReadsAs seen_user (user_parts_at base whole.now) cursor.old cursor.new result }
+    ensures read { ReadsAs seen_user (user_parts_at base whole.now) cursor.old cursor.new result }
+    ensures whole { IfOk result (λ view. view.whole.now ≡ whole.now) }
 {
     let user = read_user(cursor)?;
     let tx = read_tx_if(cursor, user.transaction)?;
@@ -83,13 +85,15 @@ fn read_user_packet<'a>(
     base: BaseHead,
     whole: &'a [u8],
 ) -> Result<PacketView<'a>, HeadFault>
-    ensures { ReadsAs seen_packet (user_packet_at base whole.now) cursor.old cursor.new result }
+    ensures read { ReadsAs seen_packet (user_packet_at base whole.now) cursor.old cursor.new result }
+    ensures whole { IfOk result (λ view. Lends whole.now view) }
 {
     Ok(PacketView::User(read_user_parts(cursor, base, whole)?))
 }
 
 fn read_internal_packet<'a>(cursor: &mut Cursor<'a>) -> Result<PacketView<'a>, HeadFault>
-    ensures { ReadsAs seen_packet internal_parts_at cursor.old cursor.new result }
+    ensures read { ReadsAs seen_packet internal_parts_at cursor.old cursor.new result }
+    ensures whole { (whole : List ℕ) → IfOk result (λ view. Lends whole view) }
 {
     Ok(match read_internal(cursor)? {
         Internal::Ack(head) => PacketView::Ack(head),
@@ -103,7 +107,8 @@ fn read_parts<'a>(
     base: BaseHead,
     whole: &'a [u8],
 ) -> Result<PacketView<'a>, HeadFault>
-    ensures { ReadsAs seen_packet (parts_at base whole.now) cursor.old cursor.new result }
+    ensures read { ReadsAs seen_packet (parts_at base whole.now) cursor.old cursor.new result }
+    ensures whole { IfOk result (λ view. Lends whole.now view) }
 {
     if base.internal {
         read_internal_packet(cursor)
@@ -115,7 +120,9 @@ fn read_parts<'a>(
 /// Reads the packet that these bytes are, all of them, and lends its parts. The first fault from the left is answered.
 #[tactic(auto, unfolding(crate::specs::Parts::packet_of))]
 pub fn view(bytes: &[u8]) -> Result<PacketView<'_>, HeadFault>
-    ensures { seen result ≡ packet_of bytes.now }
+    ensures packet { seen result ≡ packet_of bytes.now }
+    ensures whole { IfOk result (λ view. Lends bytes.now view) }
+    ensures lent { IfOk result (λ view. IsLent view) }
 {
     let base = read_base(bytes)?;
     if base.size as usize != bytes.len() {
