@@ -1,0 +1,4 @@
+pub mod Behind
+pub mod LabelUnits
+pub mod PacketAgain
+pub mod WellFormed

@@ -1,0 +1,4 @@
+pub mod Parts
+pub mod Spelled
+pub mod Plain
+pub mod Values

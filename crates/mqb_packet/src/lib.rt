@@ -1,0 +1,22 @@
+//! Whole packets: a user packet, which carries a message, and the internal packets of a session.
+//!
+//! `view` reads a packet without memory, and lends its parts as slices of the bytes that it was given. What it answers is `packet_of` of `specs/`, the
+//! grammar of packets. `put_packet` writes the one plain spelling of a packet, and what is written is read again as the same packet.
+#![tactic(auto)]
+
+mod faults;
+mod laws;
+mod lent;
+mod owned;
+mod packet;
+mod writing;
+
+pub use faults::{PutFault, TooLarge};
+pub use laws::{each_view_spells_a_packet, one_packet_is_spelled, plain_is_read, plain_size};
+pub use lent::{PacketView, UserView, view};
+pub use mqb_fields::{HeadFault, HeadKind};
+pub use mqb_heads::{BaseHead, PropsHead, UserHead};
+pub use mqb_setup::{Establish, Parameters};
+pub use owned::to_owned;
+pub use packet::{Packet, UserPacket};
+pub use writing::{put_packet, size_of};

@@ -1,0 +1,190 @@
+ghost use Rattle.std.specs.Prelude.{◌≡◌, ◌≤◌, ◌<◌, ◌+◌, ◌++◌, ◌↔◌, ◌^◌, Err, length, IfOk, IsErr, OnOk, OnErr};
+ghost use Rattle.mqb_base.specs.Messages.{IsWellFormed};
+ghost use Rattle.mqb_heads.specs.Base.{plain_base};
+ghost use Rattle.mqb_heads.specs.Properties.{FitsProps, plain_props, props_size};
+ghost use Rattle.mqb_heads.specs.User.{plain_user, user_size};
+ghost use Rattle.mqb_heads.specs.Writing.{Wrote};
+ghost use Rattle.mqb_setup.specs.Internals.{plain_internal};
+ghost use Rattle.mqb_packet.specs.Plain.{IsWellFormedPacket, IsWellFormedUser, base_for, internal_base, packet_size, plain_spelling, plain_user_packet, session_or_none, session_size, tx_or_none, tx_size, user_packet_size};
+
+use crate::faults::{PutFault, TooLarge};
+use crate::packet::{Packet, UserPacket};
+use mqb_base::{Guid, Message, SessionHead, TxHead};
+use mqb_heads::{BaseHead, GREATEST_PACKET, props_len, put_base, put_props, put_tx, put_user, user_len};
+use mqb_setup::{Internal, put_internal, put_session};
+
+/// The sizes of internal packets, in bytes.
+const ESTABLISH_SIZE: u32 = 572;
+const PARAMETERS_SIZE: u32 = 32;
+const ACK_SIZE: u32 = 36;
+
+/// The time that the base header of an internal packet says: without limit.
+const NO_LIMIT: u32 = 0xFFFF_FFFF;
+
+fn tx_len(head: &Option<TxHead>) -> usize
+    ensures { result ≡ tx_size head.now }
+{
+    if head.is_some() { 20 } else { 0 }
+}
+
+fn session_len(head: &Option<SessionHead>) -> usize
+    ensures { result ≡ session_size head.now }
+{
+    if head.is_some() { 16 } else { 0 }
+}
+
+fn user_size(user: &UserPacket) -> Result<u32, TooLarge>
+    requires { IsWellFormedUser user.now }
+    ensures size { IfOk result (λ size. size ≡ user_packet_size user.now) }
+    ensures too_large { IsErr result ↔ (4194304 < user_packet_size user.now) }
+{
+    let most = GREATEST_PACKET as usize;
+    let message = &user.message;
+    if message.extension.as_slice().len() > most || message.body.as_slice().len() > most {
+        return Err(TooLarge);
+    }
+    let size = 16
+        + user_len(message)
+        + tx_len(&user.tx)
+        + props_len(message)
+        + session_len(&user.session);
+    if size > most {
+        return Err(TooLarge);
+    }
+    Ok(size as u32)
+}
+
+/// How many bytes the plain spelling of a packet has.
+pub fn size_of(packet: &Packet) -> Result<u32, TooLarge>
+    requires { IsWellFormedPacket packet.now }
+    ensures size { IfOk result (λ size. size ≡ packet_size packet.now) }
+    ensures too_large { IsErr result ↔ (4194304 < packet_size packet.now) }
+{
+    match packet {
+        Packet::User(user) => user_size(user),
+        Packet::Establish(_) => Ok(ESTABLISH_SIZE),
+        Packet::Parameters(_) => Ok(PARAMETERS_SIZE),
+        Packet::Ack(_) => Ok(ACK_SIZE),
+    }
+}
+
+fn put_user_behind(to: &mut [u8], at: usize, message: &Message, target: &Guid) -> usize
+    requires message { IsWellFormed message.now }
+    requires room { at + user_size message.now ≤ length to.old }
+    ensures { Wrote to.old at (plain_user message.now target.now) to.new result }
+{
+    at + put_user(message, target, &mut to[at..])
+}
+
+fn put_props_behind(to: &mut [u8], at: usize, message: &Message) -> usize
+    requires message { FitsProps message.now }
+    requires room { at + props_size message.now ≤ length to.old }
+    ensures { Wrote to.old at (plain_props message.now) to.new result }
+{
+    at + put_props(message, &mut to[at..])
+}
+
+fn put_tx_behind(to: &mut [u8], at: usize, head: &Option<TxHead>) -> usize
+    requires { at + tx_size head.now ≤ length to.old }
+    ensures { Wrote to.old at (tx_or_none head.now) to.new result }
+{
+    match head {
+        Some(head) => at + put_tx(head, &mut to[at..]),
+        None => at,
+    }
+}
+
+fn put_session_behind(to: &mut [u8], at: usize, head: &Option<SessionHead>) -> usize
+    requires { at + session_size head.now ≤ length to.old }
+    ensures { Wrote to.old at (session_or_none head.now) to.new result }
+{
+    match head {
+        Some(head) => at + put_session(head, &mut to[at..]),
+        None => at,
+    }
+}
+
+fn put_internal_behind(to: &mut [u8], at: usize, part: &Internal) -> usize
+    requires { at + length (plain_internal part.now) ≤ length to.old }
+    ensures { Wrote to.old at (plain_internal part.now) to.new result }
+{
+    at + put_internal(part, &mut to[at..])
+}
+
+fn base_for(user: &UserPacket, size: u32) -> BaseHead
+    requires { size ≡ user_packet_size user.now }
+    ensures { result ≡ base_for user.now }
+{
+    BaseHead {
+        priority: user.message.priority,
+        internal: false,
+        session: user.session.is_some(),
+        size,
+        reach: user.remaining,
+    }
+}
+
+fn put_user_packet(user: &UserPacket, size: u32, to: &mut [u8]) -> usize
+    requires user { IsWellFormedUser user.now }
+    requires size { size ≡ user_packet_size user.now }
+    requires most { size ≤ 4194304 }
+    requires room { length to.old ≡ size }
+    ensures { Wrote to.old 0 (plain_user_packet user.now) to.new result }
+{
+    let base = base_for(user, size);
+    let head = put_base(&base, to);
+    let tx = put_user_behind(to, head, &user.message, &user.to);
+    let props = put_tx_behind(to, tx, &user.tx);
+    let session = put_props_behind(to, props, &user.message);
+    put_session_behind(to, session, &user.session)
+}
+
+fn put_internal_packet(part: &Internal, session: bool, size: u32, to: &mut [u8]) -> usize
+    requires least { 20 ≤ size }
+    requires most { size ≤ 4194304 }
+    requires room { 16 + length (plain_internal part.now) ≤ length to.old }
+    ensures { Wrote to.old 0 (plain_base (internal_base session size) ++ plain_internal part.now) to.new result }
+{
+    let base = BaseHead {
+        priority: 0,
+        internal: true,
+        session,
+        size,
+        reach: NO_LIMIT,
+    };
+    let head = put_base(&base, to);
+    put_internal_behind(to, head, part)
+}
+
+fn write(packet: &Packet, size: u32, to: &mut [u8])
+    requires packet { IsWellFormedPacket packet.now }
+    requires size { size ≡ packet_size packet.now }
+    requires most { size ≤ 4194304 }
+    requires room { length to.old ≡ size }
+    ensures { to.new ≡ plain_spelling packet.now }
+{
+    match packet {
+        Packet::User(user) => put_user_packet(user, size, to),
+        Packet::Establish(establish) => {
+            put_internal_packet(&Internal::Establish(*establish), false, size, to)
+        }
+        Packet::Parameters(parameters) => {
+            put_internal_packet(&Internal::Parameters(*parameters), false, size, to)
+        }
+        Packet::Ack(head) => put_internal_packet(&Internal::Ack(*head), true, size, to),
+    };
+}
+
+/// Appends the plain spelling of a packet.
+pub fn put_packet(packet: &Packet, out: &mut Vec<u8>) -> Result<(), PutFault>
+    requires { IsWellFormedPacket packet.now }
+    ensures put { OnOk result (out.new.items ≡ out.old.items ++ plain_spelling packet.now) }
+    ensures stays { OnErr result (out.new.items ≡ out.old.items) }
+    ensures too_large { (result ≡ Err PutFault.TooLarge) ↔ (4194304 < packet_size packet.now) }
+{
+    let size = size_of(packet)?;
+    let start = out.len();
+    out.resize(start + size as usize, 0)?;
+    write(packet, size, &mut out.as_mut_slice()[start..]);
+    Ok(())
+}
