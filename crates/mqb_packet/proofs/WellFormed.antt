@@ -73,11 +73,11 @@ IsRead (Internal inner) = Unit {0}
 parts_read : (base : BaseHead) (whole : List ℕ) (r : Reading) (parts : PacketParts) (end : Reading) → IsBaseRead base → parts_at base whole r ≡ Ok (parts, end) → IsRead parts
 parts_read base whole r parts end valid e = elim base.internal as (λ v. cond v (internal_parts_at r) (user_packet_at base whole r) ≡ Ok (parts, end) → IsRead parts) [
   | true ↦ λ read.
-    let inner = bind_ok (internal_at r) _ (parts, end) read in
-    subst (λ (p : PacketParts × Reading). IsRead p.0) (ok_is _ _ inner.2) tt
+      let inner = bind_ok (internal_at r) _ (parts, end) read in
+      subst (λ (p : PacketParts × Reading). IsRead p.0) (ok_is _ _ inner.2) tt
   | false ↦ λ read.
-    let user = bind_ok (user_parts_at base whole r) _ (parts, end) read in
-    subst (λ (p : PacketParts × Reading). IsRead p.0) (ok_is _ _ user.2) (user_parts_read base whole r user.0.0 user.0.1 valid user.1)
+      let user = bind_ok (user_parts_at base whole r) _ (parts, end) read in
+      subst (λ (p : PacketParts × Reading). IsRead p.0) (ok_is _ _ user.2) (user_parts_read base whole r user.0.0 user.0.1 valid user.1)
 ] e
 
 pub packet_read : (bytes : List ℕ) (parts : PacketParts) → packet_of bytes ≡ Ok parts → IsRead parts
@@ -192,16 +192,17 @@ user_said : (parts : UserParts) → IsPartsRead parts → (user : UserPacket) ×
 user_said parts read =
     let destination = some_of (name_in parts.user.destination) read.user.destination.1 in
     let admin = optional_of parts.user.admin read.user.admin in
-    let response = optional_of parts.user.response read.user.response in
-    (user_packet parts (message_with parts destination.0 admin.0 response.0),
-    ap (option_map (user_packet parts)) (message_said parts destination.0 admin.0 response.0 destination.1 admin.1 response.1))
+    let response = optional_of parts.user.response read.user.response in (
+      user_packet parts (message_with parts destination.0 admin.0 response.0),
+      ap (option_map (user_packet parts)) (message_said parts destination.0 admin.0 response.0 destination.1 admin.1 response.1),
+    )
 
 pub said_packet : (bytes : List ℕ) (parts : PacketParts) → packet_of bytes ≡ Ok parts → IsRead parts → (p : Packet) × Spells p bytes × IsWellFormedPacket p
 said_packet bytes (User parts) e read =
     let user = user_said parts read in
     let message = map_some (user_packet parts) (message_in parts) user.0 user.1 in
     let said : packet_in (User parts) ≡ Some (packet.User user.0) =
-        ap (option_map (λ (m : Message). packet.User (user_packet parts m))) message.1 ∙ ap (λ (u : UserPacket). Some (packet.User u)) message.2 in
+    ap (option_map (λ (m : Message). packet.User (user_packet parts m))) message.1 ∙ ap (λ (u : UserPacket). Some (packet.User u)) message.2 in
     (packet.User user.0, record { parts = User parts; read = e; said = said }, user_well_formed parts user.0 read user.1)
 said_packet bytes (Internal (part.Establish establish)) e read = (packet.Establish establish, record { parts = Internal (part.Establish establish); read = e; said = refl }, tt)
 said_packet bytes (Internal (part.Parameters parameters)) e read = (packet.Parameters parameters, record { parts = Internal (part.Parameters parameters); read = e; said = refl }, tt)

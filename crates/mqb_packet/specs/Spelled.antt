@@ -58,10 +58,10 @@ message_with parts destination admin response = record {
 
 abbrev pub message_in : UserParts → Option Message
 message_in parts = option_and_then (λ destination.
-  option_and_then (λ admin.
+    option_and_then (λ admin.
     option_map (λ response. message_with parts destination admin response) (optional_name_in parts.user.response))
-  (optional_name_in parts.user.admin))
-  (name_in parts.user.destination)
+    (optional_name_in parts.user.admin))
+    (name_in parts.user.destination)
 
 abbrev pub user_packet : UserParts → Message → UserPacket
 user_packet parts message = record { message = message; to = parts.user.target; remaining = parts.base.reach; tx = parts.tx; session = parts.session }

@@ -45,10 +45,7 @@ fn read_tx_if(cursor: &mut Cursor<'_>, present: bool) -> Result<Option<TxHead>, 
     Ok(Some(read_tx(cursor)?))
 }
 
-fn read_session_if(
-    cursor: &mut Cursor<'_>,
-    present: bool,
-) -> Result<Option<SessionHead>, HeadFault>
+fn read_session_if(cursor: &mut Cursor<'_>, present: bool) -> Result<Option<SessionHead>, HeadFault>
     ensures { Reads (head_if present session_at) cursor.old cursor.new result }
 {
     if !present {

@@ -20,3 +20,6 @@ pub use mqb_setup::{Establish, Parameters};
 pub use owned::to_owned;
 pub use packet::{Packet, UserPacket};
 pub use writing::{put_packet, size_of};
+
+#[cfg(test)]
+mod tests;

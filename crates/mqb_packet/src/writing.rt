@@ -10,12 +10,16 @@ ghost use Rattle.mqb_packet.specs.Plain.{IsWellFormedPacket, IsWellFormedUser, b
 use crate::faults::{PutFault, TooLarge};
 use crate::packet::{Packet, UserPacket};
 use mqb_base::{Guid, Message, SessionHead, TxHead};
-use mqb_heads::{BaseHead, GREATEST_PACKET, props_len, put_base, put_props, put_tx, put_user, user_len};
+use mqb_heads::{
+    BaseHead, GREATEST_PACKET, props_len, put_base, put_props, put_tx, put_user, user_len,
+};
 use mqb_setup::{Internal, put_internal, put_session};
 
 /// The sizes of internal packets, in bytes.
 const ESTABLISH_SIZE: u32 = 572;
+
 const PARAMETERS_SIZE: u32 = 32;
+
 const ACK_SIZE: u32 = 36;
 
 /// The time that the base header of an internal packet says: without limit.
