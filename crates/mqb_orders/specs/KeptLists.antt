@@ -1,4 +1,4 @@
-use Rattle.std.specs.Prelude.{ℕ, ◌<◌, ◌-◌, min, List, AllPairs, map}
+use Rattle.std.specs.Prelude.{ℕ, ◌<◌, ◌-◌, nat_lt, min, List, AllPairs, filter, map}
 use Rattle.mqb_orders.specs.declared.kept.Kept.{Kept}
 
 -- a list of kept messages, and how many more it has room for
@@ -16,3 +16,7 @@ numbers kept = map (λ k. k.number) kept
 -- the numbers rise
 abbrev pub Rises : List Kept → Type 0
 Rises kept = AllPairs (λ j k. j.number < k.number) kept
+
+-- what is kept above a number
+abbrev pub released : ℕ → List Kept → List Kept
+released number kept = filter (λ k. nat_lt number k.number) kept

@@ -1,5 +1,5 @@
-ghost use Rattle.std.specs.Prelude.{◌≡◌, ◌+◌, ◌<◌, ◌≤◌, ◌==◌, [], ◌∷◌, ◌++◌, length, remove, slice_get, All, Some, IsOk, OnOk, OnErr, IfErr};
-ghost use Rattle.mqb_orders.specs.KeptLists.{Rises};
+ghost use Rattle.std.specs.Prelude.{◌≡◌, ◌+◌, ◌<◌, ◌≤◌, ◌==◌, [], ◌∷◌, ◌++◌, length, remove, slice_get, All, Some, IsOk, OnOk, OnErr, IfErr, vec_len, vec_capacity};
+ghost use Rattle.mqb_orders.specs.KeptLists.{Rises, released};
 
 use mqb_base::{Memory, Message};
 use std::alloc::Global;
@@ -124,4 +124,21 @@ impl KeptList {
     {
         self.items.remove(at as usize)
     }
+
+    /// Drops the messages up to a number, which was acknowledged.
+    pub fn release(&mut self, number: u32)
+        ensures kept { self.new.kept ≡ released number self.old.kept }
+        ensures spare { self.new.spare + length self.new.kept ≡ self.old.spare + length self.old.kept }
+    {
+        keep_above(&mut self.items, number);
+    }
+}
+
+/// Keeps the messages above a number, in the same memory.
+fn keep_above(items: &mut Vec<Kept>, number: u32)
+    ensures kept { items.new.items ≡ released number items.old.items }
+    ensures bound { vec_len items.new ≤ vec_len items.old }
+    ensures capacity { vec_capacity items.new ≡ vec_capacity items.old }
+{
+    items.retain(|kept| kept.number > number);
 }

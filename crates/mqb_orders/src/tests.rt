@@ -100,6 +100,8 @@ fn kept_messages(rt: HostRuntime) -> Result<(), Fail> {
     assert_eq!(rt; list.get(1).number, 5);
     assert_eq!(rt; list.remove(1).number, 5);
     assert_eq!(rt; list.as_slice().len(), 2);
+    list.release(2);
+    assert_eq!(rt; list.len(), 1);
     assert_eq!(rt; list.reserve(u32::MAX), Err(Memory));
     Ok(())
 }
