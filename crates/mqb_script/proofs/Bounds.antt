@@ -1,18 +1,18 @@
--- What the events of a script name keeps its bounds, and there are no more events than bytes.
-use Rattle.std.proofs.Common.{◌≡◌, ℕ, ◌+◌, ◌≤◌, Bool, true, false, ◌==◌, ◌&&◌, nat_le, if◌then◌else◌, cond, List, [], ◌∷◌, length, codes, Option, Some, None, Result, Ok, Err, refl, arith}
+-- What the events of a script name keeps its bounds, and there are no more events than lines.
+use Rattle.std.proofs.Common.{◌≡◌, ℕ, ◌+◌, ◌≤◌, Bool, true, false, ◌==◌, ◌&&◌, nat_le, if◌then◌else◌, List, [], ◌∷◌, length, codes, Option, Some, None, Result, Ok, Err, refl, arith}
 use Rattle.std.specs.Option.{IfSome, option_map, option_and_then}
 use Rattle.std.specs.Result.{IfOk}
-use Rattle.std.specs.List.{AllByRecursion, onto_first}
+use Rattle.std.specs.List.{AllByRecursion}
 use Rattle.std.proofs.lemmas.Result.{IfOk-at_ok}
 use Rattle.std.proofs.lemmas.Bool.Decides.{nat_tests}
-use Rattle.mqb_base.specs.declared.draft.Op.TheVariants.{Send}
 use Rattle.mqb_base.specs.Same.{same_bytes}
-use Rattle.mqb_script.specs.declared.events.Which.TheVariants.{Alpha, Beta}
 use Rattle.mqb_script.specs.declared.events.Event.{Event}
-use Rattle.mqb_script.specs.declared.events.Event.TheVariants.{Queue, Commit, Connect, Pump, Deliver}
+use Rattle.mqb_script.specs.declared.events.Event.TheVariants.{Queue, Commit, Connect, Pump, Deliver, Drop}
+use Rattle.mqb_script.specs.Managers.{manager_of}
 use Rattle.mqb_script.specs.Words.{lines_of, words_of, fields_of, value_of, is_decimal, number_in}
-use Rattle.mqb_script.specs.Grammar.{MAX, where_, moment_of, destination_of, is_body, body_of, parts_of, plain_text, send_of, is_built_queue, plan_of, queue_of, commit_of, is_built_connection, connect_of, pump_of, deliver_of, event_of, is_skipped, with_event, script_from, script_of}
-use Rattle.mqb_script.specs.Sizes.{IsShort, IsSized}
+use Rattle.mqb_script.specs.Grammar.{MAX, where_, moment_of, packet_of, send_of, is_built_queue, plan_of, queue_of, commit_of, is_built_connection, connect_of, pump_of, deliver_of, drop_of, event_of, is_skipped, with_event, script_from, script_of}
+use Rattle.mqb_script.specs.Sizes.{IsSized}
+use Rattle.mqb_script.specs.Reading.{begun, line_count}
 use Rattle.mqb_script.proofs.Splitting.{both}
 
 -- What holds of a value, where there is one.
@@ -57,50 +57,39 @@ number_from least greatest word =
     where_tested (λ n. least ≤ n) (is_decimal word && (nat_le least (value_of word) && nat_le (value_of word) greatest)) (value_of word)
     (λ is. at_most least (value_of word) (both _ _ (both _ _ is).1).0)
 
-abbrev HasShortBody : List ℕ → Type 0
-HasShortBody body = length body ≤ 1000
-
-short_body : (word : List ℕ) → IfSome (body_of word) HasShortBody
-short_body word = where_tested HasShortBody (is_body word) word (λ is. at_most (length word) 1000 (both _ _ (both _ _ is).0).1)
-
-short_send : (fields : List (List ℕ)) → IfSome (send_of fields) IsShort
-short_send [] = tt
-short_send (send ∷ []) = tt
-short_send (send ∷ destination ∷ rest) =
-    where_keeps IsShort (same_bytes send (codes "send")) _
-    (then_gives IsShort _ (plain_text rest)
-    (λ text. then_gives IsShort _ (destination_of destination)
-    (λ to. map_keeps HasShortBody IsShort (λ body. Send (parts_of to body)) (body_of text) (λ body short. short) (short_body text))))
-
 sized_queue : (words : List (List ℕ)) → IfSome (queue_of words) IsSized
 sized_queue (manager ∷ name ∷ kind ∷ quota ∷ journal ∷ []) =
-    where_keeps IsSized (is_built_queue manager kind journal) _ (map_gives IsSized (λ plan. Queue Beta plan) (plan_of name quota) (λ plan. tt))
+    where_keeps IsSized (is_built_queue kind journal) _
+    (then_gives IsSized _ (manager_of manager) (λ which. map_gives IsSized (λ plan. Queue which plan) (plan_of name quota) (λ plan. tt)))
 sized_queue _ = tt
 
 sized_commit : (words : List (List ℕ)) → IfSome (commit_of words) IsSized
 sized_commit (manager ∷ now ∷ op ∷ []) =
-    where_keeps IsSized (same_bytes manager (codes "alpha")) _
-    (then_gives IsSized _ (moment_of now)
-    (λ moment. map_keeps IsShort IsSized (λ send. Commit Alpha moment (send ∷ [])) (send_of (fields_of op)) (λ send short. (short, tt))
-    (short_send (fields_of op))))
+    then_gives IsSized _ (manager_of manager)
+    (λ which. then_gives IsSized _ (moment_of now)
+    (λ moment. map_gives IsSized (λ send. Commit which moment (send ∷ [])) (send_of which (fields_of op)) (λ send. tt)))
 sized_commit _ = tt
 
 sized_connect : (words : List (List ℕ)) → IfSome (connect_of words) IsSized
-sized_connect (manager ∷ now ∷ own ∷ other ∷ []) =
-    where_keeps IsSized (is_built_connection manager own other) _
-    (map_gives IsSized (λ moment. Connect Alpha moment 64 64) (moment_of now) (λ moment. tt))
+sized_connect (manager ∷ now ∷ alpha ∷ beta ∷ []) =
+    where_keeps IsSized (is_built_connection alpha beta) _
+    (then_gives IsSized _ (manager_of manager) (λ which. map_gives IsSized (λ moment. Connect which moment 64 64) (moment_of now) (λ moment. tt)))
 sized_connect _ = tt
 
 sized_pump : (words : List (List ℕ)) → IfSome (pump_of words) IsSized
 sized_pump (manager ∷ now ∷ []) =
-    where_keeps IsSized (same_bytes manager (codes "alpha")) _ (map_gives IsSized (λ moment. Pump Alpha moment) (moment_of now) (λ moment. tt))
+    then_gives IsSized _ (manager_of manager) (λ which. map_gives IsSized (λ moment. Pump which moment) (moment_of now) (λ moment. tt))
 sized_pump _ = tt
 
 sized_deliver : (words : List (List ℕ)) → IfSome (deliver_of words) IsSized
 sized_deliver (packet ∷ now ∷ []) =
-    then_keeps (λ k. 1 ≤ k) IsSized _ (number_in 1 MAX packet)
+    then_keeps (λ k. 1 ≤ k) IsSized _ (packet_of packet)
     (λ k some. map_gives IsSized (λ moment. Deliver k moment) (moment_of now) (λ moment. some)) (number_from 1 MAX packet)
 sized_deliver _ = tt
+
+sized_drop : (words : List (List ℕ)) → IfSome (drop_of words) IsSized
+sized_drop (packet ∷ []) = map_keeps (λ k. 1 ≤ k) IsSized (λ k. Drop k) (packet_of packet) (λ k some. some) (number_from 1 MAX packet)
+sized_drop _ = tt
 
 sized_event : (words : List (List ℕ)) → IfSome (event_of words) IsSized
 sized_event [] = tt
@@ -109,7 +98,8 @@ sized_event (word ∷ words) =
     (choice_keeps IsSized (same_bytes word (codes "commit")) _ _ (sized_commit words)
     (choice_keeps IsSized (same_bytes word (codes "connect")) _ _ (sized_connect words)
     (choice_keeps IsSized (same_bytes word (codes "pump")) _ _ (sized_pump words)
-    (choice_keeps IsSized (same_bytes word (codes "deliver")) _ _ (sized_deliver words) tt))))
+    (choice_keeps IsSized (same_bytes word (codes "deliver")) _ _ (sized_deliver words)
+    (choice_keeps IsSized (same_bytes word (codes "drop")) _ _ (sized_drop words) tt)))))
 
 -- The events of lines.
 
@@ -143,18 +133,11 @@ with_bytes [] = 0
 with_bytes ([] ∷ lines) = with_bytes lines
 with_bytes ((b ∷ bs) ∷ lines) = with_bytes lines + 1
 
-byte_in_front : (b n : ℕ) (ends : Bool) (lines : List (List ℕ)) → with_bytes lines ≤ n
-    → with_bytes (cond ends ([] ∷ lines) (onto_first b lines)) ≤ n + 1
-byte_in_front b n true lines h = omega arith
-byte_in_front b n false [] h = omega arith
-byte_in_front b n false ([] ∷ lines) h = omega arith
-byte_in_front b n false ((c ∷ line) ∷ lines) h = omega arith
-
-few_with_bytes : (text : List ℕ) → with_bytes (lines_of text) ≤ length text
+few_with_bytes : (lines : List (List ℕ)) → with_bytes lines ≤ begun lines
 few_with_bytes [] = omega arith
-few_with_bytes (b ∷ text) =
-    let step : with_bytes (lines_of (b ∷ text)) ≤ length text + 1 = byte_in_front b (length text) (b == 10) (lines_of text) (few_with_bytes text) in
-    omega arith
+few_with_bytes ([] ∷ []) = omega arith
+few_with_bytes ([] ∷ line ∷ lines) = let more : with_bytes (line ∷ lines) ≤ begun (line ∷ lines) = few_with_bytes (line ∷ lines) in omega arith
+few_with_bytes ((b ∷ bs) ∷ lines) = let more : with_bytes lines ≤ begun lines = few_with_bytes lines in omega arith
 
 few_with : (n k : ℕ) (event : Option Event) (rest : Result (List (ℕ × Event)) ℕ) → IfOk rest (λ events. length events ≤ k)
     → IfOk (with_event n event rest) (λ events. length events ≤ k + 1)
@@ -177,9 +160,9 @@ few_from n ([] ∷ lines) = few_from (n + 1) lines
 few_from n ((b ∷ line) ∷ lines) =
     few_line (b == 0x23) n (with_bytes lines) (event_of (words_of (b ∷ line))) (script_from (n + 1) lines) (few_from (n + 1) lines)
 
-pub few_events : (text : List ℕ) (events : List (ℕ × Event)) → script_of text ≡ Ok events → length events ≤ length text
+pub few_events : (text : List ℕ) (events : List (ℕ × Event)) → script_of text ≡ Ok events → length events ≤ line_count text
 few_events text events is =
-    let lines : with_bytes (lines_of text) ≤ length text = few_with_bytes text in
+    let lines : with_bytes (lines_of text) ≤ begun (lines_of text) = few_with_bytes (lines_of text) in
     let few : length events ≤ with_bytes (lines_of text) =
     IfOk-at_ok (λ es. length es ≤ with_bytes (lines_of text)) is (few_from 1 (lines_of text)) in
     omega arith

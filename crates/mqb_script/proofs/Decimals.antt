@@ -41,7 +41,10 @@ in_range : (least greatest n : ℕ) (word : List ℕ) → is_decimal word ≡ tr
     → number_in least greatest word ≡ Some n
 in_range least greatest n word form value low high = rw (form, value) (grind (arith, nat_tests))
 
-pub number_back : (least n : ℕ) → least ≤ n → n ≤ MAX → number_in least MAX (decimal n) ≡ Some n
-number_back least n low high =
+pub number_up_to : (least greatest n : ℕ) → least ≤ n → n ≤ greatest → greatest ≤ MAX → number_in least greatest (decimal n) ≡ Some n
+number_up_to least greatest n low high most =
     let small : n < 2 ^ 64 = omega arith in
-    in_range least MAX n (decimal n) (is_decimal_of n small) (decimal_spells n small).value low high
+    in_range least greatest n (decimal n) (is_decimal_of n small) (decimal_spells n small).value low high
+
+pub number_back : (least n : ℕ) → least ≤ n → n ≤ MAX → number_in least MAX (decimal n) ≡ Some n
+number_back least n low high = number_up_to least MAX n low high (omega arith)

@@ -1,26 +1,30 @@
 -- The line of an event is read back as the event.
-use Rattle.std.proofs.Common.{◌≡◌, ℕ, ◌^◌, ◌<◌, ◌≤◌, Bool, true, false, ◌==◌, ◌||◌, not, nat_lt, if◌then◌else◌, cond, List, [], ◌∷◌, ◌++◌, length, get_or, codes, Some, None, is_none, refl, ap, ◌∙◌, arith, append-nil}
-use Rattle.std.specs.List.{list_all, position_or_len}
-use Rattle.std.specs.Option.{option_map}
+use Rattle.std.proofs.Common.{◌≡◌, ℕ, ◌^◌, ◌<◌, ◌≤◌, Bool, true, false, ◌==◌, ◌||◌, not, nat_lt, if◌then◌else◌, cond, List, [], ◌∷◌, ◌++◌, length, replicate, get_or, codes, Some, None, is_none, Result, refl, ap, ◌∙◌, arith, append-nil}
+use Rattle.std.specs.List.{list_all, position_or_len, join_with_byte}
+use Rattle.std.specs.Option.{option_map, option_and_then}
+use Rattle.std.specs.Result.{result_ok}
 use Rattle.std.specs.Fmt.{decimal}
 use Rattle.std.proofs.lemmas.List.Sums.{fails_before_first, list_all-from_AllPass}
 use Rattle.std.proofs.lemmas.Bool.Decides.{nat_tests}
 use Rattle.mqb_base.specs.declared.names.NameError.TheVariants.{Length, Byte}
-use Rattle.mqb_base.specs.declared.queue_names.Host.TheVariants.{Os}
 use Rattle.mqb_base.specs.declared.queue_names.QueueName.{QueueName}
-use Rattle.mqb_base.specs.declared.queue_names.QueueName.TheVariants.{Direct}
 use Rattle.mqb_base.specs.declared.draft.Op.{Op}
 use Rattle.mqb_base.specs.declared.draft.Op.TheVariants.{Send}
 use Rattle.mqb_base.specs.Names.{name_fault, is_name_byte}
+use Rattle.mqb_names.specs.declared.faults.PartFault.{PartFault}
+use Rattle.mqb_names.specs.Printed.{path}
+use Rattle.mqb_names.proofs.PrintedAgain.{printed_again}
+use Rattle.mqb_script.specs.declared.events.Which.{Which}
 use Rattle.mqb_script.specs.declared.events.Which.TheVariants.{Alpha, Beta}
 use Rattle.mqb_script.specs.declared.events.Event.{Event}
-use Rattle.mqb_script.specs.declared.events.Event.TheVariants.{Queue, Commit, Connect, Pump, Deliver}
+use Rattle.mqb_script.specs.declared.events.Event.TheVariants.{Queue, Commit, Connect, Pump, Deliver, Drop}
+use Rattle.mqb_script.specs.Managers.{host_of, other, manager_of}
 use Rattle.mqb_script.specs.Words.{words_of, fields_of, is_digit, number_in}
-use Rattle.mqb_script.specs.Grammar.{MAX, name_of, moment_of, beta_queues, destination_of, is_body_byte, is_body, body_of, parts_of, send_of, event_of}
+use Rattle.mqb_script.specs.Grammar.{MAX, where_, name_of, moment_of, packet_of, is_queue_at, destination_of, is_body_byte, is_starred, MOST_COUNTED, body_of, parts_of, send_of, event_of}
 use Rattle.mqb_script.specs.Texts.{destination_text}
-use Rattle.mqb_script.specs.Spelling.{IsBuilt, send_text, line_of}
-use Rattle.mqb_script.specs.Spelling.IsBuilt.{queue, commit, connect, pump, deliver}
-use Rattle.mqb_script.proofs.Decimals.{decimal_spells, number_back}
+use Rattle.mqb_script.specs.Spelling.{queue_of_other, sending, is_plain, IsBuilt, send_text, sending_words, line_of, counted_line}
+use Rattle.mqb_script.specs.Spelling.IsBuilt.{queue, commit, connect, pump, deliver, drop}
+use Rattle.mqb_script.proofs.Decimals.{decimal_spells, number_up_to, number_back}
 use Rattle.mqb_script.proofs.Splitting.{both, lacks, all_lack, split_join, lacks-append, lacks-join, lacks_where}
 
 -- Names.
@@ -67,119 +71,199 @@ number_lacks n small = let fits : n < 2 ^ 64 = omega arith in lacks_where 32 is_
 
 -- A send.
 
-body_bytes : (body : List ℕ) → is_body body ≡ true → list_all is_body_byte body ≡ true
-body_bytes body h = (both (list_all is_body_byte body) _ (both _ _ h).0).0
-
 body_without_space : (b : ℕ) → is_body_byte b ≡ true → (b == 32) ≡ false
 body_without_space b h = grind (arith, nat_tests)
 
 body_without_comma : (b : ℕ) → is_body_byte b ≡ true → (b == 44) ≡ false
 body_without_comma b h = grind (arith, nat_tests)
 
-body_back : (body : List ℕ) → is_body body ≡ true → body_of body ≡ Some body
-body_back body h = ap (λ test. if test then Some body else None) h
+-- a text that can stand in a send, and what it stands for
+record StandsFor (text body : List ℕ) : Type 0 where
+  bytes : list_all is_body_byte text ≡ true
+  read : body_of text ≡ Some body
 
-abbrev queue_of_beta : List ℕ → QueueName
-queue_of_beta name = Direct (Os (codes "beta")) name false
+is_unstarred : (b : Bool) → not b ≡ true → b ≡ false
+is_unstarred true h = cc
+is_unstarred false h = refl
 
-printed_destination : (name : List ℕ) → destination_text (queue_of_beta name) ≡ beta_queues ++ name
-printed_destination name = ap (λ rest. beta_queues ++ rest) (append-nil name)
+plain_stands : (body : List ℕ) → is_plain body ≡ true → StandsFor body body
+plain_stands body h =
+    let k = both (list_all is_body_byte body) (not (is_starred body)) h in
+    record { bytes = k.0; read = rw (is_unstarred (is_starred body) k.1, k.0) refl }
 
-destination_lacks : (c : ℕ) (name : List ℕ) → lacks c beta_queues ≡ true → lacks c name ≡ true
-    → lacks c (destination_text (queue_of_beta name)) ≡ true
-destination_lacks c name a b = ap (lacks c) (printed_destination name) ∙ lacks-append c beta_queues name a b
+digit_is_body_byte : (b : ℕ) → is_digit b ≡ true → is_body_byte b ≡ true
+digit_is_body_byte b h = grind (arith, nat_tests)
 
-destination_back : (name : List ℕ) → name_fault name ≡ None → destination_of (destination_text (queue_of_beta name)) ≡ Some (queue_of_beta name)
-destination_back name h = ap destination_of (printed_destination name) ∙ ap (option_map queue_of_beta) (name_back name h)
+digits_are_body_bytes : (digits : List ℕ) → list_all is_digit digits ≡ true → list_all is_body_byte digits ≡ true
+digits_are_body_bytes [] h = refl
+digits_are_body_bytes (b ∷ digits) h =
+    let k = both (is_digit b) (list_all is_digit digits) h in rw (digit_is_body_byte b k.0, digits_are_body_bytes digits k.1) refl
+
+counted_stands : (n : ℕ) → n ≤ MOST_COUNTED → StandsFor (codes "*" ++ decimal n) (replicate n 0x78)
+counted_stands n most =
+    let fits : n < 2 ^ 64 = omega arith in record {
+      bytes = digits_are_body_bytes (decimal n) (decimal_spells n fits).digit;
+      read = ap (option_map (λ count. replicate count 0x78)) (number_up_to 0 MOST_COUNTED n (omega arith) most (omega arith));
+    }
+
+-- what stands before the queue's name in a destination
+abbrev front : Which → List ℕ
+front which = codes "DIRECT=OS:" ++ host_of (other which) ++ path
+
+printed_destination : (which : Which) (name : List ℕ) → destination_text (queue_of_other which name) ≡ front which ++ name
+printed_destination Alpha name = ap (λ rest. front Alpha ++ rest) (append-nil name)
+printed_destination Beta name = ap (λ rest. front Beta ++ rest) (append-nil name)
+
+front_without_space : (which : Which) → lacks 32 (front which) ≡ true
+front_without_space Alpha = refl
+front_without_space Beta = refl
+
+front_without_comma : (which : Which) → lacks 44 (front which) ≡ true
+front_without_comma Alpha = refl
+front_without_comma Beta = refl
+
+destination_lacks : (c : ℕ) (which : Which) (name : List ℕ) → lacks c (front which) ≡ true → lacks c name ≡ true
+    → lacks c (destination_text (queue_of_other which name)) ≡ true
+destination_lacks c which name a b = ap (lacks c) (printed_destination which name) ∙ lacks-append c (front which) name a b
+
+host_is_name : (which : Which) → name_fault (host_of which) ≡ None
+host_is_name Alpha = refl
+host_is_name Beta = refl
+
+is_queue_of_other : (which : Which) (name : List ℕ) → is_queue_at (host_of (other which)) (queue_of_other which name) ≡ true
+is_queue_of_other Alpha name = refl
+is_queue_of_other Beta name = refl
+
+destination_back : (which : Which) (name : List ℕ) → name_fault name ≡ None
+    → destination_of which (destination_text (queue_of_other which name)) ≡ Some (queue_of_other which name)
+destination_back which name h =
+    ap (λ (read : Result QueueName PartFault). option_and_then (λ to. where_ (is_queue_at (host_of (other which)) to) (Some to)) (result_ok read))
+    (printed_again (queue_of_other which name) (host_is_name (other which), h))
+    ∙ ap (λ test. where_ test (Some (queue_of_other which name))) (is_queue_of_other which name)
 
 -- the fields behind the word that begins a send
 abbrev more_fields : List ℕ → List ℕ → List (List ℕ)
-more_fields destination body = destination ∷ codes "-" ∷ codes "-" ∷ codes "-" ∷ codes "-" ∷ codes "-" ∷ body ∷ []
+more_fields destination text = destination ∷ codes "-" ∷ codes "-" ∷ codes "-" ∷ codes "-" ∷ codes "-" ∷ text ∷ []
 
-fields_lack : (c : ℕ) (destination body : List ℕ) → lacks c (codes "send") ≡ true → lacks c (codes "-") ≡ true → lacks c destination ≡ true
-    → lacks c body ≡ true
-    → all_lack c (codes "send" ∷ more_fields destination body) ≡ true
-fields_lack c destination body send dash d b = rw (send, dash, d, b) refl
+fields_lack : (c : ℕ) (destination text : List ℕ) → lacks c (codes "send") ≡ true → lacks c (codes "-") ≡ true → lacks c destination ≡ true
+    → lacks c text ≡ true
+    → all_lack c (codes "send" ∷ more_fields destination text) ≡ true
+fields_lack c destination text send dash d b = rw (send, dash, d, b) refl
 
-send_fields_back : (destination body : List ℕ) (to : QueueName) → destination_of destination ≡ Some to → body_of body ≡ Some body
-    → send_of (codes "send" ∷ more_fields destination body) ≡ Some (Send (parts_of to body))
-send_fields_back destination body to d b = rw (d, b) refl
+send_fields_back : (which : Which) (destination text body : List ℕ) (to : QueueName) → destination_of which destination ≡ Some to
+    → body_of text ≡ Some body
+    → send_of which (codes "send" ∷ more_fields destination text) ≡ Some (Send (parts_of to body))
+send_fields_back which destination text body to d b = rw (d, b) refl
 
-send_back : (name body : List ℕ) → name_fault name ≡ None → is_body body ≡ true
-    → send_of (fields_of (send_text (parts_of (queue_of_beta name) body))) ≡ Some (Send (parts_of (queue_of_beta name) body))
-send_back name body n b =
+send_back : (which : Which) (name text body : List ℕ) → name_fault name ≡ None → StandsFor text body
+    → send_of which (fields_of (send_text (queue_of_other which name) text)) ≡ Some (Send (parts_of (queue_of_other which name) body))
+send_back which name text body n stands =
     let comma : lacks 44 name ≡ true = lacks_where 44 is_name_byte name_without_comma name (name_bytes name n) in
-    let comma_body : lacks 44 body ≡ true = lacks_where 44 is_body_byte body_without_comma body (body_bytes body b) in
-    let to : List ℕ = destination_text (queue_of_beta name) in
-    ap send_of (split_join 44 (codes "send") (more_fields to body)
-    (fields_lack 44 to body refl refl (destination_lacks 44 name refl comma) comma_body))
-    ∙ send_fields_back to body (queue_of_beta name) (destination_back name n) (body_back body b)
+    let comma_text : lacks 44 text ≡ true = lacks_where 44 is_body_byte body_without_comma text stands.bytes in
+    let to : List ℕ = destination_text (queue_of_other which name) in
+    ap (send_of which) (split_join 44 (codes "send") (more_fields to text)
+    (fields_lack 44 to text refl refl (destination_lacks 44 which name (front_without_comma which) comma) comma_text))
+    ∙ send_fields_back which to text body (queue_of_other which name) (destination_back which name n) stands.read
 
-send_lacks : (name body : List ℕ) → name_fault name ≡ None → is_body body ≡ true → lacks 32 (send_text (parts_of (queue_of_beta name) body)) ≡ true
-send_lacks name body n b =
+send_lacks : (which : Which) (name text : List ℕ) → name_fault name ≡ None → list_all is_body_byte text ≡ true
+    → lacks 32 (send_text (queue_of_other which name) text) ≡ true
+send_lacks which name text n bytes =
     let space : lacks 32 name ≡ true = lacks_where 32 is_name_byte name_without_space name (name_bytes name n) in
-    let space_body : lacks 32 body ≡ true = lacks_where 32 is_body_byte body_without_space body (body_bytes body b) in
-    let to : List ℕ = destination_text (queue_of_beta name) in
-    lacks-join 32 44 refl (codes "send") (more_fields to body) (fields_lack 32 to body refl refl (destination_lacks 32 name refl space) space_body)
+    let space_text : lacks 32 text ≡ true = lacks_where 32 is_body_byte body_without_space text bytes in
+    let to : List ℕ = destination_text (queue_of_other which name) in
+    lacks-join 32 44 refl (codes "send") (more_fields to text)
+    (fields_lack 32 to text refl refl (destination_lacks 32 which name (front_without_space which) space) space_text)
 
 -- The lines.
 
-queue_words : (name quota : List ℕ) → lacks 32 name ≡ true → lacks 32 quota ≡ true
-    → all_lack 32 (codes "queue" ∷ codes "beta" ∷ name ∷ codes "tx" ∷ quota ∷ codes "none" ∷ []) ≡ true
-queue_words name quota n q = rw (n, q) refl
+host_lacks : (which : Which) → lacks 32 (host_of which) ≡ true
+host_lacks Alpha = refl
+host_lacks Beta = refl
 
-queue_back : (name : List ℕ) (word : List ℕ) (quota : ℕ) → name_of name ≡ Some name → number_in 0 MAX word ≡ Some quota
-    → event_of (codes "queue" ∷ codes "beta" ∷ name ∷ codes "tx" ∷ word ∷ codes "none" ∷ [])
-    ≡ Some (Queue Beta (record { name = name; public = None; transactional = true; quota = quota; journal = false }))
-queue_back name word quota n q = rw (n, q) refl
+manager_back : (which : Which) → manager_of (host_of which) ≡ Some which
+manager_back Alpha = refl
+manager_back Beta = refl
 
-commit_words : (now text : List ℕ) → lacks 32 now ≡ true → lacks 32 text ≡ true
-    → all_lack 32 (codes "commit" ∷ codes "alpha" ∷ now ∷ text ∷ []) ≡ true
-commit_words now text n t = rw (n, t) refl
+queue_words : (host name quota : List ℕ) → lacks 32 host ≡ true → lacks 32 name ≡ true → lacks 32 quota ≡ true
+    → all_lack 32 (codes "queue" ∷ host ∷ name ∷ codes "tx" ∷ quota ∷ codes "none" ∷ []) ≡ true
+queue_words host name quota h n q = rw (h, n, q) refl
 
-commit_back : (word text : List ℕ) (now : ℕ) (send : Op) → moment_of word ≡ Some now → send_of (fields_of text) ≡ Some send
-    → event_of (codes "commit" ∷ codes "alpha" ∷ word ∷ text ∷ []) ≡ Some (Commit Alpha now (send ∷ []))
-commit_back word text now send n s = rw (n, s) refl
+queue_back : (host name word : List ℕ) (which : Which) (quota : ℕ) → manager_of host ≡ Some which → name_of name ≡ Some name
+    → number_in 0 MAX word ≡ Some quota
+    → event_of (codes "queue" ∷ host ∷ name ∷ codes "tx" ∷ word ∷ codes "none" ∷ [])
+    ≡ Some (Queue which (record { name = name; public = None; transactional = true; quota = quota; journal = false }))
+queue_back host name word which quota h n q = rw (h, n, q) refl
 
-connect_words : (now : List ℕ) → lacks 32 now ≡ true → all_lack 32 (codes "connect" ∷ codes "alpha" ∷ now ∷ codes "64" ∷ codes "64" ∷ []) ≡ true
-connect_words now n = rw n refl
+commit_words : (host now text : List ℕ) → lacks 32 host ≡ true → lacks 32 now ≡ true → lacks 32 text ≡ true
+    → all_lack 32 (codes "commit" ∷ host ∷ now ∷ text ∷ []) ≡ true
+commit_words host now text h n t = rw (h, n, t) refl
 
-connect_back : (word : List ℕ) (now : ℕ) → moment_of word ≡ Some now
-    → event_of (codes "connect" ∷ codes "alpha" ∷ word ∷ codes "64" ∷ codes "64" ∷ []) ≡ Some (Connect Alpha now 64 64)
-connect_back word now n = rw n refl
+commit_back : (host word text : List ℕ) (which : Which) (now : ℕ) (send : Op) → manager_of host ≡ Some which → moment_of word ≡ Some now
+    → send_of which (fields_of text) ≡ Some send
+    → event_of (codes "commit" ∷ host ∷ word ∷ text ∷ []) ≡ Some (Commit which now (send ∷ []))
+commit_back host word text which now send h n s = rw (h, n, s) refl
 
-pump_words : (now : List ℕ) → lacks 32 now ≡ true → all_lack 32 (codes "pump" ∷ codes "alpha" ∷ now ∷ []) ≡ true
-pump_words now n = rw n refl
+connect_words : (host now : List ℕ) → lacks 32 host ≡ true → lacks 32 now ≡ true
+    → all_lack 32 (codes "connect" ∷ host ∷ now ∷ codes "64" ∷ codes "64" ∷ []) ≡ true
+connect_words host now h n = rw (h, n) refl
 
-pump_back : (word : List ℕ) (now : ℕ) → moment_of word ≡ Some now → event_of (codes "pump" ∷ codes "alpha" ∷ word ∷ []) ≡ Some (Pump Alpha now)
-pump_back word now n = rw n refl
+connect_back : (host word : List ℕ) (which : Which) (now : ℕ) → manager_of host ≡ Some which → moment_of word ≡ Some now
+    → event_of (codes "connect" ∷ host ∷ word ∷ codes "64" ∷ codes "64" ∷ []) ≡ Some (Connect which now 64 64)
+connect_back host word which now h n = rw (h, n) refl
+
+pump_words : (host now : List ℕ) → lacks 32 host ≡ true → lacks 32 now ≡ true → all_lack 32 (codes "pump" ∷ host ∷ now ∷ []) ≡ true
+pump_words host now h n = rw (h, n) refl
+
+pump_back : (host word : List ℕ) (which : Which) (now : ℕ) → manager_of host ≡ Some which → moment_of word ≡ Some now
+    → event_of (codes "pump" ∷ host ∷ word ∷ []) ≡ Some (Pump which now)
+pump_back host word which now h n = rw (h, n) refl
 
 deliver_words : (packet now : List ℕ) → lacks 32 packet ≡ true → lacks 32 now ≡ true → all_lack 32 (codes "deliver" ∷ packet ∷ now ∷ []) ≡ true
 deliver_words packet now p n = rw (p, n) refl
 
-deliver_back : (number word : List ℕ) (packet now : ℕ) → number_in 1 MAX number ≡ Some packet → moment_of word ≡ Some now
+deliver_back : (number word : List ℕ) (packet now : ℕ) → packet_of number ≡ Some packet → moment_of word ≡ Some now
     → event_of (codes "deliver" ∷ number ∷ word ∷ []) ≡ Some (Deliver packet now)
 deliver_back number word packet now p n = rw (p, n) refl
 
+drop_words : (packet : List ℕ) → lacks 32 packet ≡ true → all_lack 32 (codes "drop" ∷ packet ∷ []) ≡ true
+drop_words packet p = rw p refl
+
+drop_back : (number : List ℕ) (packet : ℕ) → packet_of number ≡ Some packet → event_of (codes "drop" ∷ number ∷ []) ≡ Some (Drop packet)
+drop_back number packet p = rw p refl
+
+sending_back : (which : Which) (now : ℕ) (name text body : List ℕ) → now ≤ MAX → name_fault name ≡ None → StandsFor text body
+    → event_of (words_of (join_with_byte 32 (sending_words which now (queue_of_other which name) text))) ≡ Some (sending which now name body)
+sending_back which now name text body m n stands =
+    let send : List ℕ = send_text (queue_of_other which name) text in
+    ap event_of (split_join 32 (codes "commit") (host_of which ∷ decimal now ∷ send ∷ [])
+    (commit_words (host_of which) (decimal now) send (host_lacks which) (number_lacks now m) (send_lacks which name text n stands.bytes)))
+    ∙ commit_back (host_of which) (decimal now) send which now (Send (parts_of (queue_of_other which name) body)) (manager_back which)
+    (number_back 0 now (omega arith) m) (send_back which name text body n stands)
+
+pub counted_read_back : (which : Which) (now n : ℕ) (name : List ℕ) → now ≤ MAX → name_fault name ≡ None → n ≤ MOST_COUNTED
+    → event_of (words_of (counted_line which now name n)) ≡ Some (sending which now name (replicate n 0x78))
+counted_read_back which now n name m fault most =
+    sending_back which now name (codes "*" ++ decimal n) (replicate n 0x78) m fault (counted_stands n most)
+
 pub read_back : {event : Event} → IsBuilt event → event_of (words_of (line_of event)) ≡ Some event
-read_back (queue name quota n q) =
+read_back (queue which name quota n q) =
     let space : lacks 32 name ≡ true = lacks_where 32 is_name_byte name_without_space name (name_bytes name n) in
-    ap event_of (split_join 32 (codes "queue") (codes "beta" ∷ name ∷ codes "tx" ∷ decimal quota ∷ codes "none" ∷ [])
-    (queue_words name (decimal quota) space (number_lacks quota q)))
-    ∙ queue_back name (decimal quota) quota (name_back name n) (number_back 0 quota (omega arith) q)
-read_back (commit now name body m n b) =
-    let text : List ℕ = send_text (parts_of (queue_of_beta name) body) in
-    ap event_of (split_join 32 (codes "commit") (codes "alpha" ∷ decimal now ∷ text ∷ [])
-    (commit_words (decimal now) text (number_lacks now m) (send_lacks name body n b)))
-    ∙ commit_back (decimal now) text now (Send (parts_of (queue_of_beta name) body)) (number_back 0 now (omega arith) m) (send_back name body n b)
-read_back (connect now m) =
-    ap event_of (split_join 32 (codes "connect") (codes "alpha" ∷ decimal now ∷ codes "64" ∷ codes "64" ∷ [])
-    (connect_words (decimal now) (number_lacks now m)))
-    ∙ connect_back (decimal now) now (number_back 0 now (omega arith) m)
-read_back (pump now m) =
-    ap event_of (split_join 32 (codes "pump") (codes "alpha" ∷ decimal now ∷ []) (pump_words (decimal now) (number_lacks now m)))
-    ∙ pump_back (decimal now) now (number_back 0 now (omega arith) m)
+    ap event_of (split_join 32 (codes "queue") (host_of which ∷ name ∷ codes "tx" ∷ decimal quota ∷ codes "none" ∷ [])
+    (queue_words (host_of which) name (decimal quota) (host_lacks which) space (number_lacks quota q)))
+    ∙ queue_back (host_of which) name (decimal quota) which quota (manager_back which) (name_back name n) (number_back 0 quota (omega arith) q)
+read_back (commit which now name body m n b) = sending_back which now name body body m n (plain_stands body b)
+read_back (connect which now m) =
+    ap event_of (split_join 32 (codes "connect") (host_of which ∷ decimal now ∷ codes "64" ∷ codes "64" ∷ [])
+    (connect_words (host_of which) (decimal now) (host_lacks which) (number_lacks now m)))
+    ∙ connect_back (host_of which) (decimal now) which now (manager_back which) (number_back 0 now (omega arith) m)
+read_back (pump which now m) =
+    ap event_of (split_join 32 (codes "pump") (host_of which ∷ decimal now ∷ [])
+    (pump_words (host_of which) (decimal now) (host_lacks which) (number_lacks now m)))
+    ∙ pump_back (host_of which) (decimal now) which now (manager_back which) (number_back 0 now (omega arith) m)
 read_back (deliver packet now some most m) =
     ap event_of (split_join 32 (codes "deliver") (decimal packet ∷ decimal now ∷ [])
     (deliver_words (decimal packet) (decimal now) (number_lacks packet most) (number_lacks now m)))
     ∙ deliver_back (decimal packet) (decimal now) packet now (number_back 1 packet some most) (number_back 0 now (omega arith) m)
+read_back (drop packet some most) =
+    ap event_of (split_join 32 (codes "drop") (decimal packet ∷ []) (drop_words (decimal packet) (number_lacks packet most)))
+    ∙ drop_back (decimal packet) packet (number_back 1 packet some most)

@@ -1,13 +1,14 @@
 -- What a line adds to what was read, and what a read adds to what was taken.
-use Rattle.std.proofs.Common.{◌≡◌, ℕ, ◌+◌, ◌<◌, ◌≤◌, Bool, true, false, ◌==◌, List, [], ◌∷◌, ◌++◌, length, drop, map, get_or, count_by, Option, Some, None, Result, Ok, Err, refl, sym, ap, ◌∙◌, arith, append_assoc, Bor}
+use Rattle.std.proofs.Common.{◌≡◌, ℕ, ◌+◌, ◌-◌, ◌<◌, ◌≤◌, Bool, true, false, ◌==◌, List, [], ◌∷◌, ◌++◌, length, take, drop, cond, map, get_or, count_by, Option, Some, None, Result, Ok, Err, refl, sym, ap, ◌∙◌, arith, append_assoc, Bor}
+use Rattle.std.specs.List.{onto_first}
 use Rattle.std.proofs.lemmas.List.{at_drop_more}
-use Rattle.std.proofs.lemmas.List.Sums.{count_by-le-length}
+use Rattle.std.proofs.lemmas.List.Sums.{count_by-le-length, sum_by-cons}
 use Rattle.std.proofs.lemmas.List.Splits.{length-slice_split}
 use Rattle.mqb_outside.specs.Told.{Gave}
 use Rattle.mqb_script.specs.declared.events.Event.{Event}
 use Rattle.mqb_script.specs.Words.{lines_of, words_of}
 use Rattle.mqb_script.specs.Grammar.{is_skipped, event_of, with_event, script_from}
-use Rattle.mqb_script.specs.Reading.{in_front, ReadsLine}
+use Rattle.mqb_script.specs.Reading.{begun, line_count, in_front, ReadsLine}
 
 pub in_front_nothing : (r : Result (List (ℕ × Event)) ℕ) → in_front [] r ≡ r
 in_front_nothing (Ok more) = refl
@@ -28,6 +29,33 @@ few_lines text =
     let parts : length (lines_of text) ≡ count_by (λ b. b == 10) text + 1 = length-slice_split (λ b. b == 10) text in
     let marks : count_by (λ b. b == 10) text ≤ length text = count_by-le-length (λ b. b == 10) text in
     omega arith
+
+-- a byte in front of a text that begins n + 1 lines
+begin_step : (b n : ℕ) (ends : Bool) (lines : List (List ℕ)) → begun lines ≡ n + 1
+    → begun (cond ends ([] ∷ lines) (onto_first b lines)) ≡ (cond ends 1 0 + n) + 1
+begin_step b n ends [] h = absurd (omega arith)
+begin_step b n ends ([] ∷ []) h = absurd (omega arith)
+begin_step b n true ([] ∷ line ∷ lines) h = omega arith
+begin_step b n false ([] ∷ line ∷ lines) h = omega arith
+begin_step b n true ((c ∷ cs) ∷ lines) h = omega arith
+begin_step b n false ((c ∷ cs) ∷ lines) h = omega arith
+
+-- one byte begins one line
+begin_one : (b : ℕ) (ends : Bool) → begun (cond ends ([] ∷ [] ∷ []) (onto_first b ([] ∷ []))) ≡ 1
+begin_one b true = refl
+begin_one b false = refl
+
+begun_from : (b : ℕ) (text : List ℕ) → line_count (b ∷ text) ≡ count_by (λ c. c == 10) (take (length text) (b ∷ text)) + 1
+begun_from b [] = begin_one b (b == 10)
+begun_from b (c ∷ text) =
+    let front : List ℕ = take (length text) (c ∷ text) in
+    begin_step b (count_by (λ d. d == 10) front) (b == 10) (lines_of (c ∷ text)) (begun_from c text)
+    ∙ ap (λ n. n + 1) (sym (sum_by-cons (λ d. cond (d == 10) 1 0) b front))
+
+-- the first line is begun, and one behind each line feed but the last byte
+pub begun_lines : (text : List ℕ) → 1 ≤ length text → line_count text ≡ count_by (λ b. b == 10) (take (length text - 1) text) + 1
+begun_lines [] some = absurd (omega arith)
+begun_lines (b ∷ text) some = let same : length (b ∷ text) - 1 ≡ length text = omega arith in rw same (begun_from b text)
 
 -- The lines before a place were read: the whole is their events in front of what the lines from there on give, the first of which is line n.
 abbrev pub IsReadTo : Result (List (ℕ × Event)) ℕ → ℕ → ℕ → List (Bor (List ℕ)) → List (ℕ × Event) → Type 0

@@ -1,6 +1,7 @@
-use Rattle.std.specs.Prelude.{ℕ, Bool, true, false, ◌+◌, ◌==◌, ◌&&◌, not, nat_le, List, [], ◌∷◌, length, drop, codes, Option, Some, None, is_none, Result, Ok, Err, option_and_then, replicate, if◌then◌else◌}
+use Rattle.std.specs.Prelude.{ℕ, Bool, true, false, ◌+◌, ◌==◌, ◌&&◌, not, nat_le, List, [], ◌∷◌, drop, codes, Option, Some, None, is_none, Result, Ok, Err, option_and_then, replicate, if◌then◌else◌}
 use Rattle.std.specs.Option.{option_map}
 use Rattle.std.specs.List.{list_all, starts_with}
+use Rattle.std.specs.Result.{result_ok}
 use Rattle.mqb_base.specs.declared.ids.MessageId.{MessageId}
 use Rattle.mqb_base.specs.declared.queue_names.Host.TheVariants.{Os}
 use Rattle.mqb_base.specs.declared.queue_names.QueueName.{QueueName}
@@ -11,9 +12,11 @@ use Rattle.mqb_base.specs.declared.draft.Op.{Op}
 use Rattle.mqb_base.specs.declared.draft.Op.TheVariants.{Send}
 use Rattle.mqb_base.specs.Same.{same_bytes}
 use Rattle.mqb_base.specs.Names.{name_fault}
-use Rattle.mqb_script.specs.declared.events.Which.TheVariants.{Alpha, Beta}
+use Rattle.mqb_names.specs.Reading as names
+use Rattle.mqb_script.specs.declared.events.Which.{Which}
 use Rattle.mqb_script.specs.declared.events.Event.{Event}
-use Rattle.mqb_script.specs.declared.events.Event.TheVariants.{Queue, Commit, Connect, Pump, Deliver}
+use Rattle.mqb_script.specs.declared.events.Event.TheVariants.{Queue, Commit, Connect, Pump, Deliver, Drop}
+use Rattle.mqb_script.specs.Managers.{host_of, other, manager_of}
 use Rattle.mqb_script.specs.Words.{lines_of, words_of, fields_of, number_in}
 
 abbrev pub MAX : ℕ
@@ -31,28 +34,39 @@ name_of word = if is_none (name_fault word) then Some word else None
 abbrev pub moment_of : List ℕ → Option ℕ
 moment_of word = number_in 0 MAX word
 
+abbrev pub packet_of : List ℕ → Option ℕ
+packet_of word = number_in 1 MAX word
+
 -- A send: its eight fields between commas.
 
--- what stands before the queue's name in a destination
-abbrev pub beta_queues : List ℕ
-beta_queues = codes "DIRECT=OS:beta\\PRIVATE$\\"
+-- it names a queue, and no journal, by this host, byte by byte
+abbrev pub is_queue_at : List ℕ → QueueName → Bool
+is_queue_at host (Direct (Os name) queue journal) = same_bytes name host && not journal
+is_queue_at host _ = false
 
-abbrev pub destination_of : List ℕ → Option QueueName
-destination_of word = where_ (starts_with ◌==◌ word beta_queues)
-    (option_map (λ queue. Direct (Os (codes "beta")) queue false) (name_of (drop (length beta_queues) word)))
+-- the queue of the other manager that a word names, in whatever spelling
+abbrev pub destination_of : Which → List ℕ → Option QueueName
+destination_of which word =
+    option_and_then (λ name. where_ (is_queue_at (host_of (other which)) name) (Some name)) (result_ok (names.name_of word))
 
+-- printable, and neither space nor comma
 abbrev pub is_body_byte : ℕ → Bool
 is_body_byte b = (nat_le 0x21 b && nat_le b 0x7E) && not (b == 0x2C)
 
 abbrev pub is_starred : List ℕ → Bool
-is_starred word = starts_with ◌==◌ word (codes "*")
+is_starred text = starts_with ◌==◌ text (codes "*")
 
--- up to 1,000 bytes, printable and without space and comma, that do not begin with a star
-abbrev pub is_body : List ℕ → Bool
-is_body word = (list_all is_body_byte word && nat_le (length word) 1000) && not (is_starred word)
+-- the greatest number behind a star
+abbrev pub MOST_COUNTED : ℕ
+MOST_COUNTED = 4194304
 
+-- a body that is told by the number of its bytes, each of them 0x78
+abbrev pub counted_body : List ℕ → Option (List ℕ)
+counted_body number = option_map (λ n. replicate n 0x78) (number_in 0 MOST_COUNTED number)
+
+-- the body that a text stands for: behind a star the number of its bytes, and without a star the text itself, where it is printable
 abbrev pub body_of : List ℕ → Option (List ℕ)
-body_of word = where_ (is_body word) (Some word)
+body_of text = if is_starred text then counted_body (drop 1 text) else where_ (list_all is_body_byte text) (Some text)
 
 abbrev pub no_id : MessageId
 no_id = record { qm = record { 0 = replicate 16 0 }; number = 0 }
@@ -85,17 +99,17 @@ plain_text (reach ∷ life ∷ flags ∷ admin ∷ response ∷ text ∷ []) =
     where_ (is_dash reach && is_dash life && is_dash flags && is_dash admin && is_dash response) (Some text)
 plain_text _ = None
 
-abbrev pub send_of : List (List ℕ) → Option Op
-send_of (send ∷ destination ∷ rest) = where_ (same_bytes send (codes "send"))
-    (option_and_then (λ text. option_and_then (λ to. option_map (λ body. Send (parts_of to body)) (body_of text)) (destination_of destination))
+abbrev pub send_of : Which → List (List ℕ) → Option Op
+send_of which (send ∷ destination ∷ rest) = where_ (same_bytes send (codes "send"))
+    (option_and_then (λ text. option_and_then (λ to. option_map (λ body. Send (parts_of to body)) (body_of text)) (destination_of which destination))
     (plain_text rest))
-send_of _ = None
+send_of which _ = None
 
 -- The line forms.
 
--- what is built of queues: those of beta, transactional and without a journal
-abbrev pub is_built_queue : List ℕ → List ℕ → List ℕ → Bool
-is_built_queue manager kind journal = same_bytes manager (codes "beta") && same_bytes kind (codes "tx") && same_bytes journal (codes "none")
+-- what is built of queues: those that are transactional and without a journal
+abbrev pub is_built_queue : List ℕ → List ℕ → Bool
+is_built_queue kind journal = same_bytes kind (codes "tx") && same_bytes journal (codes "none")
 
 abbrev pub plan_of : List ℕ → List ℕ → Option QueuePlan
 plan_of name quota = option_and_then
@@ -104,31 +118,36 @@ plan_of name quota = option_and_then
 
 abbrev pub queue_of : List (List ℕ) → Option Event
 queue_of (manager ∷ name ∷ kind ∷ quota ∷ journal ∷ []) =
-    where_ (is_built_queue manager kind journal) (option_map (λ plan. Queue Beta plan) (plan_of name quota))
+    where_ (is_built_queue kind journal) (option_and_then (λ which. option_map (λ plan. Queue which plan) (plan_of name quota)) (manager_of manager))
 queue_of _ = None
 
 abbrev pub commit_of : List (List ℕ) → Option Event
 commit_of (manager ∷ now ∷ op ∷ []) =
-    where_ (same_bytes manager (codes "alpha"))
-    (option_and_then (λ moment. option_map (λ send. Commit Alpha moment (send ∷ [])) (send_of (fields_of op))) (moment_of now))
+    option_and_then (λ which.
+    option_and_then (λ moment. option_map (λ send. Commit which moment (send ∷ [])) (send_of which (fields_of op))) (moment_of now))
+    (manager_of manager)
 commit_of _ = None
 
--- what is built of connections: those that alpha makes, with the windows 64
-abbrev pub is_built_connection : List ℕ → List ℕ → List ℕ → Bool
-is_built_connection manager own other = same_bytes manager (codes "alpha") && same_bytes own (codes "64") && same_bytes other (codes "64")
+-- what is built of connections: those with the windows 64
+abbrev pub is_built_connection : List ℕ → List ℕ → Bool
+is_built_connection alpha beta = same_bytes alpha (codes "64") && same_bytes beta (codes "64")
 
 abbrev pub connect_of : List (List ℕ) → Option Event
-connect_of (manager ∷ now ∷ own ∷ other ∷ []) =
-    where_ (is_built_connection manager own other) (option_map (λ moment. Connect Alpha moment 64 64) (moment_of now))
+connect_of (manager ∷ now ∷ alpha ∷ beta ∷ []) = where_ (is_built_connection alpha beta)
+    (option_and_then (λ which. option_map (λ moment. Connect which moment 64 64) (moment_of now)) (manager_of manager))
 connect_of _ = None
 
 abbrev pub pump_of : List (List ℕ) → Option Event
-pump_of (manager ∷ now ∷ []) = where_ (same_bytes manager (codes "alpha")) (option_map (λ moment. Pump Alpha moment) (moment_of now))
+pump_of (manager ∷ now ∷ []) = option_and_then (λ which. option_map (λ moment. Pump which moment) (moment_of now)) (manager_of manager)
 pump_of _ = None
 
 abbrev pub deliver_of : List (List ℕ) → Option Event
-deliver_of (packet ∷ now ∷ []) = option_and_then (λ k. option_map (λ moment. Deliver k moment) (moment_of now)) (number_in 1 MAX packet)
+deliver_of (packet ∷ now ∷ []) = option_and_then (λ k. option_map (λ moment. Deliver k moment) (moment_of now)) (packet_of packet)
 deliver_of _ = None
+
+abbrev pub drop_of : List (List ℕ) → Option Event
+drop_of (packet ∷ []) = option_map (λ k. Drop k) (packet_of packet)
+drop_of _ = None
 
 -- the event of a line, from its words
 abbrev pub event_of : List (List ℕ) → Option Event
@@ -139,6 +158,7 @@ event_of (word ∷ words) =
     else if same_bytes word (codes "connect") then connect_of words
     else if same_bytes word (codes "pump") then pump_of words
     else if same_bytes word (codes "deliver") then deliver_of words
+    else if same_bytes word (codes "drop") then drop_of words
     else None
 
 -- The script.

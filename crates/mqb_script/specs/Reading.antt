@@ -5,17 +5,33 @@ use Rattle.mqb_script.specs.declared.events.Event.{Event}
 use Rattle.mqb_script.specs.declared.reading.LineKind.TheVariants.{Unbuilt}
 use Rattle.mqb_script.specs.declared.reading.ScriptFault.{ScriptFault}
 use Rattle.mqb_script.specs.declared.reading.ScriptFault.TheVariants as fault
+use Rattle.mqb_script.specs.Words.{lines_of}
 use Rattle.mqb_script.specs.Grammar.{script_from, script_of}
 
 -- the greatest length of a script
 abbrev pub LONGEST : ℕ
-LONGEST = 16384
+LONGEST = 16777216
+
+-- the greatest number of a script's lines
+abbrev pub MOST_LINES : ℕ
+MOST_LINES = 200000
+
+-- how many of the parts between line feeds were begun: each but a last one that is empty
+abbrev pub begun : List (List ℕ) → ℕ
+begun [] = 0
+begun ([] ∷ []) = 0
+begun (line ∷ lines) = begun lines + 1
+
+-- the lines of a text: a line is begun by its first byte or by its line feed
+abbrev pub line_count : List ℕ → ℕ
+line_count text = begun (lines_of text)
 
 -- the answer to the bytes that were taken, once they were taken to the end of the input or until there were too many
 abbrev pub Answers : List ℕ → Result (List (ℕ × Event)) ScriptFault → Type 0
-Answers text (Ok events) = (length text ≤ LONGEST) × (script_of text ≡ Ok events)
-Answers text (Err (fault.Line number Unbuilt)) = (length text ≤ LONGEST) × (script_of text ≡ Err number)
+Answers text (Ok events) = (length text ≤ LONGEST) × (line_count text ≤ MOST_LINES) × (script_of text ≡ Ok events)
+Answers text (Err (fault.Line number Unbuilt)) = (length text ≤ LONGEST) × (line_count text ≤ MOST_LINES) × (script_of text ≡ Err number)
 Answers text (Err fault.TooLong) = LONGEST < length text
+Answers text (Err fault.TooManyLines) = (length text ≤ LONGEST) × (MOST_LINES < line_count text)
 Answers text (Err fault.ReadFault) = length text ≤ LONGEST
 Answers text (Err fault.Memory) = length text ≤ LONGEST
 
@@ -23,6 +39,7 @@ Answers text (Err fault.Memory) = length text ≤ LONGEST
 abbrev pub AtEnd : Option (List ℕ) → Result (List (ℕ × Event)) ScriptFault → Type 0
 AtEnd after (Ok events) = IfSome after (λ rest. rest ≡ [])
 AtEnd after (Err (fault.Line number kind)) = IfSome after (λ rest. rest ≡ [])
+AtEnd after (Err fault.TooManyLines) = IfSome after (λ rest. rest ≡ [])
 AtEnd after (Err _) = Unit {0}
 
 -- A script was read from a source that held before and holds after.
@@ -38,6 +55,7 @@ abbrev pub ReadCause : ℕ → ℕ → Result (List (ℕ × Event)) ScriptFault 
 ReadCause before after (Err fault.ReadFault) = Rose before after
 ReadCause before after (Err (fault.Line number kind)) = after ≡ before
 ReadCause before after (Err fault.TooLong) = after ≡ before
+ReadCause before after (Err fault.TooManyLines) = after ≡ before
 ReadCause before after (Err fault.Memory) = after ≡ before
 ReadCause before after (Ok events) = after ≡ before
 

@@ -1,4 +1,4 @@
-use Rattle.std.specs.Prelude.{ℕ, Bool, ◌+◌, ◌-◌, ◌/◌, ◌%◌, nat_lt, List, [], ◌∷◌, ◌++◌, codes, Option, Some, None, unwrap_or, if◌then◌else◌, find, slice_index}
+use Rattle.std.specs.Prelude.{ℕ, ◌+◌, ◌-◌, ◌/◌, ◌%◌, nat_lt, List, [], ◌∷◌, ◌++◌, codes, Option, Some, None, unwrap_or, if◌then◌else◌, find}
 use Rattle.std.specs.Option.{option_map}
 use Rattle.std.specs.List.{flat_map}
 use Rattle.std.specs.Fmt.{decimal}
@@ -7,12 +7,7 @@ use Rattle.mqb_base.specs.declared.ids.Guid.{Guid}
 use Rattle.mqb_base.specs.declared.ids.MessageId.{MessageId}
 use Rattle.mqb_base.specs.declared.ids.SequenceId.{SequenceId}
 use Rattle.mqb_base.specs.declared.ids.Identity.{Identity}
-use Rattle.mqb_base.specs.declared.queue_names.Host.{Host}
-use Rattle.mqb_base.specs.declared.queue_names.Host.TheVariants.{Os, Tcp}
-use Rattle.mqb_base.specs.declared.queue_names.MachineQueue.{MachineQueue}
-use Rattle.mqb_base.specs.declared.queue_names.MachineQueue.TheVariants.{DeadLetter, DeadXact, Journal}
 use Rattle.mqb_base.specs.declared.queue_names.QueueName.{QueueName}
-use Rattle.mqb_base.specs.declared.queue_names.QueueName.TheVariants.{Public, Private, Direct, Machine}
 use Rattle.mqb_base.specs.declared.class.Class.{Class}
 use Rattle.mqb_base.specs.declared.heard.Cause.{Cause}
 use Rattle.mqb_base.specs.declared.heard.Cause.TheVariants.{Early, BadAck, Refused, Repeated, Foreign}
@@ -21,6 +16,7 @@ use Rattle.mqb_base.specs.declared.heard.Heard.TheVariants as heard
 use Rattle.mqb_base.specs.declared.ledger.Line.{Line}
 use Rattle.mqb_base.specs.declared.ledger.Line.TheVariants as line
 use Rattle.mqb_base.specs.Same.{same_guid}
+use Rattle.mqb_names.specs.Printed as names
 use Rattle.mqb_script.specs.declared.replies.Reply.{Reply}
 use Rattle.mqb_script.specs.declared.replies.Reply.TheVariants as reply
 
@@ -31,7 +27,7 @@ spaced text = 32 ∷ text
 abbrev pub numbers_text : List ℕ → List ℕ
 numbers_text numbers = flat_map (λ n. spaced (decimal n)) numbers
 
--- Managers, messages, streams and classes.
+-- Managers, messages, streams, classes and queues.
 
 abbrev pub guid_text : Guid → List ℕ
 guid_text guid = hyphenated_text lower guid.0
@@ -47,44 +43,17 @@ id_text hosts id = manager_text hosts id.qm ++ codes "." ++ decimal id.number
 abbrev pub place_text : SequenceId → ℕ → List ℕ
 place_text sequence number = decimal sequence.ordinal ++ spaced (decimal number)
 
--- `ten` is the code of the digit ten: that of `A` or of `a`
-abbrev pub hex_digit : ℕ → ℕ → ℕ
-hex_digit ten n = if nat_lt n 10 then 48 + n else ten + (n - 10)
+-- a hexadecimal digit, in capitals
+abbrev pub hex_digit : ℕ → ℕ
+hex_digit n = if nat_lt n 10 then 48 + n else 65 + (n - 10)
 
-abbrev pub four_digits : ℕ → ℕ → List ℕ
-four_digits ten n = hex_digit ten (n / 4096) ∷ hex_digit ten (n / 256 % 16) ∷ hex_digit ten (n / 16 % 16) ∷ hex_digit ten (n % 16) ∷ []
-
--- four hexadecimal digits in capitals
+-- four hexadecimal digits
 abbrev pub class_text : Class → List ℕ
-class_text class = four_digits 0x41 class.0
+class_text class = hex_digit (class.0 / 4096) ∷ hex_digit (class.0 / 256 % 16) ∷ hex_digit (class.0 / 16 % 16) ∷ hex_digit (class.0 % 16) ∷ []
 
--- Names of queues.
-
--- eight hexadecimal digits in small letters
-abbrev pub low_digits : ℕ → List ℕ
-low_digits n = four_digits 0x61 (n / 65536) ++ four_digits 0x61 (n % 65536)
-
-abbrev pub address_text : List ℕ → List ℕ
-address_text address = decimal (slice_index address 0) ++ codes "." ++ decimal (slice_index address 1) ++ codes "." ++ decimal (slice_index address 2)
-    ++ codes "." ++ decimal (slice_index address 3)
-
-abbrev pub host_text : Host → List ℕ
-host_text (Os name) = codes "OS:" ++ name
-host_text (Tcp address) = codes "TCP:" ++ address_text address
-
-abbrev pub suffix_text : Bool → List ℕ
-suffix_text journal = if journal then codes ";JOURNAL" else []
-
-abbrev pub machine_text : MachineQueue → List ℕ
-machine_text DeadLetter = codes ";DEADLETTER"
-machine_text DeadXact = codes ";DEADXACT"
-machine_text Journal = codes ";JOURNAL"
-
+-- the printed form of a queue's name
 abbrev pub destination_text : QueueName → List ℕ
-destination_text (Public guid journal) = codes "PUBLIC=" ++ guid_text guid ++ suffix_text journal
-destination_text (Private qm number journal) = codes "PRIVATE=" ++ guid_text qm ++ codes "\\" ++ low_digits number ++ suffix_text journal
-destination_text (Direct host queue journal) = codes "DIRECT=" ++ host_text host ++ codes "\\PRIVATE$\\" ++ queue ++ suffix_text journal
-destination_text (Machine qm kind) = codes "MACHINE=" ++ guid_text qm ++ machine_text kind
+destination_text name = names.printed name
 
 -- Ledger lines.
 
@@ -148,10 +117,12 @@ reply_text hosts reply.Linked = codes "linked"
 reply_text hosts (reply.Committed lines) = codes "committed" ++ lines_text hosts lines
 reply_text hosts (reply.SequenceSpent op) = codes "sequencespent " ++ decimal op
 reply_text hosts reply.NumbersSpent = codes "numbersspent"
+reply_text hosts reply.TooLarge = codes "toolarge"
 reply_text hosts (reply.Pumped packets) = codes "pumped" ++ numbers_text packets
 reply_text hosts reply.Unlinked = codes "unlinked"
 reply_text hosts reply.NoPacket = codes "none"
 reply_text hosts reply.Gone = codes "gone"
+reply_text hosts reply.Dropped = codes "dropped"
 reply_text hosts (reply.Heard heard lines) = heard_text hosts heard ++ lines_text hosts lines
 
 -- the script's line number, where there is one

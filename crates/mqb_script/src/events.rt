@@ -1,3 +1,6 @@
+ghost use Rattle.std.specs.Prelude.{◌≡◌};
+ghost use Rattle.mqb_script.specs.Managers.{host_of, other};
+
 use crate::lists::Ops;
 use mqb_base::QueuePlan;
 
@@ -6,6 +9,28 @@ use mqb_base::QueuePlan;
 pub enum Which {
     Alpha,
     Beta,
+}
+
+impl Which {
+    /// The manager's host, which is also its word in a script.
+    pub fn host(self) -> &'static [u8]
+        ensures { result.now ≡ host_of self }
+    {
+        match self {
+            Which::Alpha => b"alpha",
+            Which::Beta => b"beta",
+        }
+    }
+
+    /// The one of the two that this one is not, and that it sends to.
+    pub fn other(self) -> Which
+        ensures { result ≡ other self }
+    {
+        match self {
+            Which::Alpha => Which::Beta,
+            Which::Beta => Which::Alpha,
+        }
+    }
 }
 
 /// A line of a script. Moments are seconds since 1970, packets are numbered from 1.
@@ -38,5 +63,9 @@ pub enum Event {
     Deliver {
         packet: u32,
         now: u32,
+    },
+    /// `drop K`
+    Drop {
+        packet: u32,
     },
 }

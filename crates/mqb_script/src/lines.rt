@@ -1,6 +1,7 @@
 ghost use Rattle.std.specs.Prelude.{◌≡◌, map, IfOk};
 ghost use Rattle.mqb_script.specs.Words.{words_of};
-ghost use Rattle.mqb_script.specs.Grammar.{moment_of, is_built_queue, plan_of, queue_of, commit_of, is_built_connection, connect_of, pump_of, deliver_of, event_of, is_skipped};
+ghost use Rattle.mqb_script.specs.Managers.{manager_of};
+ghost use Rattle.mqb_script.specs.Grammar.{moment_of, packet_of, is_built_queue, plan_of, queue_of, commit_of, is_built_connection, connect_of, pump_of, deliver_of, drop_of, event_of, is_skipped};
 
 use crate::events::{Event, Which};
 use crate::lists::Ops;
@@ -9,16 +10,34 @@ use crate::words::{is_word, number_in, parts};
 use mqb_base::{Memory, QueuePlan};
 use std::alloc::Global;
 
+fn manager_of(word: &[u8]) -> Option<Which>
+    ensures { result ≡ manager_of word.now }
+{
+    if is_word(word, Which::Alpha.host()) {
+        Some(Which::Alpha)
+    } else if is_word(word, Which::Beta.host()) {
+        Some(Which::Beta)
+    } else {
+        None
+    }
+}
+
 fn moment_of(word: &[u8]) -> Option<u32>
     ensures { result ≡ moment_of word.now }
 {
     number_in(0, u32::MAX, word)
 }
 
-fn is_built_queue(manager: &[u8], kind: &[u8], journal: &[u8]) -> bool
-    ensures { result ≡ is_built_queue manager.now kind.now journal.now }
+fn packet_of(word: &[u8]) -> Option<u32>
+    ensures { result ≡ packet_of word.now }
 {
-    is_word(manager, b"beta") && is_word(kind, b"tx") && is_word(journal, b"none")
+    number_in(1, u32::MAX, word)
+}
+
+fn is_built_queue(kind: &[u8], journal: &[u8]) -> bool
+    ensures { result ≡ is_built_queue kind.now journal.now }
+{
+    is_word(kind, b"tx") && is_word(journal, b"none")
 }
 
 fn plan_of(alloc: Global, name: &[u8], quota: &[u8]) -> Result<Option<QueuePlan>, Memory>
@@ -45,16 +64,16 @@ fn queue_of(alloc: Global, words: &[&[u8]]) -> Result<Option<Event>, Memory>
     let [manager, name, kind, quota, journal] = words else {
         return Ok(None);
     };
-    if !is_built_queue(manager, kind, journal) {
+    if !is_built_queue(kind, journal) {
         return Ok(None);
     }
+    let Some(manager) = manager_of(manager) else {
+        return Ok(None);
+    };
     let Some(plan) = plan_of(alloc, name, quota)? else {
         return Ok(None);
     };
-    Ok(Some(Event::Queue {
-        manager: Which::Beta,
-        plan,
-    }))
+    Ok(Some(Event::Queue { manager, plan }))
 }
 
 fn commit_of(alloc: Global, words: &[&[u8]]) -> Result<Option<Event>, Memory>
@@ -63,43 +82,40 @@ fn commit_of(alloc: Global, words: &[&[u8]]) -> Result<Option<Event>, Memory>
     let [manager, now, op] = words else {
         return Ok(None);
     };
-    if !is_word(manager, b"alpha") {
+    let Some(manager) = manager_of(manager) else {
         return Ok(None);
-    }
+    };
     let Some(now) = moment_of(now) else {
         return Ok(None);
     };
     let fields = parts(alloc, op, b',')?;
-    let Some(send) = send_of(alloc, fields.as_slice())? else {
+    let Some(send) = send_of(alloc, manager, fields.as_slice())? else {
         return Ok(None);
     };
     let mut ops = Ops::new(alloc);
     ops.push(send)?;
-    Ok(Some(Event::Commit {
-        manager: Which::Alpha,
-        now,
-        ops,
-    }))
+    Ok(Some(Event::Commit { manager, now, ops }))
 }
 
-fn is_built_connection(manager: &[u8], own: &[u8], other: &[u8]) -> bool
-    ensures { result ≡ is_built_connection manager.now own.now other.now }
+fn is_built_connection(alpha: &[u8], beta: &[u8]) -> bool
+    ensures { result ≡ is_built_connection alpha.now beta.now }
 {
-    is_word(manager, b"alpha") && is_word(own, b"64") && is_word(other, b"64")
+    is_word(alpha, b"64") && is_word(beta, b"64")
 }
 
 fn connect_of(words: &[&[u8]]) -> Option<Event>
     ensures { result ≡ connect_of (map (λ word. word.now) words.now) }
 {
-    let [manager, now, own, other] = words else {
+    let [manager, now, alpha, beta] = words else {
         return None;
     };
-    if !is_built_connection(manager, own, other) {
+    if !is_built_connection(alpha, beta) {
         return None;
     }
+    let manager = manager_of(manager)?;
     let now = moment_of(now)?;
     Some(Event::Connect {
-        manager: Which::Alpha,
+        manager,
         now,
         alpha_window: 64,
         beta_window: 64,
@@ -112,14 +128,9 @@ fn pump_of(words: &[&[u8]]) -> Option<Event>
     let [manager, now] = words else {
         return None;
     };
-    if !is_word(manager, b"alpha") {
-        return None;
-    }
+    let manager = manager_of(manager)?;
     let now = moment_of(now)?;
-    Some(Event::Pump {
-        manager: Which::Alpha,
-        now,
-    })
+    Some(Event::Pump { manager, now })
 }
 
 fn deliver_of(words: &[&[u8]]) -> Option<Event>
@@ -128,9 +139,19 @@ fn deliver_of(words: &[&[u8]]) -> Option<Event>
     let [packet, now] = words else {
         return None;
     };
-    let packet = number_in(1, u32::MAX, packet)?;
+    let packet = packet_of(packet)?;
     let now = moment_of(now)?;
     Some(Event::Deliver { packet, now })
+}
+
+fn drop_of(words: &[&[u8]]) -> Option<Event>
+    ensures { result ≡ drop_of (map (λ word. word.now) words.now) }
+{
+    let [packet] = words else {
+        return None;
+    };
+    let packet = packet_of(packet)?;
+    Some(Event::Drop { packet })
 }
 
 fn event_of(alloc: Global, words: &[&[u8]]) -> Result<Option<Event>, Memory>
@@ -149,6 +170,8 @@ fn event_of(alloc: Global, words: &[&[u8]]) -> Result<Option<Event>, Memory>
         Ok(pump_of(words))
     } else if is_word(word, b"deliver") {
         Ok(deliver_of(words))
+    } else if is_word(word, b"drop") {
+        Ok(drop_of(words))
     } else {
         Ok(None)
     }

@@ -153,10 +153,12 @@ fn print_answer(
         Reply::Committed { lines } => print_committed(alloc, lines.as_slice(), hosts, out),
         Reply::SequenceSpent { op } => print_spent(alloc, *op, out),
         Reply::NumbersSpent => put(b"numbersspent", out),
+        Reply::TooLarge => put(b"toolarge", out),
         Reply::Pumped { packets } => print_packets(alloc, b"pumped", packets.as_slice(), out),
         Reply::Unlinked => put(b"unlinked", out),
         Reply::NoPacket => put(b"none", out),
         Reply::Gone => put(b"gone", out),
+        Reply::Dropped => put(b"dropped", out),
         Reply::Heard { heard, lines } => {
             print_heard_reply(alloc, heard, lines.as_slice(), hosts, out)
         }

@@ -1,7 +1,7 @@
-ghost use Rattle.std.specs.Prelude.{◌≡◌, ◌≤◌, length, Err, IfOk, IfErr, OnOk};
-ghost use Rattle.std.specs.List.{AllByRecursion};
+ghost use Rattle.std.specs.Prelude.{◌≡◌, ◌==◌, ◌≤◌, length, Err, IfOk, IfErr, OnOk};
+ghost use Rattle.std.specs.List.{AllByRecursion, count_by};
 ghost use Rattle.mqb_script.specs.Grammar.{script_of};
-ghost use Rattle.mqb_script.specs.Reading.{LONGEST, Reads, ReadCause, ReadsLine, IsWhole};
+ghost use Rattle.mqb_script.specs.Reading.{LONGEST, MOST_LINES, line_count, Reads, ReadCause, ReadsLine, IsWhole};
 ghost use Rattle.mqb_script.specs.Sizes.{IsSized};
 
 use crate::events::Event;
@@ -63,15 +63,19 @@ pub enum LineKind {
 pub enum ScriptFault {
     #[error("line {number}: {kind}")]
     Line { number: u32, kind: LineKind },
-    #[error("over 16,384 bytes")]
+    #[error("over 16,777,216 bytes")]
     TooLong,
+    #[error("over 200,000 lines")]
+    TooManyLines,
     #[error("the input failed")]
     ReadFault,
     #[error("out of memory")]
     Memory,
 }
 
-const LONGEST: usize = 16_384;
+const LONGEST: usize = 16_777_216;
+
+const MOST_LINES: usize = 200_000;
 
 /// Takes all bytes of a source, up to the longest script.
 fn read_all<S: Source>(alloc: Global, source: &mut S) -> Result<Vec<u8>, ScriptFault>
@@ -98,6 +102,22 @@ fn read_all<S: Source>(alloc: Global, source: &mut S) -> Result<Vec<u8>, ScriptF
     }
 }
 
+fn line_feeds(text: &[u8]) -> usize
+    ensures { result ≡ count_by (λ b. b == 10) text.now }
+{
+    text.iter().filter(|byte| **byte == b'\n').count()
+}
+
+/// The lines of a text: the first one, and one behind each line feed that is not its last byte.
+fn line_count(text: &[u8]) -> usize
+    ensures { result ≡ line_count text.now }
+{
+    let [front @ .., _] = text else {
+        return 0;
+    };
+    line_feeds(front) + 1
+}
+
 /// The script that a text is, or the number of the first line that is none.
 fn script_of(alloc: Global, text: &[u8]) -> Result<Result<Script, u32>, Memory>
     requires { length text.now ≤ LONGEST }
@@ -121,10 +141,13 @@ fn script_of(alloc: Global, text: &[u8]) -> Result<Result<Script, u32>, Memory>
 pub fn read_script<S: Source>(alloc: Global, source: &mut S) -> Result<Script, ScriptFault>
     ensures reads { Reads (S.held source.old) (S.held source.new) result }
     ensures sized { IfOk result (λ script. AllByRecursion (λ e. IsSized e.1) script) }
-    ensures few { IfOk result (λ script. length script ≤ LONGEST) }
+    ensures few { IfOk result (λ script. length script ≤ MOST_LINES) }
     ensures cause { ReadCause (S.read_faults source.old) (S.read_faults source.new) result }
 {
     let text = read_all(alloc, source)?;
+    if line_count(text.as_slice()) > MOST_LINES {
+        return Err(ScriptFault::TooManyLines);
+    }
     match script_of(alloc, text.as_slice()) {
         Ok(Ok(script)) => Ok(script),
         Ok(Err(number)) => Err(ScriptFault::Line {

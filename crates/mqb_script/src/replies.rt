@@ -20,6 +20,8 @@ pub enum Reply {
     SequenceSpent { op: u32 },
     /// `numbersspent`
     NumbersSpent,
+    /// `toolarge`: a packet would be longer than packets may be
+    TooLarge,
     /// `pumped` and the numbers of the packets
     Pumped { packets: Numbers },
     /// `unlinked`
@@ -28,6 +30,8 @@ pub enum Reply {
     NoPacket,
     /// `gone`: the packet's connection has ended
     Gone,
+    /// `dropped`: the packet was taken from its connection, and goes nowhere
+    Dropped,
     /// what a manager made of a packet, and the lines of its record
     Heard { heard: Heard, lines: Lines },
 }

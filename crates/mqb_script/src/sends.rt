@@ -1,14 +1,16 @@
-ghost use Rattle.std.specs.Prelude.{◌≡◌, true, codes, map, IfOk, IfSome};
+ghost use Rattle.std.specs.Prelude.{◌≡◌, true, map, IfOk, IfSome};
 ghost use Rattle.std.specs.List.{list_all};
 ghost use Rattle.std.specs.Option.{option_map};
 ghost use Rattle.mqb_base.specs.QueueNames.{names_queue};
-ghost use Rattle.mqb_script.specs.Grammar.{name_of, destination_of, is_body_byte, is_starred, is_body, body_of, no_id, parts_of, is_dash, plain_text, send_of};
+ghost use Rattle.mqb_script.specs.Grammar.{name_of, is_queue_at, destination_of, is_body_byte, counted_body, body_of, no_id, parts_of, is_dash, plain_text, send_of};
 
-use crate::words::is_word;
+use crate::events::Which;
+use crate::words::{is_word, number_in};
 use mqb_base::{
     Bytes, Draft, Guid, Host, Memory, MessageId, Name, NameError, Op, Parts, QueueName, UNLIMITED,
     Units,
 };
+use mqb_names::{NameFault, read_name};
 use std::alloc::Global;
 
 /// A word as a name.
@@ -22,29 +24,32 @@ pub(crate) fn name_of(alloc: Global, word: &[u8]) -> Result<Option<Name>, Memory
     }
 }
 
-fn beta(alloc: Global) -> Result<Name, Memory>
-    ensures { IfOk result (λ name. name ≡ codes "beta") }
+fn is_queue_at(host: &[u8], name: &QueueName) -> bool
+    ensures { result ≡ is_queue_at host.now name.now }
 {
-    Name::new(alloc, b"beta").map_err(|_| Memory)
+    match name {
+        QueueName::Direct {
+            host: Host::Os(name),
+            journal,
+            ..
+        } => is_word(name.as_slice(), host) && !*journal,
+        _ => false,
+    }
 }
 
-const BETA_QUEUES: &[u8] = b"DIRECT=OS:beta\\PRIVATE$\\";
-
-fn destination_of(alloc: Global, word: &[u8]) -> Result<Option<QueueName>, Memory>
-    ensures value { IfOk result (λ destination. destination ≡ destination_of word.now) }
+fn destination_of(alloc: Global, which: Which, word: &[u8]) -> Result<Option<QueueName>, Memory>
+    ensures value { IfOk result (λ destination. destination ≡ destination_of which word.now) }
     ensures queue { IfOk result (λ destination. IfSome destination (λ name. names_queue name ≡ true)) }
 {
-    let Some(queue) = word.strip_prefix(BETA_QUEUES) else {
-        return Ok(None);
+    let name = match read_name(alloc, word) {
+        Ok(name) => name,
+        Err(NameFault::Bad { .. }) => return Ok(None),
+        Err(NameFault::Memory) => return Err(Memory),
     };
-    let Some(queue) = name_of(alloc, queue)? else {
+    if !is_queue_at(which.other().host(), &name) {
         return Ok(None);
-    };
-    Ok(Some(QueueName::Direct {
-        host: Host::Os(beta(alloc)?),
-        queue,
-        journal: false,
-    }))
+    }
+    Ok(Some(name))
 }
 
 fn is_body_byte(byte: u8) -> bool
@@ -59,25 +64,29 @@ fn are_body_bytes(word: &[u8]) -> bool
     word.iter().all(|byte| is_body_byte(*byte))
 }
 
-fn is_starred(word: &[u8]) -> bool
-    ensures { result ≡ is_starred word.now }
+/// The greatest number behind a star.
+const MOST_COUNTED: u32 = 4_194_304;
+
+fn counted_body(alloc: Global, number: &[u8]) -> Result<Option<Bytes>, Memory>
+    ensures { IfOk result (λ body. body ≡ counted_body number.now) }
 {
-    word.starts_with(b"*")
+    let Some(count) = number_in(0, MOST_COUNTED, number) else {
+        return Ok(None);
+    };
+    let bytes = vec![in alloc; b'x'; count as usize]?;
+    Ok(Some(Bytes::from_slice(alloc, &bytes)?))
 }
 
-fn is_body(word: &[u8]) -> bool
-    ensures { result ≡ is_body word.now }
+fn body_of(alloc: Global, text: &[u8]) -> Result<Option<Bytes>, Memory>
+    ensures { IfOk result (λ body. body ≡ body_of text.now) }
 {
-    are_body_bytes(word) && word.len() <= 1000 && !is_starred(word)
-}
-
-fn body_of(alloc: Global, word: &[u8]) -> Result<Option<Bytes>, Memory>
-    ensures { IfOk result (λ body. body ≡ body_of word.now) }
-{
-    if !is_body(word) {
+    if let Some(number) = text.strip_prefix(b"*") {
+        return counted_body(alloc, number);
+    }
+    if !are_body_bytes(text) {
         return Ok(None);
     }
-    Ok(Some(Bytes::from_slice(alloc, word)?))
+    Ok(Some(Bytes::from_slice(alloc, text)?))
 }
 
 fn no_id() -> MessageId
@@ -140,9 +149,9 @@ fn plain_text<'t>(fields: &[&'t [u8]]) -> Option<&'t [u8]>
     }
 }
 
-/// The fields of a send as an operation.
-pub(crate) fn send_of(alloc: Global, fields: &[&[u8]]) -> Result<Option<Op>, Memory>
-    ensures { IfOk result (λ op. op ≡ send_of (map (λ field. field.now) fields.now)) }
+/// The fields of a send of this manager as an operation.
+pub(crate) fn send_of(alloc: Global, which: Which, fields: &[&[u8]]) -> Result<Option<Op>, Memory>
+    ensures { IfOk result (λ op. op ≡ send_of which (map (λ field. field.now) fields.now)) }
 {
     let [send, destination, rest @ ..] = fields else {
         return Ok(None);
@@ -153,7 +162,7 @@ pub(crate) fn send_of(alloc: Global, fields: &[&[u8]]) -> Result<Option<Op>, Mem
     let Some(text) = plain_text(rest) else {
         return Ok(None);
     };
-    let Some(destination) = destination_of(alloc, destination)? else {
+    let Some(destination) = destination_of(alloc, which, destination)? else {
         return Ok(None);
     };
     let Some(body) = body_of(alloc, text)? else {

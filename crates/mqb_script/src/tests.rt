@@ -1,6 +1,7 @@
-use crate::events::Event;
+use crate::events::{Event, Which};
+use crate::identifiers::print_destination;
 use crate::reading::{LineKind, Script, ScriptFault, read_script};
-use mqb_base::Memory;
+use mqb_base::{Memory, Op};
 use mqb_outside::MemorySource;
 use std::alloc::Global;
 use std::test::Fail;
@@ -10,6 +11,11 @@ connect alpha 1000 64 64
 commit alpha 1000 send,DIRECT=OS:beta\\PRIVATE$\\orders,-,-,-,-,-,one
 pump alpha 1000
 deliver 5 1000
+queue alpha orders tx 7 none
+connect beta 1001 64 64
+commit beta 1002 send,direct=os:alpha\\private$\\orders,-,-,-,-,-,two
+pump beta 1003
+drop 3
 ";
 
 fn read(alloc: Global, text: &[u8], failing: &[u32]) -> Result<Script, ScriptFault> {
@@ -33,30 +39,46 @@ fn unbuilt(number: u32) -> Result<usize, ScriptFault> {
     })
 }
 
-/// A letter for the form of an event, and two of its numbers.
-fn form(event: &Event) -> (char, u32, u32) {
+/// The word and the manager of an event, and two of its numbers.
+fn form(event: &Event) -> (&'static str, Option<Which>, u32, u32) {
     match event {
-        Event::Queue { plan, .. } => ('q', plan.quota, u32::from(plan.transactional)),
-        Event::Commit { now, .. } => ('c', *now, 1),
+        Event::Queue { manager, plan } => {
+            (
+                "queue",
+                Some(*manager),
+                plan.quota,
+                u32::from(plan.transactional),
+            )
+        }
+        Event::Commit { manager, now, .. } => ("commit", Some(*manager), *now, 1),
         Event::Connect {
+            manager,
             now,
             alpha_window,
             ..
-        } => ('l', *now, u32::from(*alpha_window)),
-        Event::Pump { now, .. } => ('p', *now, 0),
-        Event::Deliver { packet, now } => ('d', *now, *packet),
+        } => ("connect", Some(*manager), *now, u32::from(*alpha_window)),
+        Event::Pump { manager, now } => ("pump", Some(*manager), *now, 0),
+        Event::Deliver { packet, now } => ("deliver", None, *now, *packet),
+        Event::Drop { packet } => ("drop", None, 0, *packet),
     }
 }
 
 #[test]
 fn each_form_is_read(rt: HostRuntime) -> Result<(), Fail> {
     let script = read(rt.alloc(), SCRIPT, &[])?;
+    let alpha = Some(Which::Alpha);
+    let beta = Some(Which::Beta);
     let wanted = [
-        (1, ('q', 100, 1)),
-        (2, ('l', 1000, 64)),
-        (3, ('c', 1000, 1)),
-        (4, ('p', 1000, 0)),
-        (5, ('d', 1000, 5)),
+        (1, ("queue", beta, 100, 1)),
+        (2, ("connect", alpha, 1000, 64)),
+        (3, ("commit", alpha, 1000, 1)),
+        (4, ("pump", alpha, 1000, 0)),
+        (5, ("deliver", None, 1000, 5)),
+        (6, ("queue", alpha, 7, 1)),
+        (7, ("connect", beta, 1001, 64)),
+        (8, ("commit", beta, 1002, 1)),
+        (9, ("pump", beta, 1003, 0)),
+        (10, ("drop", None, 0, 3)),
     ];
     assert_eq!(rt; script.events().len(), wanted.len());
     for ((number, event), (line, wanted)) in script.events().iter().zip(wanted) {
@@ -68,7 +90,7 @@ fn each_form_is_read(rt: HostRuntime) -> Result<(), Fail> {
 
 #[test]
 fn lines_are_counted(rt: HostRuntime) {
-    let table: [(&[u8], Result<usize, ScriptFault>); 16] = [
+    let table: [(&[u8], Result<usize, ScriptFault>); 17] = [
         (b"", Ok(0)),
         (b"\n# a comment\n\npump alpha 0\n", Ok(1)),
         (b"pump alpha 4294967295", Ok(1)),
@@ -78,18 +100,16 @@ fn lines_are_counted(rt: HostRuntime) {
         (b"pump  alpha 1", unbuilt(1)),
         (b"pump alpha 1 ", unbuilt(1)),
         (b"pump alpha", unbuilt(1)),
-        (b"pump beta 1", unbuilt(1)),
+        (b"pump Beta 1", unbuilt(1)),
         (b" pump alpha 1", unbuilt(1)),
         (b"deliver 0 1", unbuilt(1)),
+        (b"drop 0", unbuilt(1)),
+        (b"drop 4294967295", Ok(1)),
+        (b"drop 3 1", unbuilt(1)),
         (b"queue beta a,b tx 1 none", unbuilt(1)),
-        (b"queue alpha orders tx 1 none", unbuilt(1)),
         (
             b"commit alpha 1 send,DIRECT=OS:beta\\PRIVATE$\\q,-,-,-,-,-,",
             Ok(1),
-        ),
-        (
-            b"commit alpha 1 send,DIRECT=OS:beta\\PRIVATE$\\q,-,-,-,-,-,*5",
-            unbuilt(1),
         ),
     ];
     for (text, wanted) in table {
@@ -97,42 +117,118 @@ fn lines_are_counted(rt: HostRuntime) {
     }
 }
 
-fn with_body(alloc: Global, length: usize) -> Result<Vec<u8>, Memory> {
-    let mut text = Vec::from_slice(
+/// The destination of a line with one send, as it is printed.
+fn destination(alloc: Global, host: &[u8], word: &[u8]) -> Result<Option<Vec<u8>>, Memory> {
+    let mut text = Vec::from_slice(alloc, b"commit ")?;
+    for part in [host, b" 1 send,", word, b",-,-,-,-,-,x"] {
+        text.extend_from_slice(part)?;
+    }
+    let Ok(script) = read(alloc, text.as_slice(), &[]) else {
+        return Ok(None);
+    };
+    let [(_, Event::Commit { ops, .. })] = script.events() else {
+        return Ok(None);
+    };
+    let [Op::Send(draft)] = ops.as_slice() else {
+        return Ok(None);
+    };
+    let mut printed = Vec::new(alloc);
+    print_destination(&draft.parts().destination, &mut printed)?;
+    Ok(Some(printed))
+}
+
+#[test]
+fn destinations_are_at_the_other_host(rt: HostRuntime) -> Result<(), Fail> {
+    let orders: &[u8] = b"DIRECT=OS:beta\\PRIVATE$\\orders";
+    let table: [(&[u8], &[u8], Option<&[u8]>); 10] = [
+        (b"alpha", orders, Some(orders)),
+        (b"alpha", b"direct=os:beta\\private$\\orders", Some(orders)),
+        (
+            b"beta",
+            b"Direct=Os:alpha\\Private$\\q",
+            Some(b"DIRECT=OS:alpha\\PRIVATE$\\q"),
+        ),
+        (b"beta", orders, None),
+        (b"alpha", b"DIRECT=OS:alpha\\PRIVATE$\\orders", None),
+        (b"alpha", b"DIRECT=OS:Beta\\PRIVATE$\\orders", None),
+        (b"alpha", b"DIRECT=OS:beta\\PRIVATE$\\orders;journal", None),
+        (b"alpha", b"DIRECT=TCP:10.0.0.2\\PRIVATE$\\orders", None),
+        (
+            b"alpha",
+            b"PUBLIC=2a2b2c2d-3132-3334-3536-3738393a3b3c",
+            None,
+        ),
+        (b"alpha", b"orders", None),
+    ];
+    for (host, word, wanted) in table {
+        let printed = destination(rt.alloc(), host, word)?;
+        assert!(rt;
+            printed.as_ref().map(|text| text.as_slice()) == wanted,
+            "{host:?} {word:?}"
+        );
+    }
+    Ok(())
+}
+
+/// The length of the body that a text stands for.
+fn body_length(alloc: Global, text: &[u8]) -> Result<Option<usize>, Memory> {
+    let mut line = Vec::from_slice(
         alloc,
         b"commit alpha 1 send,DIRECT=OS:beta\\PRIVATE$\\q,-,-,-,-,-,",
     )?;
-    for _ in 0..length {
-        text.push(b'x')?;
-    }
-    Ok(text)
+    line.extend_from_slice(text)?;
+    let Ok(script) = read(alloc, line.as_slice(), &[]) else {
+        return Ok(None);
+    };
+    let [(_, Event::Commit { ops, .. })] = script.events() else {
+        return Ok(None);
+    };
+    let [Op::Send(draft)] = ops.as_slice() else {
+        return Ok(None);
+    };
+    Ok(Some(draft.parts().body.as_slice().len()))
 }
 
-fn comment(alloc: Global, length: usize) -> Result<Vec<u8>, Memory> {
-    let mut text = Vec::new(alloc);
-    for _ in 0..length {
-        text.push(b'#')?;
+#[test]
+fn texts_and_their_bodies(rt: HostRuntime) -> Result<(), Fail> {
+    let long = vec![in rt.alloc(); b'x'; 100_000]?;
+    let table: [(&[u8], Option<usize>); 11] = [
+        (b"", Some(0)),
+        (b"one", Some(3)),
+        (b"a*", Some(2)),
+        (long.as_slice(), Some(100_000)),
+        (b"*3", Some(3)),
+        (b"*0", Some(0)),
+        (b"*4194304", Some(4_194_304)),
+        (b"*", None),
+        (b"*03", None),
+        (b"*x", None),
+        (b"*4194305", None),
+    ];
+    for (text, wanted) in table {
+        assert!(rt; body_length(rt.alloc(), text)? == wanted, "{text:?}");
     }
-    Ok(text)
+    Ok(())
 }
 
 #[test]
 fn limits(rt: HostRuntime) -> Result<(), Fail> {
-    for (length, wanted) in [(1000, Ok(1)), (1001, unbuilt(1))] {
-        let text = with_body(rt.alloc(), length)?;
+    for (length, wanted) in [(16_777_216, Ok(0)), (16_777_217, Err(ScriptFault::TooLong))] {
+        let text = vec![in rt.alloc(); b'#'; length]?;
         assert!(rt;
             counted(read(rt.alloc(), text.as_slice(), &[])) == wanted,
             "{length}"
         );
     }
-    for (length, wanted) in [(16384, Ok(0)), (16385, Err(ScriptFault::TooLong))] {
-        let text = comment(rt.alloc(), length)?;
-        assert!(rt;
-            counted(read(rt.alloc(), text.as_slice(), &[])) == wanted,
-            "{length}"
-        );
+    let mut text = vec![in rt.alloc(); b'\n'; 200_000]?;
+    assert!(rt; counted(read(rt.alloc(), text.as_slice(), &[])) == Ok(0));
+    for begun in [b'#', b'\n'] {
+        text.push(begun)?;
+        let read = read(rt.alloc(), text.as_slice(), &[]);
+        assert!(rt; counted(read) == Err(ScriptFault::TooManyLines), "{begun}");
+        text.truncate(200_000);
     }
-    let text = comment(rt.alloc(), 5000)?;
+    let text = vec![in rt.alloc(); b'#'; 5000]?;
     for call in 1..4 {
         let read = read(rt.alloc(), text.as_slice(), &[call]);
         assert!(rt; counted(read) == Err(ScriptFault::ReadFault), "{call}");

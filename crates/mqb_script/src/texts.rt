@@ -1,6 +1,6 @@
-ghost use Rattle.std.specs.Prelude.{◌≡◌, ◌++◌, ◌<◌, ◌≤◌, OnOk, OnErr};
+ghost use Rattle.std.specs.Prelude.{◌≡◌, ◌++◌, ◌<◌, OnOk, OnErr};
 ghost use Rattle.std.specs.Fmt.{decimal};
-ghost use Rattle.mqb_script.specs.Texts.{numbers_text, number_text, place_text, hex_digit, four_digits, class_text, low_digits};
+ghost use Rattle.mqb_script.specs.Texts.{numbers_text, number_text, place_text, hex_digit, class_text};
 
 use mqb_base::{Class, Memory, SequenceId};
 use std::alloc::Global;
@@ -64,41 +64,26 @@ pub(crate) fn print_place(
     print_number(alloc, number, out)
 }
 
-fn hex_digit(ten: u8, n: u16) -> u8
-    requires small { n < 16 }
-    requires letter { ten ≤ 97 }
-    ensures { result ≡ hex_digit ten n }
+fn hex_digit(n: u16) -> u8
+    requires { n < 16 }
+    ensures { result ≡ hex_digit n }
 {
     if n < 10 {
         b'0' + n as u8
     } else {
-        ten + (n - 10) as u8
+        b'A' + (n - 10) as u8
     }
-}
-
-fn four_digits(ten: u8, n: u16) -> [u8; 4]
-    requires { ten ≤ 97 }
-    ensures { result ≡ four_digits ten n }
-{
-    [
-        hex_digit(ten, n / 4096),
-        hex_digit(ten, n / 256 % 16),
-        hex_digit(ten, n / 16 % 16),
-        hex_digit(ten, n % 16),
-    ]
 }
 
 /// Appends a class as four hexadecimal digits in capitals.
 pub(crate) fn print_class(class: Class, out: &mut Vec<u8>) -> Result<(), Memory>
     ensures { OnOk result (out.new.items ≡ out.old.items ++ class_text class) }
 {
-    put(&four_digits(b'A', class.0), out)
-}
-
-/// Appends a number as eight hexadecimal digits in small letters.
-pub(crate) fn print_low_digits(number: u32, out: &mut Vec<u8>) -> Result<(), Memory>
-    ensures { OnOk result (out.new.items ≡ out.old.items ++ low_digits number) }
-{
-    put(&four_digits(b'a', (number / 65536) as u16), out)?;
-    put(&four_digits(b'a', (number % 65536) as u16), out)
+    let digits = [
+        hex_digit(class.0 / 4096),
+        hex_digit(class.0 / 256 % 16),
+        hex_digit(class.0 / 16 % 16),
+        hex_digit(class.0 % 16),
+    ];
+    put(&digits, out)
 }

@@ -4,4 +4,4 @@ use Rattle.mqb_script.proofs.Counts.{send_of_short}
 use Rattle.mqb_script.proofs.sends.send_of.Goals as goal
 
 pub returns-in_default : goal.returns-in_default
-returns-in_default c = sym (send_of_short (map (λ field. field.now) c.args.fields.now) (simp length-map (omega arith)))
+returns-in_default c = sym (send_of_short c.args.which (map (λ field. field.now) c.args.fields.now) (simp length-map (omega arith)))
