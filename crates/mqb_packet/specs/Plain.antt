@@ -1,17 +1,18 @@
 -- The plain spelling of a packet: reserved bytes, padding and unused bits are 0.
-use Rattle.std.specs.Prelude.{◌≡◌, ℕ, ◌+◌, Bool, true, false, is_some, List, [], ◌++◌, length, Option, Some, None}
+use Rattle.std.specs.Prelude.{◌≡◌, ℕ, ◌+◌, Bool, true, false, is_some, List, [], ◌++◌, Option, Some, None}
 use Rattle.mqb_base.specs.declared.heads.SessionHead.{SessionHead}
 use Rattle.mqb_base.specs.declared.heads.TxHead.{TxHead}
+use Rattle.mqb_base.specs.declared.message.Message.{Message}
 use Rattle.mqb_base.specs.Messages.{IsWellFormed}
 use Rattle.mqb_heads.specs.declared.base.BaseHead.{BaseHead}
 use Rattle.mqb_heads.specs.Base.{plain_base}
 use Rattle.mqb_heads.specs.Properties.{plain_props, props_of, props_size}
 use Rattle.mqb_heads.specs.Transactions.{plain_tx}
 use Rattle.mqb_heads.specs.User.{is_transactional, plain_user, user_of, user_size}
-use Rattle.mqb_setup.specs.declared.internal.Internal as setup
 use Rattle.mqb_setup.specs.declared.internal.Internal.TheVariants as part
 use Rattle.mqb_setup.specs.Internals.{plain_internal}
 use Rattle.mqb_setup.specs.Sessions.{plain_session}
+use Rattle.mqb_packet.specs.declared.packet.Carriage.{Carriage}
 use Rattle.mqb_packet.specs.declared.packet.Packet.{Packet}
 use Rattle.mqb_packet.specs.declared.packet.Packet.TheVariants as packet
 use Rattle.mqb_packet.specs.declared.packet.UserPacket.{UserPacket}
@@ -22,6 +23,14 @@ pub record IsWellFormedUser (user : UserPacket) : Type 0 where
   pub message : IsWellFormed user.message
   pub tx : is_some user.tx ≡ is_transactional user.message.delivery
   pub reach : user.message.reach ≡ user.remaining
+
+-- the user packet of a lent message, whose time to reach its queue is what the packet has left of it
+abbrev pub carried_user : Message → Carriage → UserPacket
+carried_user m c = record { message = record m { reach = c.remaining }; to = c.to; remaining = c.remaining; tx = c.tx; session = c.session }
+
+-- what a user packet has beside its message
+abbrev pub carriage_of : UserPacket → Carriage
+carriage_of user = record { to = user.to; remaining = user.remaining; tx = user.tx; session = user.session }
 
 -- a packet that may be written, its size left aside
 abbrev pub IsWellFormedPacket : Packet → Type 0

@@ -1,7 +1,8 @@
 //! Whole packets: a user packet, which carries a message, and the internal packets of a session.
 //!
 //! `view` reads a packet without memory, and lends its parts as slices of the bytes that it was given. What it answers is `packet_of` of `specs/`, the
-//! grammar of packets. `put_packet` writes the one plain spelling of a packet, and what is written is read again as the same packet.
+//! grammar of packets. `put_packet` writes the one plain spelling of a packet, and what is written is read again as the same packet. `put_message` is
+//! for a caller who keeps the message.
 #![tactic(auto)]
 
 mod faults;
@@ -18,8 +19,8 @@ pub use mqb_fields::{HeadFault, HeadKind};
 pub use mqb_heads::{BaseHead, PropsHead, UserHead};
 pub use mqb_setup::{Establish, Parameters};
 pub use owned::to_owned;
-pub use packet::{Packet, UserPacket};
-pub use writing::{put_packet, size_of};
+pub use packet::{Carriage, Packet, UserPacket};
+pub use writing::{put_message, put_packet, size_of};
 
 #[cfg(test)]
 mod tests;

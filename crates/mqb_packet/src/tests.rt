@@ -4,7 +4,7 @@ ghost use Rattle.mqb_packet.specs.Plain.{IsWellFormedPacket};
 
 use crate::{
     HeadFault, HeadKind, Packet, PacketView, Parameters, PutFault, TooLarge, UserPacket,
-    put_packet, size_of, to_owned, view,
+    put_message, put_packet, size_of, to_owned, view,
 };
 use mqb_base::{
     Bytes, Class, Delivery, Guid, Host, Message, MessageId, Name, QueueName, SequenceId,
@@ -167,6 +167,18 @@ fn a_user_packet_both_ways(rt: HostRuntime) -> Result<(), Fail> {
     assert_eq!(rt; size_of(&packet), Ok(208));
     assert_eq!(rt; spelled(rt.alloc(), &packet)?.as_slice(), USER.as_slice());
     assert_eq!(rt; read(rt.alloc(), USER)?, packet);
+    Ok(())
+}
+
+#[test]
+fn a_lent_message_has_the_time_that_is_left(rt: HostRuntime) -> Result<(), Fail> {
+    let Packet::User(mut user) = one(rt.alloc())? else {
+        return Err(Fail::from(TooLarge));
+    };
+    user.message.reach = 10;
+    let mut out = Vec::new(rt.alloc());
+    put_message(&user.message, &user.carriage(), &mut out)?;
+    assert_eq!(rt; out.as_slice(), USER.as_slice());
     Ok(())
 }
 

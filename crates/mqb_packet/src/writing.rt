@@ -1,19 +1,21 @@
-ghost use Rattle.std.specs.Prelude.{◌≡◌, ◌≤◌, ◌<◌, ◌+◌, ◌++◌, ◌↔◌, ◌^◌, Err, length, IfOk, IsErr, OnOk, OnErr};
+ghost use Rattle.std.specs.Prelude.{◌≡◌, ◌≤◌, ◌<◌, ◌+◌, ◌++◌, ◌↔◌, ◌^◌, Err, length, replicate, IfOk, IsErr, OnOk, OnErr};
 ghost use Rattle.mqb_base.specs.Messages.{IsWellFormed};
 ghost use Rattle.mqb_heads.specs.Base.{plain_base};
 ghost use Rattle.mqb_heads.specs.Properties.{FitsProps, plain_props, props_size};
 ghost use Rattle.mqb_heads.specs.User.{plain_user, user_size};
 ghost use Rattle.mqb_heads.specs.Writing.{Wrote};
 ghost use Rattle.mqb_setup.specs.Internals.{plain_internal};
-ghost use Rattle.mqb_packet.specs.Plain.{IsWellFormedPacket, IsWellFormedUser, base_for, internal_base, packet_size, plain_spelling, plain_user_packet, session_or_none, session_size, tx_or_none, tx_size, user_packet_size};
+ghost use Rattle.mqb_packet.specs.declared.packet.Packet.TheVariants as packet;
+ghost use Rattle.mqb_packet.specs.Plain.{IsWellFormedPacket, IsWellFormedUser, base_for, carried_user, internal_base, packet_size, plain_spelling, plain_user_packet, session_or_none, session_size, tx_or_none, tx_size, user_packet_size};
 
 use crate::faults::{PutFault, TooLarge};
-use crate::packet::{Packet, UserPacket};
+use crate::packet::{Carriage, Packet};
 use mqb_base::{Guid, Message, SessionHead, TxHead};
 use mqb_heads::{
     BaseHead, GREATEST_PACKET, props_len, put_base, put_props, put_tx, put_user, user_len,
 };
 use mqb_setup::{Internal, put_internal, put_session};
+use std::alloc::AllocError;
 
 /// The sizes of internal packets, in bytes.
 const ESTABLISH_SIZE: u32 = 572;
@@ -37,21 +39,20 @@ fn session_len(head: &Option<SessionHead>) -> usize
     if head.is_some() { 16 } else { 0 }
 }
 
-fn user_size(user: &UserPacket) -> Result<u32, TooLarge>
-    requires { IsWellFormedUser user.now }
-    ensures size { IfOk result (λ size. size ≡ user_packet_size user.now) }
-    ensures too_large { IsErr result ↔ (4194304 < user_packet_size user.now) }
+fn user_size(message: &Message, carriage: &Carriage) -> Result<u32, TooLarge>
+    requires { IsWellFormed message.now }
+    ensures size { IfOk result (λ size. size ≡ user_packet_size (carried_user message.now carriage.now)) }
+    ensures too_large { IsErr result ↔ (4194304 < user_packet_size (carried_user message.now carriage.now)) }
 {
     let most = GREATEST_PACKET as usize;
-    let message = &user.message;
     if message.extension.as_slice().len() > most || message.body.as_slice().len() > most {
         return Err(TooLarge);
     }
     let size = 16
         + user_len(message)
-        + tx_len(&user.tx)
+        + tx_len(&carriage.tx)
         + props_len(message)
-        + session_len(&user.session);
+        + session_len(&carriage.session);
     if size > most {
         return Err(TooLarge);
     }
@@ -65,7 +66,7 @@ pub fn size_of(packet: &Packet) -> Result<u32, TooLarge>
     ensures too_large { IsErr result ↔ (4194304 < packet_size packet.now) }
 {
     match packet {
-        Packet::User(user) => user_size(user),
+        Packet::User(user) => user_size(&user.message, &user.carriage()),
         Packet::Establish(_) => Ok(ESTABLISH_SIZE),
         Packet::Parameters(_) => Ok(PARAMETERS_SIZE),
         Packet::Ack(_) => Ok(ACK_SIZE),
@@ -115,39 +116,40 @@ fn put_internal_behind(to: &mut [u8], at: usize, part: &Internal) -> usize
     at + put_internal(part, &mut to[at..])
 }
 
-fn base_for(user: &UserPacket, size: u32) -> BaseHead
-    requires { size ≡ user_packet_size user.now }
-    ensures { result ≡ base_for user.now }
+fn base_for(message: &Message, carriage: &Carriage, size: u32) -> BaseHead
+    requires { size ≡ user_packet_size (carried_user message.now carriage.now) }
+    ensures { result ≡ base_for (carried_user message.now carriage.now) }
 {
     BaseHead {
-        priority: user.message.priority,
+        priority: message.priority,
         internal: false,
-        session: user.session.is_some(),
+        session: carriage.session.is_some(),
         size,
-        reach: user.remaining,
+        reach: carriage.remaining,
     }
 }
 
-fn put_user_packet(user: &UserPacket, size: u32, to: &mut [u8]) -> usize
-    requires user { IsWellFormedUser user.now }
-    requires size { size ≡ user_packet_size user.now }
+fn put_user_packet(message: &Message, carriage: &Carriage, size: u32, to: &mut [u8])
+    requires message { IsWellFormed message.now }
+    requires size { size ≡ user_packet_size (carried_user message.now carriage.now) }
     requires most { size ≤ 4194304 }
     requires room { length to.old ≡ size }
-    ensures { Wrote to.old 0 (plain_user_packet user.now) to.new result }
+    ensures { to.new ≡ plain_user_packet (carried_user message.now carriage.now) }
 {
-    let base = base_for(user, size);
+    let base = base_for(message, carriage, size);
     let head = put_base(&base, to);
-    let tx = put_user_behind(to, head, &user.message, &user.to);
-    let props = put_tx_behind(to, tx, &user.tx);
-    let session = put_props_behind(to, props, &user.message);
-    put_session_behind(to, session, &user.session)
+    let tx = put_user_behind(to, head, message, &carriage.to);
+    let props = put_tx_behind(to, tx, &carriage.tx);
+    let session = put_props_behind(to, props, message);
+    put_session_behind(to, session, &carriage.session);
 }
 
-fn put_internal_packet(part: &Internal, session: bool, size: u32, to: &mut [u8]) -> usize
+fn put_internal_packet(part: &Internal, session: bool, size: u32, to: &mut [u8])
+    requires size { size ≡ 16 + length (plain_internal part.now) }
     requires least { 20 ≤ size }
     requires most { size ≤ 4194304 }
-    requires room { 16 + length (plain_internal part.now) ≤ length to.old }
-    ensures { Wrote to.old 0 (plain_base (internal_base session size) ++ plain_internal part.now) to.new result }
+    requires room { length to.old ≡ size }
+    ensures { to.new ≡ plain_base (internal_base session size) ++ plain_internal part.now }
 {
     let base = BaseHead {
         priority: 0,
@@ -157,7 +159,7 @@ fn put_internal_packet(part: &Internal, session: bool, size: u32, to: &mut [u8])
         reach: NO_LIMIT,
     };
     let head = put_base(&base, to);
-    put_internal_behind(to, head, part)
+    put_internal_behind(to, head, part);
 }
 
 fn write(packet: &Packet, size: u32, to: &mut [u8])
@@ -168,7 +170,7 @@ fn write(packet: &Packet, size: u32, to: &mut [u8])
     ensures { to.new ≡ plain_spelling packet.now }
 {
     match packet {
-        Packet::User(user) => put_user_packet(user, size, to),
+        Packet::User(user) => put_user_packet(&user.message, &user.carriage(), size, to),
         Packet::Establish(establish) => {
             put_internal_packet(&Internal::Establish(*establish), false, size, to)
         }
@@ -176,7 +178,36 @@ fn write(packet: &Packet, size: u32, to: &mut [u8])
             put_internal_packet(&Internal::Parameters(*parameters), false, size, to)
         }
         Packet::Ack(head) => put_internal_packet(&Internal::Ack(*head), true, size, to),
-    };
+    }
+}
+
+/// Appends zeros, and tells where they start.
+fn put_room(out: &mut Vec<u8>, size: u32) -> Result<usize, AllocError>
+    ensures room { OnOk result (out.new.items ≡ out.old.items ++ replicate size 0) }
+    ensures start { IfOk result (λ start. start ≡ length out.old.items) }
+    ensures stays { OnErr result (out.new.items ≡ out.old.items) }
+{
+    let start = out.len();
+    out.resize(start + size as usize, 0)?;
+    Ok(start)
+}
+
+/// Appends the plain spelling of a user packet whose message is lent. The message's own time to reach its queue is not spelled: the packet has what
+/// is left of it. `out` is unchanged on a refusal.
+pub fn put_message(
+    message: &Message,
+    carriage: &Carriage,
+    out: &mut Vec<u8>,
+) -> Result<(), PutFault>
+    requires { IsWellFormedUser (carried_user message.now carriage.now) }
+    ensures put { OnOk result (out.new.items ≡ out.old.items ++ plain_spelling (packet.User (carried_user message.now carriage.now))) }
+    ensures stays { OnErr result (out.new.items ≡ out.old.items) }
+    ensures too_large { (result ≡ Err PutFault.TooLarge) ↔ (4194304 < packet_size (packet.User (carried_user message.now carriage.now))) }
+{
+    let size = user_size(message, carriage)?;
+    let start = put_room(out, size)?;
+    put_user_packet(message, carriage, size, &mut out.as_mut_slice()[start..]);
+    Ok(())
 }
 
 /// Appends the plain spelling of a packet.
@@ -187,8 +218,7 @@ pub fn put_packet(packet: &Packet, out: &mut Vec<u8>) -> Result<(), PutFault>
     ensures too_large { (result ≡ Err PutFault.TooLarge) ↔ (4194304 < packet_size packet.now) }
 {
     let size = size_of(packet)?;
-    let start = out.len();
-    out.resize(start + size as usize, 0)?;
+    let start = put_room(out, size)?;
     write(packet, size, &mut out.as_mut_slice()[start..]);
     Ok(())
 }
