@@ -1,0 +1,15 @@
+//! The list machine: what two managers and the packets between them do at each event of a script, as functions over lists.
+//!
+//! `specs/State.antt` says what one manager knows, `specs/Calls.antt` what each of its calls answers and leaves, and `specs/Machine.antt` how the two
+//! of them move. The values that the definitions share with the code stand here too.
+#![tactic(auto)]
+
+mod laws;
+mod packets;
+mod queues;
+mod receiving;
+
+pub use laws::duplicate_changes_nothing;
+pub use packets::{OrderAck, Packet, Transfer};
+pub use queues::{Messages, Queue};
+pub use receiving::Receiving;

@@ -1,0 +1,27 @@
+use mqb_base::{Message, MessageId, SequenceId, TxHead};
+use mqb_setup::{Establish, Parameters};
+
+/// A message on its way, and its place in its stream. Its time to reach the queue is what was left of it when it was sent.
+#[derive(Debug, PartialEq, Eq, Drop)]
+pub struct Transfer {
+    pub tx: TxHead,
+    pub message: Message,
+}
+
+/// An order acknowledgement: of the sequence everything is decided up to this number. It is an express message with an identifier and a moment.
+#[derive(Clone, Copy, Debug, PartialEq, Eq)]
+pub struct OrderAck {
+    pub id: MessageId,
+    pub sent: u32,
+    pub sequence: SequenceId,
+    pub number: u32,
+}
+
+/// What a packet between two managers says.
+#[derive(Debug, PartialEq, Eq, Drop)]
+pub enum Packet {
+    Establish(Establish),
+    Parameters(Parameters),
+    Transfer(Transfer),
+    OrderAck(OrderAck),
+}
