@@ -1,0 +1,4 @@
+pub mod Channels
+pub mod Shows
+pub mod Example
+pub mod Laws
