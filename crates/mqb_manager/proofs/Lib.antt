@@ -1,0 +1,10 @@
+pub mod Marking
+pub mod Views
+pub mod Drafts
+pub mod Posting
+pub mod Spelling
+pub mod Packets
+pub mod Pumping
+pub mod Settling
+pub mod Props
+pub mod Chosen
