@@ -1,5 +1,10 @@
-pub mod Pumping
-pub mod Marking
-pub mod Views
 pub mod Numbering
-pub mod Reading
+pub mod Fours
+pub mod Fronts
+pub mod Placing
+pub mod Stepping
+pub mod Delivering
+pub mod Sending
+pub mod Connecting
+pub mod Dropping
+pub mod Going

@@ -1,6 +1,6 @@
 -- The numbers of packets, one after another.
 use Rattle.std.proofs.Common.{◌≡◌, ℕ, ◌+◌, ◌-◌, ◌<◌, ◌≤◌, List, [], ◌∷◌, ◌++◌, suc, sym, ap, ◌∙◌, arith, append_assoc, append-nil}
-use Rattle.mqb_world.specs.Machine.{numbers_after}
+use Rattle.mqb_machine.specs.Machine.{numbers_after}
 
 pub numbered_next : (before count i : ℕ) (xs all : List ℕ) → i < count → xs ++ numbers_after (before + i) (count - i) ≡ all →
     (xs ++ (before + i + 1) ∷ []) ++ numbers_after (before + (i + 1)) (count - (i + 1)) ≡ all

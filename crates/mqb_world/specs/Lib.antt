@@ -1,9 +1,7 @@
-pub mod Packets
-pub mod Manager
-pub mod Machine
-pub mod Outgoing
-pub mod Pumping
-pub mod Steps
+pub mod Faults
+pub mod Standing
 pub mod Endings
 pub mod Transcripts
-pub mod Laws
+pub mod Openings
+pub mod Holding
+pub mod Once

@@ -1,25 +1,20 @@
-use Rattle.std.specs.Prelude.{ℕ, List, [], ◌∷◌, ◌++◌, map, Some}
+-- The text of a run of the list machine.
+use Rattle.std.specs.Prelude.{ℕ, List, [], ◌∷◌, ◌++◌, Some}
 use Rattle.mqb_script.specs.declared.events.Event.{Event}
 use Rattle.mqb_script.specs.Texts.{printed}
-use Rattle.mqb_world.specs.Packets.{spelling}
-use Rattle.mqb_world.specs.Machine.{Machine, step, hosts, beginning}
+use Rattle.mqb_machine.specs.Managers.{hosts}
+use Rattle.mqb_machine.specs.Machine.{Machine, step, beginning}
+use Rattle.mqb_machine.specs.Runs.{machine_after}
 use Rattle.mqb_world.specs.Endings.{end_text}
 
--- the strings of the medium after an event
-abbrev pub strings_after : Machine → List (List ℕ) → Event → List (List ℕ)
-strings_after m strings event = strings ++ map spelling (step m strings event).sent
+-- a line for each reply of a run over numbered events
+abbrev pub replies_from : Machine → List (ℕ × Event) → List ℕ
+replies_from m [] = []
+replies_from m (line ∷ lines) = printed hosts (Some line.0) (step m line.1).reply ++ replies_from (step m line.1).after lines
 
--- the text of a run over numbered events: a line for each reply, and then what is held at the end
-abbrev pub text_from : Machine → List (List ℕ) → List (ℕ × Event) → List ℕ
-text_from m strings [] = end_text hosts m
-text_from m strings (line ∷ lines) = printed hosts (Some line.0) (step m strings line.1).reply
-    ++ text_from (step m strings line.1).after (strings_after m strings line.1) lines
+abbrev pub replies_of : List (ℕ × Event) → List ℕ
+replies_of lines = replies_from beginning lines
 
--- the strings of the medium at the end of a run
-abbrev pub strings_from : Machine → List (List ℕ) → List (ℕ × Event) → List (List ℕ)
-strings_from m strings [] = strings
-strings_from m strings (line ∷ lines) = strings_from (step m strings line.1).after (strings_after m strings line.1) lines
-
--- the transcript of a script
+-- the transcript of a script: its replies, and then what is held at the end
 abbrev pub transcript_of : List (ℕ × Event) → List ℕ
-transcript_of events = text_from beginning [] events
+transcript_of lines = replies_of lines ++ end_text hosts (machine_after lines)

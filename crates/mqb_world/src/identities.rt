@@ -1,8 +1,9 @@
 ghost use Rattle.std.specs.Prelude.{◌≡◌, None, IfOk};
 ghost use Rattle.mqb_base.specs.Names.{name_fault};
-ghost use Rattle.mqb_world.specs.Machine.{alpha, beta, hosts};
+ghost use Rattle.mqb_machine.specs.Managers.{alpha, beta, hosts, identity_of};
 
 use mqb_base::{Guid, Identity, Memory, Name, NameError};
+use mqb_script::Which;
 use std::alloc::Global;
 
 const ALPHA: [u8; 16] = [
@@ -42,6 +43,15 @@ pub(crate) fn beta(alloc: Global) -> Result<Identity, Memory>
         guid: Guid(BETA),
         address: [10, 0, 0, 2],
     })
+}
+
+pub(crate) fn guid_of(which: Which) -> Guid
+    ensures { result ≡ (identity_of which).guid }
+{
+    match which {
+        Which::Alpha => Guid(ALPHA),
+        Which::Beta => Guid(BETA),
+    }
 }
 
 /// The two managers of a replay, alpha and beta.

@@ -1,23 +1,19 @@
 //! Two managers, the packets between them, and the events of a script that move them.
 //!
-//! The managers are plain lists. What each call answers and leaves is stated in `specs/Manager.antt` for one manager and in `specs/Machine.antt` for
-//! the two of them.
+//! Each event is a step of the list machine of `mqb_machine`. A world keeps all of the machine but what the packets say, which the medium has:
+//! `specs/Standing.antt` says how the machine stands behind a world and its medium.
 #![tactic(auto)]
 
-mod ending;
+mod faults;
 mod identities;
-mod incoming;
-mod laws;
 mod lines;
-mod manager;
-mod out_lines;
-mod outgoing;
-mod packets;
-mod queues;
-mod sends;
+mod notes;
+mod opening;
+#[cfg(test)]
+mod tests;
 mod world;
 
+pub use faults::WorldFault;
 pub use identities::hosts;
-pub use laws::{duplicate_changes_nothing, spelled_is_read};
-pub use packets::{Packet, Transfer};
-pub use world::{World, WorldFault};
+pub use notes::Note;
+pub use world::World;

@@ -1,61 +1,52 @@
-ghost use Rattle.std.specs.Prelude.{◌≡◌, ◌+◌, ◌*◌, ◌<◌, ◌≤◌, ◌^◌, ◌++◌, ◌∷◌, [], length, map, replicate, vec_len, slice_get, Some, IfOk, OnOk, IfSome};
-ghost use Rattle.mqb_outside.specs.Strings.{bytes_in};
-ghost use Rattle.mqb_script.specs.Sizes.{IsSized, IsShort};
-ghost use Rattle.mqb_world.specs.Endings.{end_text};
-ghost use Rattle.mqb_world.specs.Machine as spec;
-ghost use Rattle.mqb_world.specs.Manager.{create, heads_of, chosen};
-ghost use Rattle.mqb_world.specs.Packets.{spelling};
-ghost use Rattle.mqb_world.specs.Pumping.{HasRoom, Grows, IsAFewMore};
-ghost use Rattle.mqb_world.specs.Steps.{Answers};
+ghost use Rattle.std.specs.Prelude.{◌≡◌, ◌+◌, ◌-◌, ◌<◌, ◌≤◌, ◌^◌, ◌++◌, ◌∷◌, [], ℕ, List, length, vec_len, slice_get, IfOk, OnOk, IfSome, IsSome, IfErr};
 ghost use Rattle.std.specs.Option.{option_copied};
-ghost use Rattle.std.specs.List.{AllByRecursion};
+ghost use Rattle.mqb_script.specs.Sizes.{IsSized};
+ghost use Rattle.mqb_machine.specs.Calls.{create, commit};
+ghost use Rattle.mqb_script.specs.declared.events.Event.{Event};
+ghost use Rattle.mqb_machine.specs.Machine as spec;
+ghost use Rattle.mqb_machine.specs.Runs.{machine_after};
+ghost use Rattle.mqb_manager.specs.Posting.{IsWithin};
+ghost use Rattle.mqb_world.specs.declared.faults.WorldFault.TheVariants as fault;
+ghost use Rattle.mqb_world.specs.Endings.{held_text};
+ghost use Rattle.mqb_world.specs.Faults.{SentBy};
+ghost use Rattle.mqb_world.specs.Holding.{IsHolding, manager_of, called_on, commit_on, connect_on, connect_strings, pumped_on, pumped_strings, ArePumped, pump_on, pump_strings, is_underway, hear_on, drop_on, ended_on};
+ghost use Rattle.mqb_world.specs.Once.{GoesOn};
+ghost use Rattle.mqb_world.specs.Standing.{Stands, IsOwn, Applied, Delivered};
 
-use crate::ending::put;
+use crate::faults::WorldFault;
 use crate::identities::{alpha, beta};
 use crate::lines::add_lines;
-use crate::manager::Manager;
-use crate::packets::{Packet, read_packet};
-use mqb_base::{Cause, Heard, Identity, Line, Memory, Op, Parts, QueuePlan, TxHead};
+use crate::notes::{Note, note_opening, note_sent};
+use crate::opening::{Opening, post_opening};
+use mqb_base::{Cause, Draft, Heard, Identity, Line, Memory, Op, QueuePlan};
+use mqb_machine::Packet;
+use mqb_manager::{Manager, read_packet};
 use mqb_outside::Medium;
 use mqb_script::{Event, Lines, Numbers, Ops, Reply, Which};
 use std::alloc::Global;
 use std::marker::Model;
-use thiserror::Error;
 
-/// Why an event has no reply. The world is used no more then, and the medium has the packets that were sent before.
-#[derive(Clone, Copy, Debug, PartialEq, Eq, Error)]
-pub enum WorldFault {
-    #[error("out of memory")]
-    Memory,
-}
-
-impl From<Memory> for WorldFault {
-    fn from(_error: Memory) -> WorldFault {
-        WorldFault::Memory
-    }
-}
-
-/// Two managers, alpha and beta, each the other's peer, and the packets between them. Contracts see the list machine.
+/// Two managers, alpha and beta, each the other's peer, and who sent each packet between them. What the packets say is in the medium. Contracts see what is held.
 #[derive(Debug, Drop)]
 pub struct World {
     alloc: Global,
     alpha: Manager,
     beta: Manager,
     present: Option<u32>,
-    senders: Vec<Which>,
+    notes: Vec<Note>,
     ledger: Vec<Line>,
 }
 
 impl Model for World {
-    ghost use Rattle.mqb_world.specs.Machine.{Machine};
+    ghost use Rattle.mqb_world.specs.Standing.{Held};
 
-    ghost Value = { Machine };
+    ghost Value = { Held };
 
     ghost view = { λ w. record {
       alpha = w.alpha;
       beta = w.beta;
       present = w.present;
-      senders = w.senders.items;
+      notes = w.notes.items;
       ledger = w.ledger.items;
     } };
 }
@@ -72,50 +63,38 @@ fn numbers_after(alloc: Global, before: u32, count: u32) -> Result<Numbers, Memo
     Ok(numbers)
 }
 
-fn other(which: Which) -> Which
-    ensures { result ≡ spec.other which }
-{
-    match which {
-        Which::Alpha => Which::Beta,
-        Which::Beta => Which::Alpha,
-    }
-}
-
 /// The message of a transaction that is one send.
-fn only_send(ops: &[Op]) -> Option<&Parts>
-    ensures parts { option_copied result ≡ spec.only_send ops.now }
-    ensures short { AllByRecursion IsShort ops.now → IfSome result (λ parts. length parts.now.body ≤ 1000) }
+fn only_send(ops: &[Op]) -> Option<&Draft>
+    ensures { option_copied result ≡ spec.only_send ops.now }
 {
     match ops {
-        [] | [_, _, ..] => None,
-        [op] => match op {
-            Op::Send(draft) => Some(draft.parts()),
-            Op::Take(_) => None,
-        },
+        [Op::Send(draft)] => Some(draft),
+        _ => None,
     }
 }
 
-/// Notes that a manager sent so many packets.
-fn add_senders(senders: &mut Vec<Which>, which: Which, count: usize) -> Result<(), Memory>
-    requires { vec_len senders.old + count < 2 ^ 63 }
-    ensures { OnOk result (senders.new.items ≡ senders.old.items ++ replicate count which) }
+/// The packet of this number belongs to the present connection.
+fn is_present(present: Option<u32>, k: u32) -> bool
+    ensures { result ≡ spec.is_present present k }
 {
-    let length = senders.len();
-    senders.resize(length + count, which)?;
-    Ok(())
+    match present {
+        None => false,
+        Some(before) => before < k,
+    }
 }
 
 impl World {
     /// Nothing is there yet.
     pub fn new(alloc: Global) -> Result<World, WorldFault>
-        ensures { IfOk result (λ world. world ≡ spec.beginning) }
+        ensures stands { IfOk result (λ world. Stands world [] spec.beginning) }
+        ensures refused { IfErr result (λ given. given ≡ fault.Memory) }
     {
         Ok(World {
             alloc,
             alpha: Manager::new(alloc, alpha(alloc)?, beta(alloc)?),
             beta: Manager::new(alloc, beta(alloc)?, alpha(alloc)?),
             present: None,
-            senders: Vec::new(alloc),
+            notes: Vec::new(alloc),
             ledger: Vec::new(alloc),
         })
     }
@@ -125,16 +104,6 @@ impl World {
         ensures { result.now ≡ self.now.ledger }
     {
         self.ledger.as_slice()
-    }
-
-    fn create(&mut self, which: Which, plan: &QueuePlan) -> Result<Reply, Memory>
-        ensures senders { OnOk result (self.new.senders ≡ self.old.senders) }
-        ensures answer { IfOk result (λ reply. Answers (spec.called self.old which (create (spec.state_of self.old which) plan.now)) reply self.new []) }
-    {
-        match which {
-            Which::Alpha => self.alpha.create_queue(plan),
-            Which::Beta => self.beta.create_queue(plan),
-        }
     }
 
     /// Adds the lines that a reply shows to the ledger.
@@ -150,167 +119,224 @@ impl World {
         }
     }
 
-    fn commit(&mut self, which: Which, now: u32, ops: &Ops) -> Result<Reply, Memory>
-        requires { AllByRecursion IsShort ops.now }
-        ensures senders { OnOk result (self.new.senders ≡ self.old.senders) }
-        ensures answer { IfOk result (λ reply. Answers (spec.commit_ops self.old which now ops.now) reply self.new []) }
+    fn create(&mut self, which: Which, plan: &QueuePlan) -> Result<Reply, Memory>
+        ensures { IfOk result (λ reply. IsHolding (called_on self.old which (create (manager_of self.old which) plan.now)) reply self.new) }
     {
-        let Some(parts) = only_send(ops.as_slice()) else {
-            return Ok(Reply::Done);
-        };
         let reply = match which {
-            Which::Alpha => self.alpha.commit(now, parts)?,
-            Which::Beta => self.beta.commit(now, parts)?,
+            Which::Alpha => self.alpha.create_queue(plan)?,
+            Which::Beta => self.beta.create_queue(plan)?,
         };
         self.note(&reply)?;
         Ok(reply)
     }
 
-    fn connect<M: Medium>(&mut self, which: Which, medium: &mut M) -> Result<Reply, Memory>
-        requires own { length self.old.senders ≡ length (M.strings medium.old) }
-        requires room { HasRoom (M.strings medium.old) 0 }
-        ensures answer { IfOk result (λ reply. Answers (spec.connect self.old which) reply self.new (spec.connect self.old which).sent) }
-        ensures sent { OnOk result (M.strings medium.new ≡ M.strings medium.old ++ map spelling (spec.connect self.old which).sent) }
-        ensures own { OnOk result (length self.new.senders ≡ length (M.strings medium.new)) }
-        ensures grows { OnOk result (IsAFewMore (M.strings medium.old) (M.strings medium.new)) }
+    fn commit(&mut self, which: Which, now: u32, ops: &Ops) -> Result<Reply, Memory>
+        ensures { IfOk result (λ reply. IsHolding (commit_on self.old which now (spec.only_send ops.now)) reply self.new) }
+    {
+        let Some(draft) = only_send(ops.as_slice()) else {
+            return Ok(Reply::Done);
+        };
+        let reply = match which {
+            Which::Alpha => self.alpha.commit(now, draft)?,
+            Which::Beta => self.beta.commit(now, draft)?,
+        };
+        self.note(&reply)?;
+        Ok(reply)
+    }
+
+    fn connect<M: Medium>(&mut self, opening: &Opening, medium: &mut M) -> Result<Reply, WorldFault>
+        requires own { length self.old.notes ≡ length (M.strings medium.old) }
+        requires within { IsWithin (M.strings medium.old) }
+        ensures holding { IfOk result (λ reply. IsHolding (connect_on self.old opening.now.which) reply self.new) }
+        ensures sent { SentBy (M.strings medium.old) (M.strings medium.new) (connect_strings self.old opening.now.which opening.now.moment opening.now.alpha_window opening.now.beta_window) result }
     {
         if self.present.is_some() {
             return Ok(Reply::Linked);
         }
-        let before = self.senders.len() as u32;
+        let before = self.notes.len() as u32;
         let packets = numbers_after(self.alloc, before, 4)?;
-        let other = other(which);
-        self.senders
-            .extend_from_slice(&[which, other, which, other])?;
-        add_set_up(medium)?;
+        note_opening(&mut self.notes, opening.which)?;
+        post_opening(self.alloc, opening, medium)?;
         self.present = Some(before);
         Ok(Reply::Connected { packets })
     }
 
-    #[tactic(auto, using(crate::proofs::Views::map_map))]
-    fn pump<M: Medium>(&mut self, which: Which, medium: &mut M) -> Result<Reply, Memory>
-        requires own { length self.old.senders ≡ length (M.strings medium.old) }
-        requires room { HasRoom (M.strings medium.old) 0 }
-        ensures answer { IfOk result (λ reply. Answers (spec.pump self.old which) reply self.new (spec.pump self.old which).sent) }
-        ensures sent { OnOk result (M.strings medium.new ≡ M.strings medium.old ++ map spelling (spec.pump self.old which).sent) }
-        ensures own { OnOk result (length self.new.senders ≡ length (M.strings medium.new)) }
-        ensures grows { OnOk result (IsAFewMore (M.strings medium.old) (M.strings medium.new)) }
+    /// A manager sends what it chooses, and its packets are noted.
+    #[tactic(auto, using(crate::proofs::Fronts::all_are_front))]
+    fn send<M: Medium>(
+        &mut self,
+        which: Which,
+        now: u32,
+        medium: &mut M,
+    ) -> Result<Reply, WorldFault>
+        requires own { length self.old.notes ≡ length (M.strings medium.old) }
+        requires within { IsWithin (M.strings medium.old) }
+        ensures holding { IfOk result (λ reply. IsHolding (pumped_on self.old which now) reply self.new) }
+        ensures sent { SentBy (M.strings medium.old) (M.strings medium.new) (pumped_strings self.old which now) result }
+        ensures spelled { ArePumped self.old which now }
+    {
+        let count = match which {
+            Which::Alpha => self.alpha.pump(now, medium)?,
+            Which::Beta => self.beta.pump(now, medium)?,
+        };
+        let before = self.notes.len() as u32;
+        let packets = numbers_after(self.alloc, before, count)?;
+        note_sent(&mut self.notes, which, count)?;
+        Ok(Reply::Pumped { packets })
+    }
+
+    fn pump<M: Medium>(
+        &mut self,
+        which: Which,
+        now: u32,
+        medium: &mut M,
+    ) -> Result<Reply, WorldFault>
+        requires own { length self.old.notes ≡ length (M.strings medium.old) }
+        requires within { IsWithin (M.strings medium.old) }
+        ensures holding { IfOk result (λ reply. IsHolding (pump_on self.old which now) reply self.new) }
+        ensures sent { SentBy (M.strings medium.old) (M.strings medium.new) (pump_strings self.old which now) result }
+        ensures spelled { IsSome self.old.present → ArePumped self.old which now }
     {
         if self.present.is_none() {
             return Ok(Reply::Unlinked);
         }
-        let heads = match which {
-            Which::Alpha => self.alpha.pump(medium)?,
-            Which::Beta => self.beta.pump(medium)?,
-        };
-        let before = self.senders.len() as u32;
-        let packets = numbers_after(self.alloc, before, heads.len() as u32)?;
-        add_senders(&mut self.senders, which, heads.len())?;
-        Ok(Reply::Pumped { packets })
+        self.send(which, now, medium)
     }
 
     /// The connection ends on both sides.
     fn end(&mut self)
-        ensures { self.new ≡ spec.ended self.old }
+        ensures { self.new ≡ ended_on self.old }
     {
         self.alpha.unlink();
         self.beta.unlink();
         self.present = None;
     }
 
-    fn hear(&mut self, which: Which, packet: Option<Packet>) -> Result<Reply, Memory>
-        ensures senders { OnOk result (self.new.senders ≡ self.old.senders) }
-        ensures answer { IfOk result (λ reply. Answers (spec.hear_packet self.old which packet) reply self.new []) }
+    fn hear(&mut self, which: Which, packet: Packet) -> Result<Reply, Memory>
+        ensures { IfOk result (λ reply. IsHolding (hear_on self.old which packet) reply self.new) }
     {
-        let transfer = match packet {
-            None => {
-                return Ok(Reply::Heard {
-                    heard: Heard::Discarded,
-                    lines: Lines::new(self.alloc),
-                });
-            }
-            Some(Packet::SetUp { .. }) => {
+        let reply = match (which, packet) {
+            (_, Packet::Establish(_) | Packet::Parameters(_)) => {
                 self.end();
                 return Ok(Reply::Heard {
                     heard: Heard::Closed(Cause::Repeated),
                     lines: Lines::new(self.alloc),
                 });
             }
-            Some(Packet::Transfer(transfer)) => transfer,
-        };
-        let reply = match which {
-            Which::Alpha => self.alpha.hear(transfer)?,
-            Which::Beta => self.beta.hear(transfer)?,
+            (Which::Alpha, Packet::Transfer(transfer)) => self.alpha.hear(transfer)?,
+            (Which::Beta, Packet::Transfer(transfer)) => self.beta.hear(transfer)?,
+            (Which::Alpha, Packet::OrderAck(ack)) => self.alpha.hear_ack(&ack),
+            (Which::Beta, Packet::OrderAck(ack)) => self.beta.hear_ack(&ack),
         };
         self.note(&reply)?;
         Ok(reply)
     }
 
-    /// Whether packet `k` belongs to the present connection.
-    fn is_present(&self, k: u32) -> bool
-        ensures { result ≡ spec.is_present self.now.present k }
+    /// Who a manager is.
+    fn identity(&self, which: Which) -> &Identity
+        ensures { result.now ≡ (manager_of self.now which).identity }
     {
-        match self.present {
-            None => false,
-            Some(before) => before < k,
+        match which {
+            Which::Alpha => self.alpha.identity(),
+            Which::Beta => self.beta.identity(),
         }
     }
 
+    /// Who sent a packet, where it was sent.
+    fn note_of(&self, k: u32) -> Option<Note>
+        requires { 1 ≤ k }
+        ensures { result ≡ slice_get self.now.notes (k - 1) }
+    {
+        self.notes.get((k - 1) as usize).copied()
+    }
+
+    /// It may still be heard: its connection stands, and it was not dropped.
+    fn is_underway(&self, k: u32, note: Note) -> bool
+        ensures { result ≡ is_underway self.now.present k note }
+    {
+        !note.dropped && is_present(self.present, k)
+    }
+
+    /// What the manager that did not send it makes of a packet. The medium gives the packet's bytes.
     fn deliver<M: Medium>(&mut self, k: u32, medium: &M) -> Result<Reply, Memory>
         requires first { 1 ≤ k }
-        requires own { length self.old.senders ≡ length (M.strings medium.now) }
-        ensures senders { OnOk result (self.new.senders ≡ self.old.senders) }
-        ensures answer { IfOk result (λ reply. Answers (spec.deliver self.old (M.strings medium.now) k) reply self.new []) }
+        requires own { IsOwn self.old (M.strings medium.now) }
+        ensures { (m : spec.Machine) → Stands self.old (M.strings medium.now) m → IfOk result (λ reply. Delivered m k reply self.new) }
     {
-        let Some(sender) = self.senders.get((k - 1) as usize).copied() else {
+        let Some(note) = self.note_of(k) else {
             return Ok(Reply::NoPacket);
         };
-        if !self.is_present(k) {
+        if !self.is_underway(k, note) {
             return Ok(Reply::Gone);
         }
-        let packet = read_packet(self.alloc, medium.packet(k))?;
-        self.hear(other(sender), packet)
+        let which = note.receiver();
+        let own = self.identity(which);
+        let Some(packet) = read_packet(self.alloc, &own.host, medium.packet(k))? else {
+            unreachable!();
+        };
+        self.hear(which, packet)
+    }
+
+    fn drop_packet(&mut self, k: u32) -> Reply
+        requires { 1 ≤ k }
+        ensures { IsHolding (drop_on self.old k) result self.new }
+    {
+        match self.notes.get_mut((k - 1) as usize) {
+            None => Reply::NoPacket,
+            Some(note) => {
+                note.dropped = true;
+                Reply::Dropped
+            }
+        }
+    }
+
+    /// Makes an event happen: a step of the machine that stands behind.
+    fn step<M: Medium>(&mut self, event: &Event, medium: &mut M) -> Result<Reply, WorldFault>
+        requires sized { IsSized event.now }
+        requires own { IsOwn self.old (M.strings medium.old) }
+        ensures step { (m : spec.Machine) → Stands self.old (M.strings medium.old) m →
+            Applied m (spec.step m event.now) (M.strings medium.old) (M.strings medium.new) self.new result }
+    {
+        let reply = match event {
+            Event::Queue { manager, plan } => self.create(*manager, plan)?,
+            Event::Commit { manager, now, ops } => self.commit(*manager, *now, ops)?,
+            Event::Connect {
+                manager,
+                now,
+                alpha_window,
+                beta_window,
+            } => {
+                let opening = Opening::new(*manager, *now, *alpha_window, *beta_window);
+                self.connect(&opening, medium)?
+            }
+            Event::Pump { manager, now } => self.pump(*manager, *now, medium)?,
+            Event::Deliver { packet, .. } => self.deliver(*packet, medium)?,
+            Event::Drop { packet } => self.drop_packet(*packet),
+        };
+        Ok(reply)
     }
 
     /// Makes an event happen. The medium is the one to which this world alone added strings. After a refusal the world is used no more, and the medium has
     /// the packets that were sent before it.
     pub fn apply<M: Medium>(&mut self, event: &Event, medium: &mut M) -> Result<Reply, WorldFault>
         requires sized { IsSized event.now }
-        requires own { length self.old.senders ≡ length (M.strings medium.old) }
-        requires room { HasRoom (M.strings medium.old) 0 }
-        ensures answer { IfOk result (λ reply. let answer = spec.step self.old (M.strings medium.old) event.now in Answers answer reply self.new answer.sent) }
-        ensures sent { OnOk result (M.strings medium.new ≡ M.strings medium.old ++ map spelling (spec.step self.old (M.strings medium.old) event.now).sent) }
-        ensures own { OnOk result (length self.new.senders ≡ length (M.strings medium.new)) }
-        ensures grows { OnOk result (IsAFewMore (M.strings medium.old) (M.strings medium.new)) }
+        requires own { IsOwn self.old (M.strings medium.old) }
+        ensures step { (m : spec.Machine) → Stands self.old (M.strings medium.old) m →
+            Applied m (spec.step m event.now) (M.strings medium.old) (M.strings medium.new) self.new result }
+
+        // Each run that ends in the world before is, with this event, a run that ends in the world after it.
+        ensures exactly_once { (lines : List (ℕ × Event)) (n : ℕ) → Stands self.old (M.strings medium.old) (machine_after lines) →
+            OnOk result (GoesOn lines (n, event.now) self.new (M.strings medium.new)) }
     {
-        let reply = match event {
-            Event::Queue { manager, plan } => self.create(*manager, plan)?,
-            Event::Commit { manager, now, ops } => self.commit(*manager, *now, ops)?,
-            Event::Connect { manager, .. } => self.connect(*manager, medium)?,
-            Event::Pump { manager, .. } => self.pump(*manager, medium)?,
-            Event::Deliver { packet, .. } => self.deliver(*packet, medium)?,
-        };
-        Ok(reply)
+        self.step(event, medium)
     }
 
     /// Appends the last lines of a transcript: what each manager holds. After a refusal a part of them may stand in `out`.
     pub fn print_end(&self, hosts: &[Identity], out: &mut Vec<u8>) -> Result<(), Memory>
-        ensures { OnOk result (out.new.items ≡ out.old.items ++ end_text hosts.now self.now) }
+        ensures { OnOk result (out.new.items ≡ out.old.items ++ held_text hosts.now self.now) }
     {
-        put(b"end\n", out)?;
+        out.extend_from_slice(b"end\n")?;
         self.alpha.print(hosts, out)?;
         self.beta.print(hosts, out)
     }
-}
-
-/// Adds the four packets that set a connection up.
-fn add_set_up<M: Medium>(medium: &mut M) -> Result<(), Memory>
-    requires { HasRoom (M.strings medium.old) 0 }
-    ensures added { OnOk result (M.strings medium.new ≡ M.strings medium.old ++ map spelling spec.set_up) }
-    ensures grows { OnOk result (Grows (M.strings medium.old) 0 (M.strings medium.new) 4) }
-{
-    medium.add(&[1, 1])?;
-    medium.add(&[1, 2])?;
-    medium.add(&[1, 3])?;
-    medium.add(&[1, 4])
 }

@@ -1,5 +1,5 @@
 use Rattle.std.proofs.Common.{◌≡◌, ℕ, ◌+◌, [], ◌∷◌, ◌++◌, arith}
-use Rattle.mqb_world.specs.Machine.{numbers_after}
+use Rattle.mqb_machine.specs.Machine.{numbers_after}
 use Rattle.mqb_world.proofs.Numbering.{numbered_next}
 use Rattle.mqb_world.proofs.world.numbers_after.Goals as goal
 

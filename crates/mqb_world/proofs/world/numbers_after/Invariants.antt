@@ -1,5 +1,5 @@
 use Rattle.std.proofs.Common.{◌≡◌, ◌+◌, ◌-◌, ◌++◌}
-use Rattle.mqb_world.specs.Machine.{numbers_after}
+use Rattle.mqb_machine.specs.Machine.{numbers_after}
 use Rattle.mqb_world.proofs.world.numbers_after.Given as goal
 
 abbrev pub invariant-loop-i : goal.invariant-loop-i
