@@ -10,5 +10,7 @@ plain_cause before after status.Done plain = tt
 plain_cause before after status.Usage plain = tt
 plain_cause before after (status.Script line kind) plain = tt
 plain_cause before after status.TooLong plain = tt
+plain_cause before after status.TooManyLines plain = tt
 plain_cause before after status.ReadFault plain = tt
+plain_cause before after status.NetFull plain = tt
 plain_cause before after status.Memory plain = tt

@@ -1,6 +1,6 @@
 use Rattle.std.specs.Prelude.{ℕ}
 use Rattle.mqb.specs.declared.status.Status.{Status}
-use Rattle.mqb.specs.declared.status.Status.TheVariants.{Done, Usage, Script, TooLong, ReadFault, WriteFault, Memory}
+use Rattle.mqb.specs.declared.status.Status.TheVariants.{Done, Usage, Script, TooLong, TooManyLines, ReadFault, WriteFault, NetFull, Memory}
 
 -- the exit status of each end of the program
 abbrev pub exit_of : Status → ℕ
@@ -8,6 +8,8 @@ exit_of Done = 0
 exit_of Usage = 2
 exit_of (Script line kind) = 3
 exit_of TooLong = 3
+exit_of TooManyLines = 3
 exit_of ReadFault = 4
 exit_of WriteFault = 5
+exit_of NetFull = 9
 exit_of Memory = 10

@@ -1,17 +1,24 @@
-use Rattle.std.specs.Prelude.{◌≡◌, ℕ, ◌<◌, ◌≤◌, ◌⊎◌, List, [], length, codes, Option, Some, None, Ok, Err, IfSome}
+use Rattle.std.specs.Prelude.{◌≡◌, ℕ, ◌<◌, ◌≤◌, ◌⊎◌, List, [], ◌++◌, length, codes, Option, Some, None, Ok, Err, IfSome}
 use Rattle.mqb_outside.specs.Faults.{Rose}
 use Rattle.mqb_outside.specs.Told.{Gave, Took}
 use Rattle.mqb_script.specs.declared.events.Event.{Event}
 use Rattle.mqb_script.specs.declared.reading.LineKind.{LineKind}
 use Rattle.mqb_script.specs.Grammar.{script_of}
-use Rattle.mqb_script.specs.Reading.{LONGEST}
-use Rattle.mqb_world.specs.Machine.{beginning}
-use Rattle.mqb_world.specs.Transcripts.{transcript_of, strings_from}
+use Rattle.mqb_script.specs.Reading.{LONGEST, MOST_LINES, line_count}
+use Rattle.mqb_base.specs.declared.queue_names.QueueName.{QueueName}
+use Rattle.mqb_script.specs.declared.events.Which.{Which}
+use Rattle.mqb_machine.specs.Runs.{machine_after}
+use Rattle.mqb_history.specs.Laws.{IsExactlyOnce}
+use Rattle.mqb_world.specs.Standing.{strings_of}
+use Rattle.mqb_world.specs.Transcripts.{transcript_of, replies_of}
+use Rattle.mqb.specs.declared.play.PlayFault.{PlayFault}
+use Rattle.mqb.specs.declared.play.PlayFault.TheVariants as fault
 use Rattle.mqb.specs.declared.status.Status.{Status}
 use Rattle.mqb.specs.declared.status.Status.TheVariants as status
 use Rattle.mqb.specs.declared.words.Command.{Command}
 use Rattle.mqb.specs.declared.words.Command.TheVariants.{Replay, Help, Version}
-use Rattle.mqb.specs.Outputs.{TookFront, usage_text, too_long_text, read_fault_text, script_fault_text, output_of}
+use Rattle.mqb.specs.Outputs.{TookFront, usage_text, too_long_text, too_many_lines_text, read_fault_text, net_full_text, script_fault_text, output_of}
+use Rattle.mqb.specs.Plays.{IsFull}
 
 abbrev pub help_text : List ℕ
 help_text = codes "mqb replay      replays the script from the input\nmqb --help      says which words there are\nmqb --version   says which version this is\n"
@@ -31,21 +38,50 @@ TellsLine line kind before after r = Tells (script_fault_text line) (status.Scri
 abbrev pub IsAtEnd : Option (List ℕ) → Type 0
 IsAtEnd rest = IfSome rest (λ left. left ≡ [])
 
--- a script was replayed: the whole transcript of its run was written, and the medium has the packets of the run
+-- a text within the limits of a script
+pub record IsWithinLimits (text : List ℕ) : Type 0 where
+  pub short : length text ≤ LONGEST
+  pub few_lines : line_count text ≤ MOST_LINES
+
+-- At each point of the run over these events every stream is exactly once.
+abbrev pub IsAlwaysOnce : List (ℕ × Event) → Type 0
+IsAlwaysOnce events = (first rest : List (ℕ × Event)) → events ≡ first ++ rest
+    → (which : Which) (destination : QueueName) → IsExactlyOnce (machine_after first) which destination
+
+-- A script was replayed: the whole transcript of its run was written, string k of the medium is the spelling of the k-th packet of the run, and every
+-- stream is exactly once.
 pub record IsDone (text : List ℕ) (rest before after : Option (List ℕ)) (strings : List (List ℕ)) : Type 0 where
   pub events : List (ℕ × Event)
-  pub short : length text ≤ LONGEST
+  pub within : IsWithinLimits text
   pub script : script_of text ≡ Ok events
   pub ended : IsAtEnd rest
   pub written : Took before after (transcript_of events)
-  pub sent : strings ≡ strings_from beginning [] events
+  pub sent : strings ≡ strings_of (machine_after events).posted
+  pub exactly_once : IsAlwaysOnce events
 
 -- the input is no script, and the fault line names its first line that is none
 pub record IsNoScript (text : List ℕ) (rest before after : Option (List ℕ)) (line : ℕ) : Type 0 where
-  pub short : length text ≤ LONGEST
+  pub within : IsWithinLimits text
   pub script : script_of text ≡ Err line
   pub ended : IsAtEnd rest
   pub written : Took before after (script_fault_text line)
+
+-- A packet did not fit the medium: the replies before its event were written, and the fault line.
+pub record IsNetFull (text : List ℕ) (rest before after : Option (List ℕ)) (strings : List (List ℕ)) : Type 0 where
+  pub events : List (ℕ × Event)
+  pub within : IsWithinLimits text
+  pub script : script_of text ≡ Ok events
+  pub ended : IsAtEnd rest
+  pub full : IsFull events strings
+  pub written : Took before after (replies_of full.first ++ net_full_text)
+  pub exactly_once : IsAlwaysOnce full.first
+
+-- The same, but the output failed in the fault line.
+pub record IsCutAtNetFull (text : List ℕ) (before after : Option (List ℕ)) (strings : List (List ℕ)) : Type 0 where
+  pub events : List (ℕ × Event)
+  pub script : script_of text ≡ Ok events
+  pub full : IsFull events strings
+  pub written : TookFront before after (replies_of full.first ++ net_full_text)
 
 -- What each end of a replay says of the text that was taken from the input, what is left of that, what the output took, and the medium.
 abbrev pub Ends : List ℕ → Option (List ℕ) → Option (List ℕ) → Option (List ℕ) → List (List ℕ) → Status → Type 0
@@ -53,8 +89,12 @@ Ends text rest before after strings status.Done = IsDone text rest before after 
 Ends text rest before after strings status.Usage = ⊥
 Ends text rest before after strings (status.Script line kind) = IsNoScript text rest before after line
 Ends text rest before after strings status.TooLong = (LONGEST < length text) × Took before after too_long_text
+Ends text rest before after strings status.TooManyLines =
+    (length text ≤ LONGEST) × (MOST_LINES < line_count text) × IsAtEnd rest × Took before after too_many_lines_text
 Ends text rest before after strings status.ReadFault = Took before after read_fault_text
-Ends text rest before after strings status.WriteFault = TookFront before after (output_of text) ⊎ TookFront before after read_fault_text
+Ends text rest before after strings status.WriteFault =
+    TookFront before after (output_of text) ⊎ TookFront before after read_fault_text ⊎ IsCutAtNetFull text before after strings
+Ends text rest before after strings status.NetFull = IsNetFull text rest before after strings
 Ends text rest before after strings status.Memory = TookFront before after (output_of text)
 
 -- A replay, from what the input held and the output had taken before.
@@ -89,3 +129,9 @@ IsPlain _ = Unit {0}
 abbrev pub UsageHasCause : Option Command → Status → Type 0
 UsageHasCause command status.Usage = command ≡ None
 UsageHasCause command _ = Unit {0}
+
+-- How a play that was stopped ends: a full medium is told, and nothing is after want of memory or a fault of the output.
+abbrev pub Stopped : PlayFault → (before after : Option (List ℕ)) → (faults faults_now : ℕ) → Status → Type 0
+Stopped fault.NetFull before after faults faults_now r = Tells net_full_text status.NetFull before after r × WriteFaultHasCause faults faults_now r
+Stopped fault.Memory before after faults faults_now r = (r ≡ status.Memory) × (after ≡ before) × (faults_now ≡ faults)
+Stopped fault.Write before after faults faults_now r = (r ≡ status.WriteFault) × (after ≡ before) × (faults_now ≡ faults)

@@ -1,14 +1,10 @@
-ghost use Rattle.std.specs.Prelude.{◌≡◌, ◌≤◌, [], length, OnOk, OnErr, Some};
+ghost use Rattle.std.specs.Prelude.{◌≡◌, [], ◌∷◌, ◌++◌, IfOk};
 ghost use Rattle.std.specs.List.{AllByRecursion};
-ghost use Rattle.mqb.specs.Outputs.{TookFront};
-ghost use Rattle.mqb.specs.Plays.{PlayCause};
-ghost use Rattle.mqb_outside.specs.Told.{Took};
 ghost use Rattle.mqb_script.specs.Sizes.{IsSized};
-ghost use Rattle.mqb_script.specs.Texts.{printed};
-ghost use Rattle.mqb_world.specs.Endings.{end_text};
-ghost use Rattle.mqb_world.specs.Machine.{step, hosts, beginning};
-ghost use Rattle.mqb_world.specs.Pumping.{HasRoom, IsAFewMore};
-ghost use Rattle.mqb_world.specs.Transcripts.{strings_after, strings_from, text_from, transcript_of};
+ghost use Rattle.mqb_machine.specs.Machine.{Machine};
+ghost use Rattle.mqb_world.specs.Endings.{held_text};
+ghost use Rattle.mqb_world.specs.Standing.{Stands, IsOwn};
+ghost use Rattle.mqb.specs.Plays.{PlayCause, Turned, Ended, Played};
 
 use crate::output::write_all;
 use mqb_base::{Failed, Identity, Memory};
@@ -22,6 +18,7 @@ use std::alloc::Global;
 pub enum PlayFault {
     Memory,
     Write,
+    NetFull,
 }
 
 impl From<Memory> for PlayFault {
@@ -37,12 +34,15 @@ impl From<Memory> for PlayFault {
 
 impl From<WorldFault> for PlayFault {
     ghost use Rattle.std.specs.Prelude.{◌≡◌};
-    ghost use Rattle.mqb.specs.declared.play.PlayFault.TheVariants as fault;
+    ghost use Rattle.mqb.specs.Faults.{play_fault};
 
-    ghost from_gives = { λ _ e. e ≡ fault.Memory };
+    ghost from_gives = { λ given e. e ≡ play_fault given };
 
-    fn from(_error: WorldFault) -> PlayFault {
-        PlayFault::Memory
+    fn from(fault: WorldFault) -> PlayFault {
+        match fault {
+            WorldFault::NetFull => PlayFault::NetFull,
+            WorldFault::Memory => PlayFault::Memory,
+        }
     }
 }
 
@@ -67,14 +67,9 @@ fn turn<K: Sink, M: Medium>(
     medium: &mut M,
 ) -> Result<(), PlayFault>
     requires sized { IsSized line.now.1 }
-    requires own { length world.old.senders ≡ length (M.strings medium.old) }
-    requires room { HasRoom (M.strings medium.old) 0 }
-    ensures after { OnOk result (world.new ≡ (step world.old (M.strings medium.old) line.now.1).after) }
-    ensures strings { OnOk result (M.strings medium.new ≡ strings_after world.old (M.strings medium.old) line.now.1) }
-    ensures own { OnOk result (length world.new.senders ≡ length (M.strings medium.new)) }
-    ensures grows { OnOk result (IsAFewMore (M.strings medium.old) (M.strings medium.new)) }
-    ensures line { OnOk result (Took (K.taken out.old) (K.taken out.new) (printed hosts.now (Some line.now.0) (step world.old (M.strings medium.old) line.now.1).reply)) }
-    ensures front { OnErr result (TookFront (K.taken out.old) (K.taken out.new) (printed hosts.now (Some line.now.0) (step world.old (M.strings medium.old) line.now.1).reply)) }
+    requires own { IsOwn world.old (M.strings medium.old) }
+    ensures turned { (m : Machine) → Stands world.old (M.strings medium.old) m →
+        Turned m line.now hosts.now (K.taken out.old) (K.taken out.new) (M.strings medium.old) (M.strings medium.new) world.new result }
     ensures cause { PlayCause (K.write_faults out.old) (K.write_faults out.new) result }
 {
     let reply = world.apply(&line.1, medium)?;
@@ -91,8 +86,7 @@ fn end<K: Sink>(
     hosts: &[Identity],
     out: &mut K,
 ) -> Result<(), PlayFault>
-    ensures whole { OnOk result (Took (K.taken out.old) (K.taken out.new) (end_text hosts.now world.now)) }
-    ensures front { OnErr result (TookFront (K.taken out.old) (K.taken out.new) (end_text hosts.now world.now)) }
+    ensures ended { Ended (K.taken out.old) (K.taken out.new) (held_text hosts.now world.now) result }
     ensures cause { PlayCause (K.write_faults out.old) (K.write_faults out.new) result }
 {
     let mut text = Vec::new(alloc);
@@ -108,12 +102,9 @@ pub fn play<K: Sink, M: Medium>(
     out: &mut K,
     medium: &mut M,
 ) -> Result<(), PlayFault>
-    requires few { length script.now ≤ 16384 }
     requires sized { AllByRecursion (λ line. IsSized line.1) script.now }
     requires empty { M.strings medium.old ≡ [] }
-    ensures whole { OnOk result (Took (K.taken out.old) (K.taken out.new) (transcript_of script.now)) }
-    ensures strings { OnOk result (M.strings medium.new ≡ strings_from beginning [] script.now) }
-    ensures front { OnErr result (TookFront (K.taken out.old) (K.taken out.new) (transcript_of script.now)) }
+    ensures played { Played script.now (K.taken out.old) (K.taken out.new) (M.strings medium.new) result }
     ensures cause { PlayCause (K.write_faults out.old) (K.write_faults out.new) result }
 {
     let mut world = World::new(alloc)?;

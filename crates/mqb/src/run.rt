@@ -3,7 +3,8 @@ ghost use Rattle.std.specs.String.{string_bytes};
 ghost use Rattle.mqb.specs.declared.words.Command.TheVariants.{Replay};
 ghost use Rattle.mqb.specs.Outputs.{script_fault_text};
 ghost use Rattle.mqb.specs.Words.{command_of};
-ghost use Rattle.mqb.specs.Runs.{Tells, TellsLine, Replays, Runs, ReadFaultHasCause, WriteFaultHasCause, UsageHasCause, IsPlain};
+ghost use Rattle.mqb.specs.Completeness.{Completes};
+ghost use Rattle.mqb.specs.Runs.{Tells, TellsLine, Replays, Runs, ReadFaultHasCause, WriteFaultHasCause, UsageHasCause, IsPlain, Stopped};
 
 use crate::output::write_all;
 use crate::play::{PlayFault, play};
@@ -53,6 +54,17 @@ fn fault_line(alloc: Global, line: u32) -> Result<Vec<u8>, Memory>
     Ok(text)
 }
 
+/// Ends a play that was stopped: the fault line of a full medium is still written.
+fn stop<K: Sink>(out: &mut K, fault: PlayFault) -> Status
+    ensures { Stopped fault (K.taken out.old) (K.taken out.new) (K.write_faults out.old) (K.write_faults out.new) result }
+{
+    match fault {
+        PlayFault::NetFull => tell(out, b"fault: netfull\n", Status::NetFull),
+        PlayFault::Memory => Status::Memory,
+        PlayFault::Write => Status::WriteFault,
+    }
+}
+
 /// Replays the script from the input.
 fn replay<S: Source, K: Sink, M: Medium>(
     alloc: Global,
@@ -70,13 +82,15 @@ fn replay<S: Source, K: Sink, M: Medium>(
         Ok(script) => script,
         Err(ScriptFault::Line { number, kind }) => return tell_line(alloc, out, number, kind),
         Err(ScriptFault::TooLong) => return tell(out, b"fault: toolong\n", Status::TooLong),
+        Err(ScriptFault::TooManyLines) => {
+            return tell(out, b"fault: toomanylines\n", Status::TooManyLines);
+        }
         Err(ScriptFault::ReadFault) => return tell(out, b"fault: readfault\n", Status::ReadFault),
         Err(ScriptFault::Memory) => return Status::Memory,
     };
     match play(alloc, script.events(), out, medium) {
         Ok(()) => Status::Done,
-        Err(PlayFault::Memory) => Status::Memory,
-        Err(PlayFault::Write) => Status::WriteFault,
+        Err(fault) => stop(out, fault),
     }
 }
 
@@ -92,6 +106,10 @@ pub fn run<S: Source, K: Sink, M: Medium>(
     // What is written, by command.
     ensures ran { Runs (command_of (map string_bytes words.now)) (S.held input.old) (S.held input.new)
         (K.taken out.old) (K.taken out.new) (M.strings medium.new) result }
+
+    // A script whose packets fit the medium is replayed whole, where the input and the output do not fail.
+    ensures complete { Completes (command_of (map string_bytes words.now)) (S.held input.old) (S.read_faults input.old) (S.read_faults input.new)
+        (K.write_faults out.old) (K.write_faults out.new) result }
 
     // Where each fault comes from.
     ensures usage { UsageHasCause (command_of (map string_bytes words.now)) result }

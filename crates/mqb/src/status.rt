@@ -12,12 +12,16 @@ pub enum Status {
     Usage,
     /// A line of the script is none that is built.
     Script { line: u32, kind: LineKind },
-    /// The script is over 16,384 bytes.
+    /// The script is over 16,777,216 bytes.
     TooLong,
+    /// The script has over 200,000 lines.
+    TooManyLines,
     /// The input failed.
     ReadFault,
     /// The output failed.
     WriteFault,
+    /// A packet does not fit the medium of a replay, which has room for 268,435,456 bytes.
+    NetFull,
     /// Memory ran out.
     Memory,
 }
@@ -30,9 +34,10 @@ impl Status {
         match self {
             Status::Done => 0,
             Status::Usage => 2,
-            Status::Script { .. } | Status::TooLong => 3,
+            Status::Script { .. } | Status::TooLong | Status::TooManyLines => 3,
             Status::ReadFault => 4,
             Status::WriteFault => 5,
+            Status::NetFull => 9,
             Status::Memory => 10,
         }
     }

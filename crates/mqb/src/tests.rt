@@ -1,8 +1,10 @@
 use crate::run::run;
 use crate::status::Status;
-use mqb_outside::{MemoryMedium, MemorySink, MemorySource};
+use mqb_base::Memory;
+use mqb_outside::{Medium, MemoryMedium, MemorySink, MemorySource};
 use mqb_script::LineKind;
 use std::alloc::{AllocError, Global};
+use std::cell::Cell;
 use std::process::Abort;
 use std::test::Fail;
 
@@ -52,23 +54,87 @@ fn runs(
 
 #[test]
 fn replay_answers_with_ample_memory(rt: HostRuntime) -> Result<(), Fail> {
+    for commit in [
+        COMMIT,
+        "commit alpha 1000 send,direct=os:beta\\private$\\orders,-,-,-,-,-,one\n",
+    ] {
+        let lines = [
+            QUEUE,
+            CONNECT,
+            commit,
+            "pump alpha 1001\n",
+            "deliver 5 1001\n",
+            "pump beta 1002\n",
+            "deliver 6 1002\n",
+        ];
+        let text =
+            "1 ok\n2 connected 1 2 3 4\n3 committed [committed 1 1 alpha.1]\n4 pumped 5\n5 put [put 1 1 alpha.1]\n6 pumped 6\n7 acked 1 1\nend\nalpha dead\nalpha deadxact\nalpha journal\nalpha out 1 DIRECT=OS:beta\\PRIVATE$\\orders 1 1 1\nbeta queue orders alpha.1\n";
+        replays(&rt, rt.alloc(), &lines, Status::Done, text)?;
+    }
+    replays(
+        &rt,
+        rt.alloc(),
+        &[],
+        Status::Done,
+        "end\nalpha dead\nalpha deadxact\nalpha journal\nbeta dead\nbeta deadxact\nbeta journal\n",
+    )?;
+    Ok(())
+}
+
+#[test]
+fn a_duplicate_is_acknowledged_again(rt: HostRuntime) -> Result<(), Fail> {
     let lines = [
         QUEUE,
         CONNECT,
         COMMIT,
         "pump alpha 1001\n",
         "deliver 5 1001\n",
+        "deliver 5 1001\n",
+        "deliver 5 1001\n",
+        "pump beta 1002\n",
+        "deliver 5 1003\n",
+        "pump beta 1003\n",
+        "deliver 7 1003\n",
+        "deliver 6 1003\n",
     ];
     let text =
-        "1 ok\n2 connected 1 2 3 4\n3 committed [committed 1 1 alpha.1]\n4 pumped 5\n5 put [put 1 1 alpha.1]\nend\nalpha dead\n";
+        "1 ok\n2 connected 1 2 3 4\n3 committed [committed 1 1 alpha.1]\n4 pumped 5\n5 put [put 1 1 alpha.1]\n6 duplicate 1 1\n7 duplicate 1 1\n8 pumped 6\n9 duplicate 1 1\n10 pumped 7\n11 acked 1 1\n12 oldack\nend\n";
     replays(&rt, rt.alloc(), &lines, Status::Done, text)?;
-    replays(
-        &rt,
-        rt.alloc(),
-        &[],
-        Status::Done,
-        "end\nalpha dead\nalpha deadxact\nalpha journal\nbeta dead\n",
-    )?;
+    Ok(())
+}
+
+#[test]
+fn a_dropped_packet_is_gone(rt: HostRuntime) -> Result<(), Fail> {
+    let lines = [
+        "queue alpha replies tx 100 none\n",
+        "connect beta 1000 64 64\n",
+        "commit beta 1000 send,DIRECT=OS:alpha\\PRIVATE$\\replies,-,-,-,-,-,\n",
+        "commit beta 1000 send,DIRECT=OS:alpha\\PRIVATE$\\replies,-,-,-,-,-,two\n",
+        "pump beta 1001\n",
+        "drop 5\n",
+        "drop 7\n",
+        "deliver 5 1001\n",
+        "deliver 6 1001\n",
+        "deliver 3 1002\n",
+        "connect alpha 1003 64 64\n",
+        "pump beta 1003\n",
+        "deliver 11 1003\n",
+        "deliver 12 1003\n",
+    ];
+    let text =
+        "1 ok\n2 connected 1 2 3 4\n3 committed [committed 1 1 beta.1]\n4 committed [committed 1 2 beta.2]\n5 pumped 5 6\n6 dropped\n7 none\n8 gone\n9 gap 1 2\n10 closed repeated\n11 connected 7 8 9 10\n12 pumped 11 12\n13 put [put 1 1 beta.1]\n14 put [put 1 2 beta.2]\nend\n";
+    replays(&rt, rt.alloc(), &lines, Status::Done, text)?;
+    Ok(())
+}
+
+#[test]
+fn a_packet_has_a_greatest_size(rt: HostRuntime) -> Result<(), Fail> {
+    let lines = [
+        "commit alpha 1000 send,DIRECT=OS:beta\\PRIVATE$\\orders,-,-,-,-,-,*4000000\n",
+        "commit alpha 1000 send,DIRECT=OS:beta\\PRIVATE$\\orders,-,-,-,-,-,*4194304\n",
+    ];
+    let text = "1 committed [committed 1 1 alpha.1]\n2 toolarge\nend\n";
+    replays(&rt, rt.alloc(), &lines, Status::Done, text)?;
     Ok(())
 }
 
@@ -133,14 +199,19 @@ fn faults_are_named(rt: HostRuntime) -> Result<(), Fail> {
         "fault: usage\n",
     )?;
     runs(&rt, alloc, &[], b"", Status::Usage, "fault: usage\n")?;
-    runs(
-        &rt,
-        alloc,
-        &["replay"],
-        &[0x23; 16_385],
-        Status::TooLong,
-        "fault: toolong\n",
-    )?;
+    for (length, byte, status, text) in [
+        (16_777_217, b'#', Status::TooLong, "fault: toolong\n"),
+        (
+            200_001,
+            b'\n',
+            Status::TooManyLines,
+            "fault: toomanylines\n",
+        ),
+    ] {
+        let mut input = Vec::new(alloc);
+        input.resize(length, byte)?;
+        runs(&rt, alloc, &["replay"], &input, status, text)?;
+    }
     runs(&rt, alloc, &["--help"], b"", Status::Done, "mqb replay ")?;
     runs(&rt, alloc, &["--version"], b"", Status::Done, "mqb 0.1.0\n")?;
     Ok(())
@@ -166,5 +237,58 @@ fn failing_calls_end_the_run(rt: HostRuntime) -> Result<(), Fail> {
         Status::WriteFault
     );
     assert!(rt; sink.as_slice() == b"1 ok\n".as_slice());
+    Ok(())
+}
+
+/// A medium that counts how often it was asked for a packet.
+#[derive(Debug, Drop)]
+struct CountingMedium {
+    inner: MemoryMedium,
+    asked: Cell<u32>,
+}
+
+impl Medium for CountingMedium {
+    ghost strings = { λ m. ⟦<MemoryMedium as Medium>⟧.strings m.inner };
+
+    fn add(&mut self, bytes: &[u8]) -> Result<(), Memory> {
+        self.inner.add(bytes)
+    }
+
+    fn count(&self) -> u32 {
+        self.inner.count()
+    }
+
+    fn bytes(&self) -> u64 {
+        self.inner.bytes()
+    }
+
+    fn packet(&self, k: u32) -> &[u8] {
+        self.asked.set(self.asked.get().wrapping_add(1));
+        self.inner.packet(k)
+    }
+}
+
+#[test]
+fn replay_asks_the_medium(rt: HostRuntime) -> Result<(), Fail> {
+    let alloc = rt.alloc();
+    let words = [String::from_str(alloc, "replay")?];
+    let mut script = String::new(alloc);
+    for line in [QUEUE, CONNECT, COMMIT, "pump alpha 1001\n"] {
+        script.push_str(line)?;
+    }
+    for line in ["deliver 5 1001\n", "deliver 5 1001\n", "deliver 9 1001\n"] {
+        script.push_str(line)?;
+    }
+    let mut source = MemorySource::new(alloc, script.as_bytes(), &[])?;
+    let mut sink = MemorySink::new(alloc, &[])?;
+    let mut medium = CountingMedium {
+        inner: MemoryMedium::new(alloc),
+        asked: Cell::new(0),
+    };
+    assert_eq!(rt;
+        run(alloc, &words, &mut source, &mut sink, &mut medium),
+        Status::Done
+    );
+    assert_eq!(rt; medium.asked.get(), 2);
     Ok(())
 }

@@ -1,16 +1,50 @@
-use Rattle.std.proofs.Common.{◌≡◌, ℕ, ◌+◌, List, [], drop, Some, arith, rules, subst, ◌∙◌}
-use Rattle.std.proofs.lemmas.List.{drop_all}
+use Rattle.std.proofs.Common.{◌≡◌, ℕ, ◌+◌, List, [], ◌∷◌, ◌++◌, take, drop, length, sym, subst, ap, ◌∙◌, arith, take_all}
+use Rattle.std.proofs.lemmas.Result.{err_from_is_err_and}
+use Rattle.std.specs.Prelude.{Err}
+use Rattle.std.specs.List.{AllByRecursion}
+use Rattle.mqb_base.specs.declared.ids.Identity.{Identity}
 use Rattle.mqb_outside.specs.Told.{Took}
 use Rattle.mqb_script.specs.declared.events.Event.{Event}
-use Rattle.mqb_world.specs.Endings.{end_text}
-use Rattle.mqb_base.specs.declared.ids.Identity.{Identity}
-use Rattle.mqb_script.specs.Texts.{printed}
-use Rattle.mqb_world.specs.Machine.{Machine, step, beginning}
-use Rattle.mqb_world.specs.Transcripts.{transcript_of, strings_from}
-use Rattle.mqb.specs.Outputs.{TookFront}
-use Rattle.mqb.proofs.Taking.{on_err, on_ok_from, on_err_from}
-use Rattle.mqb.proofs.Playing.{IsPlayedTo, few_more, played_one, played_front, played_end, played_end_front, line_at}
+use Rattle.mqb_script.specs.Sizes.{IsSized}
+use Rattle.mqb_machine.specs.Managers.{hosts}
+use Rattle.mqb_machine.specs.Machine.{Machine}
+use Rattle.mqb_machine.specs.Runs.{machine_after}
+use Rattle.mqb_world.specs.Endings.{held_text}
+use Rattle.mqb_world.specs.Standing.{Held, Stands, held_of, strings_of}
+use Rattle.mqb_world.specs.Transcripts.{replies_of}
+use Rattle.mqb.specs.Plays.{Turned, Ended, reply_line}
+use Rattle.mqb.proofs.Taking.{front_none}
+use Rattle.mqb.proofs.Playing.{taken_one, line_at, split_at, machine_one, replied_one}
+use Rattle.mqb.proofs.Turning.{play_refused, play_stopped, play_ended}
 use Rattle.mqb.proofs.play.play.Goals as goal
+
+pub returns-in_err-world-clause-played : goal.returns-in_err-world-clause-played
+returns-in_err-world-clause-played g c =
+    let p = err_from_is_err_and c.from_residual.result c.from_residual.ensures.1 in
+    rw (p.1, p.2) (play_refused c.args.script.now (g.K.Sink.taken c.args.out.now) (g.M.Medium.strings c.args.medium.now) c.in_err-world.field-0.0
+    c.in_err-world.ensures.refused)
+
+pub returns-in_err-hosts-clause-played : goal.returns-in_err-hosts-clause-played
+returns-in_err-hosts-clause-played g c =
+    let p = err_from_is_err_and c.from_residual-in_err-hosts.result c.from_residual-in_err-hosts.ensures.1 in
+    rw (p.1, p.2) (front_none _ _)
+
+pub returns-in_err-turn-clause-played : goal.returns-in_err-turn-clause-played
+returns-in_err-turn-clause-played g c =
+    let strings = g.M.Medium.strings in
+    let taken = g.K.Sink.taken in
+    let lines : List (ℕ × Event) = c.args.script.now in
+    let i : ℕ = c.loop-line.line-index in
+    let line : ℕ × Event = c.line-item.result in
+    let first : List (ℕ × Event) = take i lines in
+    let stands = c.loop-line.invariant.stands in
+    let p = err_from_is_err_and c.from_residual-in_err-turn.result c.from_residual-in_err-turn.ensures.1 in
+    let turned = subst (λ (hs : List Identity). Turned (machine_after first) line hs (taken c.loop-line.out) (taken c.turn.new.out)
+    (strings c.loop-line.medium) (strings c.turn.new.medium) c.turn.new.world (Err c.in_err-turn.field-0.0))
+    (c.deref.ensures.value ∙ c.loop-line.invariant.hosts) (c.in_err-turn.ensures.turned (machine_after first) stands) in
+    rw (p.1, p.2) (play_stopped lines first (drop (i + 1) lines) line (taken c.args.out.now) (taken c.loop-line.out) (taken c.turn.new.out)
+    (strings c.loop-line.medium) (strings c.turn.new.medium) c.turn.new.world c.in_err-turn.field-0.0
+    (split_at lines i line c.loop-line-test.true c.line-item.is) c.loop-line.invariant.took stands.spelled turned)
 
 pub loop-line-preserved : goal.loop-line-preserved
 loop-line-preserved g c =
@@ -19,58 +53,33 @@ loop-line-preserved g c =
     let lines : List (ℕ × Event) = c.args.script.now in
     let i : ℕ = c.loop-line.line-index in
     let line : ℕ × Event = c.line-item.result in
-    let here = line_at lines i line c.loop-line-test.true c.line-item.is in
-    let before = subst (λ (ls : List (ℕ × Event)). IsPlayedTo (taken c.args.out.now) (taken c.loop-line.out) (transcript_of lines) (strings_from beginning [] lines)
-    c.loop-line.world (strings c.loop-line.medium) ls) here c.loop-line.invariant.played in
-    let m : Machine = c.loop-line.world in
-    let after = c.in_ok-turn.ensures.after in
-    let strings_now = c.in_ok-turn.ensures.strings in
-    let took = subst (λ (hs : List Identity). Took (taken c.loop-line.out) (taken c.turn.new.out) (printed hs (Some line.0) (step m (strings c.loop-line.medium) line.1).reply))
-    c.loop-line.invariant.hosts (search rules) in
-    let played = played_one _ _ (taken c.turn.new.out) _ _ m (strings c.loop-line.medium) line (drop (i + 1) lines) before took in
+    let first : List (ℕ × Event) = take i lines in
+    let next : take (i + 1) lines ≡ first ++ line ∷ [] = taken_one lines i line c.loop-line-test.true c.line-item.is in
+    let turned = c.in_ok-turn.ensures.turned (machine_after first) c.loop-line.invariant.stands in
+    let same = c.deref.ensures.value ∙ c.loop-line.invariant.hosts in
+    let took = subst (λ (hs : List Identity). Took (taken c.loop-line.out) (taken c.turn.new.out)
+    (reply_line hs (machine_after first) line)) same turned.0 in
     record {
-      played = rw (after, strings_now) played;
-      few = few_more m c.turn.new.world (strings c.loop-line.medium) (strings c.turn.new.medium) i c.loop-line.invariant.few c.in_ok-turn.ensures.grows c.in_ok-turn.ensures.own;
+      stands = subst (λ (m : Machine). Stands c.turn.new.world (strings c.turn.new.medium) m)
+          (sym (ap (λ (ls : List (ℕ × Event)). machine_after ls) next ∙ machine_one first line)) turned.1;
+      took = subst (λ (ls : List (ℕ × Event)). Took (taken c.args.out.now) (taken c.turn.new.out) (replies_of ls)) (sym next)
+          (replied_one (taken c.args.out.now) (taken c.loop-line.out) (taken c.turn.new.out) first line c.loop-line.invariant.took took);
+      sized = (subst (λ (ls : List (ℕ × Event)). AllByRecursion (λ l. IsSized l.1) ls) (line_at lines i line c.loop-line-test.true c.line-item.is)
+          c.loop-line.invariant.sized).1;
       hosts = c.loop-line.invariant.hosts;
       faults = c.in_ok-turn.ensures.cause ∙ c.loop-line.invariant.faults;
     }
 
-pub returns-in_err-turn-clause-front : goal.returns-in_err-turn-clause-front
-returns-in_err-turn-clause-front g c =
+pub returns-clause-played : goal.returns-clause-played
+returns-clause-played g c =
     let strings = g.M.Medium.strings in
     let taken = g.K.Sink.taken in
     let lines : List (ℕ × Event) = c.args.script.now in
     let i : ℕ = c.loop-line.line-index in
-    let line : ℕ × Event = c.line-item.result in
-    let m : Machine = c.loop-line.world in
-    let before = subst (λ (ls : List (ℕ × Event)). IsPlayedTo (taken c.args.out.now) (taken c.loop-line.out) (transcript_of lines) (strings_from beginning [] lines)
-    m (strings c.loop-line.medium) ls) (line_at lines i line c.loop-line-test.true c.line-item.is) c.loop-line.invariant.played in
-    let front = subst (λ (hs : List Identity). TookFront (taken c.loop-line.out) (taken c.turn.new.out) (printed hs (Some line.0) (step m (strings c.loop-line.medium) line.1).reply))
-    c.loop-line.invariant.hosts (search rules) in
-    on_err c.from_residual-in_err-turn.result (played_front _ _ (taken c.turn.new.out) _ _ m (strings c.loop-line.medium) line (drop (i + 1) lines) before front)
-
-pub returns-clause-whole : goal.returns-clause-whole
-returns-clause-whole g c =
-    let strings = g.M.Medium.strings in
-    let taken = g.K.Sink.taken in
-    let lines : List (ℕ × Event) = c.args.script.now in
-    let m : Machine = c.loop-line.world in
-    let none : drop c.loop-line.line-index lines ≡ [] = drop_all c.loop-line.line-index lines (omega arith) in
-    let played = subst (λ (ls : List (ℕ × Event)). IsPlayedTo (taken c.args.out.now) (taken c.loop-line.out) (transcript_of lines) (strings_from beginning [] lines)
-    m (strings c.loop-line.medium) ls) none c.loop-line.invariant.played in
-    on_ok_from c.end.result (λ (took : Took (taken c.loop-line.out) (taken c.end.new.out) (end_text c.deref-2.result.now m)).
-    played_end _ _ (taken c.end.new.out) _ _ m (strings c.loop-line.medium) played
-    (subst (λ (hs : List Identity). Took (taken c.loop-line.out) (taken c.end.new.out) (end_text hs m)) (c.deref-2.ensures.value ∙ c.loop-line.invariant.hosts) took)) c.end.ensures.whole
-
-pub returns-clause-front : goal.returns-clause-front
-returns-clause-front g c =
-    let strings = g.M.Medium.strings in
-    let taken = g.K.Sink.taken in
-    let lines : List (ℕ × Event) = c.args.script.now in
-    let m : Machine = c.loop-line.world in
-    let none : drop c.loop-line.line-index lines ≡ [] = drop_all c.loop-line.line-index lines (omega arith) in
-    let played = subst (λ (ls : List (ℕ × Event)). IsPlayedTo (taken c.args.out.now) (taken c.loop-line.out) (transcript_of lines) (strings_from beginning [] lines)
-    m (strings c.loop-line.medium) ls) none c.loop-line.invariant.played in
-    on_err_from c.end.result (λ (front : TookFront (taken c.loop-line.out) (taken c.end.new.out) (end_text c.deref-2.result.now m)).
-    played_end_front _ _ (taken c.end.new.out) _ _ m (strings c.loop-line.medium) played
-    (subst (λ (hs : List Identity). TookFront (taken c.loop-line.out) (taken c.end.new.out) (end_text hs m)) (c.deref-2.ensures.value ∙ c.loop-line.invariant.hosts) front)) c.end.ensures.front
+    let all : take i lines ≡ lines = take_all i lines (omega arith) in
+    let stands = subst (λ (ls : List (ℕ × Event)). Stands c.loop-line.world (strings c.loop-line.medium) (machine_after ls)) all c.loop-line.invariant.stands in
+    let took = subst (λ (ls : List (ℕ × Event)). Took (taken c.args.out.now) (taken c.loop-line.out) (replies_of ls)) all c.loop-line.invariant.took in
+    let same = c.deref-2.ensures.value ∙ c.loop-line.invariant.hosts in
+    let ended = subst (λ (hs : List Identity). Ended (taken c.loop-line.out) (taken c.end.new.out) (held_text hs c.loop-line.world) c.end.result) same c.end.ensures.ended in
+    let text = subst (λ (h : Held). Ended (taken c.loop-line.out) (taken c.end.new.out) (held_text hosts h) c.end.result) stands.same ended in
+    play_ended lines (taken c.args.out.now) (taken c.loop-line.out) (taken c.end.new.out) (strings c.loop-line.medium) c.end.result took stands.spelled text

@@ -1,15 +1,19 @@
-use Rattle.std.proofs.Common.{◌≡◌, [], drop}
-use Rattle.mqb_world.specs.Machine.{beginning, hosts}
-use Rattle.mqb_world.specs.Transcripts.{transcript_of, strings_from}
-use Rattle.mqb.proofs.Playing.{IsPlayedTo, HasFew}
+use Rattle.std.proofs.Common.{◌≡◌, ℕ, take, drop}
+use Rattle.std.specs.List.{AllByRecursion}
+use Rattle.mqb_outside.specs.Told.{Took}
+use Rattle.mqb_script.specs.Sizes.{IsSized}
+use Rattle.mqb_machine.specs.Managers.{hosts}
+use Rattle.mqb_machine.specs.Runs.{machine_after}
+use Rattle.mqb_world.specs.Standing.{Stands}
+use Rattle.mqb_world.specs.Transcripts.{replies_of}
 use Rattle.mqb.proofs.play.play.Given as goal
 
 abbrev pub invariant-loop-line : goal.invariant-loop-line
 invariant-loop-line g l =
-    let strings = g.M.Medium.strings in
     record {
-      played : IsPlayedTo (g.K.Sink.taken l.fn.out) (g.K.Sink.taken l.out) (transcript_of l.script) (strings_from beginning [] l.script) l.world (strings l.medium) (drop l.line-index l.script);
-      few : HasFew l.world (strings l.medium) l.line-index;
+      stands : Stands l.world (g.M.Medium.strings l.medium) (machine_after (take l.line-index l.script));
+      took : Took (g.K.Sink.taken l.fn.out) (g.K.Sink.taken l.out) (replies_of (take l.line-index l.script));
+      sized : AllByRecursion (λ line. IsSized line.1) (drop l.line-index l.script);
       hosts : l.hosts.items ≡ hosts;
       faults : g.K.Sink.write_faults l.out ≡ g.K.Sink.write_faults l.fn.out;
     }
