@@ -7,10 +7,10 @@ use Rattle.std.proofs.lemmas.Result.{IfOk-at_ok}
 use Rattle.std.proofs.lemmas.Bool.Decides.{nat_tests}
 use Rattle.mqb_base.specs.Same.{same_bytes}
 use Rattle.mqb_script.specs.declared.events.Event.{Event}
-use Rattle.mqb_script.specs.declared.events.Event.TheVariants.{Queue, Commit, Connect, Pump, Deliver, Drop}
+use Rattle.mqb_script.specs.declared.events.Event.TheVariants.{Queue, Commit, Connect, Pump, Deliver, Drop, Flow, Resend}
 use Rattle.mqb_script.specs.Managers.{manager_of}
-use Rattle.mqb_script.specs.Words.{lines_of, words_of, fields_of, value_of, is_decimal, number_in}
-use Rattle.mqb_script.specs.Grammar.{MAX, where_, moment_of, packet_of, send_of, is_built_queue, plan_of, queue_of, commit_of, is_built_connection, connect_of, pump_of, deliver_of, drop_of, event_of, is_skipped, with_event, script_from, script_of}
+use Rattle.mqb_script.specs.Words.{lines_of, words_of, value_of, is_decimal, number_in}
+use Rattle.mqb_script.specs.Grammar.{MAX, where_, moment_of, packet_of, window_of, sends_of, is_built_queue, plan_of, queue_of, commit_of, connect_of, pump_of, deliver_of, drop_of, disconnect_of, flow_of, resend_of, event_of, is_skipped, with_event, script_from, script_of}
 use Rattle.mqb_script.specs.Sizes.{IsSized}
 use Rattle.mqb_script.specs.Reading.{begun, line_count}
 use Rattle.mqb_script.proofs.Splitting.{both}
@@ -64,16 +64,18 @@ sized_queue (manager ∷ name ∷ kind ∷ quota ∷ journal ∷ []) =
 sized_queue _ = tt
 
 sized_commit : (words : List (List ℕ)) → IfSome (commit_of words) IsSized
-sized_commit (manager ∷ now ∷ op ∷ []) =
+sized_commit (manager ∷ now ∷ op ∷ ops) =
     then_gives IsSized _ (manager_of manager)
     (λ which. then_gives IsSized _ (moment_of now)
-    (λ moment. map_gives IsSized (λ send. Commit which moment (send ∷ [])) (send_of which (fields_of op)) (λ send. tt)))
+    (λ moment. map_gives IsSized (λ sends. Commit which moment sends) (sends_of which (op ∷ ops)) (λ sends. tt)))
 sized_commit _ = tt
 
 sized_connect : (words : List (List ℕ)) → IfSome (connect_of words) IsSized
 sized_connect (manager ∷ now ∷ alpha ∷ beta ∷ []) =
-    where_keeps IsSized (is_built_connection alpha beta) _
-    (then_gives IsSized _ (manager_of manager) (λ which. map_gives IsSized (λ moment. Connect which moment 64 64) (moment_of now) (λ moment. tt)))
+    then_gives IsSized _ (manager_of manager)
+    (λ which. then_gives IsSized _ (moment_of now)
+    (λ moment. then_gives IsSized _ (window_of alpha)
+    (λ first. map_gives IsSized (λ second. Connect which moment first second) (window_of beta) (λ second. tt))))
 sized_connect _ = tt
 
 sized_pump : (words : List (List ℕ)) → IfSome (pump_of words) IsSized
@@ -91,6 +93,19 @@ sized_drop : (words : List (List ℕ)) → IfSome (drop_of words) IsSized
 sized_drop (packet ∷ []) = map_keeps (λ k. 1 ≤ k) IsSized (λ k. Drop k) (packet_of packet) (λ k some. some) (number_from 1 MAX packet)
 sized_drop _ = tt
 
+sized_disconnect : (words : List (List ℕ)) → IfSome (disconnect_of words) IsSized
+sized_disconnect [] = tt
+sized_disconnect _ = tt
+
+sized_flow : (words : List (List ℕ)) → IfSome (flow_of words) IsSized
+sized_flow (manager ∷ now ∷ []) =
+    then_gives IsSized _ (manager_of manager) (λ which. map_gives IsSized (λ moment. Flow which moment) (moment_of now) (λ moment. tt))
+sized_flow _ = tt
+
+sized_resend : (words : List (List ℕ)) → IfSome (resend_of words) IsSized
+sized_resend (manager ∷ []) = map_gives IsSized (λ which. Resend which) (manager_of manager) (λ which. tt)
+sized_resend _ = tt
+
 sized_event : (words : List (List ℕ)) → IfSome (event_of words) IsSized
 sized_event [] = tt
 sized_event (word ∷ words) =
@@ -99,7 +114,10 @@ sized_event (word ∷ words) =
     (choice_keeps IsSized (same_bytes word (codes "connect")) _ _ (sized_connect words)
     (choice_keeps IsSized (same_bytes word (codes "pump")) _ _ (sized_pump words)
     (choice_keeps IsSized (same_bytes word (codes "deliver")) _ _ (sized_deliver words)
-    (choice_keeps IsSized (same_bytes word (codes "drop")) _ _ (sized_drop words) tt)))))
+    (choice_keeps IsSized (same_bytes word (codes "drop")) _ _ (sized_drop words)
+    (choice_keeps IsSized (same_bytes word (codes "disconnect")) _ _ (sized_disconnect words)
+    (choice_keeps IsSized (same_bytes word (codes "flow")) _ _ (sized_flow words)
+    (choice_keeps IsSized (same_bytes word (codes "resend")) _ _ (sized_resend words) tt))))))))
 
 -- The events of lines.
 

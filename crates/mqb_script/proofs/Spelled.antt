@@ -1,6 +1,6 @@
 -- The line of an event is read back as the event.
-use Rattle.std.proofs.Common.{◌≡◌, ℕ, ◌^◌, ◌<◌, ◌≤◌, Bool, true, false, ◌==◌, ◌||◌, not, nat_lt, if◌then◌else◌, cond, List, [], ◌∷◌, ◌++◌, length, replicate, get_or, codes, Some, None, is_none, Result, refl, ap, ◌∙◌, arith, append-nil}
-use Rattle.std.specs.List.{list_all, position_or_len, join_with_byte}
+use Rattle.std.proofs.Common.{◌≡◌, ℕ, ◌^◌, ◌<◌, ◌≤◌, Bool, true, false, ◌==◌, ◌||◌, not, nat_lt, if◌then◌else◌, cond, List, [], ◌∷◌, ◌++◌, length, map, replicate, get_or, codes, Some, None, is_none, Result, refl, ap, ◌∙◌, arith, append-nil}
+use Rattle.std.specs.List.{list_all, AllByRecursion, position_or_len, join_with_byte}
 use Rattle.std.specs.Option.{option_map, option_and_then}
 use Rattle.std.specs.Result.{result_ok}
 use Rattle.std.specs.Fmt.{decimal}
@@ -17,13 +17,13 @@ use Rattle.mqb_names.proofs.PrintedAgain.{printed_again}
 use Rattle.mqb_script.specs.declared.events.Which.{Which}
 use Rattle.mqb_script.specs.declared.events.Which.TheVariants.{Alpha, Beta}
 use Rattle.mqb_script.specs.declared.events.Event.{Event}
-use Rattle.mqb_script.specs.declared.events.Event.TheVariants.{Queue, Commit, Connect, Pump, Deliver, Drop}
+use Rattle.mqb_script.specs.declared.events.Event.TheVariants.{Queue, Commit, Connect, Pump, Deliver, Drop, Flow, Resend}
 use Rattle.mqb_script.specs.Managers.{host_of, other, manager_of}
 use Rattle.mqb_script.specs.Words.{words_of, fields_of, is_digit, number_in}
-use Rattle.mqb_script.specs.Grammar.{MAX, where_, name_of, moment_of, packet_of, is_queue_at, destination_of, is_body_byte, is_starred, MOST_COUNTED, body_of, parts_of, send_of, event_of}
+use Rattle.mqb_script.specs.Grammar.{MAX, MOST_WINDOW, where_, name_of, moment_of, packet_of, window_of, is_queue_at, destination_of, is_body_byte, is_starred, MOST_COUNTED, body_of, parts_of, send_of, sends_of, event_of}
 use Rattle.mqb_script.specs.Texts.{destination_text}
-use Rattle.mqb_script.specs.Spelling.{queue_of_other, sending, is_plain, IsBuilt, send_text, sending_words, line_of, counted_line}
-use Rattle.mqb_script.specs.Spelling.IsBuilt.{queue, commit, connect, pump, deliver, drop}
+use Rattle.mqb_script.specs.Spelling.{queue_of_other, send_to, sending, is_plain, IsSpelled, IsBuilt, send_text, op_text, sending_words, line_of, counted_line}
+use Rattle.mqb_script.specs.Spelling.IsBuilt.{queue, commit, connect, pump, deliver, drop, disconnect, flow, resend}
 use Rattle.mqb_script.proofs.Decimals.{decimal_spells, number_up_to, number_back}
 use Rattle.mqb_script.proofs.Splitting.{both, lacks, all_lack, split_join, lacks-append, lacks-join, lacks_where}
 
@@ -174,6 +174,33 @@ send_lacks which name text n bytes =
     lacks-join 32 44 refl (codes "send") (more_fields to text)
     (fields_lack 32 to text refl refl (destination_lacks 32 which name (front_without_space which) space) space_text)
 
+-- Sends in a row.
+
+lack_more : (c : ℕ) (part : List ℕ) (parts : List (List ℕ)) → lacks c part ≡ true → all_lack c parts ≡ true → all_lack c (part ∷ parts) ≡ true
+lack_more c part parts a b = rw (a, b) refl
+
+sends_more : (which : Which) (word : List ℕ) (words : List (List ℕ)) (send : Op) (sends : List Op) → send_of which (fields_of word) ≡ Some send
+    → sends_of which words ≡ Some sends
+    → sends_of which (word ∷ words) ≡ Some (send ∷ sends)
+sends_more which word words send sends a b = rw (a, b) refl
+
+abbrev sends_to : Which → List (List ℕ × List ℕ) → List Op
+sends_to which sends = map (λ send. send_to which send.0 send.1) sends
+
+sends_lack : (which : Which) (sends : List (List ℕ × List ℕ)) → AllByRecursion IsSpelled sends
+    → all_lack 32 (map op_text (sends_to which sends)) ≡ true
+sends_lack which [] h = refl
+sends_lack which ((name, body) ∷ sends) h =
+    lack_more 32 (send_text (queue_of_other which name) body) (map op_text (sends_to which sends))
+    (send_lacks which name body h.0.0 (plain_stands body h.0.1).bytes) (sends_lack which sends h.1)
+
+sends_back : (which : Which) (sends : List (List ℕ × List ℕ)) → AllByRecursion IsSpelled sends
+    → sends_of which (map op_text (sends_to which sends)) ≡ Some (sends_to which sends)
+sends_back which [] h = refl
+sends_back which ((name, body) ∷ sends) h =
+    sends_more which (send_text (queue_of_other which name) body) (map op_text (sends_to which sends)) (send_to which name body)
+    (sends_to which sends) (send_back which name body body h.0.0 (plain_stands body h.0.1)) (sends_back which sends h.1)
+
 -- The lines.
 
 host_lacks : (which : Which) → lacks 32 (host_of which) ≡ true
@@ -194,22 +221,29 @@ queue_back : (host name word : List ℕ) (which : Which) (quota : ℕ) → manag
     ≡ Some (Queue which (record { name = name; public = None; transactional = true; quota = quota; journal = false }))
 queue_back host name word which quota h n q = rw (h, n, q) refl
 
-commit_words : (host now text : List ℕ) → lacks 32 host ≡ true → lacks 32 now ≡ true → lacks 32 text ≡ true
-    → all_lack 32 (codes "commit" ∷ host ∷ now ∷ text ∷ []) ≡ true
-commit_words host now text h n t = rw (h, n, t) refl
+commit_words : (host now : List ℕ) (texts : List (List ℕ)) → lacks 32 host ≡ true → lacks 32 now ≡ true → all_lack 32 texts ≡ true
+    → all_lack 32 (codes "commit" ∷ host ∷ now ∷ texts) ≡ true
+commit_words host now texts h n t = rw (h, n, t) refl
 
-commit_back : (host word text : List ℕ) (which : Which) (now : ℕ) (send : Op) → manager_of host ≡ Some which → moment_of word ≡ Some now
-    → send_of which (fields_of text) ≡ Some send
-    → event_of (codes "commit" ∷ host ∷ word ∷ text ∷ []) ≡ Some (Commit which now (send ∷ []))
-commit_back host word text which now send h n s = rw (h, n, s) refl
+commit_back : (host word text : List ℕ) (texts : List (List ℕ)) (which : Which) (now : ℕ) (sends : List Op) → manager_of host ≡ Some which
+    → moment_of word ≡ Some now → sends_of which (text ∷ texts) ≡ Some sends
+    → event_of (codes "commit" ∷ host ∷ word ∷ text ∷ texts) ≡ Some (Commit which now sends)
+commit_back host word text texts which now sends h n s = rw (h, n, s) refl
 
-connect_words : (host now : List ℕ) → lacks 32 host ≡ true → lacks 32 now ≡ true
-    → all_lack 32 (codes "connect" ∷ host ∷ now ∷ codes "64" ∷ codes "64" ∷ []) ≡ true
-connect_words host now h n = rw (h, n) refl
+connect_words : (host now alpha beta : List ℕ) → lacks 32 host ≡ true → lacks 32 now ≡ true → lacks 32 alpha ≡ true → lacks 32 beta ≡ true
+    → all_lack 32 (codes "connect" ∷ host ∷ now ∷ alpha ∷ beta ∷ []) ≡ true
+connect_words host now alpha beta h n a b = rw (h, n, a, b) refl
 
-connect_back : (host word : List ℕ) (which : Which) (now : ℕ) → manager_of host ≡ Some which → moment_of word ≡ Some now
-    → event_of (codes "connect" ∷ host ∷ word ∷ codes "64" ∷ codes "64" ∷ []) ≡ Some (Connect which now 64 64)
-connect_back host word which now h n = rw (h, n) refl
+connect_back : (host word alpha beta : List ℕ) (which : Which) (now first second : ℕ) → manager_of host ≡ Some which → moment_of word ≡ Some now
+    → window_of alpha ≡ Some first → window_of beta ≡ Some second
+    → event_of (codes "connect" ∷ host ∷ word ∷ alpha ∷ beta ∷ []) ≡ Some (Connect which now first second)
+connect_back host word alpha beta which now first second h n a b = rw (h, n, a, b) refl
+
+window_lacks : (n : ℕ) → n ≤ MOST_WINDOW → lacks 32 (decimal n) ≡ true
+window_lacks n most = number_lacks n (omega arith)
+
+window_back : (n : ℕ) → 1 ≤ n → n ≤ MOST_WINDOW → window_of (decimal n) ≡ Some n
+window_back n some most = number_up_to 1 MOST_WINDOW n some most (omega arith)
 
 pump_words : (host now : List ℕ) → lacks 32 host ≡ true → lacks 32 now ≡ true → all_lack 32 (codes "pump" ∷ host ∷ now ∷ []) ≡ true
 pump_words host now h n = rw (h, n) refl
@@ -231,19 +265,36 @@ drop_words packet p = rw p refl
 drop_back : (number : List ℕ) (packet : ℕ) → packet_of number ≡ Some packet → event_of (codes "drop" ∷ number ∷ []) ≡ Some (Drop packet)
 drop_back number packet p = rw p refl
 
-sending_back : (which : Which) (now : ℕ) (name text body : List ℕ) → now ≤ MAX → name_fault name ≡ None → StandsFor text body
-    → event_of (words_of (join_with_byte 32 (sending_words which now (queue_of_other which name) text))) ≡ Some (sending which now name body)
-sending_back which now name text body m n stands =
-    let send : List ℕ = send_text (queue_of_other which name) text in
-    ap event_of (split_join 32 (codes "commit") (host_of which ∷ decimal now ∷ send ∷ [])
-    (commit_words (host_of which) (decimal now) send (host_lacks which) (number_lacks now m) (send_lacks which name text n stands.bytes)))
-    ∙ commit_back (host_of which) (decimal now) send which now (Send (parts_of (queue_of_other which name) body)) (manager_back which)
-    (number_back 0 now (omega arith) m) (send_back which name text body n stands)
+flow_words : (host now : List ℕ) → lacks 32 host ≡ true → lacks 32 now ≡ true → all_lack 32 (codes "flow" ∷ host ∷ now ∷ []) ≡ true
+flow_words host now h n = rw (h, n) refl
+
+flow_back : (host word : List ℕ) (which : Which) (now : ℕ) → manager_of host ≡ Some which → moment_of word ≡ Some now
+    → event_of (codes "flow" ∷ host ∷ word ∷ []) ≡ Some (Flow which now)
+flow_back host word which now h n = rw (h, n) refl
+
+resend_words : (host : List ℕ) → lacks 32 host ≡ true → all_lack 32 (codes "resend" ∷ host ∷ []) ≡ true
+resend_words host h = rw h refl
+
+resend_back : (host : List ℕ) (which : Which) → manager_of host ≡ Some which → event_of (codes "resend" ∷ host ∷ []) ≡ Some (Resend which)
+resend_back host which h = rw h refl
+
+sending_back : (which : Which) (now : ℕ) (text : List ℕ) (texts : List (List ℕ)) (sends : List Op) → now ≤ MAX → all_lack 32 (text ∷ texts) ≡ true
+    → sends_of which (text ∷ texts) ≡ Some sends
+    → event_of (words_of (join_with_byte 32 (sending_words which now (text ∷ texts)))) ≡ Some (Commit which now sends)
+sending_back which now text texts sends m l s =
+    ap event_of (split_join 32 (codes "commit") (host_of which ∷ decimal now ∷ text ∷ texts)
+    (commit_words (host_of which) (decimal now) (text ∷ texts) (host_lacks which) (number_lacks now m) l))
+    ∙ commit_back (host_of which) (decimal now) text texts which now sends (manager_back which) (number_back 0 now (omega arith) m) s
 
 pub counted_read_back : (which : Which) (now n : ℕ) (name : List ℕ) → now ≤ MAX → name_fault name ≡ None → n ≤ MOST_COUNTED
     → event_of (words_of (counted_line which now name n)) ≡ Some (sending which now name (replicate n 0x78))
 counted_read_back which now n name m fault most =
-    sending_back which now name (codes "*" ++ decimal n) (replicate n 0x78) m fault (counted_stands n most)
+    let stands : StandsFor (codes "*" ++ decimal n) (replicate n 0x78) = counted_stands n most in
+    let text : List ℕ = send_text (queue_of_other which name) (codes "*" ++ decimal n) in
+    sending_back which now text [] (send_to which name (replicate n 0x78) ∷ []) m
+    (lack_more 32 text [] (send_lacks which name (codes "*" ++ decimal n) fault stands.bytes) refl)
+    (sends_more which text [] (send_to which name (replicate n 0x78)) []
+    (send_back which name (codes "*" ++ decimal n) (replicate n 0x78) fault stands) refl)
 
 pub read_back : {event : Event} → IsBuilt event → event_of (words_of (line_of event)) ≡ Some event
 read_back (queue which name quota n q) =
@@ -251,11 +302,16 @@ read_back (queue which name quota n q) =
     ap event_of (split_join 32 (codes "queue") (host_of which ∷ name ∷ codes "tx" ∷ decimal quota ∷ codes "none" ∷ [])
     (queue_words (host_of which) name (decimal quota) (host_lacks which) space (number_lacks quota q)))
     ∙ queue_back (host_of which) name (decimal quota) which quota (manager_back which) (name_back name n) (number_back 0 quota (omega arith) q)
-read_back (commit which now name body m n b) = sending_back which now name body body m n (plain_stands body b)
-read_back (connect which now m) =
-    ap event_of (split_join 32 (codes "connect") (host_of which ∷ decimal now ∷ codes "64" ∷ codes "64" ∷ [])
-    (connect_words (host_of which) (decimal now) (host_lacks which) (number_lacks now m)))
-    ∙ connect_back (host_of which) (decimal now) which now (manager_back which) (number_back 0 now (omega arith) m)
+read_back (commit which now [] m some spelled) = absurd (omega arith)
+read_back (commit which now ((name, body) ∷ sends) m some spelled) =
+    sending_back which now (send_text (queue_of_other which name) body) (map op_text (sends_to which sends)) (sends_to which ((name, body) ∷ sends)) m
+    (sends_lack which ((name, body) ∷ sends) spelled) (sends_back which ((name, body) ∷ sends) spelled)
+read_back (connect which now alpha beta m a a_most b b_most) =
+    ap event_of (split_join 32 (codes "connect") (host_of which ∷ decimal now ∷ decimal alpha ∷ decimal beta ∷ [])
+    (connect_words (host_of which) (decimal now) (decimal alpha) (decimal beta) (host_lacks which) (number_lacks now m) (window_lacks alpha a_most)
+    (window_lacks beta b_most)))
+    ∙ connect_back (host_of which) (decimal now) (decimal alpha) (decimal beta) which now alpha beta (manager_back which)
+    (number_back 0 now (omega arith) m) (window_back alpha a a_most) (window_back beta b b_most)
 read_back (pump which now m) =
     ap event_of (split_join 32 (codes "pump") (host_of which ∷ decimal now ∷ [])
     (pump_words (host_of which) (decimal now) (host_lacks which) (number_lacks now m)))
@@ -267,3 +323,11 @@ read_back (deliver packet now some most m) =
 read_back (drop packet some most) =
     ap event_of (split_join 32 (codes "drop") (decimal packet ∷ []) (drop_words (decimal packet) (number_lacks packet most)))
     ∙ drop_back (decimal packet) packet (number_back 1 packet some most)
+read_back disconnect = refl
+read_back (flow which now m) =
+    ap event_of (split_join 32 (codes "flow") (host_of which ∷ decimal now ∷ [])
+    (flow_words (host_of which) (decimal now) (host_lacks which) (number_lacks now m)))
+    ∙ flow_back (host_of which) (decimal now) which now (manager_back which) (number_back 0 now (omega arith) m)
+read_back (resend which) =
+    ap event_of (split_join 32 (codes "resend") (host_of which ∷ []) (resend_words (host_of which) (host_lacks which)))
+    ∙ resend_back (host_of which) which (manager_back which)

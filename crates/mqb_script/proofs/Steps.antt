@@ -1,13 +1,16 @@
 -- What a line adds to what was read, and what a read adds to what was taken.
 use Rattle.std.proofs.Common.{◌≡◌, ℕ, ◌+◌, ◌-◌, ◌<◌, ◌≤◌, Bool, true, false, ◌==◌, List, [], ◌∷◌, ◌++◌, length, take, drop, cond, map, get_or, count_by, Option, Some, None, Result, Ok, Err, refl, sym, ap, ◌∙◌, arith, append_assoc, Bor}
 use Rattle.std.specs.List.{onto_first}
+use Rattle.std.specs.Option.{option_map}
 use Rattle.std.proofs.lemmas.List.{at_drop_more}
 use Rattle.std.proofs.lemmas.List.Sums.{count_by-le-length, sum_by-cons}
 use Rattle.std.proofs.lemmas.List.Splits.{length-slice_split}
 use Rattle.mqb_outside.specs.Told.{Gave}
+use Rattle.mqb_base.specs.declared.draft.Op.{Op}
 use Rattle.mqb_script.specs.declared.events.Event.{Event}
-use Rattle.mqb_script.specs.Words.{lines_of, words_of}
-use Rattle.mqb_script.specs.Grammar.{is_skipped, event_of, with_event, script_from}
+use Rattle.mqb_script.specs.declared.events.Which.{Which}
+use Rattle.mqb_script.specs.Words.{lines_of, words_of, fields_of}
+use Rattle.mqb_script.specs.Grammar.{send_of, sends_of, is_skipped, event_of, with_event, script_from}
 use Rattle.mqb_script.specs.Reading.{begun, line_count, in_front, ReadsLine}
 
 pub in_front_nothing : (r : Result (List (ℕ × Event)) ℕ) → in_front [] r ≡ r
@@ -78,6 +81,23 @@ stops whole n place lines before after d true read within line is = cc
 stops whole n place lines before after d false read within line is =
     sym (read ∙ at_drop_more (λ rest. in_front before (script_from n (map (λ l. l.now) rest))) lines place d within
     ∙ ap (in_front before) (line (map (λ l. l.now) (drop (place + 1) lines))))
+
+-- The words before a place were read as sends: the whole is these in front of those that the words from there on are.
+abbrev pub IsSentTo : Which → Option (List Op) → ℕ → List (Bor (List ℕ)) → List Op → Type 0
+IsSentTo which whole place words before = whole ≡ option_map (λ more. before ++ more) (sends_of which (map (λ word. word.now) (drop place words)))
+
+one_sent : (before : List Op) (send : Op) (sends : Option (List Op))
+    → option_map (λ more. before ++ more) (option_map (λ more. send ∷ more) sends) ≡ option_map (λ more. (before ++ send ∷ []) ++ more) sends
+one_sent before send None = refl
+one_sent before send (Some sends) = ap Some (sym (append_assoc before (send ∷ []) sends))
+
+pub sent_more : (which : Which) (whole : Option (List Op)) (place : ℕ) (words : List (Bor (List ℕ))) (before : List Op) (d : Bor (List ℕ))
+    (one : Option Op) (send : Op)
+    → IsSentTo which whole place words before → place < length words → one ≡ send_of which (fields_of (get_or words place d).now) → one ≡ Some send
+    → IsSentTo which whole (place + 1) words (before ++ send ∷ [])
+sent_more which whole place words before d one send read within said is =
+    read ∙ at_drop_more (λ rest. option_map (λ more. before ++ more) (sends_of which (map (λ word. word.now) rest))) words place d within
+    ∙ rw (sym said ∙ is) (one_sent before send (sends_of which (map (λ word. word.now) (drop (place + 1) words))))
 
 pub gave_more : (first middle last : Option (List ℕ)) (text more : List ℕ) → Gave first middle text → Gave middle last more
     → Gave first last (text ++ more)

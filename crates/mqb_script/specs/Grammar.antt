@@ -15,7 +15,7 @@ use Rattle.mqb_base.specs.Names.{name_fault}
 use Rattle.mqb_names.specs.Reading as names
 use Rattle.mqb_script.specs.declared.events.Which.{Which}
 use Rattle.mqb_script.specs.declared.events.Event.{Event}
-use Rattle.mqb_script.specs.declared.events.Event.TheVariants.{Queue, Commit, Connect, Pump, Deliver, Drop}
+use Rattle.mqb_script.specs.declared.events.Event.TheVariants.{Queue, Commit, Connect, Pump, Deliver, Drop, Disconnect, Flow, Resend}
 use Rattle.mqb_script.specs.Managers.{host_of, other, manager_of}
 use Rattle.mqb_script.specs.Words.{lines_of, words_of, fields_of, number_in}
 
@@ -105,6 +105,12 @@ send_of which (send ∷ destination ∷ rest) = where_ (same_bytes send (codes "
     (plain_text rest))
 send_of which _ = None
 
+-- the sends that words are, in order, where each word is one
+abbrev pub sends_of : Which → List (List ℕ) → Option (List Op)
+sends_of which [] = Some []
+sends_of which (word ∷ words) =
+    option_and_then (λ send. option_map (λ sends. send ∷ sends) (sends_of which words)) (send_of which (fields_of word))
+
 -- The line forms.
 
 -- what is built of queues: those that are transactional and without a journal
@@ -122,19 +128,26 @@ queue_of (manager ∷ name ∷ kind ∷ quota ∷ journal ∷ []) =
 queue_of _ = None
 
 abbrev pub commit_of : List (List ℕ) → Option Event
-commit_of (manager ∷ now ∷ op ∷ []) =
+commit_of (manager ∷ now ∷ op ∷ ops) =
     option_and_then (λ which.
-    option_and_then (λ moment. option_map (λ send. Commit which moment (send ∷ [])) (send_of which (fields_of op))) (moment_of now))
+    option_and_then (λ moment. option_map (λ sends. Commit which moment sends) (sends_of which (op ∷ ops))) (moment_of now))
     (manager_of manager)
 commit_of _ = None
 
--- what is built of connections: those with the windows 64
-abbrev pub is_built_connection : List ℕ → List ℕ → Bool
-is_built_connection alpha beta = same_bytes alpha (codes "64") && same_bytes beta (codes "64")
+-- the greatest window
+abbrev pub MOST_WINDOW : ℕ
+MOST_WINDOW = 65535
 
+abbrev pub window_of : List ℕ → Option ℕ
+window_of word = number_in 1 MOST_WINDOW word
+
+-- the two windows of a connection, alpha's and beta's
 abbrev pub connect_of : List (List ℕ) → Option Event
-connect_of (manager ∷ now ∷ alpha ∷ beta ∷ []) = where_ (is_built_connection alpha beta)
-    (option_and_then (λ which. option_map (λ moment. Connect which moment 64 64) (moment_of now)) (manager_of manager))
+connect_of (manager ∷ now ∷ alpha ∷ beta ∷ []) =
+    option_and_then (λ which.
+    option_and_then (λ moment.
+    option_and_then (λ first. option_map (λ second. Connect which moment first second) (window_of beta)) (window_of alpha)) (moment_of now))
+    (manager_of manager)
 connect_of _ = None
 
 abbrev pub pump_of : List (List ℕ) → Option Event
@@ -149,6 +162,18 @@ abbrev pub drop_of : List (List ℕ) → Option Event
 drop_of (packet ∷ []) = option_map (λ k. Drop k) (packet_of packet)
 drop_of _ = None
 
+abbrev pub disconnect_of : List (List ℕ) → Option Event
+disconnect_of [] = Some Disconnect
+disconnect_of _ = None
+
+abbrev pub flow_of : List (List ℕ) → Option Event
+flow_of (manager ∷ now ∷ []) = option_and_then (λ which. option_map (λ moment. Flow which moment) (moment_of now)) (manager_of manager)
+flow_of _ = None
+
+abbrev pub resend_of : List (List ℕ) → Option Event
+resend_of (manager ∷ []) = option_map (λ which. Resend which) (manager_of manager)
+resend_of _ = None
+
 -- the event of a line, from its words
 abbrev pub event_of : List (List ℕ) → Option Event
 event_of [] = None
@@ -159,6 +184,9 @@ event_of (word ∷ words) =
     else if same_bytes word (codes "pump") then pump_of words
     else if same_bytes word (codes "deliver") then deliver_of words
     else if same_bytes word (codes "drop") then drop_of words
+    else if same_bytes word (codes "disconnect") then disconnect_of words
+    else if same_bytes word (codes "flow") then flow_of words
+    else if same_bytes word (codes "resend") then resend_of words
     else None
 
 -- The script.

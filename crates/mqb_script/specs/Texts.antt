@@ -17,6 +17,7 @@ use Rattle.mqb_base.specs.declared.ledger.Line.{Line}
 use Rattle.mqb_base.specs.declared.ledger.Line.TheVariants as line
 use Rattle.mqb_base.specs.Same.{same_guid}
 use Rattle.mqb_names.specs.Printed as names
+use Rattle.mqb_script.specs.declared.arrivals.Arrival.{Arrival}
 use Rattle.mqb_script.specs.declared.replies.Reply.{Reply}
 use Rattle.mqb_script.specs.declared.replies.Reply.TheVariants as reply
 
@@ -107,6 +108,18 @@ heard_text hosts (heard.Final id class) = codes "final " ++ class_text class ++ 
 heard_text hosts heard.Discarded = codes "discarded"
 heard_text hosts (heard.Closed cause) = codes "closed " ++ cause_text cause
 
+-- what was heard of a packet that was delivered in its turn, unless it was gone
+abbrev pub passed_text : List Identity → Option Heard → List ℕ
+passed_text hosts None = codes "gone"
+passed_text hosts (Some heard) = heard_text hosts heard
+
+-- the packet's number, and what became of it
+abbrev pub arrival_text : List Identity → Arrival → List ℕ
+arrival_text hosts a = spaced (decimal a.packet) ++ codes ": " ++ passed_text hosts a.heard ++ lines_text hosts a.lines
+
+abbrev pub arrivals_text : List Identity → List Arrival → List ℕ
+arrivals_text hosts arrivals = flat_map (arrival_text hosts) arrivals
+
 -- a reply, and the ledger lines of its record
 abbrev pub reply_text : List Identity → Reply → List ℕ
 reply_text hosts reply.Done = codes "ok"
@@ -114,11 +127,15 @@ reply_text hosts reply.QueueThere = codes "queuethere"
 reply_text hosts reply.TooManyQueues = codes "toomanyqueues"
 reply_text hosts (reply.Connected packets) = codes "connected" ++ numbers_text packets
 reply_text hosts reply.Linked = codes "linked"
+reply_text hosts reply.Disconnected = codes "disconnected"
 reply_text hosts (reply.Committed lines) = codes "committed" ++ lines_text hosts lines
+reply_text hosts reply.TooManyOps = codes "toomanyops"
 reply_text hosts (reply.SequenceSpent op) = codes "sequencespent " ++ decimal op
 reply_text hosts reply.NumbersSpent = codes "numbersspent"
 reply_text hosts reply.TooLarge = codes "toolarge"
 reply_text hosts (reply.Pumped packets) = codes "pumped" ++ numbers_text packets
+reply_text hosts reply.Spent = codes "spent"
+reply_text hosts (reply.Flowed arrivals) = codes "flowed" ++ arrivals_text hosts arrivals
 reply_text hosts reply.Unlinked = codes "unlinked"
 reply_text hosts reply.NoPacket = codes "none"
 reply_text hosts reply.Gone = codes "gone"

@@ -41,13 +41,13 @@ pub enum Event {
         manager: Which,
         plan: QueuePlan,
     },
-    /// `commit M NOW OP ..`
+    /// `commit M NOW OP ..`, one op or more
     Commit {
         manager: Which,
         now: u32,
         ops: Ops,
     },
-    /// `connect M NOW WALPHA WBETA`
+    /// `connect M NOW WALPHA WBETA`, each window from 1 to 65535
     Connect {
         manager: Which,
         now: u32,
@@ -67,5 +67,16 @@ pub enum Event {
     /// `drop K`
     Drop {
         packet: u32,
+    },
+    /// `disconnect`
+    Disconnect,
+    /// `flow M NOW`
+    Flow {
+        manager: Which,
+        now: u32,
+    },
+    /// `resend M`
+    Resend {
+        manager: Which,
     },
 }

@@ -4,6 +4,7 @@
 //! forms that are built are those of the definition `event_of`, and an event's line is read back as that event (`lines_are_read_back`).
 #![tactic(auto)]
 
+mod arrivals;
 mod events;
 mod identifiers;
 mod ledger_lines;
@@ -21,6 +22,7 @@ mod text_tests;
 mod texts;
 mod words;
 
+pub use arrivals::{Arrival, Arrivals};
 pub use events::{Event, Which};
 pub use identifiers::{print_destination, print_id, print_manager};
 pub use lists::{Lines, Numbers, Ops};

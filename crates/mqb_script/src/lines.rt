@@ -1,11 +1,10 @@
 ghost use Rattle.std.specs.Prelude.{◌≡◌, map, IfOk};
 ghost use Rattle.mqb_script.specs.Words.{words_of};
 ghost use Rattle.mqb_script.specs.Managers.{manager_of};
-ghost use Rattle.mqb_script.specs.Grammar.{moment_of, packet_of, is_built_queue, plan_of, queue_of, commit_of, is_built_connection, connect_of, pump_of, deliver_of, drop_of, event_of, is_skipped};
+ghost use Rattle.mqb_script.specs.Grammar.{moment_of, packet_of, window_of, is_built_queue, plan_of, queue_of, commit_of, connect_of, pump_of, deliver_of, drop_of, disconnect_of, flow_of, resend_of, event_of, is_skipped};
 
 use crate::events::{Event, Which};
-use crate::lists::Ops;
-use crate::sends::{name_of, send_of};
+use crate::sends::{name_of, sends_of};
 use crate::words::{is_word, number_in, parts};
 use mqb_base::{Memory, QueuePlan};
 use std::alloc::Global;
@@ -32,6 +31,13 @@ fn packet_of(word: &[u8]) -> Option<u32>
     ensures { result ≡ packet_of word.now }
 {
     number_in(1, u32::MAX, word)
+}
+
+fn window_of(word: &[u8]) -> Option<u16>
+    ensures { result ≡ window_of word.now }
+{
+    let window = number_in(1, u32::from(u16::MAX), word)?;
+    Some(window as u16)
 }
 
 fn is_built_queue(kind: &[u8], journal: &[u8]) -> bool
@@ -79,28 +85,22 @@ fn queue_of(alloc: Global, words: &[&[u8]]) -> Result<Option<Event>, Memory>
 fn commit_of(alloc: Global, words: &[&[u8]]) -> Result<Option<Event>, Memory>
     ensures { IfOk result (λ event. event ≡ commit_of (map (λ word. word.now) words.now)) }
 {
-    let [manager, now, op] = words else {
+    let [manager, now, ops @ ..] = words else {
         return Ok(None);
     };
+    if ops.is_empty() {
+        return Ok(None);
+    }
     let Some(manager) = manager_of(manager) else {
         return Ok(None);
     };
     let Some(now) = moment_of(now) else {
         return Ok(None);
     };
-    let fields = parts(alloc, op, b',')?;
-    let Some(send) = send_of(alloc, manager, fields.as_slice())? else {
+    let Some(ops) = sends_of(alloc, manager, ops)? else {
         return Ok(None);
     };
-    let mut ops = Ops::new(alloc);
-    ops.push(send)?;
     Ok(Some(Event::Commit { manager, now, ops }))
-}
-
-fn is_built_connection(alpha: &[u8], beta: &[u8]) -> bool
-    ensures { result ≡ is_built_connection alpha.now beta.now }
-{
-    is_word(alpha, b"64") && is_word(beta, b"64")
 }
 
 fn connect_of(words: &[&[u8]]) -> Option<Event>
@@ -109,16 +109,15 @@ fn connect_of(words: &[&[u8]]) -> Option<Event>
     let [manager, now, alpha, beta] = words else {
         return None;
     };
-    if !is_built_connection(alpha, beta) {
-        return None;
-    }
     let manager = manager_of(manager)?;
     let now = moment_of(now)?;
+    let alpha_window = window_of(alpha)?;
+    let beta_window = window_of(beta)?;
     Some(Event::Connect {
         manager,
         now,
-        alpha_window: 64,
-        beta_window: 64,
+        alpha_window,
+        beta_window,
     })
 }
 
@@ -154,6 +153,36 @@ fn drop_of(words: &[&[u8]]) -> Option<Event>
     Some(Event::Drop { packet })
 }
 
+fn disconnect_of(words: &[&[u8]]) -> Option<Event>
+    ensures { result ≡ disconnect_of (map (λ word. word.now) words.now) }
+{
+    let [] = words else {
+        return None;
+    };
+    Some(Event::Disconnect)
+}
+
+fn flow_of(words: &[&[u8]]) -> Option<Event>
+    ensures { result ≡ flow_of (map (λ word. word.now) words.now) }
+{
+    let [manager, now] = words else {
+        return None;
+    };
+    let manager = manager_of(manager)?;
+    let now = moment_of(now)?;
+    Some(Event::Flow { manager, now })
+}
+
+fn resend_of(words: &[&[u8]]) -> Option<Event>
+    ensures { result ≡ resend_of (map (λ word. word.now) words.now) }
+{
+    let [manager] = words else {
+        return None;
+    };
+    let manager = manager_of(manager)?;
+    Some(Event::Resend { manager })
+}
+
 fn event_of(alloc: Global, words: &[&[u8]]) -> Result<Option<Event>, Memory>
     ensures { IfOk result (λ event. event ≡ event_of (map (λ word. word.now) words.now)) }
 {
@@ -172,6 +201,12 @@ fn event_of(alloc: Global, words: &[&[u8]]) -> Result<Option<Event>, Memory>
         Ok(deliver_of(words))
     } else if is_word(word, b"drop") {
         Ok(drop_of(words))
+    } else if is_word(word, b"disconnect") {
+        Ok(disconnect_of(words))
+    } else if is_word(word, b"flow") {
+        Ok(flow_of(words))
+    } else if is_word(word, b"resend") {
+        Ok(resend_of(words))
     } else {
         Ok(None)
     }

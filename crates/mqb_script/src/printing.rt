@@ -1,7 +1,8 @@
 ghost use Rattle.std.specs.Prelude.{◌≡◌, ◌++◌, codes, OnOk, OnErr};
 ghost use Rattle.std.specs.Fmt.{decimal};
-ghost use Rattle.mqb_script.specs.Texts.{numbers_text, place_text, class_text, cause_text, heard_text, lines_text, reply_text, printed};
+ghost use Rattle.mqb_script.specs.Texts.{numbers_text, place_text, class_text, cause_text, heard_text, passed_text, arrival_text, arrivals_text, lines_text, reply_text, printed};
 
+use crate::arrivals::Arrival;
 use crate::ledger_lines::{print_about, print_classed, print_ledger};
 use crate::replies::Reply;
 use crate::texts::{print_class, print_line_number, print_number, print_numbers, print_place, put};
@@ -127,6 +128,61 @@ fn print_heard_reply(
     print_ledger(alloc, lines, hosts, out)
 }
 
+fn print_passed(
+    alloc: Global,
+    heard: &Option<Heard>,
+    hosts: &[Identity],
+    out: &mut Vec<u8>,
+) -> Result<(), Memory>
+    ensures { OnOk result (out.new.items ≡ out.old.items ++ passed_text hosts.now heard.now) }
+{
+    match heard {
+        None => put(b"gone", out),
+        Some(heard) => print_heard(alloc, heard, hosts, out),
+    }
+}
+
+fn print_arrival(
+    alloc: Global,
+    arrival: &Arrival,
+    hosts: &[Identity],
+    out: &mut Vec<u8>,
+) -> Result<(), Memory>
+    ensures { OnOk result (out.new.items ≡ out.old.items ++ arrival_text hosts.now arrival.now) }
+{
+    put(b" ", out)?;
+    print_number(alloc, arrival.packet, out)?;
+    put(b": ", out)?;
+    print_passed(alloc, &arrival.heard, hosts, out)?;
+    print_ledger(alloc, arrival.lines.as_slice(), hosts, out)
+}
+
+fn print_arrivals(
+    alloc: Global,
+    arrivals: &[Arrival],
+    hosts: &[Identity],
+    out: &mut Vec<u8>,
+) -> Result<(), Memory>
+    ensures { OnOk result (out.new.items ≡ out.old.items ++ arrivals_text hosts.now arrivals.now) }
+{
+    for arrival in arrivals {
+        print_arrival(alloc, arrival, hosts, out)?;
+    }
+    Ok(())
+}
+
+fn print_flowed(
+    alloc: Global,
+    arrivals: &[Arrival],
+    hosts: &[Identity],
+    out: &mut Vec<u8>,
+) -> Result<(), Memory>
+    ensures { OnOk result (out.new.items ≡ out.old.items ++ (codes "flowed" ++ arrivals_text hosts.now arrivals.now)) }
+{
+    put(b"flowed", out)?;
+    print_arrivals(alloc, arrivals, hosts, out)
+}
+
 fn print_spent(alloc: Global, op: u32, out: &mut Vec<u8>) -> Result<(), Memory>
     ensures { OnOk result (out.new.items ≡ out.old.items ++ (codes "sequencespent " ++ decimal op)) }
 {
@@ -150,11 +206,15 @@ fn print_answer(
             print_packets(alloc, b"connected", packets.as_slice(), out)
         }
         Reply::Linked => put(b"linked", out),
+        Reply::Disconnected => put(b"disconnected", out),
         Reply::Committed { lines } => print_committed(alloc, lines.as_slice(), hosts, out),
+        Reply::TooManyOps => put(b"toomanyops", out),
         Reply::SequenceSpent { op } => print_spent(alloc, *op, out),
         Reply::NumbersSpent => put(b"numbersspent", out),
         Reply::TooLarge => put(b"toolarge", out),
         Reply::Pumped { packets } => print_packets(alloc, b"pumped", packets.as_slice(), out),
+        Reply::Spent => put(b"spent", out),
+        Reply::Flowed { arrivals } => print_flowed(alloc, arrivals.as_slice(), hosts, out),
         Reply::Unlinked => put(b"unlinked", out),
         Reply::NoPacket => put(b"none", out),
         Reply::Gone => put(b"gone", out),

@@ -1,3 +1,4 @@
+use crate::arrivals::Arrivals;
 use crate::lists::{Lines, Numbers};
 use mqb_base::Heard;
 
@@ -14,8 +15,12 @@ pub enum Reply {
     Connected { packets: Numbers },
     /// `linked`
     Linked,
+    /// `disconnected`
+    Disconnected,
     /// `committed` and the lines of its record
     Committed { lines: Lines },
+    /// `toomanyops`: a transaction has more steps than it may have
+    TooManyOps,
     /// `sequencespent` and the place of the op in its transaction, from 0
     SequenceSpent { op: u32 },
     /// `numbersspent`
@@ -24,6 +29,10 @@ pub enum Reply {
     TooLarge,
     /// `pumped` and the numbers of the packets
     Pumped { packets: Numbers },
+    /// `spent`: the connection has no number left for what waits
+    Spent,
+    /// `flowed` and what became of each packet
+    Flowed { arrivals: Arrivals },
     /// `unlinked`
     Unlinked,
     /// `none`: there is no such packet

@@ -2,10 +2,12 @@ ghost use Rattle.std.specs.Prelude.{◌≡◌, true, map, IfOk, IfSome};
 ghost use Rattle.std.specs.List.{list_all};
 ghost use Rattle.std.specs.Option.{option_map};
 ghost use Rattle.mqb_base.specs.QueueNames.{names_queue};
-ghost use Rattle.mqb_script.specs.Grammar.{name_of, is_queue_at, destination_of, is_body_byte, counted_body, body_of, no_id, parts_of, is_dash, plain_text, send_of};
+ghost use Rattle.mqb_script.specs.Words.{fields_of};
+ghost use Rattle.mqb_script.specs.Grammar.{name_of, is_queue_at, destination_of, is_body_byte, counted_body, body_of, no_id, parts_of, is_dash, plain_text, send_of, sends_of};
 
 use crate::events::Which;
-use crate::words::{is_word, number_in};
+use crate::lists::Ops;
+use crate::words::{is_word, number_in, parts};
 use mqb_base::{
     Bytes, Draft, Guid, Host, Memory, MessageId, Name, NameError, Op, Parts, QueueName, UNLIMITED,
     Units,
@@ -149,8 +151,7 @@ fn plain_text<'t>(fields: &[&'t [u8]]) -> Option<&'t [u8]>
     }
 }
 
-/// The fields of a send of this manager as an operation.
-pub(crate) fn send_of(alloc: Global, which: Which, fields: &[&[u8]]) -> Result<Option<Op>, Memory>
+fn send_of(alloc: Global, which: Which, fields: &[&[u8]]) -> Result<Option<Op>, Memory>
     ensures { IfOk result (λ op. op ≡ send_of which (map (λ field. field.now) fields.now)) }
 {
     let [send, destination, rest @ ..] = fields else {
@@ -169,4 +170,25 @@ pub(crate) fn send_of(alloc: Global, which: Which, fields: &[&[u8]]) -> Result<O
         return Ok(None);
     };
     Ok(Some(Op::Send(draft_of(alloc, destination, body)?)))
+}
+
+fn send_of_word(alloc: Global, which: Which, word: &[u8]) -> Result<Option<Op>, Memory>
+    ensures { IfOk result (λ op. op ≡ send_of which (fields_of word.now)) }
+{
+    let fields = parts(alloc, word, b',')?;
+    send_of(alloc, which, fields.as_slice())
+}
+
+/// The words as sends of this manager, in order, where each word is one.
+pub(crate) fn sends_of(alloc: Global, which: Which, words: &[&[u8]]) -> Result<Option<Ops>, Memory>
+    ensures { IfOk result (λ ops. ops ≡ sends_of which (map (λ word. word.now) words.now)) }
+{
+    let mut ops = Ops::new(alloc);
+    for word in words {
+        let Some(send) = send_of_word(alloc, which, word)? else {
+            return Ok(None);
+        };
+        ops.push(send)?;
+    }
+    Ok(Some(ops))
 }

@@ -6,7 +6,7 @@ ghost use Rattle.mqb_script.specs.Words.{words_of};
 ghost use Rattle.mqb_script.specs.Grammar.{MAX, MOST_COUNTED, event_of};
 ghost use Rattle.mqb_script.specs.Spelling.{IsBuilt, line_of, sending, counted_line};
 
-/// A law of the grammar: the line of an event is read back as that event, and so is one that tells its body by a number.
+/// A law of the grammar: the line of an event is read back as that event, and so is one that commits one send and tells its body by a number.
 pub fn lines_are_read_back()
     ensures own { (event : Event) → IsBuilt event → event_of (words_of (line_of event)) ≡ Some event }
     ensures counted { (which : Which) (now n : ℕ) (name : List ℕ) → now ≤ MAX → name_fault name ≡ None → n ≤ MOST_COUNTED

@@ -16,6 +16,12 @@ connect beta 1001 64 64
 commit beta 1002 send,direct=os:alpha\\private$\\orders,-,-,-,-,-,two
 pump beta 1003
 drop 3
+disconnect
+flow beta 1004
+resend alpha
+commit alpha 9 send,DIRECT=OS:beta\\PRIVATE$\\q,-,-,-,-,-,a send,DIRECT=OS:beta\\PRIVATE$\\p,-,-,-,-,-,*2 send,DIRECT=OS:beta\\PRIVATE$\\q,-,-,-,-,-,
+connect alpha 1006 64 1
+connect beta 1006 65535 65535
 ";
 
 fn read(alloc: Global, text: &[u8], failing: &[u32]) -> Result<Script, ScriptFault> {
@@ -39,7 +45,7 @@ fn unbuilt(number: u32) -> Result<usize, ScriptFault> {
     })
 }
 
-/// The word and the manager of an event, and two of its numbers.
+/// The word and the manager of an event, its moment, and a number for the rest.
 fn form(event: &Event) -> (&'static str, Option<Which>, u32, u32) {
     match event {
         Event::Queue { manager, plan } => {
@@ -50,16 +56,33 @@ fn form(event: &Event) -> (&'static str, Option<Which>, u32, u32) {
                 u32::from(plan.transactional),
             )
         }
-        Event::Commit { manager, now, .. } => ("commit", Some(*manager), *now, 1),
+        Event::Commit { manager, now, ops } => {
+            (
+                "commit",
+                Some(*manager),
+                *now,
+                u32::try_from(ops.as_slice().len()).unwrap_or(0),
+            )
+        }
         Event::Connect {
             manager,
             now,
             alpha_window,
-            ..
-        } => ("connect", Some(*manager), *now, u32::from(*alpha_window)),
+            beta_window,
+        } => {
+            (
+                "connect",
+                Some(*manager),
+                *now,
+                u32::from(*alpha_window) * 65_536 + u32::from(*beta_window),
+            )
+        }
         Event::Pump { manager, now } => ("pump", Some(*manager), *now, 0),
         Event::Deliver { packet, now } => ("deliver", None, *now, *packet),
         Event::Drop { packet } => ("drop", None, 0, *packet),
+        Event::Disconnect => ("disconnect", None, 0, 0),
+        Event::Flow { manager, now } => ("flow", Some(*manager), *now, 0),
+        Event::Resend { manager } => ("resend", Some(*manager), 0, 0),
     }
 }
 
@@ -70,15 +93,21 @@ fn each_form_is_read(rt: HostRuntime) -> Result<(), Fail> {
     let beta = Some(Which::Beta);
     let wanted = [
         (1, ("queue", beta, 100, 1)),
-        (2, ("connect", alpha, 1000, 64)),
+        (2, ("connect", alpha, 1000, 0x40_0040)),
         (3, ("commit", alpha, 1000, 1)),
         (4, ("pump", alpha, 1000, 0)),
         (5, ("deliver", None, 1000, 5)),
         (6, ("queue", alpha, 7, 1)),
-        (7, ("connect", beta, 1001, 64)),
+        (7, ("connect", beta, 1001, 0x40_0040)),
         (8, ("commit", beta, 1002, 1)),
         (9, ("pump", beta, 1003, 0)),
         (10, ("drop", None, 0, 3)),
+        (11, ("disconnect", None, 0, 0)),
+        (12, ("flow", beta, 1004, 0)),
+        (13, ("resend", alpha, 0, 0)),
+        (14, ("commit", alpha, 9, 3)),
+        (15, ("connect", alpha, 1006, 0x40_0001)),
+        (16, ("connect", beta, 1006, 0xFFFF_FFFF)),
     ];
     assert_eq!(rt; script.events().len(), wanted.len());
     for ((number, event), (line, wanted)) in script.events().iter().zip(wanted) {
@@ -90,11 +119,11 @@ fn each_form_is_read(rt: HostRuntime) -> Result<(), Fail> {
 
 #[test]
 fn lines_are_counted(rt: HostRuntime) {
-    let table: [(&[u8], Result<usize, ScriptFault>); 17] = [
+    let table: [(&[u8], Result<usize, ScriptFault>); 25] = [
         (b"", Ok(0)),
         (b"\n# a comment\n\npump alpha 0\n", Ok(1)),
         (b"pump alpha 4294967295", Ok(1)),
-        (b"pump alpha 1\ndisconnect\n", unbuilt(2)),
+        (b"pump alpha 1\ndisconnect x\n", unbuilt(2)),
         (b"# one\n\npump alpha 01\n", unbuilt(3)),
         (b"pump alpha 4294967296", unbuilt(1)),
         (b"pump  alpha 1", unbuilt(1)),
@@ -106,10 +135,21 @@ fn lines_are_counted(rt: HostRuntime) {
         (b"drop 0", unbuilt(1)),
         (b"drop 4294967295", Ok(1)),
         (b"drop 3 1", unbuilt(1)),
+        (b"connect alpha 1 0 64", unbuilt(1)),
+        (b"connect alpha 1 64 65536", unbuilt(1)),
+        (b"connect alpha 1 65536 64", unbuilt(1)),
+        (b"connect alpha 1 64 0", unbuilt(1)),
+        (b"flow alpha", unbuilt(1)),
+        (b"resend", unbuilt(1)),
+        (b"commit alpha 1", unbuilt(1)),
         (b"queue beta a,b tx 1 none", unbuilt(1)),
         (
             b"commit alpha 1 send,DIRECT=OS:beta\\PRIVATE$\\q,-,-,-,-,-,",
             Ok(1),
+        ),
+        (
+            b"commit alpha 1 send,DIRECT=OS:beta\\PRIVATE$\\q,-,-,-,-,-, take,q",
+            unbuilt(1),
         ),
     ];
     for (text, wanted) in table {

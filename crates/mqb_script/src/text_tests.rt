@@ -1,3 +1,4 @@
+use crate::arrivals::{Arrival, Arrivals};
 use crate::identifiers::print_destination;
 use crate::lists::{Lines, Numbers};
 use crate::printing::print_reply;
@@ -29,6 +30,11 @@ const UNKNOWN: MessageId = MessageId {
 
 const SEQUENCE: SequenceId = SequenceId {
     ordinal: 3,
+    stamp: 1000,
+};
+
+const FIRST: SequenceId = SequenceId {
+    ordinal: 1,
     stamp: 1000,
 };
 
@@ -65,9 +71,12 @@ fn plain_replies(rt: HostRuntime) -> Result<(), Fail> {
         (Reply::QueueThere, "> 12 queuethere\n"),
         (Reply::TooManyQueues, "> 12 toomanyqueues\n"),
         (Reply::Linked, "> 12 linked\n"),
+        (Reply::Disconnected, "> 12 disconnected\n"),
+        (Reply::TooManyOps, "> 12 toomanyops\n"),
         (Reply::SequenceSpent { op: 0 }, "> 12 sequencespent 0\n"),
         (Reply::NumbersSpent, "> 12 numbersspent\n"),
         (Reply::TooLarge, "> 12 toolarge\n"),
+        (Reply::Spent, "> 12 spent\n"),
         (Reply::Unlinked, "> 12 unlinked\n"),
         (Reply::NoPacket, "> 12 none\n"),
         (Reply::Gone, "> 12 gone\n"),
@@ -175,6 +184,79 @@ fn one_line(alloc: Global, line: Line) -> Result<Vec<u8>, Memory> {
     let mut lines = Lines::new(alloc);
     lines.push(line)?;
     printed(alloc, Some(3), &Reply::Committed { lines })
+}
+
+fn flowed(alloc: Global, arrivals: Arrivals) -> Result<Vec<u8>, Memory> {
+    printed(alloc, Some(9), &Reply::Flowed { arrivals })
+}
+
+/// What became of a packet whose message was put, or refused.
+fn arrival(
+    alloc: Global,
+    packet: u32,
+    number: u32,
+    refused: Option<Class>,
+) -> Result<Arrival, Memory> {
+    let sequence = FIRST;
+    let stream = Stream {
+        source: ALPHA,
+        destination: QueueName::Public {
+            guid: STRANGER,
+            journal: false,
+        },
+        sequence,
+    };
+    let id = MessageId { qm: ALPHA, number };
+    let (heard, line) = match refused {
+        None => (
+            Heard::Put { sequence, number },
+            Line::Put { stream, number, id },
+        ),
+        Some(class) => {
+            (
+                Heard::Refused {
+                    sequence,
+                    number,
+                    class,
+                },
+                Line::Refused {
+                    stream,
+                    number,
+                    class,
+                    id,
+                },
+            )
+        }
+    };
+    let mut lines = Lines::new(alloc);
+    lines.push(line)?;
+    Ok(Arrival {
+        packet,
+        heard: Some(heard),
+        lines,
+    })
+}
+
+#[test]
+fn flowed_replies(rt: HostRuntime) -> Result<(), Fail> {
+    let alloc = rt.alloc();
+    let out = flowed(alloc, Arrivals::new(alloc))?;
+    assert!(rt; out.as_slice() == b"> 9 flowed\n".as_slice());
+    let mut gone = Arrivals::new(alloc);
+    gone.push(Arrival {
+        packet: 5,
+        heard: None,
+        lines: Lines::new(alloc),
+    })?;
+    let out = flowed(alloc, gone)?;
+    assert!(rt; out.as_slice() == b"> 9 flowed 5: gone\n".as_slice());
+    let mut both = Arrivals::new(alloc);
+    both.push(arrival(alloc, 5, 1, None)?)?;
+    both.push(arrival(alloc, 6, 2, Some(Class::QUOTA_EXCEEDED))?)?;
+    let out = flowed(alloc, both)?;
+    let text = "> 9 flowed 5: put [put 1 1 alpha.1] 6: refused 8003 [refused 1 2 8003 alpha.2]\n";
+    assert!(rt; out.as_slice() == text.as_bytes());
+    Ok(())
 }
 
 #[test]
