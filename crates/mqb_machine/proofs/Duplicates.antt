@@ -1,5 +1,5 @@
 -- What a duplicate owes is forgotten with the connection.
-use Rattle.std.proofs.Common.{◌≡◌, Bool, true, false, cond, List, [], ◌∷◌, refl, ap, subst, sym, ◌&&◌}
+use Rattle.std.proofs.Common.{◌≡◌, None, Bool, true, false, cond, List, [], ◌∷◌, refl, ap, subst, sym, ◌&&◌}
 use Rattle.std.specs.Prelude.{map}
 use Rattle.mqb_base.specs.Sequences.{same_sequence}
 use Rattle.mqb_orders.specs.declared.judging.Verdict.{Verdict}
@@ -7,7 +7,7 @@ use Rattle.mqb_orders.specs.declared.judging.Verdict.TheVariants.{Duplicate}
 use Rattle.mqb_machine.specs.declared.packets.Transfer.{Transfer}
 use Rattle.mqb_machine.specs.declared.receiving.Receiving.{Receiving}
 use Rattle.mqb_machine.specs.State.{State}
-use Rattle.mqb_machine.specs.Arriving.{is_from, owed_again, owing_again}
+use Rattle.mqb_machine.specs.Arriving.{is_from, owing_again}
 use Rattle.mqb_machine.specs.Pumping.{unowed, unsent, unlinked}
 use Rattle.mqb_machine.specs.Calls.{judged}
 
@@ -22,7 +22,7 @@ all_unowed (r ∷ rs) t =
     rw (first, all_unowed rs t) refl
 
 at_duplicate : (m : State) (t : Transfer) → unlinked (judged m t Duplicate).after ≡ unlinked m
-at_duplicate m t = ap (λ (ins : List Receiving). record m { outs = map unsent m.outs; ins = ins }) (all_unowed m.ins t)
+at_duplicate m t = ap (λ (ins : List Receiving). record m { outs = map unsent m.outs; ins = ins; session = None }) (all_unowed m.ins t)
 
 pub duplicate_changes_nothing : (m : State) (t : Transfer) (v : Verdict) → v ≡ Duplicate → unlinked (judged m t v).after ≡ unlinked m
 duplicate_changes_nothing m t v is = subst (λ (u : Verdict). unlinked (judged m t u).after ≡ unlinked m) (sym is) (at_duplicate m t)

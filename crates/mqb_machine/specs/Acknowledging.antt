@@ -1,12 +1,11 @@
 -- What an order acknowledgement does at the manager that sent the messages.
-use Rattle.std.specs.Prelude.{ℕ, Bool, ◌&&◌, nat_lt, nat_le, List, position, map, Option, Some, None, option_and_then, slice_get, if◌then◌else◌}
-use Rattle.std.specs.Option.{option_map_or}
+use Rattle.std.specs.Prelude.{ℕ, Bool, ◌&&◌, nat_lt, nat_le, List, if◌then◌else◌}
 use Rattle.std.specs.List.{list_any}
 use Rattle.mqb_base.specs.Sequences.{same_sequence}
 use Rattle.mqb_orders.specs.KeptLists.{released}
 use Rattle.mqb_orders.specs.Rows.{Row}
 use Rattle.mqb_machine.specs.declared.packets.OrderAck.{OrderAck}
-use Rattle.mqb_machine.specs.State.{State, Sending}
+use Rattle.mqb_machine.specs.State.{Sending}
 
 -- It raises the mark of a row: it is of the row's sequence, and its number is above the acknowledged one and was offered.
 abbrev pub raises : OrderAck → Row → Bool

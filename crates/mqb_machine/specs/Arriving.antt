@@ -6,8 +6,6 @@ use Rattle.mqb_base.specs.declared.heads.TxHead.{TxHead}
 use Rattle.mqb_base.specs.declared.heard.Heard.{Heard}
 use Rattle.mqb_base.specs.declared.heard.Heard.TheVariants as heard
 use Rattle.mqb_base.specs.declared.ids.Guid.{Guid}
-use Rattle.mqb_base.specs.declared.ids.MessageId.{MessageId}
-use Rattle.mqb_base.specs.declared.ids.SequenceId.{SequenceId}
 use Rattle.mqb_base.specs.declared.ledger.Line.{Line}
 use Rattle.mqb_base.specs.declared.ledger.Line.TheVariants as line
 use Rattle.mqb_base.specs.declared.ledger.Stream.{Stream}
@@ -17,7 +15,6 @@ use Rattle.mqb_base.specs.Sequences.{same_sequence}
 use Rattle.mqb_orders.specs.declared.rows.InRow.{InRow}
 use Rattle.mqb_machine.specs.declared.packets.Transfer.{Transfer}
 use Rattle.mqb_machine.specs.declared.receiving.Receiving.{Receiving}
-use Rattle.mqb_machine.specs.State.{State}
 
 -- the row is that of a source and a destination
 abbrev pub is_from : Guid → QueueName → Receiving → Bool

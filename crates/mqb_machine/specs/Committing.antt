@@ -1,6 +1,9 @@
--- How a message joins its stream.
-use Rattle.std.specs.Prelude.{ℕ, Bool, false, ◌+◌, nat_lt, nat_le, List, [], ◌∷◌, ◌++◌, position, slice_get, slice_set, Option, Some, None, unwrap_or, option_and_then, if◌then◌else◌}
-use Rattle.std.specs.Option.{option_map, option_map_or}
+-- How the messages of a transaction join their streams.
+use Rattle.std.specs.Prelude.{ℕ, Bool, false, ◌+◌, nat_lt, nat_le, List, [], ◌∷◌, ◌++◌, length, position, slice_get, slice_set, Option, Some, None, unwrap_or, option_and_then, if◌then◌else◌}
+use Rattle.std.specs.Option.{option_map, option_map_or, option_or}
+use Rattle.std.specs.List.{list_any, filter_map}
+use Rattle.mqb_base.specs.declared.draft.Op.{Op}
+use Rattle.mqb_base.specs.declared.draft.Op.TheVariants.{Send, Take}
 use Rattle.mqb_base.specs.declared.draft.Parts.{Parts}
 use Rattle.mqb_base.specs.declared.ids.SequenceId.{SequenceId}
 use Rattle.mqb_base.specs.declared.message.Message.{Message}
@@ -83,11 +86,38 @@ is_spent m (Some k) = option_map_or (λ s. nat_le 65535 s.row.committed) (slice_
 abbrev pub carried_size : Message → ℕ
 carried_size message = 16 + user_size message + 20 + props_size message + 16
 
--- why a message is not committed to the stream at a place, or to a new one
-abbrev pub refusal_in : State → Option ℕ → Message → Option Reply
-refusal_in m at message = if is_spent m at then Some (reply.SequenceSpent 0)
-    else if nat_lt 0x7FFFFFFF m.next_number then Some reply.NumbersSpent
-    else if nat_lt 4194304 (carried_size message) then Some reply.TooLarge else None
+-- the state after one message was committed
+abbrev pub committed_one : State → ℕ → Parts → State
+committed_one m now p = record (join m (stream_at m.outs p.destination) now (message_of m now p)) { next_number = m.next_number + 1 }
 
-abbrev pub commit_refusal : State → ℕ → Parts → Option Reply
-commit_refusal m now parts = refusal_in m (stream_at m.outs parts.destination) (message_of m now parts)
+-- and after several, one after the other
+abbrev pub committed_all : State → ℕ → List Parts → State
+committed_all m now [] = m
+committed_all m now (p ∷ ps) = committed_all (committed_one m now p) now ps
+
+-- the sends of a transaction
+abbrev pub send_in : Op → Option Parts
+send_in (Send parts) = Some parts
+send_in (Take queue) = None
+
+abbrev pub sends_in : List Op → List Parts
+sends_in ops = filter_map send_in ops
+
+-- the first send for which no number of its stream, or no ordinal, is left behind those before it; it is number i
+abbrev pub spent_from : ℕ → State → ℕ → List Parts → Option Reply
+spent_from i m now [] = None
+spent_from i m now (p ∷ ps) = if is_spent m (stream_at m.outs p.destination) then Some (reply.SequenceSpent i)
+    else spent_from (i + 1) (committed_one m now p) now ps
+
+abbrev pub is_too_large : State → ℕ → Parts → Bool
+is_too_large m now p = nat_lt 4194304 (carried_size (message_of m now p))
+
+-- why a transaction is refused whose sends each find their stream
+abbrev pub whole_refusal : State → ℕ → List Parts → Option Reply
+whole_refusal m now sends = if nat_lt 0x80000000 (m.next_number + length sends) then Some reply.NumbersSpent
+    else if list_any (is_too_large m now) sends then Some reply.TooLarge else None
+
+-- why a transaction is refused
+abbrev pub commit_refusal : State → ℕ → List Op → Option Reply
+commit_refusal m now ops = if nat_lt 64 (length ops) then Some reply.TooManyOps
+    else option_or (spent_from 0 m now (sends_in ops)) (whole_refusal m now (sends_in ops))

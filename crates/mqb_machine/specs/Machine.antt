@@ -1,15 +1,8 @@
 -- The list machine: two managers, each the other's peer, and the packets between them.
 use Rattle.std.specs.Prelude.{ℕ, zero, suc, Bool, true, false, ◌+◌, ◌-◌, nat_lt, List, [], ◌∷◌, ◌++◌, length, map, slice_get, slice_set, Option, Some, None, is_some, if◌then◌else◌}
-use Rattle.std.specs.Option.{option_map_or}
-use Rattle.mqb_base.specs.declared.draft.Op.{Op}
-use Rattle.mqb_base.specs.declared.draft.Op.TheVariants.{Send, Take}
-use Rattle.mqb_base.specs.declared.draft.Parts.{Parts}
-use Rattle.mqb_base.specs.declared.heard.Cause.TheVariants.{Repeated}
 use Rattle.mqb_base.specs.declared.heard.Heard.TheVariants.{Closed}
-use Rattle.mqb_base.specs.declared.ids.Guid.{Guid}
 use Rattle.mqb_base.specs.declared.ledger.Line.{Line}
-use Rattle.mqb_setup.specs.declared.internal.Establish.{Establish}
-use Rattle.mqb_setup.specs.declared.internal.Parameters.{Parameters}
+use Rattle.mqb_script.specs.declared.arrivals.Arrival.{Arrival}
 use Rattle.mqb_script.specs.declared.events.Which.{Which}
 use Rattle.mqb_script.specs.declared.events.Which.TheVariants.{Alpha, Beta}
 use Rattle.mqb_script.specs.declared.events.Event.{Event}
@@ -18,11 +11,10 @@ use Rattle.mqb_script.specs.declared.replies.Reply.{Reply}
 use Rattle.mqb_script.specs.declared.replies.Reply.TheVariants as reply
 use Rattle.mqb_script.specs.Managers.{other}
 use Rattle.mqb_machine.specs.declared.packets.Packet.{Packet}
-use Rattle.mqb_machine.specs.declared.packets.Packet.TheVariants as packet
-use Rattle.mqb_machine.specs.Managers.{alpha, beta, identity_of}
+use Rattle.mqb_machine.specs.Managers.{alpha, beta}
 use Rattle.mqb_machine.specs.State.{State, start}
-use Rattle.mqb_machine.specs.Pumping.{packets_chosen, unlinked}
-use Rattle.mqb_machine.specs.Calls.{Call, create, commit, pumped, hear, hear_ack}
+use Rattle.mqb_machine.specs.Pumping.{unlinked}
+use Rattle.mqb_machine.specs.Calls.{Call, Pump, create, commit, pump_refusal, pump_of, initiated, accepting, resent, hear_packet}
 
 -- a packet that was sent: by whom, what it says, and whether it was dropped
 pub record Posted : Type 0 where
@@ -92,63 +84,29 @@ ended m = record m { alpha = unlinked m.alpha; beta = unlinked m.beta; present =
 
 -- The events.
 
-abbrev pub send_in : Op → Option Parts
-send_in (Send parts) = Some parts
-send_in (Take queue) = None
-
--- a transaction of one send, which is the one that is built
-abbrev pub only_send : List Op → Option Parts
-only_send [] = None
-only_send (op ∷ []) = send_in op
-only_send (op ∷ more ∷ ops) = None
-
--- one send is committed
-abbrev pub commit_send : Machine → Which → ℕ → Option Parts → Answer
-commit_send m which now None = only m reply.Done
-commit_send m which now (Some parts) = called m which (commit (state_of m which) now parts)
-
--- the one that begins a connection asks for it at a moment, and the answer repeats what was asked
-abbrev pub establish : Which → ℕ → Establish
-establish which now = record { client = (identity_of which).guid; server = (identity_of (other which)).guid; stamp = now; refused = false }
-
-abbrev pub parameters : ℕ → Parameters
-parameters window = record { storage_time = 10000; ack_time = 20000; window = window }
-
--- the window that a manager was given
-abbrev pub window_of : Which → ℕ → ℕ → ℕ
-window_of Alpha alpha_window beta_window = alpha_window
-window_of Beta alpha_window beta_window = beta_window
-
--- the four packets that set a connection up, one from each side in turn
-abbrev pub set_up : Which → ℕ → ℕ → ℕ → List Posted
-set_up which now alpha_window beta_window = posted_by which (packet.Establish (establish which now))
-    ∷ posted_by (other which) (packet.Establish (establish which now))
-    ∷ posted_by which (packet.Parameters (parameters (window_of which alpha_window beta_window)))
-    ∷ posted_by (other which) (packet.Parameters (parameters (window_of (other which) alpha_window beta_window)))
-    ∷ []
-
-abbrev pub connect : Machine → Which → ℕ → ℕ → ℕ → Answer
-connect m which now alpha_window beta_window = if is_some m.present then only m reply.Linked else record {
-  reply = reply.Connected (numbers_after (length m.posted) 4);
-  after = record m { present = Some (length m.posted); posted = m.posted ++ set_up which now alpha_window beta_window };
+-- what a manager sends is posted
+abbrev pub pump_from : Machine → Which → Pump → Answer
+pump_from m which sent = record {
+  reply = reply.Pumped (numbers_after (length m.posted) (length sent.packets));
+  after = post (with_state m which sent.after) which sent.packets;
 }
 
--- a manager sends what it chose
-abbrev pub pump_from : Machine → Which → ℕ → State → Answer
-pump_from m which now state = record {
-  reply = reply.Pumped (numbers_after (length m.posted) (length (packets_chosen state now)));
-  after = post (with_state m which (pumped state now)) which (packets_chosen state now);
-}
+abbrev pub pump_unless : Machine → Which → Option Reply → Pump → Answer
+pump_unless m which None sent = pump_from m which sent
+pump_unless m which (Some refusal) sent = only m refusal
 
-abbrev pub pump : Machine → Which → ℕ → Answer
-pump m which now = if is_some m.present then pump_from m which now (state_of m which) else only m reply.Unlinked
+abbrev pub pump_by : Machine → Which → ℕ → Answer
+pump_by m which now = if is_some m.present then pump_unless m which (pump_refusal (state_of m which)) (pump_of (state_of m which) now)
+    else only m reply.Unlinked
 
--- A manager hears a packet. What sets a connection up closes it when it comes again.
-abbrev pub hear_packet : Machine → Which → Packet → Answer
-hear_packet m which (packet.Establish asked) = only (ended m) (reply.Heard (Closed Repeated) [])
-hear_packet m which (packet.Parameters given) = only (ended m) (reply.Heard (Closed Repeated) [])
-hear_packet m which (packet.Transfer t) = called m which (hear (state_of m which) t)
-hear_packet m which (packet.OrderAck a) = called m which (hear_ack (state_of m which) a)
+-- the reply says that the session is closed
+abbrev pub closes : Reply → Bool
+closes (reply.Heard (Closed cause) lines) = true
+closes _ = false
+
+-- a manager hears a packet, and what closes its session ends the connection
+abbrev pub heard_by : Machine → Which → Call → Answer
+heard_by m which call = if closes call.reply then only (ended m) call.reply else called m which call
 
 -- a packet of this number belongs to the present connection
 abbrev pub is_present : Option ℕ → ℕ → Bool
@@ -162,7 +120,7 @@ is_on_its_way present k p = if p.dropped then false else is_present present k
 -- the packet of a number, where it was sent, is heard by the one who did not send it
 abbrev pub deliver_posted : Machine → ℕ → Option Posted → Answer
 deliver_posted m k None = only m reply.NoPacket
-deliver_posted m k (Some p) = if is_on_its_way m.present k p then hear_packet m (other p.sender) p.packet else only m reply.Gone
+deliver_posted m k (Some p) = if is_on_its_way m.present k p then heard_by m (other p.sender) (hear_packet (state_of m (other p.sender)) p.packet) else only m reply.Gone
 
 abbrev pub deliver : Machine → ℕ → Answer
 deliver m k = deliver_posted m k (slice_get m.posted (k - 1))
@@ -175,11 +133,69 @@ drop_posted m k (Some p) = record { reply = reply.Dropped; after = record m { po
 abbrev pub drop : Machine → ℕ → Answer
 drop m k = drop_posted m k (slice_get m.posted (k - 1))
 
+-- what becomes of a packet that is delivered in its turn
+abbrev pub arrival : ℕ → Reply → Arrival
+arrival k (reply.Heard heard lines) = record { packet = k; heard = Some heard; lines = lines }
+arrival k _ = record { packet = k; heard = None; lines = [] }
+
+-- what becomes of packets with these numbers, and the machine after them
+abbrev pub arrivals_from : Machine → List ℕ → List Arrival
+arrivals_from m [] = []
+arrivals_from m (k ∷ ks) = arrival k (deliver m k).reply ∷ arrivals_from (deliver m k).after ks
+
+abbrev pub delivered_all : Machine → List ℕ → Machine
+delivered_all m [] = m
+delivered_all m (k ∷ ks) = delivered_all (deliver m k).after ks
+
+-- what was sent is delivered in order
+abbrev pub passed_on : Machine → Reply → Answer
+passed_on m (reply.Pumped numbers) = record { reply = reply.Flowed (arrivals_from m numbers); after = delivered_all m numbers }
+passed_on m refusal = only m refusal
+
+abbrev pub flow : Machine → Which → ℕ → Answer
+flow m which now = passed_on (pump_by m which now).after (pump_by m which now).reply
+
+-- the window that a manager was given
+abbrev pub window_of : Which → ℕ → ℕ → ℕ
+window_of Alpha alpha_window beta_window = alpha_window
+window_of Beta alpha_window beta_window = beta_window
+
+-- a connection stands from the next packet on
+abbrev pub linking : Machine → Which → ℕ → ℕ → Machine
+linking m which alpha_window beta_window = record (with_state
+    (with_state m which (initiated (state_of m which) (window_of which alpha_window beta_window)))
+    (other which) (accepting (state_of m (other which)) (window_of (other which) alpha_window beta_window)))
+    { present = Some (length m.posted) }
+
+-- the two send what they owe, in turn, and each hears the other
+abbrev pub set_up : Machine → Which → ℕ → Machine
+set_up m which now = let once = (flow (flow m which now).after (other which) now).after in (flow (flow once which now).after (other which) now).after
+
+-- the numbers of the packets that were sent between a machine and a later one
+abbrev pub numbers_between : Machine → Machine → List ℕ
+numbers_between m n = numbers_after (length m.posted) (length n.posted - length m.posted)
+
+abbrev pub connected : Machine → Machine → Answer
+connected m n = record { reply = reply.Connected (numbers_between m n); after = n }
+
+abbrev pub connect : Machine → Which → ℕ → ℕ → ℕ → Answer
+connect m which now alpha_window beta_window = if is_some m.present then only m reply.Linked
+    else connected m (set_up (linking m which alpha_window beta_window) which now)
+
+abbrev pub disconnect : Machine → Answer
+disconnect m = if is_some m.present then only (ended m) reply.Disconnected else only m reply.Unlinked
+
+abbrev pub resend : Machine → Which → Answer
+resend m which = if is_some m.present then only (with_state m which (resent (state_of m which))) reply.Done else only m reply.Unlinked
+
 -- the machine's answer to an event
 abbrev pub step : Machine → Event → Answer
 step m (event.Queue which plan) = called m which (create (state_of m which) plan)
-step m (event.Commit which now ops) = commit_send m which now (only_send ops)
+step m (event.Commit which now ops) = called m which (commit (state_of m which) now ops)
 step m (event.Connect which now alpha_window beta_window) = connect m which now alpha_window beta_window
-step m (event.Pump which now) = pump m which now
+step m (event.Pump which now) = pump_by m which now
 step m (event.Deliver k now) = deliver m k
 step m (event.Drop k) = drop m k
+step m event.Disconnect = disconnect m
+step m (event.Flow which now) = flow m which now
+step m (event.Resend which) = resend m which

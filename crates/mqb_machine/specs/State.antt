@@ -1,7 +1,8 @@
 -- What one manager knows.
-use Rattle.std.specs.Prelude.{ℕ, List, []}
+use Rattle.std.specs.Prelude.{ℕ, List, [], Option, None}
 use Rattle.mqb_base.specs.declared.ids.Identity.{Identity}
 use Rattle.mqb_orders.specs.Rows.{Row}
+use Rattle.mqb_session.specs.State as one_end
 use Rattle.mqb_machine.specs.declared.queues.Queue.{Queue}
 use Rattle.mqb_machine.specs.declared.receiving.Receiving.{Receiving}
 
@@ -10,7 +11,7 @@ pub record Sending : Type 0 where
   pub row : Row
   pub place : ℕ
 
--- one manager: who it is and who its peer is, its queues with their messages, its rows, and the next numbers that it gives
+-- one manager: who it is and who its peer is, its queues with their messages, its rows, the next numbers that it gives, and its end of a connection
 pub record State : Type 0 where
   pub identity : Identity
   pub peer : Identity
@@ -21,6 +22,8 @@ pub record State : Type 0 where
   pub next_ordinal : ℕ
   -- of the messages that no store keeps
   pub next_express : ℕ
+  -- while it is linked
+  pub session : Option one_end.State
 
 abbrev pub FIRST_EXPRESS : ℕ
 FIRST_EXPRESS = 0x80000000
@@ -36,4 +39,5 @@ start own other = record {
   next_number = 1;
   next_ordinal = 1;
   next_express = FIRST_EXPRESS;
+  session = None;
 }

@@ -1,7 +1,8 @@
 //! The list machine: what two managers and the packets between them do at each event of a script, as functions over lists.
 //!
-//! `specs/State.antt` says what one manager knows, `specs/Calls.antt` what each of its calls answers and leaves, and `specs/Machine.antt` how the two
-//! of them move. The values that the definitions share with the code stand here too.
+//! `specs/State.antt` says what one manager knows, its end of a session included, `specs/Calls.antt` what each of its calls answers and leaves, and
+//! `specs/Machine.antt` how the two of them move: what is sent and heard, and how a connection begins and ends. The values that the definitions share
+//! with the code stand here too.
 #![tactic(auto)]
 
 mod laws;
@@ -9,7 +10,7 @@ mod packets;
 mod queues;
 mod receiving;
 
-pub use laws::duplicate_changes_nothing;
-pub use packets::{OrderAck, Packet, Transfer};
+pub use laws::{duplicate_changes_nothing, room_is_what_may_be_sent};
+pub use packets::{OrderAck, Packet, Said, Transfer, User};
 pub use queues::{Messages, Queue};
 pub use receiving::Receiving;

@@ -1,4 +1,4 @@
-use mqb_base::{Message, MessageId, SequenceId, TxHead};
+use mqb_base::{Guid, Message, MessageId, SequenceId, SessionHead, TxHead};
 use mqb_setup::{Establish, Parameters};
 
 /// A message on its way, and its place in its stream. Its time to reach the queue is what was left of it when it was sent.
@@ -17,11 +17,27 @@ pub struct OrderAck {
     pub number: u32,
 }
 
-/// What a packet between two managers says.
+/// What a user packet says.
+#[derive(Debug, PartialEq, Eq, Drop)]
+pub enum Said {
+    Transfer(Transfer),
+    OrderAck(OrderAck),
+}
+
+/// A user packet: the manager that it is for, the header that its session stamped on it, and what it says.
+#[derive(Debug, PartialEq, Eq, Drop)]
+pub struct User {
+    pub to: Guid,
+    pub session: Option<SessionHead>,
+    pub said: Said,
+}
+
+/// A packet between two managers.
 #[derive(Debug, PartialEq, Eq, Drop)]
 pub enum Packet {
     Establish(Establish),
     Parameters(Parameters),
-    Transfer(Transfer),
-    OrderAck(OrderAck),
+    /// A session acknowledgement, which is the header alone.
+    Ack(SessionHead),
+    User(User),
 }
