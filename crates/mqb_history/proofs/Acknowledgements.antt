@@ -22,14 +22,14 @@ use Rattle.mqb_streams.specs.Words.{In}
 use Rattle.mqb_streams.specs.Steps.{Acknowledged, marked, happens, May}
 use Rattle.mqb_streams.proofs.Positions.{same_sequence_is, same_the_other_way}
 use Rattle.mqb_machine.specs.declared.packets.OrderAck.{OrderAck}
-use Rattle.mqb_machine.specs.declared.packets.Packet.TheVariants as packet
+use Rattle.mqb_machine.specs.declared.packets.Said.TheVariants as said
 use Rattle.mqb_machine.specs.State.{State, Sending}
 use Rattle.mqb_machine.specs.Acknowledging.{raises, acknowledged, acknowledged_by, is_news}
 use Rattle.mqb_machine.specs.Arriving.{in_row}
 use Rattle.mqb_machine.specs.Calls as call
 use Rattle.mqb_machine.specs.Machine.{Machine, Posted, state_of, called}
 use Rattle.mqb_history.specs.Channels.{channel_of, guid_of, joined_in, judged_in}
-use Rattle.mqb_history.specs.Shows.{row_to, ShowsRow, ShowsRows, ShowsPackets, standing, acked_as}
+use Rattle.mqb_history.specs.Shows.{row_to, ShowsRow, ShowsRows, ShowsPackets, standing, acked_as, said_of}
 use Rattle.mqb_history.proofs.Sound.{more, Linked, Differ, IsOrderlyState, IsSound}
 use Rattle.mqb_history.proofs.Rows.{row_to_map, some_is}
 use Rattle.mqb_history.proofs.Staying.{destination_stays as shown_stays}
@@ -207,7 +207,8 @@ linked_acknowledged m n which d l a r s may at_r at_s same shows stays =
     }
 
 module _ (m : Machine) (which : Which) (a : OrderAck) (sound : IsSound m) (present : is_some m.present ≡ true)
-    (p : Posted) (inside : In p (standing m.present m.posted)) (sender : p.sender ≡ other which) (is : p.packet ≡ packet.OrderAck a) where
+    (p : Posted) (inside : In p (standing m.present m.posted)) (sender : p.sender ≡ other which)
+    (is : said_of p.packet ≡ Some (said.OrderAck a)) where
   abbrev state : State
   state = state_of m which
 

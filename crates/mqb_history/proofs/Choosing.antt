@@ -1,18 +1,27 @@
 -- What a pump chooses stands in the rows.
-use Rattle.std.proofs.Common.{◌≡◌, ℕ, ◌-◌, ◌⊎◌, inl, inr, List, [], ◌∷◌, ◌++◌, length, Option, Some, None, refl, sym, ap, ◌∙◌, subst}
+use Rattle.std.proofs.Common.{◌≡◌, ℕ, ◌-◌, inl, inr, Bool, true, false, cond, List, [], ◌∷◌, ◌++◌, length, Option, Some, None, refl, sym, ap, ◌∙◌, subst}
 use Rattle.std.specs.Prelude.{map, take}
 use Rattle.mqb_base.specs.declared.ids.Guid.{Guid}
 use Rattle.mqb_orders.specs.declared.kept.Kept.{Kept}
 use Rattle.mqb_script.specs.declared.events.Which.{Which}
+use Rattle.mqb_session.specs.declared.heads.Kind.TheVariants.{Plain, Ack}
+use Rattle.mqb_session.specs.Sending.{stamped}
+use Rattle.mqb_session.specs.State as one_end
+use Rattle.mqb_setup.specs.declared.internal.Internal.{Internal}
+use Rattle.mqb_setup.specs.declared.internal.Internal.TheVariants as internal
 use Rattle.mqb_streams.specs.Words.{In}
 use Rattle.mqb_machine.specs.declared.packets.OrderAck.{OrderAck}
 use Rattle.mqb_machine.specs.declared.packets.Packet.{Packet}
 use Rattle.mqb_machine.specs.declared.packets.Packet.TheVariants as packet
+use Rattle.mqb_machine.specs.declared.packets.Said.{Said}
+use Rattle.mqb_machine.specs.declared.packets.Said.TheVariants as said
 use Rattle.mqb_machine.specs.declared.packets.Transfer.{Transfer}
 use Rattle.mqb_machine.specs.declared.receiving.Receiving.{Receiving}
 use Rattle.mqb_machine.specs.State.{State, Sending}
 use Rattle.mqb_machine.specs.Machine.{Posted, posted_by}
-use Rattle.mqb_machine.specs.Pumping.{owing, acks_of, acks_chosen, express_after, waits, waiting, waiting_in, transfer_of, transfers_waiting, transfers_chosen}
+use Rattle.mqb_machine.specs.Calls.{set_up_packet}
+use Rattle.mqb_machine.specs.Pumping.{most, packets_of, owes_ack, acks_alone, packets_for, said_chosen, owing, acks_of, acks_chosen, express_after, waits, waiting, waiting_in, transfer_of, transfers_waiting, transfers_chosen}
+use Rattle.mqb_history.specs.Shows.{said_of}
 use Rattle.mqb_history.proofs.Among.{in_either, in_map_from, in_filter_from, in_take_from, in_flat_map_from}
 use Rattle.mqb_history.proofs.Rows.{some_is, none_is_not}
 
@@ -26,7 +35,7 @@ pub record IsOfRow (now : ℕ) (outs : List Sending) (t : Transfer) : Type 0 whe
 
 pub chosen_is_of_row : (m : State) (now : ℕ) (t : Transfer) → In t (transfers_chosen m now) → IsOfRow now m.outs t
 chosen_is_of_row m now t inside =
-    let waits_there = in_take_from (64 - length (acks_chosen m now)) t (transfers_waiting now m.outs) inside in
+    let waits_there = in_take_from (most m - length (acks_chosen m now)) t (transfers_waiting now m.outs) inside in
     let at = in_flat_map_from (waiting_in now) t m.outs waits_there in
     let found = in_map_from (transfer_of now at.0.row) t (waiting at.0) at.2 in
     record {
@@ -58,8 +67,8 @@ ack_is_of_row own now number (r ∷ rs) a (inr behind) =
 
 pub chosen_ack_is_of_row : (m : State) (now : ℕ) (a : OrderAck) → In a (acks_chosen m now) → IsOfInRow m.ins a
 chosen_ack_is_of_row m now a inside =
-    let found = ack_is_of_row m.identity.guid now m.next_express (take 64 (owing m.ins)) a inside in
-    let owes = in_take_from 64 found.receiving (owing m.ins) found.inside in
+    let found = ack_is_of_row m.identity.guid now m.next_express (take (most m) (owing m.ins)) a inside in
+    let owes = in_take_from (most m) found.receiving (owing m.ins) found.inside in
     record {
       receiving = found.receiving;
       inside = (in_filter_from (λ (r : Receiving). r.owes) found.receiving m.ins owes).0;
@@ -67,52 +76,102 @@ chosen_ack_is_of_row m now a inside =
       number = found.number;
     }
 
--- Which packets are posted.
+-- What the packets say that are posted.
 
--- acknowledgements and messages as packets, and as they are sent
-abbrev pub packets_of : List OrderAck → List Transfer → List Packet
-packets_of acks transfers = map (λ a. packet.OrderAck a) acks ++ map (λ t. packet.Transfer t) transfers
+-- packets of a manager say nothing but these acknowledgements and messages
+pub record OnlySays (which : Which) (acks : List OrderAck) (transfers : List Transfer) (packets : List Posted) : Type 0 where
+  pub sender : (p : Posted) → In p packets → p.sender ≡ which
+  pub transfer : (p : Posted) (t : Transfer) → In p packets → said_of p.packet ≡ Some (said.Transfer t) → In t transfers
+  pub ack : (p : Posted) (a : OrderAck) → In p packets → said_of p.packet ≡ Some (said.OrderAck a) → In a acks
 
-abbrev pub sent_by : Which → List OrderAck → List Transfer → List Posted
-sent_by which acks transfers = map (posted_by which) (packets_of acks transfers)
+-- what a stamped packet says was to be said
+stamped_says : (to : Guid) (s : one_end.State) (xs : List Said) (p : Packet) → In p (packets_of to s xs)
+    → (x : Said) × In x xs × (said_of p ≡ Some x)
+stamped_says to s [] p inside = absurd inside
+stamped_says to s (x ∷ xs) p (inl is) = (x, inl refl, ap said_of (sym is))
+stamped_says to s (x ∷ xs) p (inr behind) = let found = stamped_says to (stamped Plain s).1 xs p behind in (found.0, inr found.1, found.2)
 
-abbrev transfer_in : Packet → Option Transfer
-transfer_in (packet.Transfer t) = Some t
-transfer_in _ = None
+-- a session acknowledgement says nothing
+alone_says_nothing : (s : one_end.State) (xs : List Said) (p : Packet) → In p (acks_alone s xs) → said_of p ≡ None
+alone_says_nothing s (x ∷ xs) p inside = absurd inside
+alone_says_nothing s [] p inside = at (owes_ack s) inside
+  where
+    at : (b : Bool) → In p (cond b (packet.Ack (stamped Ack s).0 ∷ []) []) → said_of p ≡ None
+    at true (inl is) = ap said_of (sym is)
+    at true (inr none) = absurd none
+    at false none = absurd none
 
-abbrev ack_in : Packet → Option OrderAck
-ack_in (packet.OrderAck a) = Some a
-ack_in _ = None
+packets_say : (to : Guid) (s : one_end.State) (xs : List Said) (p : Packet) (x : Said) → In p (packets_for to s xs) → said_of p ≡ Some x → In x xs
+packets_say to s xs p x inside is = elim (in_either p (packets_of to s xs) (acks_alone s xs) inside) [
+  | inl says ↦ let found = stamped_says to s xs p says in subst (λ y. In y xs) (some_is found.0 x (sym found.2 ∙ is)) found.1
+  | inr alone ↦ absurd (none_is_not x (sym (alone_says_nothing s xs p alone) ∙ is))
+]
 
-module _ (which : Which) (acks : List OrderAck) (transfers : List Transfer) (p : Posted)
-    (inside : In p (sent_by which acks transfers)) where
-  pub posted_sender : p.sender ≡ which
-  posted_sender =
-      let found = in_map_from (posted_by which) p (packets_of acks transfers) inside in
-      ap (λ (q : Posted). q.sender) (sym found.2)
+abbrev transfer_in : Said → Option Transfer
+transfer_in (said.Transfer t) = Some t
+transfer_in (said.OrderAck a) = None
 
-  posted_either : ((a : OrderAck) × In a acks × (packet.OrderAck a ≡ p.packet)) ⊎ ((t : Transfer) × In t transfers × (packet.Transfer t ≡ p.packet))
-  posted_either = at (in_either found.0 (map (λ a. packet.OrderAck a) acks) (map (λ t. packet.Transfer t) transfers) found.1)
-    where
-      found : (q : Packet) × In q (packets_of acks transfers) × (posted_by which q ≡ p)
-      found = in_map_from (posted_by which) p (packets_of acks transfers) inside
+abbrev ack_in : Said → Option OrderAck
+ack_in (said.Transfer t) = None
+ack_in (said.OrderAck a) = Some a
 
-      says : found.0 ≡ p.packet
-      says = ap (λ (q : Posted). q.packet) found.2
+module _ (acks : List OrderAck) (transfers : List Transfer) where
+  abbrev saids : List Said
+  saids = map (λ a. said.OrderAck a) acks ++ map (λ t. said.Transfer t) transfers
 
-      at : In found.0 (map (λ a. packet.OrderAck a) acks) ⊎ In found.0 (map (λ t. packet.Transfer t) transfers)
-          → ((a : OrderAck) × In a acks × (packet.OrderAck a ≡ p.packet)) ⊎ ((t : Transfer) × In t transfers × (packet.Transfer t ≡ p.packet))
-      at (inl h) = let f = in_map_from (λ (a : OrderAck). packet.OrderAck a) found.0 acks h in inl (f.0, f.1, f.2 ∙ says)
-      at (inr h) = let f = in_map_from (λ (t : Transfer). packet.Transfer t) found.0 transfers h in inr (f.0, f.1, f.2 ∙ says)
+  transfer_among : (t : Transfer) → In (said.Transfer t) saids → In t transfers
+  transfer_among t inside =
+      elim (in_either (said.Transfer t) (map (λ a. said.OrderAck a) acks) (map (λ t. said.Transfer t) transfers) inside) [
+        | inl h ↦
+            let found = in_map_from (λ (a : OrderAck). said.OrderAck a) (said.Transfer t) acks h in
+            absurd (none_is_not t (ap transfer_in found.2))
+        | inr h ↦
+            let found = in_map_from (λ (u : Transfer). said.Transfer u) (said.Transfer t) transfers h in
+            subst (λ u. In u transfers) (some_is found.0 t (ap transfer_in found.2)) found.1
+      ]
 
-  pub posted_transfer : (t : Transfer) → p.packet ≡ packet.Transfer t → In t transfers
-  posted_transfer t is = elim posted_either [
-    | inl h ↦ absurd (none_is_not t (ap transfer_in (h.2 ∙ is)))
-    | inr h ↦ subst (λ u. In u transfers) (some_is h.0 t (ap transfer_in (h.2 ∙ is))) h.1
-  ]
+  ack_among : (a : OrderAck) → In (said.OrderAck a) saids → In a acks
+  ack_among a inside =
+      elim (in_either (said.OrderAck a) (map (λ a. said.OrderAck a) acks) (map (λ t. said.Transfer t) transfers) inside) [
+        | inl h ↦
+            let found = in_map_from (λ (b : OrderAck). said.OrderAck b) (said.OrderAck a) acks h in
+            subst (λ b. In b acks) (some_is found.0 a (ap ack_in found.2)) found.1
+        | inr h ↦
+            let found = in_map_from (λ (u : Transfer). said.Transfer u) (said.OrderAck a) transfers h in
+            absurd (none_is_not a (ap ack_in found.2))
+      ]
 
-  pub posted_ack : (a : OrderAck) → p.packet ≡ packet.OrderAck a → In a acks
-  posted_ack a is = elim posted_either [
-    | inl h ↦ subst (λ b. In b acks) (some_is h.0 a (ap ack_in (h.2 ∙ is))) h.1
-    | inr h ↦ absurd (none_is_not a (ap ack_in (h.2 ∙ is)))
-  ]
+sender_is : (which : Which) (packets : List Packet) (p : Posted) → In p (map (posted_by which) packets) → p.sender ≡ which
+sender_is which packets p inside = ap (λ (q : Posted). q.sender) (sym (in_map_from (posted_by which) p packets inside).2)
+
+-- what is chosen
+pub chosen_says : (which : Which) (m : State) (now : ℕ) (s : one_end.State)
+    → OnlySays which (acks_chosen m now) (transfers_chosen m now) (map (posted_by which) (packets_for m.peer.guid s (said_chosen m now)))
+chosen_says which m now s = record {
+  sender = sender_is which (packets_for m.peer.guid s (said_chosen m now));
+  transfer = λ p t inside is. transfer_among (acks_chosen m now) (transfers_chosen m now) t (among p (said.Transfer t) inside is);
+  ack = λ p a inside is. ack_among (acks_chosen m now) (transfers_chosen m now) a (among p (said.OrderAck a) inside is);
+}
+  where
+    among : (p : Posted) (x : Said) → In p (map (posted_by which) (packets_for m.peer.guid s (said_chosen m now))) → said_of p.packet ≡ Some x
+        → In x (said_chosen m now)
+    among p x inside is =
+        let found = in_map_from (posted_by which) p (packets_for m.peer.guid s (said_chosen m now)) inside in
+        packets_say m.peer.guid s (said_chosen m now) found.0 x found.1 (ap (λ (q : Posted). said_of q.packet) found.2 ∙ is)
+
+-- a set-up packet says nothing
+part_says_nothing : (part : Internal) → said_of (set_up_packet part) ≡ None
+part_says_nothing (internal.Establish e) = refl
+part_says_nothing (internal.Parameters p) = refl
+part_says_nothing (internal.Ack head) = refl
+
+pub set_up_says : (which : Which) (part : Internal) → OnlySays which [] [] (map (posted_by which) (set_up_packet part ∷ []))
+set_up_says which part = record {
+  sender = sender_is which (set_up_packet part ∷ []);
+  transfer = λ p t inside is. nothing p (said.Transfer t) inside is;
+  ack = λ p a inside is. nothing p (said.OrderAck a) inside is;
+}
+  where
+    nothing : (p : Posted) (x : Said) → In p (map (posted_by which) (set_up_packet part ∷ [])) → said_of p.packet ≡ Some x → ⊥
+    nothing p x (inl here) is = none_is_not x (sym (part_says_nothing part) ∙ ap (λ (q : Posted). said_of q.packet) here ∙ is)
+    nothing p x (inr none) is = none

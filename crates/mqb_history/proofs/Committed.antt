@@ -13,13 +13,13 @@ use Rattle.mqb_streams.specs.World as stream
 use Rattle.mqb_streams.specs.Words.{In, count}
 use Rattle.mqb_streams.specs.Steps.{Commit, happens}
 use Rattle.mqb_machine.specs.declared.packets.OrderAck.{OrderAck}
-use Rattle.mqb_machine.specs.declared.packets.Packet.TheVariants as packet
+use Rattle.mqb_machine.specs.declared.packets.Said.TheVariants as said
 use Rattle.mqb_machine.specs.Arriving.{in_row}
 use Rattle.mqb_machine.specs.Committing.{joined, empty_row}
 use Rattle.mqb_machine.specs.Machine.{Machine, Posted, state_of}
 use Rattle.mqb_history.specs.Channels.{channel_of, guid_of, joined_in, judged_in}
 use Rattle.mqb_history.specs.Channels as channels
-use Rattle.mqb_history.specs.Shows.{row_to, standing, ShowsRows, ShowsPackets}
+use Rattle.mqb_history.specs.Shows.{row_to, said_of, standing, ShowsRows, ShowsPackets}
 use Rattle.mqb_history.proofs.Sound.{Linked, more, kept_invariant}
 use Rattle.mqb_history.proofs.Rows.{some_is}
 use Rattle.mqb_history.proofs.Staying.{PacketsFrom, destination_stays, packets_stay}
@@ -46,8 +46,8 @@ pub record Commits (m n : Machine) (which : Which) (d : QueueName) (sequence : S
   pub judged : filter_map (judged_in (channel_of which d)) n.ledger ≡ filter_map (judged_in (channel_of which d)) m.ledger
   pub packets : PacketsFrom m n
   pub connected : is_some n.present ≡ is_some m.present
-  pub fresh : (p : Posted) (a : OrderAck) → In p (standing n.present n.posted) → p.sender ≡ other which → p.packet ≡ packet.OrderAck a
-      → sequence ≡ a.sequence → ⊥
+  pub fresh : (p : Posted) (a : OrderAck) → In p (standing n.present n.posted) → p.sender ≡ other which
+      → said_of p.packet ≡ Some (said.OrderAck a) → sequence ≡ a.sequence → ⊥
 
 next_line : (r : Row) (cs : List Commitment) (message : Message) → count cs r.sequence ≡ r.committed
     → reverse (map channels.joined cs) ++ joined_next r message ∷ [] ≡ reverse (map channels.joined (next_of r cs message ∷ cs))
@@ -59,7 +59,8 @@ next_line r cs message counted =
 -- what was acknowledged of a row is acknowledged of the row with one message more
 packets_joined : (which : Which) (d : QueueName) (o : Option Row) (sequence : SequenceId) (message : Message) (packets : List Posted)
     (connection : ℕ) (transfers : List stream.Transfer) (order_acks : List stream.OrderAck)
-    → ((p : Posted) (a : OrderAck) → In p packets → p.sender ≡ other which → p.packet ≡ packet.OrderAck a → sequence ≡ a.sequence → ⊥)
+    → ((p : Posted) (a : OrderAck) → In p packets → p.sender ≡ other which → said_of p.packet ≡ Some (said.OrderAck a)
+    → sequence ≡ a.sequence → ⊥)
     → ShowsPackets which d o packets connection transfers order_acks
     → ShowsPackets which d (Some (joined (unwrap_or o (empty_row d sequence)) message)) packets connection transfers order_acks
 packets_joined which d (Some r) sequence message packets connection transfers order_acks fresh shown = record {

@@ -1,7 +1,10 @@
 -- A commit keeps the machine sound.
-use Rattle.std.proofs.Common.{◌≡◌, ℕ, ◌+◌, ◌≤◌, ◌<◌, ◌⊎◌, inl, inr, Bool, true, false, cond, [], ◌∷◌, ◌++◌, Option, Some, None, refl, sym, ap, subst, ◌∙◌, arith}
-use Rattle.std.specs.Prelude.{IfSome, is_some, nat_lt}
-use Rattle.std.specs.List.{filter_map}
+use Rattle.std.proofs.Common.{◌≡◌, ℕ, ◌+◌, ◌≤◌, ◌<◌, ◌⊎◌, inl, inr, Bool, true, false, cond, List, [], ◌∷◌, ◌++◌, Option, Some, None, refl, sym, ap, subst, ◌∙◌, arith}
+use Rattle.std.specs.Prelude.{IfSome, is_some, length, nat_lt}
+use Rattle.std.specs.List.{filter_map, list_any}
+use Rattle.std.specs.Option.{option_or}
+use Rattle.std.proofs.lemmas.List.{append_assoc}
+use Rattle.mqb_base.specs.declared.draft.Op.{Op}
 use Rattle.mqb_base.specs.declared.draft.Parts.{Parts}
 use Rattle.mqb_base.specs.declared.ids.Identity.{Identity}
 use Rattle.mqb_base.specs.declared.ids.SequenceId.{SequenceId}
@@ -19,14 +22,14 @@ use Rattle.mqb_script.specs.declared.replies.Reply.TheVariants as reply
 use Rattle.mqb_script.specs.Managers.{other}
 use Rattle.mqb_streams.specs.Words.{In}
 use Rattle.mqb_machine.specs.declared.packets.OrderAck.{OrderAck}
-use Rattle.mqb_machine.specs.declared.packets.Packet.TheVariants as packet
+use Rattle.mqb_machine.specs.declared.packets.Said.TheVariants as said
 use Rattle.mqb_machine.specs.Arriving.{in_row}
-use Rattle.mqb_machine.specs.Calls.{Call, Commit, apply, lines_of, made, refused, unless}
-use Rattle.mqb_machine.specs.Committing.{stream_at, message_of, join, new_sequence, is_spent, carried_size, commit_refusal}
+use Rattle.mqb_machine.specs.Calls.{Call, Commit, commit, commit_sends, committed_lines, lines_of, refused, unless}
+use Rattle.mqb_machine.specs.Committing.{stream_at, message_of, join, new_sequence, is_spent, committed_one, committed_all, sends_in, spent_from, is_too_large, whole_refusal, commit_refusal}
 use Rattle.mqb_machine.specs.State.{State, Sending}
-use Rattle.mqb_machine.specs.Machine.{Machine, Posted, state_of, called, lines_in, commit_send}
+use Rattle.mqb_machine.specs.Machine.{Machine, Posted, state_of, called, lines_in}
 use Rattle.mqb_history.specs.Channels.{channel_of, guid_of, joined_in, judged_in}
-use Rattle.mqb_history.specs.Shows.{row_to, standing}
+use Rattle.mqb_history.specs.Shows.{row_to, said_of, standing}
 use Rattle.mqb_history.proofs.Sound.{AcksBegun, Differ, IsOrderly, IsOrderlyState, IsSound, Linked, Ordered}
 use Rattle.mqb_history.proofs.Sides.{other_other, one_or_other}
 use Rattle.mqb_history.proofs.Rows.{same_name_is, same_name_refl, none_is_not, stream_at_some}
@@ -67,7 +70,7 @@ joins m now message (Some k) is = record {
 }
 
 commit_joins : (m : State) (now : ℕ) (parts : Parts)
-    → CommitsTo m (apply m (Commit now parts)) parts.destination (new_sequence m now) (message_of m now parts)
+    → CommitsTo m (committed_one m now parts) parts.destination (new_sequence m now) (message_of m now parts)
 commit_joins m now parts =
     let j = joins m now (message_of m now parts) (stream_at m.outs parts.destination) refl in
     record { identity = j.identity; outs = j.outs; ins = j.ins; grows = j.grows; begins = j.begins }
@@ -130,10 +133,10 @@ module _ (m n : Machine) (which : Which) (d : QueueName) (sequence : SequenceId)
   destination_is = row_or_empty_destination (state_of m which).outs d sequence
 
   none_acknowledged : AcksBegun m → (p : Posted) (a : OrderAck) → In p (standing n.present n.posted) → p.sender ≡ other which
-      → p.packet ≡ packet.OrderAck a → sequence ≡ a.sequence → ⊥
+      → said_of p.packet ≡ Some (said.OrderAck a) → sequence ≡ a.sequence → ⊥
   none_acknowledged begun p a inside by is same =
       let f = from_before p inside in
-      let below = begun which f.0 a f.1 (sym f.2 ∙ by) (sym f.3 ∙ is) in
+      let below = begun which f.0 a f.1 (sym f.2 ∙ by) (ap said_of (sym f.3) ∙ is) in
       let ordinal = ap (λ (x : SequenceId). x.ordinal) same in
       let next = k.next in
       absurd (omega (arith, below, ordinal, next))
@@ -226,13 +229,12 @@ module _ (m n : Machine) (which : Which) (d : QueueName) (sequence : SequenceId)
 
 -- ---- the call
 
-abbrev committing : Machine → Which → ℕ → Parts → Call
-committing m which now parts =
-    made (state_of m which) (Commit now parts) (reply.Committed (lines_of (state_of m which) (Commit now parts)))
+abbrev committing : Machine → Which → ℕ → List Parts → Machine
+committing m which now sends = (called m which (commit_sends (state_of m which) now sends)).after
 
 -- the line is that of the row which the message joins
 line_is : (which : Which) (a : State) (now : ℕ) (parts : Parts) → IsOrderlyState which a
-    → lines_of a (Commit now parts)
+    → lines_of a (Commit now (parts ∷ []))
     ≡ line_of which (row_or_empty a.outs parts.destination (new_sequence a now)) (message_of a now parts) ∷ []
 line_is which a now parts o =
     ap (λ (r : Row). line.Committed (record { source = a.identity.guid; destination = r.destination; sequence = r.sequence })
@@ -245,7 +247,7 @@ line_is which a now parts o =
     (ap (λ (i : Identity). i.guid) o.identity)
 
 commits_in : (m : Machine) (which : Which) (now : ℕ) (parts : Parts) → IsOrderlyState which (state_of m which)
-    → CommitsIn m (called m which (committing m which now parts)).after which parts.destination (new_sequence (state_of m which) now)
+    → CommitsIn m (committing m which now (parts ∷ [])) which parts.destination (new_sequence (state_of m which) now)
     (message_of (state_of m which) now parts)
 commits_in m Alpha now parts o = record {
   own = commit_joins m.alpha now parts;
@@ -268,28 +270,64 @@ commits_in m Beta now parts o = record {
   next = refl;
 }
 
--- a refusal has no lines
-refusals_have_none : (spent numbers large : Bool)
-    → IfSome (cond spent (Some (reply.SequenceSpent 0)) (cond numbers (Some reply.NumbersSpent) (cond large (Some reply.TooLarge) None)))
-    (λ r. lines_in r ≡ [])
-refusals_have_none true numbers large = refl
-refusals_have_none false true large = refl
-refusals_have_none false false true = refl
-refusals_have_none false false false = tt
+one_sound : (m : Machine) (which : Which) (now : ℕ) (p : Parts) → IsSound m → IsSound (committing m which now (p ∷ []))
+one_sound m which now p s = commits_sound m (committing m which now (p ∷ [])) which p.destination (new_sequence (state_of m which) now)
+    (message_of (state_of m which) now p) (commits_in m which now p (s.orderly.states which)) s
 
-unless_sound : (m : Machine) (which : Which) (call : Call) (refusal : Option Reply) → IfSome refusal (λ r. lines_in r ≡ []) → IsSound m
+-- the first send joins its stream, and the others join behind it
+behind_one : (m : Machine) (which : Which) (now : ℕ) (p : Parts) (ps : List Parts)
+    → committing (committing m which now (p ∷ [])) which now ps ≡ committing m which now (p ∷ ps)
+behind_one m Alpha now p ps = ap (λ (lines : List Line). record m { alpha = committed_all m.alpha now (p ∷ ps); ledger = lines })
+    (append_assoc m.ledger (committed_lines m.alpha now (p ∷ [])) (committed_lines (committed_one m.alpha now p) now ps))
+behind_one m Beta now p ps = ap (λ (lines : List Line). record m { beta = committed_all m.beta now (p ∷ ps); ledger = lines })
+    (append_assoc m.ledger (committed_lines m.beta now (p ∷ [])) (committed_lines (committed_one m.beta now p) now ps))
+
+sends_sound : (m : Machine) (which : Which) (now : ℕ) (sends : List Parts) → IsSound m → IsSound (committing m which now sends)
+sends_sound m which now [] s =
+    quiet_call m which (commit_sends (state_of m which) now []) (keeps_itself (state_of m which)) refl s
+sends_sound m which now (p ∷ ps) s =
+    subst IsSound (behind_one m which now p ps) (sends_sound (committing m which now (p ∷ [])) which now ps (one_sound m which now p s))
+
+-- a refusal has no lines
+abbrev pub NoLines : Option Reply → Type 0
+NoLines refusal = IfSome refusal (λ r. lines_in r ≡ [])
+
+spent_has_none : (i : ℕ) (m : State) (now : ℕ) (sends : List Parts) → NoLines (spent_from i m now sends)
+spent_has_none i m now [] = tt
+spent_has_none i m now (p ∷ ps) = at (is_spent m (stream_at m.outs p.destination)) (spent_has_none (i + 1) (committed_one m now p) now ps)
+  where
+    at : (spent : Bool) → NoLines (spent_from (i + 1) (committed_one m now p) now ps)
+        → NoLines (cond spent (Some (reply.SequenceSpent i)) (spent_from (i + 1) (committed_one m now p) now ps))
+    at true rest = refl
+    at false rest = rest
+
+whole_has_none : (numbers large : Bool) → NoLines (cond numbers (Some reply.NumbersSpent) (cond large (Some reply.TooLarge) None))
+whole_has_none true large = refl
+whole_has_none false true = refl
+whole_has_none false false = tt
+
+either_has_none : (first rest : Option Reply) → NoLines first → NoLines rest → NoLines (option_or first rest)
+either_has_none None rest none_first none_rest = none_rest
+either_has_none (Some r) rest none_first none_rest = none_first
+
+pub refusals_have_none : (m : State) (now : ℕ) (ops : List Op) → NoLines (commit_refusal m now ops)
+refusals_have_none m now ops = at (nat_lt 64 (length ops))
+    (either_has_none (spent_from 0 m now (sends_in ops)) (whole_refusal m now (sends_in ops)) (spent_has_none 0 m now (sends_in ops))
+    (whole_has_none (nat_lt 0x80000000 (m.next_number + length (sends_in ops))) (list_any (is_too_large m now) (sends_in ops))))
+  where
+    at : (many : Bool) → NoLines (option_or (spent_from 0 m now (sends_in ops)) (whole_refusal m now (sends_in ops)))
+        → NoLines (cond many (Some reply.TooManyOps) (option_or (spent_from 0 m now (sends_in ops)) (whole_refusal m now (sends_in ops))))
+    at true rest = refl
+    at false rest = rest
+
+unless_sound : (m : Machine) (which : Which) (call : Call) (refusal : Option Reply) → NoLines refusal → IsSound m
     → IsSound (called m which call).after → IsSound (called m which (unless refusal (state_of m which) call)).after
 unless_sound m which call None no_lines s after = after
 unless_sound m which call (Some r) no_lines s after =
     quiet_call m which (refused (state_of m which) r) (keeps_itself (state_of m which)) no_lines s
 
-pub commit_sound : (m : Machine) (which : Which) (now : ℕ) (parts : Option Parts) → IsSound m → IsSound (commit_send m which now parts).after
-commit_sound m which now None s = s
-commit_sound m which now (Some parts) s =
-    let state = state_of m which in
-    let message = message_of state now parts in
-    unless_sound m which (committing m which now parts) (commit_refusal state now parts)
-    (refusals_have_none (is_spent state (stream_at state.outs parts.destination)) (nat_lt 0x7FFFFFFF state.next_number)
-    (nat_lt 4194304 (carried_size message))) s
-    (commits_sound m (called m which (committing m which now parts)).after which parts.destination (new_sequence state now) message
-    (commits_in m which now parts (s.orderly.states which)) s)
+pub commit_sound : (m : Machine) (which : Which) (now : ℕ) (ops : List Op) → IsSound m
+    → IsSound (called m which (commit (state_of m which) now ops)).after
+commit_sound m which now ops s =
+    unless_sound m which (commit_sends (state_of m which) now (sends_in ops)) (commit_refusal (state_of m which) now ops)
+    (refusals_have_none (state_of m which) now ops) s (sends_sound m which now (sends_in ops) s)

@@ -17,18 +17,16 @@ use Rattle.mqb_streams.proofs.Members.{any_from_In}
 use Rattle.mqb_machine.specs.declared.packets.OrderAck.{OrderAck}
 use Rattle.mqb_machine.specs.declared.packets.Transfer.{Transfer}
 use Rattle.mqb_machine.specs.Arriving.{in_row}
-use Rattle.mqb_machine.specs.Machine.{Machine, state_of}
-use Rattle.mqb_machine.specs.Pumping.{acks_chosen, transfers_chosen}
+use Rattle.mqb_machine.specs.Machine.{Machine, Posted, state_of}
 use Rattle.mqb_history.specs.Channels.{channel_of, guid_of}
 use Rattle.mqb_history.specs.Shows.{row_to, standing, acked_as, Shows}
 use Rattle.mqb_history.proofs.Sound.{AcksBegun, IsSound, Linked, Reached, more}
 use Rattle.mqb_history.proofs.Sides.{other_other}
 use Rattle.mqb_history.proofs.Among.{in_either}
 use Rattle.mqb_history.proofs.Rows.{none_is_not, some_is}
-use Rattle.mqb_history.proofs.Choosing.{IsOfInRow, sent_by, chosen_ack_is_of_row, posted_sender, posted_ack}
+use Rattle.mqb_history.proofs.Choosing.{IsOfInRow, OnlySays}
 use Rattle.mqb_history.proofs.Owing.{Pair, ack_is_newest, ack_is_of_sending, position_of_ack}
 use Rattle.mqb_history.proofs.Seeing.{Sees, shows_seen, packets_of_destination, not_the_other}
-use Rattle.mqb_history.proofs.Pumped.{after_pump, pumped_packets, standing_after, next_ordinal_stays}
 
 -- The step.
 
@@ -88,38 +86,35 @@ pair_of m which sound = record {
 }
 
 -- what is acknowledged is of a sequence that has begun
-chosen_ack_begun : (m : Machine) (which : Which) (now : ℕ) → IsSound m → (a : OrderAck) → In a (acks_chosen (state_of m which) now)
+chosen_ack_begun : (m : Machine) (which : Which) → IsSound m → (a : OrderAck) → IsOfInRow (state_of m which).ins a
     → a.sequence.ordinal < (state_of m (other which)).next_ordinal
-chosen_ack_begun m which now sound a inside =
-    let found = ack_is_of_sending (other which) (state_of m (other which)).outs (state_of m which).ins (pair_of m which sound) a
-    (chosen_ack_is_of_row (state_of m which) now a inside) in
+chosen_ack_begun m which sound a of_row =
+    let found = ack_is_of_sending (other which) (state_of m (other which)).outs (state_of m which).ins (pair_of m which sound) a of_row in
     subst (λ (s : SequenceId). s.ordinal < (state_of m (other which)).next_ordinal) found.2
     ((sound.orderly.states (other which)).below found.0 found.1)
 
-pub pumped_acks_begun : (m : Machine) (which : Which) (now : ℕ) → IsSound m → is_some m.present ≡ true → AcksBegun (after_pump m which now)
-pumped_acks_begun m which now sound connected w p a inside sender is =
-    subst (λ k. a.sequence.ordinal < k) (sym (next_ordinal_stays m which now w))
-    (at (in_either p (standing m.present m.posted) (pumped_packets m which now) (subst (λ ps. In p ps) between inside)))
+pub more_acks_begun : (m n : Machine) (which : Which) (packets : List Posted) (acks : List OrderAck) (chosen : List Transfer) → IsSound m
+    → standing n.present n.posted ≡ standing m.present m.posted ++ packets
+    → ((w : Which) → (state_of n w).next_ordinal ≡ (state_of m w).next_ordinal)
+    → OnlySays which acks chosen packets → ((a : OrderAck) → In a acks → IsOfInRow (state_of m which).ins a) → AcksBegun n
+more_acks_begun m n which packets acks chosen sound between ordinals only of_rows w p a inside sender is =
+    subst (λ k. a.sequence.ordinal < k) (sym (ordinals w))
+    (at (in_either p (standing m.present m.posted) packets (subst (λ ps. In p ps) between inside)))
   where
-    between : standing (after_pump m which now).present (after_pump m which now).posted ≡ standing m.present m.posted ++ pumped_packets m which now
-    between = standing_after m which now sound.orderly connected
-
-    at : In p (standing m.present m.posted) ⊎ In p (pumped_packets m which now) → a.sequence.ordinal < (state_of m w).next_ordinal
+    at : In p (standing m.present m.posted) ⊎ In p packets → a.sequence.ordinal < (state_of m w).next_ordinal
     at (inl before) = sound.orderly.acks w p a before sender is
     at (inr after) =
-        let acks = acks_chosen (state_of m which) now in
-        let chosen = transfers_chosen (state_of m which) now in
-        let of_it : which ≡ other w = sym (posted_sender which acks chosen p after) ∙ sender in
+        let of_it : which ≡ other w = sym (only.sender p after) ∙ sender in
         let to : other which ≡ w = ap (λ v. other v) of_it ∙ other_other w in
         subst (λ v. a.sequence.ordinal < (state_of m v).next_ordinal) to
-        (chosen_ack_begun m which now sound a (posted_ack which acks chosen p after a is))
+        (chosen_ack_begun m which sound a (of_rows a (only.ack p a after is)))
 
 -- A channel to the manager that sends: what was decided last is acknowledged where it is owed.
 module _ (m : Machine) (which : Which) (now : ℕ) (d : QueueName) (sound : IsSound m) (connected : is_some m.present ≡ true)
-    (n : Machine) (acks : List OrderAck) (chosen : List Transfer)
+    (n : Machine) (packets : List Posted) (acks : List OrderAck) (chosen : List Transfer) (only : OnlySays which acks chosen packets)
     (of_rows : (a : OrderAck) → In a acks → IsOfInRow (state_of m which).ins a)
     (sees : Sees n (other which) d m.ledger (row_to (state_of m (other which)).outs d)
-    (in_row (state_of m which).ins (guid_of (other which)) d) (standing m.present m.posted ++ sent_by which acks chosen)) where
+    (in_row (state_of m which).ins (guid_of (other which)) d) (standing m.present m.posted ++ packets)) where
   abbrev there : Linked m (other which) d
   there = sound.linked (other which) d
 
@@ -128,10 +123,10 @@ module _ (m : Machine) (which : Which) (now : ℕ) (d : QueueName) (sound : IsSo
       → Shows n (other which) d (record there.world { order_acks = a.order_acks })
   destination_shown a =
       shows_seen n (other which) d m.ledger (row_to (state_of m (other which)).outs d) (in_row (state_of m which).ins (guid_of (other which)) d)
-      (standing m.present m.posted ++ sent_by which acks chosen) sees (record there.world { order_acks = a.order_acks })
+      (standing m.present m.posted ++ packets) sees (record there.world { order_acks = a.order_acks })
       there.shown.channel there.shown.at_source (record { lines = there.shown.at_destination.lines; row = into_of m which d there })
-      (packets_of_destination d (standing m.present m.posted) acks chosen there.world.connection there.world.transfers there.world.order_acks
-      (other which) which (row_to (state_of m (other which)).outs d) a.order_acks there.shown.between (not_the_other which) a.stay each)
+      (packets_of_destination d (standing m.present m.posted) packets acks chosen there.world.connection there.world.transfers there.world.order_acks
+      (other which) which (row_to (state_of m (other which)).outs d) a.order_acks only there.shown.between (not_the_other which) a.stay each)
       (there.shown.connected ∙ connected) there.shown.expired
     where
       each : (b : OrderAck) (s : Row) → In b acks → row_to (state_of m (other which)).outs d ≡ Some s → s.sequence ≡ b.sequence

@@ -21,6 +21,7 @@ pub mod Joining
 pub mod Lines
 pub mod Committed
 pub mod Committing
+pub mod Flowing
 pub mod Runs
 pub mod Among
 pub mod Previous

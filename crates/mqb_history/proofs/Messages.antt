@@ -16,13 +16,13 @@ use Rattle.mqb_streams.specs.World.{Channel, Commitment, StreamWorld}
 use Rattle.mqb_streams.specs.World as stream
 use Rattle.mqb_streams.specs.Words.{In}
 use Rattle.mqb_streams.specs.Steps.{Arrive, decision, decided_after, verdict, happens, May}
-use Rattle.mqb_machine.specs.declared.packets.Packet.TheVariants as packet
+use Rattle.mqb_machine.specs.declared.packets.Said.TheVariants as said
 use Rattle.mqb_machine.specs.declared.packets.Transfer.{Transfer}
 use Rattle.mqb_machine.specs.State.{State}
 use Rattle.mqb_machine.specs.Arriving.{in_row}
 use Rattle.mqb_machine.specs.Machine.{Machine, Posted, state_of}
 use Rattle.mqb_history.specs.Channels.{channel_of, guid_of, joined_in}
-use Rattle.mqb_history.specs.Shows.{row_to, ShowsRows, ShowsDestination, ShowsPackets, standing, sent_as}
+use Rattle.mqb_history.specs.Shows.{row_to, ShowsRows, ShowsDestination, ShowsPackets, standing, sent_as, said_of}
 use Rattle.mqb_history.proofs.Sound.{more, kept_invariant, Linked}
 use Rattle.mqb_history.proofs.Changing.{changed, grown}
 
@@ -38,7 +38,7 @@ of_source c None committed offered acknowledged none x inside = absurd (subst (�
 of_source c (Some r) committed offered acknowledged shown x inside = shown.of_source x inside
 
 pub is_sent : (m : Machine) (which : Which) (p : Posted) (t : Transfer) (l : Linked m which t.message.destination)
-    → In p (standing m.present m.posted) → p.sender ≡ which → p.packet ≡ packet.Transfer t
+    → In p (standing m.present m.posted) → p.sender ≡ which → said_of p.packet ≡ Some (said.Transfer t)
     → IsSent (channel_of which t.message.destination) l.world t
 is_sent m which p t l inside sender is =
     let c = channel_of which t.message.destination in

@@ -15,14 +15,14 @@ use Rattle.mqb_streams.specs.Steps.{transfer}
 use Rattle.mqb_machine.specs.declared.packets.OrderAck.{OrderAck}
 use Rattle.mqb_machine.specs.declared.packets.Transfer.{Transfer}
 use Rattle.mqb_machine.specs.Arriving.{in_row}
-use Rattle.mqb_machine.specs.Machine.{Machine, state_of}
+use Rattle.mqb_machine.specs.Machine.{Machine, Posted, state_of}
 use Rattle.mqb_machine.specs.Pumping.{heads_of, greatest_of, head_of}
 use Rattle.mqb_history.specs.Channels.{channel_of, guid_of}
 use Rattle.mqb_history.specs.Shows.{row_to, standing, sent_as, ShowsRow, ShowsRows, ShowsSource, ShowsPackets, Shows}
 use Rattle.mqb_history.proofs.Sound.{IsSound, Linked}
 use Rattle.mqb_history.proofs.Among.{in_right, in_map}
 use Rattle.mqb_history.proofs.Rows.{none_is_not}
-use Rattle.mqb_history.proofs.Choosing.{IsOfRow, sent_by}
+use Rattle.mqb_history.proofs.Choosing.{IsOfRow, OnlySays}
 use Rattle.mqb_history.proofs.Carrying.{row_of_message, kept_of_destination, kept_of_head}
 use Rattle.mqb_history.proofs.Sending.{after_sends, chosen_of, row_sends, row_sent}
 use Rattle.mqb_history.proofs.Seeing.{Sees, shows_seen, packets_of_source}
@@ -30,21 +30,21 @@ use Rattle.mqb_history.proofs.Pumped.{offered_row, row_before}
 
 -- A channel from the manager that sends: the chosen messages of its row are offered and sent.
 module _ (m : Machine) (which : Which) (now : ℕ) (d : QueueName) (sound : IsSound m) (connected : is_some m.present ≡ true)
-    (n : Machine) (acks : List OrderAck) (chosen : List Transfer)
+    (n : Machine) (packets : List Posted) (acks : List OrderAck) (chosen : List Transfer) (only : OnlySays which acks chosen packets)
     (of_rows : (t : Transfer) → In t chosen → IsOfRow now (state_of m which).outs t)
     (sees : Sees n which d m.ledger (option_map (offered_row (heads_of chosen)) (row_to (state_of m which).outs d))
-    (in_row (state_of m (other which)).ins (guid_of which) d) (standing m.present m.posted ++ sent_by which acks chosen)) where
+    (in_row (state_of m (other which)).ins (guid_of which) d) (standing m.present m.posted ++ packets)) where
   abbrev before : Linked m which d
   before = sound.linked which d
 
   between : (transfers : List stream.Transfer) → ((t : stream.Transfer) → In t before.world.transfers → In t transfers)
       → ((t : Transfer) → In t chosen → t.message.destination ≡ d → (moment : ℕ) × In (sent_as t moment before.world.connection) transfers)
       → ShowsPackets which d (option_map (offered_row (heads_of chosen)) (row_to (state_of m which).outs d))
-      (standing m.present m.posted ++ sent_by which acks chosen) before.world.connection transfers before.world.order_acks
+      (standing m.present m.posted ++ packets) before.world.connection transfers before.world.order_acks
   between transfers stay each =
-      packets_of_source d (standing m.present m.posted) acks chosen before.world.connection before.world.transfers before.world.order_acks which
-      (row_to (state_of m which).outs d) (option_map (offered_row (heads_of chosen)) (row_to (state_of m which).outs d)) transfers
-      before.shown.between (row_before (heads_of chosen) (row_to (state_of m which).outs d)) stay each
+      packets_of_source d (standing m.present m.posted) packets acks chosen before.world.connection before.world.transfers before.world.order_acks
+      which (row_to (state_of m which).outs d) (option_map (offered_row (heads_of chosen)) (row_to (state_of m which).outs d)) transfers
+      only before.shown.between (row_before (heads_of chosen) (row_to (state_of m which).outs d)) stay each
 
   -- without a row there is none
   without_row : row_to (state_of m which).outs d ≡ None → Linked n which d
@@ -52,7 +52,7 @@ module _ (m : Machine) (which : Which) (now : ℕ) (d : QueueName) (sound : IsSo
     world = before.world;
     reached = before.reached;
     shown = shows_seen n which d m.ledger (option_map (offered_row (heads_of chosen)) (row_to (state_of m which).outs d))
-        (in_row (state_of m (other which)).ins (guid_of which) d) (standing m.present m.posted ++ sent_by which acks chosen) sees before.world
+        (in_row (state_of m (other which)).ins (guid_of which) d) (standing m.present m.posted ++ packets) sees before.world
         before.shown.channel
         (record {
           lines = before.shown.at_source.lines;
@@ -116,7 +116,7 @@ module _ (m : Machine) (which : Which) (now : ℕ) (d : QueueName) (sound : IsSo
         → Shows n which d (world_with marks)
     shown_with marks raised =
         shows_seen n which d m.ledger (option_map (offered_row (heads_of chosen)) (row_to (state_of m which).outs d))
-        (in_row (state_of m (other which)).ins (guid_of which) d) (standing m.present m.posted ++ sent_by which acks chosen) sees (world_with marks)
+        (in_row (state_of m (other which)).ins (guid_of which) d) (standing m.present m.posted ++ packets) sees (world_with marks)
         before.shown.channel (source_shown marks raised) before.shown.at_destination
         (between (world_with marks).transfers (λ t inside. in_right t (sent_with marks) before.world.transfers inside) (each_sent marks))
         (before.shown.connected ∙ connected) before.shown.expired

@@ -1,9 +1,10 @@
 -- What a pump leaves: the rows, the order of a machine, and what its channels see.
-use Rattle.std.proofs.Common.{◌≡◌, ℕ, ◌≤◌, ◌<◌, max, true, false, List, ◌++◌, length, Option, Some, None, refl, sym, ap, ◌∙◌, subst, arith, length-append}
+use Rattle.std.proofs.Common.{◌≡◌, ℕ, ◌≤◌, ◌<◌, max, true, false, List, [], ◌++◌, length, Option, Some, None, refl, sym, ap, ◌∙◌, subst, arith, length-append}
 use Rattle.std.specs.Prelude.{map, is_some, option_map, IfSome}
 use Rattle.std.proofs.lemmas.List.{drop-append-le}
 use Rattle.std.proofs.lemmas.Bool.{true≢false}
 use Rattle.mqb_base.specs.declared.heads.TxHead.{TxHead}
+use Rattle.mqb_base.specs.declared.ids.Guid.{Guid}
 use Rattle.mqb_base.specs.declared.queue_names.QueueName.{QueueName}
 use Rattle.mqb_base.specs.Same.{same_name}
 use Rattle.mqb_orders.specs.declared.rows.InRow.{InRow}
@@ -15,8 +16,9 @@ use Rattle.mqb_streams.specs.Words.{In}
 use Rattle.mqb_machine.specs.declared.receiving.Receiving.{Receiving}
 use Rattle.mqb_machine.specs.State.{State, Sending}
 use Rattle.mqb_machine.specs.Arriving.{in_row}
-use Rattle.mqb_machine.specs.Calls.{pumped}
-use Rattle.mqb_machine.specs.Machine.{Machine, Posted, state_of, pump_from}
+use Rattle.mqb_session.specs.State as one_end
+use Rattle.mqb_machine.specs.Calls.{Pump, linked, pumped}
+use Rattle.mqb_machine.specs.Machine.{Machine, Posted, posted_by, state_of, pump_from}
 use Rattle.mqb_machine.specs.Pumping.{acks_chosen, transfers_chosen, heads_of, greatest_of, offered_on, placed_on}
 use Rattle.mqb_history.specs.Channels.{guid_of}
 use Rattle.mqb_history.specs.Shows.{row_to, standing}
@@ -25,7 +27,7 @@ use Rattle.std.proofs.lemmas.Iterator.Adapters.{option_map_id}
 use Rattle.mqb_history.proofs.Ordering.{ordered_map}
 use Rattle.mqb_history.proofs.Among.{in_map_from}
 use Rattle.mqb_history.proofs.Rows.{none_is_not, some_is, row_to_map}
-use Rattle.mqb_history.proofs.Choosing.{sent_by}
+use Rattle.mqb_history.proofs.Quiet.{linked_keeps, orderly_keeps}
 use Rattle.mqb_history.proofs.Seeing.{Sees}
 use Rattle.mqb_history.proofs.Settling.{settled_from, in_row_settled, settled_ordered}
 
@@ -68,7 +70,14 @@ sent_below heads outs n below s inside =
     let second = ap (λ (t : Sending). t.row.sequence.ordinal) placed.2 in
     subst (λ k. k < n) (first ∙ second) (below offered.0 offered.1)
 
-pub pumped_orderly : (which : Which) (m : State) (now : ℕ) → IsOrderlyState which m → IsOrderlyState which (pumped m now)
+-- A manager sent messages with these heads: their numbers are offered, and what else a channel sees of it stays.
+pub record IsPumped (which : Which) (before after : State) (heads : List TxHead) : Type 0 where
+  pub orderly : IsOrderlyState which after
+  pub row : (d : QueueName) → row_to after.outs d ≡ option_map (offered_row heads) (row_to before.outs d)
+  pub in_row : (source : Guid) (d : QueueName) → in_row after.ins source d ≡ in_row before.ins source d
+  pub next_ordinal : after.next_ordinal ≡ before.next_ordinal
+
+pumped_orderly : (which : Which) (m : State) (now : ℕ) → IsOrderlyState which m → IsOrderlyState which (pumped m now)
 pumped_orderly which m now o = record {
   identity = o.identity;
   rows = sent_ordered (heads_of (transfers_chosen m now)) m.outs o.rows;
@@ -83,6 +92,29 @@ pumped_orderly which m now o = record {
         → same_name s.row.destination t.row.destination ≡ false
     same q r s t first second h = rw (sym first, sym second) h
 
+-- what is chosen was sent
+pub chosen_pumped : (which : Which) (m : State) (now : ℕ) (s : one_end.State) → IsOrderlyState which m
+    → IsPumped which m (linked (pumped m now) s) (heads_of (transfers_chosen m now))
+chosen_pumped which m now s o = record {
+  orderly = orderly_keeps which (pumped m now) (linked (pumped m now) s) (linked_keeps (pumped m now) s) (pumped_orderly which m now o);
+  row = row_to_pumped (heads_of (transfers_chosen m now)) m.outs;
+  in_row = in_row_settled (length (acks_chosen m now)) m.ins;
+  next_ordinal = refl;
+}
+
+nothing_offered : (o : Option Row) → o ≡ option_map (offered_row []) o
+nothing_offered None = refl
+nothing_offered (Some r) = let same : r.offered ≡ max r.offered 0 = omega arith in ap (λ n. Some (record r { offered = n })) same
+
+-- no message was sent
+pub session_pumped : (which : Which) (m : State) (s : one_end.State) → IsOrderlyState which m → IsPumped which m (linked m s) []
+session_pumped which m s o = record {
+  orderly = orderly_keeps which m (linked m s) (linked_keeps m s) o;
+  row = λ d. nothing_offered (row_to m.outs d);
+  in_row = λ source d. refl;
+  next_ordinal = refl;
+}
+
 -- What channels see.
 
 standing_more : (present : Option ℕ) (posted more : List Posted) → IfSome present (λ before. before ≤ length posted) → is_some present ≡ true
@@ -90,86 +122,88 @@ standing_more : (present : Option ℕ) (posted more : List Posted) → IfSome pr
 standing_more None posted more within connected = absurd (true≢false (sym connected))
 standing_more (Some before) posted more within connected = drop-append-le before posted more within
 
-abbrev pub after_pump : Machine → Which → ℕ → Machine
-after_pump m which now = (pump_from m which now (state_of m which)).after
-
--- the packets of a pump
-abbrev pub pumped_packets : Machine → Which → ℕ → List Posted
-pumped_packets m which now = sent_by which (acks_chosen (state_of m which) now) (transfers_chosen (state_of m which) now)
-
-pub standing_after : (m : Machine) (which : Which) (now : ℕ) → IsOrderly m → is_some m.present ≡ true
-    → standing (after_pump m which now).present (after_pump m which now).posted ≡ standing m.present m.posted ++ pumped_packets m which now
-standing_after m Alpha now o connected = standing_more m.present m.posted (pumped_packets m Alpha now) o.present connected
-standing_after m Beta now o connected = standing_more m.present m.posted (pumped_packets m Beta now) o.present connected
-
-pub sees_of_source : (m : Machine) (which : Which) (now : ℕ) (d : QueueName) → IsOrderly m → is_some m.present ≡ true
-    → Sees (after_pump m which now) which d m.ledger
-    (option_map (offered_row (heads_of (transfers_chosen (state_of m which) now))) (row_to (state_of m which).outs d))
-    (in_row (state_of m (other which)).ins (guid_of which) d) (standing m.present m.posted ++ pumped_packets m which now)
-sees_of_source m Alpha now d o connected = record {
-  ledger = refl;
-  row = row_to_pumped (heads_of (transfers_chosen m.alpha now)) m.alpha.outs d;
-  in_row = refl;
-  between = standing_after m Alpha now o connected;
-  connected = connected;
-}
-sees_of_source m Beta now d o connected = record {
-  ledger = refl;
-  row = row_to_pumped (heads_of (transfers_chosen m.beta now)) m.beta.outs d;
-  in_row = refl;
-  between = standing_after m Beta now o connected;
-  connected = connected;
-}
-
-pub sees_of_destination : (m : Machine) (which : Which) (now : ℕ) (d : QueueName) → IsOrderly m → is_some m.present ≡ true
-    → Sees (after_pump m which now) (other which) d m.ledger (row_to (state_of m (other which)).outs d)
-    (in_row (state_of m which).ins (guid_of (other which)) d) (standing m.present m.posted ++ pumped_packets m which now)
-sees_of_destination m Alpha now d o connected = record {
-  ledger = refl;
-  row = refl;
-  in_row = in_row_settled (length (acks_chosen m.alpha now)) m.alpha.ins (guid_of Beta) d;
-  between = standing_after m Alpha now o connected;
-  connected = connected;
-}
-sees_of_destination m Beta now d o connected = record {
-  ledger = refl;
-  row = refl;
-  in_row = in_row_settled (length (acks_chosen m.beta now)) m.beta.ins (guid_of Alpha) d;
-  between = standing_after m Beta now o connected;
-  connected = connected;
-}
-
--- The machine stays in order.
-
-pub next_ordinal_stays : (m : Machine) (which : Which) (now : ℕ) (w : Which)
-    → (state_of (after_pump m which now) w).next_ordinal ≡ (state_of m w).next_ordinal
-next_ordinal_stays m Alpha now Alpha = refl
-next_ordinal_stays m Alpha now Beta = refl
-next_ordinal_stays m Beta now Alpha = refl
-next_ordinal_stays m Beta now Beta = refl
-
 within_more : (present : Option ℕ) (posted more : List Posted) → IfSome present (λ before. before ≤ length posted)
     → IfSome present (λ before. before ≤ length (posted ++ more))
 within_more None posted more within = within
 within_more (Some before) posted more within = let all = length-append posted more in omega arith
 
-pub after_pump_orderly : (m : Machine) (which : Which) (now : ℕ) → IsOrderly m → AcksBegun (after_pump m which now)
-    → IsOrderly (after_pump m which now)
-after_pump_orderly m Alpha now o acks = record {
-  states = states;
-  present = within_more m.present m.posted (pumped_packets m Alpha now) o.present;
-  acks = acks;
-}
-  where
-    states : (w : Which) → IsOrderlyState w (state_of (after_pump m Alpha now) w)
-    states Alpha = pumped_orderly Alpha m.alpha now (o.states Alpha)
-    states Beta = o.states Beta
-after_pump_orderly m Beta now o acks = record {
-  states = states;
-  present = within_more m.present m.posted (pumped_packets m Beta now) o.present;
-  acks = acks;
-}
-  where
-    states : (w : Which) → IsOrderlyState w (state_of (after_pump m Beta now) w)
-    states Alpha = o.states Alpha
-    states Beta = pumped_orderly Beta m.beta now (o.states Beta)
+-- the machine after a manager sent packets, and its state is this one
+abbrev pub after_pump : Machine → Which → Pump → Machine
+after_pump m which sent = (pump_from m which sent).after
+
+-- the packets of a pump
+abbrev pub sent_by : Which → Pump → List Posted
+sent_by which sent = map (posted_by which) sent.packets
+
+pub standing_after : (m : Machine) (which : Which) (sent : Pump) → IsOrderly m → is_some m.present ≡ true
+    → standing (after_pump m which sent).present (after_pump m which sent).posted ≡ standing m.present m.posted ++ sent_by which sent
+standing_after m Alpha sent o connected = standing_more m.present m.posted (sent_by Alpha sent) o.present connected
+standing_after m Beta sent o connected = standing_more m.present m.posted (sent_by Beta sent) o.present connected
+
+module _ (m : Machine) (sent : Pump) (heads : List TxHead) (d : QueueName) (o : IsOrderly m) (connected : is_some m.present ≡ true) where
+  pub sees_of_source : (which : Which) → IsPumped which (state_of m which) sent.after heads
+      → Sees (after_pump m which sent) which d m.ledger (option_map (offered_row heads) (row_to (state_of m which).outs d))
+      (in_row (state_of m (other which)).ins (guid_of which) d) (standing m.present m.posted ++ sent_by which sent)
+  sees_of_source Alpha pumped = record {
+    ledger = refl;
+    row = pumped.row d;
+    in_row = refl;
+    between = standing_after m Alpha sent o connected;
+    connected = connected;
+  }
+  sees_of_source Beta pumped = record {
+    ledger = refl;
+    row = pumped.row d;
+    in_row = refl;
+    between = standing_after m Beta sent o connected;
+    connected = connected;
+  }
+
+  pub sees_of_destination : (which : Which) → IsPumped which (state_of m which) sent.after heads
+      → Sees (after_pump m which sent) (other which) d m.ledger (row_to (state_of m (other which)).outs d)
+      (in_row (state_of m which).ins (guid_of (other which)) d) (standing m.present m.posted ++ sent_by which sent)
+  sees_of_destination Alpha pumped = record {
+    ledger = refl;
+    row = refl;
+    in_row = pumped.in_row (guid_of Beta) d;
+    between = standing_after m Alpha sent o connected;
+    connected = connected;
+  }
+  sees_of_destination Beta pumped = record {
+    ledger = refl;
+    row = refl;
+    in_row = pumped.in_row (guid_of Alpha) d;
+    between = standing_after m Beta sent o connected;
+    connected = connected;
+  }
+
+-- The machine stays in order.
+
+module _ (m : Machine) (sent : Pump) (heads : List TxHead) where
+  pub next_ordinal_stays : (which : Which) → IsPumped which (state_of m which) sent.after heads → (w : Which)
+      → (state_of (after_pump m which sent) w).next_ordinal ≡ (state_of m w).next_ordinal
+  next_ordinal_stays Alpha pumped Alpha = pumped.next_ordinal
+  next_ordinal_stays Alpha pumped Beta = refl
+  next_ordinal_stays Beta pumped Alpha = refl
+  next_ordinal_stays Beta pumped Beta = pumped.next_ordinal
+
+  pub after_pump_orderly : (which : Which) → IsPumped which (state_of m which) sent.after heads → IsOrderly m → AcksBegun (after_pump m which sent)
+      → IsOrderly (after_pump m which sent)
+  after_pump_orderly Alpha pumped o acks = record {
+    states = states;
+    present = within_more m.present m.posted (sent_by Alpha sent) o.present;
+    acks = acks;
+  }
+    where
+      states : (w : Which) → IsOrderlyState w (state_of (after_pump m Alpha sent) w)
+      states Alpha = pumped.orderly
+      states Beta = o.states Beta
+  after_pump_orderly Beta pumped o acks = record {
+    states = states;
+    present = within_more m.present m.posted (sent_by Beta sent) o.present;
+    acks = acks;
+  }
+    where
+      states : (w : Which) → IsOrderlyState w (state_of (after_pump m Beta sent) w)
+      states Alpha = o.states Alpha
+      states Beta = pumped.orderly

@@ -11,11 +11,12 @@ use Rattle.mqb_script.specs.declared.events.Which.TheVariants.{Alpha, Beta}
 use Rattle.mqb_script.specs.Managers.{other}
 use Rattle.mqb_streams.specs.Words.{In}
 use Rattle.mqb_machine.specs.Arriving.{in_row}
-use Rattle.mqb_machine.specs.Calls.{Call}
+use Rattle.mqb_session.specs.State as one_end
+use Rattle.mqb_machine.specs.Calls.{Call, linked}
 use Rattle.mqb_machine.specs.State.{State}
 use Rattle.mqb_machine.specs.Machine.{Machine, state_of, called, lines_in}
 use Rattle.mqb_history.specs.Channels.{channel_of, guid_of, joined_in, judged_in}
-use Rattle.mqb_history.specs.Shows.{row_to}
+use Rattle.mqb_history.specs.Shows.{row_to, said_of}
 use Rattle.mqb_history.proofs.Sound.{AcksBegun, Differ, IsOrderly, IsOrderlyState, IsSound, Ordered}
 use Rattle.mqb_history.proofs.Staying.{PacketsFrom, same_packets, same_within, Stays, linked_stays}
 
@@ -23,7 +24,7 @@ pub acks_stay : (m n : Machine) → PacketsFrom m n → ((which : Which) → (st
     → AcksBegun m → AcksBegun n
 acks_stay m n packets grow begun which p a inside by is =
     let f = packets p inside in
-    lt_of_lt_of_le (begun which f.0 a f.1 (sym f.2 ∙ by) (sym f.3 ∙ is)) (grow which)
+    lt_of_lt_of_le (begun which f.0 a f.1 (sym f.2 ∙ by) (ap said_of (sym f.3) ∙ is)) (grow which)
 
 -- each row stands as it did, and so do the lines and the packets
 pub record Quiet (m n : Machine) : Type 0 where
@@ -59,6 +60,9 @@ pub record Keeps (a b : State) : Type 0 where
 
 pub keeps_itself : (a : State) → Keeps a a
 keeps_itself a = record { identity = refl; outs = refl; ins = refl; next_ordinal = refl }
+
+pub linked_keeps : (a : State) (s : one_end.State) → Keeps a (linked a s)
+linked_keeps a s = record { identity = refl; outs = refl; ins = refl; next_ordinal = refl }
 
 pub orderly_keeps : (which : Which) (a b : State) → Keeps a b → IsOrderlyState which a → IsOrderlyState which b
 orderly_keeps which a b k o = record {

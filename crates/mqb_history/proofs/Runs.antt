@@ -12,16 +12,17 @@ use Rattle.mqb_streams.proofs.Always.{is_exactly_once}
 use Rattle.mqb_machine.specs.Managers.{alpha, beta, identity_of}
 use Rattle.mqb_machine.specs.State.{start as start_of}
 use Rattle.mqb_machine.specs.Arriving.{in_row}
-use Rattle.mqb_machine.specs.Machine.{Machine, state_of, step, beginning, only_send}
+use Rattle.mqb_machine.specs.Machine.{Machine, state_of, step, beginning}
 use Rattle.mqb_machine.specs.Runs.{machine_from, machine_after}
 use Rattle.mqb_history.specs.Channels.{channel_of, guid_of}
 use Rattle.mqb_history.specs.Shows.{row_to, ShowsRows, Shows}
 use Rattle.mqb_history.specs.Laws.{IsExactlyOnce}
 use Rattle.mqb_history.proofs.Sound.{IsOrderlyState, Linked, kept_invariant, IsSound}
-use Rattle.mqb_history.proofs.Keeping.{create_sound, connect_sound, drop_sound}
+use Rattle.mqb_history.proofs.Keeping.{create_sound, disconnect_sound, resend_sound, drop_sound}
 use Rattle.mqb_history.proofs.Committing.{commit_sound}
 use Rattle.mqb_history.proofs.Pumping.{pump_sound}
 use Rattle.mqb_history.proofs.Arriving.{deliver_sound}
+use Rattle.mqb_history.proofs.Flowing.{flow_sound, connect_sound}
 
 -- Where a run begins.
 
@@ -84,11 +85,14 @@ sound_at_first = record {
 
 pub step_sound : (m : Machine) (e : Event) → IsSound m → IsSound (step m e).after
 step_sound m (event.Queue which plan) = create_sound m which plan
-step_sound m (event.Commit which now ops) = commit_sound m which now (only_send ops)
+step_sound m (event.Commit which now ops) = commit_sound m which now ops
 step_sound m (event.Connect which now a b) = connect_sound m which now a b
 step_sound m (event.Pump which now) = pump_sound m which now
 step_sound m (event.Deliver k now) = deliver_sound m k
 step_sound m (event.Drop k) = drop_sound m k
+step_sound m event.Disconnect = disconnect_sound m
+step_sound m (event.Flow which now) = flow_sound m which now
+step_sound m (event.Resend which) = resend_sound m which
 
 from_sound : (m : Machine) (lines : List (ℕ × Event)) → IsSound m → IsSound (machine_from m lines)
 from_sound m [] sound = sound

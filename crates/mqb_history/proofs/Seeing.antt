@@ -13,14 +13,14 @@ use Rattle.mqb_streams.specs.World.{StreamWorld}
 use Rattle.mqb_streams.specs.World as stream
 use Rattle.mqb_streams.specs.Words.{In}
 use Rattle.mqb_machine.specs.declared.packets.OrderAck.{OrderAck}
-use Rattle.mqb_machine.specs.declared.packets.Packet.TheVariants as packet
+use Rattle.mqb_machine.specs.declared.packets.Said.TheVariants as said
 use Rattle.mqb_machine.specs.declared.packets.Transfer.{Transfer}
 use Rattle.mqb_machine.specs.Arriving.{in_row}
 use Rattle.mqb_machine.specs.Machine.{Machine, Posted, state_of}
 use Rattle.mqb_history.specs.Channels.{channel_of, guid_of}
-use Rattle.mqb_history.specs.Shows.{row_to, standing, sent_as, acked_as, ShowsSource, ShowsDestination, ShowsPackets, Shows}
+use Rattle.mqb_history.specs.Shows.{row_to, standing, sent_as, acked_as, said_of, ShowsSource, ShowsDestination, ShowsPackets, Shows}
 use Rattle.mqb_history.proofs.Among.{in_either}
-use Rattle.mqb_history.proofs.Choosing.{sent_by, posted_sender, posted_transfer, posted_ack}
+use Rattle.mqb_history.proofs.Choosing.{OnlySays}
 
 -- while a connection stands, a channel sees this ledger, these rows and these packets
 pub record Sees (m : Machine) (which : Which) (d : QueueName) (lines : List Line) (out : Option Row) (into : Option InRow) (packets : List Posted)
@@ -60,49 +60,49 @@ not_the_other Alpha is = true≢false (ap is_alpha is)
 not_the_other Beta is = true≢false (sym (ap is_alpha is))
 
 -- Packets are sent beside those that were.
-module _ (d : QueueName) (old : List Posted) (acks : List OrderAck) (chosen : List Transfer) (connection : ℕ)
+module _ (d : QueueName) (old new : List Posted) (acks : List OrderAck) (chosen : List Transfer) (connection : ℕ)
     (transfers : List stream.Transfer) (order_acks : List stream.OrderAck) where
   -- by the source
-  pub packets_of_source : (which : Which) (r q : Option Row) (more : List stream.Transfer)
+  pub packets_of_source : (which : Which) (r q : Option Row) (more : List stream.Transfer) → OnlySays which acks chosen new
       → ShowsPackets which d r old connection transfers order_acks
       → ((s : Row) → q ≡ Some s → (t : Row) × (r ≡ Some t) × (t.sequence ≡ s.sequence))
       → ((t : stream.Transfer) → In t transfers → In t more)
       → ((t : Transfer) → In t chosen → t.message.destination ≡ d → (moment : ℕ) × In (sent_as t moment connection) more)
-      → ShowsPackets which d q (old ++ sent_by which acks chosen) connection more order_acks
-  packets_of_source which r q more shown row stays each = record { sent = sent; acked = acked }
+      → ShowsPackets which d q (old ++ new) connection more order_acks
+  packets_of_source which r q more only shown row stays each = record { sent = sent; acked = acked }
     where
-      sent : (p : Posted) (t : Transfer) → In p (old ++ sent_by which acks chosen) → p.sender ≡ which → p.packet ≡ packet.Transfer t
+      sent : (p : Posted) (t : Transfer) → In p (old ++ new) → p.sender ≡ which → said_of p.packet ≡ Some (said.Transfer t)
           → t.message.destination ≡ d → (moment : ℕ) × In (sent_as t moment connection) more
-      sent p t inside sender is to = elim (in_either p old (sent_by which acks chosen) inside) [
+      sent p t inside sender is to = elim (in_either p old new inside) [
         | inl before ↦ let found = shown.sent p t before sender is to in (found.0, stays (sent_as t found.0 connection) found.1)
-        | inr after ↦ each t (posted_transfer which acks chosen p after t is) to
+        | inr after ↦ each t (only.transfer p t after is) to
       ]
 
-      acked : (p : Posted) (a : OrderAck) (s : Row) → In p (old ++ sent_by which acks chosen) → p.sender ≡ other which → p.packet ≡ packet.OrderAck a
+      acked : (p : Posted) (a : OrderAck) (s : Row) → In p (old ++ new) → p.sender ≡ other which → said_of p.packet ≡ Some (said.OrderAck a)
           → q ≡ Some s → s.sequence ≡ a.sequence → In (acked_as a connection) order_acks
-      acked p a s inside sender is at same = elim (in_either p old (sent_by which acks chosen) inside) [
+      acked p a s inside sender is at same = elim (in_either p old new inside) [
         | inl before ↦ let was = row s at in shown.acked p a was.0 before sender is was.1 (was.2 ∙ same)
-        | inr after ↦ absurd (not_the_other which (sym (posted_sender which acks chosen p after) ∙ sender))
+        | inr after ↦ absurd (not_the_other which (sym (only.sender p after) ∙ sender))
       ]
 
   -- by the destination
-  pub packets_of_destination : (which by : Which) (r : Option Row) (more : List stream.OrderAck)
+  pub packets_of_destination : (which by : Which) (r : Option Row) (more : List stream.OrderAck) → OnlySays by acks chosen new
       → ShowsPackets which d r old connection transfers order_acks → (by ≡ which → ⊥)
       → ((a : stream.OrderAck) → In a order_acks → In a more)
       → ((a : OrderAck) (s : Row) → In a acks → r ≡ Some s → s.sequence ≡ a.sequence → In (acked_as a connection) more)
-      → ShowsPackets which d r (old ++ sent_by by acks chosen) connection transfers more
-  packets_of_destination which by r more shown differ stays each = record { sent = sent; acked = acked }
+      → ShowsPackets which d r (old ++ new) connection transfers more
+  packets_of_destination which by r more only shown differ stays each = record { sent = sent; acked = acked }
     where
-      sent : (p : Posted) (t : Transfer) → In p (old ++ sent_by by acks chosen) → p.sender ≡ which → p.packet ≡ packet.Transfer t
+      sent : (p : Posted) (t : Transfer) → In p (old ++ new) → p.sender ≡ which → said_of p.packet ≡ Some (said.Transfer t)
           → t.message.destination ≡ d → (moment : ℕ) × In (sent_as t moment connection) transfers
-      sent p t inside sender is to = elim (in_either p old (sent_by by acks chosen) inside) [
+      sent p t inside sender is to = elim (in_either p old new inside) [
         | inl before ↦ shown.sent p t before sender is to
-        | inr after ↦ absurd (differ (sym (posted_sender by acks chosen p after) ∙ sender))
+        | inr after ↦ absurd (differ (sym (only.sender p after) ∙ sender))
       ]
 
-      acked : (p : Posted) (a : OrderAck) (s : Row) → In p (old ++ sent_by by acks chosen) → p.sender ≡ other which → p.packet ≡ packet.OrderAck a
+      acked : (p : Posted) (a : OrderAck) (s : Row) → In p (old ++ new) → p.sender ≡ other which → said_of p.packet ≡ Some (said.OrderAck a)
           → r ≡ Some s → s.sequence ≡ a.sequence → In (acked_as a connection) more
-      acked p a s inside sender is at same = elim (in_either p old (sent_by by acks chosen) inside) [
+      acked p a s inside sender is at same = elim (in_either p old new inside) [
         | inl before ↦ stays (acked_as a connection) (shown.acked p a s before sender is at same)
-        | inr after ↦ each a s (posted_ack by acks chosen p after a is) at same
+        | inr after ↦ each a s (only.ack p a after is) at same
       ]

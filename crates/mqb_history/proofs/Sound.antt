@@ -1,6 +1,6 @@
 -- What each event keeps: the machine is in order, and each channel's stream world is one of a run.
 use Rattle.std.proofs.Common.{◌≡◌, ◌≤◌, ◌<◌, false, List, [], ◌∷◌, length, subst, sym, ap}
-use Rattle.std.specs.Prelude.{IfSome, ⊤}
+use Rattle.std.specs.Prelude.{IfSome, Some, ⊤}
 use Rattle.mqb_base.specs.declared.queue_names.QueueName.{QueueName}
 use Rattle.mqb_base.specs.Same.{same_name}
 use Rattle.mqb_script.specs.declared.events.Which.{Which}
@@ -11,13 +11,13 @@ use Rattle.mqb_streams.specs.Steps.{StreamStep, happens, May}
 use Rattle.mqb_streams.specs.Runs.{after, IsRun}
 use Rattle.mqb_streams.proofs.Always.{StreamInvariant, always}
 use Rattle.mqb_machine.specs.declared.packets.OrderAck.{OrderAck}
-use Rattle.mqb_machine.specs.declared.packets.Packet.TheVariants as packet
+use Rattle.mqb_machine.specs.declared.packets.Said.TheVariants as said
 use Rattle.mqb_machine.specs.declared.receiving.Receiving.{Receiving}
 use Rattle.mqb_machine.specs.Managers.{identity_of}
 use Rattle.mqb_machine.specs.State.{State, Sending}
 use Rattle.mqb_machine.specs.Machine.{Machine, Posted, state_of}
 use Rattle.mqb_history.specs.Channels.{channel_of, guid_of}
-use Rattle.mqb_history.specs.Shows.{Shows, standing}
+use Rattle.mqb_history.specs.Shows.{Shows, said_of, standing}
 
 -- a stream world that some run reaches
 pub record Reached (c : Channel) (w : StreamWorld) : Type 0 where
@@ -62,7 +62,7 @@ pub record IsOrderlyState (which : Which) (m : State) : Type 0 where
 -- what the other manager acknowledged in this connection is of a sequence that has begun
 abbrev pub AcksBegun : Machine → Type 0
 AcksBegun m = (which : Which) (p : Posted) (a : OrderAck) → In p (standing m.present m.posted) → p.sender ≡ other which
-    → p.packet ≡ packet.OrderAck a → a.sequence.ordinal < (state_of m which).next_ordinal
+    → said_of p.packet ≡ Some (said.OrderAck a) → a.sequence.ordinal < (state_of m which).next_ordinal
 
 pub record IsOrderly (m : Machine) : Type 0 where
   pub states : (which : Which) → IsOrderlyState which (state_of m which)

@@ -15,7 +15,7 @@ use Rattle.mqb_streams.specs.Words.{In}
 use Rattle.mqb_machine.specs.Arriving.{in_row}
 use Rattle.mqb_machine.specs.Machine.{Machine, Posted, state_of}
 use Rattle.mqb_history.specs.Channels.{channel_of, guid_of, joined_in, judged_in}
-use Rattle.mqb_history.specs.Shows.{row_to, standing, ShowsRows, ShowsSource, ShowsDestination, ShowsPackets}
+use Rattle.mqb_history.specs.Shows.{row_to, standing, ShowsRows, ShowsSource, ShowsDestination, ShowsPackets, said_of}
 use Rattle.mqb_history.proofs.Sound.{Linked}
 
 -- each packet of the present connection is one that another machine had
@@ -64,10 +64,10 @@ pub packets_stay : (which : Which) (d : QueueName) (r s : Option Row) (before af
 packets_stay which d r s before after connection transfers order_acks row packets shown = record {
   sent = λ p t inside by is to.
       let f = packets p inside in
-      shown.sent f.0 t f.1 (sym f.2 ∙ by) (sym f.3 ∙ is) to;
+      shown.sent f.0 t f.1 (sym f.2 ∙ by) (ap said_of (sym f.3) ∙ is) to;
   acked = λ p a known inside by is at same.
       let f = packets p inside in
-      shown.acked f.0 a known f.1 (sym f.2 ∙ by) (sym f.3 ∙ is) (sym row ∙ at) same;
+      shown.acked f.0 a known f.1 (sym f.2 ∙ by) (ap said_of (sym f.3) ∙ is) (sym row ∙ at) same;
 }
 
 pub linked_stays : (m n : Machine) (which : Which) (d : QueueName) → Stays m n which d → Linked m which d → Linked n which d

@@ -14,7 +14,10 @@ use Rattle.mqb_streams.specs.World.{Channel, Position, Commitment, Decision, Str
 use Rattle.mqb_streams.specs.World as stream
 use Rattle.mqb_streams.specs.Words.{In, count, row}
 use Rattle.mqb_machine.specs.declared.packets.OrderAck.{OrderAck}
+use Rattle.mqb_machine.specs.declared.packets.Packet.{Packet}
 use Rattle.mqb_machine.specs.declared.packets.Packet.TheVariants as packet
+use Rattle.mqb_machine.specs.declared.packets.Said.{Said}
+use Rattle.mqb_machine.specs.declared.packets.Said.TheVariants as said
 use Rattle.mqb_machine.specs.declared.packets.Transfer.{Transfer}
 use Rattle.mqb_machine.specs.State.{Sending}
 use Rattle.mqb_machine.specs.Committing.{stream_at}
@@ -69,12 +72,19 @@ sent_as t moment connection = record { head = t.tx; message = t.message; sent_at
 abbrev pub acked_as : OrderAck → ℕ → stream.OrderAck
 acked_as a connection = record { position = record { sequence = a.sequence; number = a.number }; connection = connection }
 
+-- what a user packet says
+abbrev pub said_of : Packet → Option Said
+said_of (packet.User u) = Some u.said
+said_of (packet.Establish e) = None
+said_of (packet.Parameters p) = None
+said_of (packet.Ack head) = None
+
 -- Each packet of the present connection was sent in it: a message of the channel, and an acknowledgement of the row's sequence.
 pub record ShowsPackets (which : Which) (destination : QueueName) (r : Option Row) (packets : List Posted) (connection : ℕ)
     (transfers : List stream.Transfer) (order_acks : List stream.OrderAck) : Type 0 where
-  pub sent : (p : Posted) (t : Transfer) → In p packets → p.sender ≡ which → p.packet ≡ packet.Transfer t → t.message.destination ≡ destination
+  pub sent : (p : Posted) (t : Transfer) → In p packets → p.sender ≡ which → said_of p.packet ≡ Some (said.Transfer t) → t.message.destination ≡ destination
       → (moment : ℕ) × In (sent_as t moment connection) transfers
-  pub acked : (p : Posted) (a : OrderAck) (row : Row) → In p packets → p.sender ≡ other which → p.packet ≡ packet.OrderAck a
+  pub acked : (p : Posted) (a : OrderAck) (row : Row) → In p packets → p.sender ≡ other which → said_of p.packet ≡ Some (said.OrderAck a)
       → r ≡ Some row → row.sequence ≡ a.sequence → In (acked_as a connection) order_acks
 
 -- The machine shows this world of the channel from a manager to a destination.
