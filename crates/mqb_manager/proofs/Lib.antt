@@ -1,8 +1,12 @@
 pub mod Marking
 pub mod Views
+pub mod Counting
+pub mod Steps
 pub mod Drafts
 pub mod Posting
 pub mod Spelling
+pub mod Room
+pub mod Saying
 pub mod Packets
 pub mod Pumping
 pub mod Settling

@@ -5,6 +5,7 @@ use Rattle.std.proofs.lemmas.Cmp.{nat_list_eq_equiv}
 use Rattle.std.proofs.lemmas.List.Elements.{All-nil, All-replicate}
 use Rattle.std.proofs.lemmas.Nat.{from_le_bytes-to_le_bytes_4}
 use Rattle.std.specs.Prelude.{Option, codes, min, replicate}
+use Rattle.mqb_base.specs.declared.heads.SessionHead.{SessionHead}
 use Rattle.mqb_base.specs.declared.heads.TxHead.{TxHead}
 use Rattle.mqb_base.specs.declared.ids.Identity.{Identity}
 use Rattle.mqb_base.specs.declared.message.Message.{Message}
@@ -12,29 +13,33 @@ use Rattle.mqb_base.specs.declared.names.NameError.{NameError}
 use Rattle.mqb_base.specs.Same.{same_bytes}
 use Rattle.mqb_base.specs.Times.{remaining}
 use Rattle.mqb_heads.specs.Fields.{padding}
-use Rattle.mqb_heads.specs.Properties.{props_size}
-use Rattle.mqb_heads.specs.User.{user_names, user_size}
+use Rattle.mqb_heads.specs.User.{user_names}
 use Rattle.mqb_heads.specs.Values.{IsMessage, IsMessageId, IsTxHead}
 use Rattle.mqb_names.specs.Printed.{path}
 use Rattle.mqb_names.specs.Values.{AreBytes, IsName}
 use Rattle.mqb_names.specs.Wire.{wire, units}
 use Rattle.mqb_names.proofs.Units.{length_units}
 use Rattle.mqb_machine.specs.declared.packets.OrderAck.{OrderAck}
-use Rattle.mqb_machine.specs.declared.packets.Packet.TheVariants as packet
+use Rattle.mqb_machine.specs.declared.packets.Said.TheVariants as said
 use Rattle.mqb_machine.specs.Pumping.{carried}
 use Rattle.mqb_machine.specs.Queueing.{order_layer}
-use Rattle.mqb_packet.specs.Plain.{IsWellFormedUser, user_packet_size}
+use Rattle.mqb_packet.specs.Plain.{IsWellFormedPacket, IsWellFormedUser, packet_size, plain_spelling, user_packet_size}
 use Rattle.mqb_packet.specs.declared.packet.UserPacket.{UserPacket}
-use Rattle.mqb_manager.specs.Formats.{IsSpelled, ack_body, ack_message, order_queue, said_in, word_at}
+use Rattle.mqb_setup.specs.declared.internal.Internal.{Internal}
+use Rattle.mqb_setup.specs.declared.internal.Internal.TheVariants as part
+use Rattle.mqb_setup.specs.Widths.{IsInternal, IsSessionHead}
+use Rattle.mqb_machine.specs.Calls.{set_up_packet}
+use Rattle.mqb_manager.specs.Formats.{IsSpelled, ack_body, ack_message, order_queue, said_in, spelling, user_saying, word_at}
 use Rattle.mqb_manager.specs.Sendable.{IsSendable}
+use Rattle.mqb_manager.specs.Sending.{form_with}
 
--- the packet of a message that goes to a manager
-abbrev carrying : Identity → Message → Option TxHead → UserPacket
-carrying to message tx = record { message = message; to = to.guid; remaining = message.reach; tx = tx; session = None }
+-- the packet of a message that goes to a manager with a header of a session
+abbrev carrying : Identity → SessionHead → Message → Option TxHead → UserPacket
+carrying to head message tx = record { message = message; to = to.guid; remaining = message.reach; tx = tx; session = Some head }
 
-pub transfer_well_formed : (to : Identity) (now : ℕ) (tx : TxHead) (m : Message) → IsSendable m →
-    IsWellFormedUser (carrying to (carried now m) (Some tx))
-transfer_well_formed to now tx m is = record {
+pub transfer_well_formed : (to : Identity) (head : SessionHead) (now : ℕ) (tx : TxHead) (m : Message) → IsSendable m →
+    IsWellFormedUser (carrying to head (carried now m) (Some tx))
+transfer_well_formed to head now tx m is = record {
   message = record {
     priority = is.well_formed.priority;
     ack = is.well_formed.ack;
@@ -62,8 +67,8 @@ name_short name is =
     let test : ltb 64 (length name) ≡ false = either_false (eqb (length name) 0) (ltb 64 (length name)) (some_fault _ _ _ is) in
     grind (arith, nat_tests)
 
-pub ack_well_formed : (to : Identity) (a : OrderAck) → IsWellFormedUser (carrying to (ack_message to.host a) None)
-ack_well_formed to a = record {
+pub ack_well_formed : (to : Identity) (head : SessionHead) (a : OrderAck) → IsWellFormedUser (carrying to head (ack_message to.host a) None)
+ack_well_formed to head a = record {
   message = record {
     priority = omega arith;
     ack = omega arith;
@@ -88,14 +93,15 @@ wire_short host is =
     let text : length ((host ++ path) ++ order_layer) ≡ length (host ++ path) + 12 = length-append (host ++ path) order_layer in
     direct_short (codes "OS:" ++ ((host ++ path) ++ order_layer)) (omega (arith, few, front, text))
 
-padded_short : (len : ℕ) → len ≤ 180 → 16 + (let all = 48 + len in all + padding all) + 0 + 72 + 0 ≤ 4194304
+padded_short : (len : ℕ) → len ≤ 180 → 16 + (let all = 48 + len in all + padding all) + 0 + 72 + 16 ≤ 4194304
 padded_short len few = omega arith
 
 no_more_names : (names : List ℕ) → (names ++ []) ++ [] ≡ names
 no_more_names names = append-nil (names ++ []) ∙ append-nil names
 
-pub ack_short : (to : Identity) (a : OrderAck) → IsName to.host → user_packet_size (carrying to (ack_message to.host a) None) ≤ 4194304
-ack_short to a is =
+pub ack_short : (to : Identity) (head : SessionHead) (a : OrderAck) → IsName to.host →
+    user_packet_size (carrying to head (ack_message to.host a) None) ≤ 4194304
+ack_short to head a is =
     let names = user_names (ack_message to.host a) in
     let few : length names ≤ 180 = subst (λ (xs : List ℕ). length xs ≤ 180) (sym (no_more_names (wire (order_queue to.host))))
     (wire_short to.host is) in
@@ -123,16 +129,14 @@ carried_fits now m is = record {
   label = is.label;
 }
 
-short_before_session : (user props : ℕ) → 16 + user + 20 + props + 16 ≤ 4194304 → 16 + user + 20 + props + 0 ≤ 4194304
-short_before_session user props short = omega arith
-
 -- a kept message can be sent
-pub transfer_is_spelled : (to : Identity) (now : ℕ) (tx : TxHead) (m : Message) → AreBytes 16 to.guid.0 → IsTxHead tx → IsSendable m → IsMessage m →
-    IsSpelled to (packet.Transfer (record { tx = tx; message = carried now m }))
-transfer_is_spelled to now tx m guid head is fits = record {
-  well_formed = transfer_well_formed to now tx m is;
-  fits = record { message = carried_fits now m fits; to = guid; remaining = remaining_small m.sent m.reach now; tx = head; session = tt };
-  short = short_before_session (user_size m) (props_size m) is.short;
+pub transfer_is_spelled : (to : Identity) (head : SessionHead) (now : ℕ) (tx : TxHead) (m : Message) → AreBytes 16 to.guid.0 → IsSessionHead head →
+    IsTxHead tx → IsSendable m → IsMessage m →
+    IsSpelled to (user_saying to.guid (Some head) (said.Transfer (record { tx = tx; message = carried now m })))
+transfer_is_spelled to head now tx m guid stamped place is fits = record {
+  well_formed = transfer_well_formed to head now tx m is;
+  fits = record { message = carried_fits now m fits; to = guid; remaining = remaining_small m.sent m.reach now; tx = place; session = stamped };
+  short = is.short;
   said_again = rw is.class refl;
 }
 
@@ -150,23 +154,24 @@ order_layer_is = refl
 zero_bytes : AreBytes 16 (replicate 16 0)
 zero_bytes = (refl, All-replicate (λ b. b < 256) 16 0 (omega arith))
 
-ack_again : (host : List ℕ) (a : OrderAck) → IsAck a → said_in host (ack_message host a) None ≡ Some (packet.OrderAck a)
+ack_again : (host : List ℕ) (a : OrderAck) → IsAck a → said_in host (ack_message host a) None ≡ Some (said.OrderAck a)
 ack_again host a fits =
     let own : same_bytes host host ≡ true = nat_list_eq_equiv.refl host in
     let body : List ℕ = ack_body a in
     let ordinal : word_at 0 body ≡ a.sequence.ordinal = from_le_bytes-to_le_bytes_4 a.sequence.ordinal fits.ordinal in
     let stamp : word_at 4 body ≡ a.sequence.stamp = from_le_bytes-to_le_bytes_4 a.sequence.stamp fits.stamp in
     let number : word_at 8 body ≡ a.number = from_le_bytes-to_le_bytes_4 a.number fits.number in
-    let said : ℕ → ℕ → ℕ → OrderAck = λ o s n. record { id = a.id; sent = a.sent; sequence = record { ordinal = o; stamp = s }; number = n } in
-    let same : said (word_at 0 body) (word_at 4 body) (word_at 8 body) ≡ a =
-    ap (λ (o : ℕ). said o (word_at 4 body) (word_at 8 body)) ordinal
-    ∙ ap (λ (s : ℕ). said a.sequence.ordinal s (word_at 8 body)) stamp
-    ∙ ap (λ (n : ℕ). said a.sequence.ordinal a.sequence.stamp n) number in
-    rw own (ap (λ (x : OrderAck). Some (packet.OrderAck x)) same)
+    let made : ℕ → ℕ → ℕ → OrderAck = λ o s n. record { id = a.id; sent = a.sent; sequence = record { ordinal = o; stamp = s }; number = n } in
+    let same : made (word_at 0 body) (word_at 4 body) (word_at 8 body) ≡ a =
+    ap (λ (o : ℕ). made o (word_at 4 body) (word_at 8 body)) ordinal
+    ∙ ap (λ (s : ℕ). made a.sequence.ordinal s (word_at 8 body)) stamp
+    ∙ ap (λ (n : ℕ). made a.sequence.ordinal a.sequence.stamp n) number in
+    rw own (ap (λ (x : OrderAck). Some (said.OrderAck x)) same)
 
-pub ack_is_spelled : (to : Identity) (a : OrderAck) → AreBytes 16 to.guid.0 → IsName to.host → IsAck a → IsSpelled to (packet.OrderAck a)
-ack_is_spelled to a guid host fits = record {
-  well_formed = ack_well_formed to a;
+pub ack_is_spelled : (to : Identity) (head : SessionHead) (a : OrderAck) → AreBytes 16 to.guid.0 → IsName to.host → IsSessionHead head → IsAck a →
+    IsSpelled to (user_saying to.guid (Some head) (said.OrderAck a))
+ack_is_spelled to head a guid host stamped fits = record {
+  well_formed = ack_well_formed to head a;
   fits = record {
     message = record {
       id = fits.id;
@@ -184,8 +189,29 @@ ack_is_spelled to a guid host fits = record {
     to = guid;
     remaining = omega arith;
     tx = tt;
-    session = tt;
+    session = stamped;
   };
-  short = ack_short to a host;
-  said_again = ack_again to.host a fits;
+  short = ack_short to head a host;
+  said_again = rw (ack_again to.host a fits) refl;
 }
+
+pub internal_well_formed : (p : Internal) → IsWellFormedPacket (form_with p)
+internal_well_formed (part.Establish establish) = tt
+internal_well_formed (part.Parameters parameters) = tt
+internal_well_formed (part.Ack head) = tt
+
+pub internal_short : (p : Internal) → packet_size (form_with p) ≤ 4194304
+internal_short (part.Establish establish) = omega arith
+internal_short (part.Parameters parameters) = omega arith
+internal_short (part.Ack head) = omega arith
+
+-- a packet with no message is spelled for every manager alike
+pub internal_spelled : (to : Identity) (p : Internal) → plain_spelling (form_with p) ≡ spelling to (set_up_packet p)
+internal_spelled to (part.Establish establish) = refl
+internal_spelled to (part.Parameters parameters) = refl
+internal_spelled to (part.Ack head) = refl
+
+pub internal_is_spelled : (to : Identity) (p : Internal) → IsInternal p → IsSpelled to (set_up_packet p)
+internal_is_spelled to (part.Establish establish) fits = record { well_formed = tt; fits = fits; short = omega arith; said_again = refl }
+internal_is_spelled to (part.Parameters parameters) fits = record { well_formed = tt; fits = fits; short = omega arith; said_again = refl }
+internal_is_spelled to (part.Ack head) fits = record { well_formed = tt; fits = fits; short = omega arith; said_again = refl }

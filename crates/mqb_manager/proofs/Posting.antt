@@ -1,9 +1,7 @@
 -- One call after another adds the strings of both to a medium.
-use Rattle.std.proofs.Common.{◌≡◌, ℕ, ◌+◌, ◌<◌, ◌≤◌, List, [], ◌∷◌, ◌++◌, length, take, drop, drop-cons, get_or, suc, refl, sym, ap, subst, ◌∙◌, append_assoc, append-nil, arith, length-append}
+use Rattle.std.proofs.Common.{◌≡◌, ℕ, ◌+◌, ◌<◌, ◌≤◌, List, [], ◌∷◌, ◌++◌, length, refl, sym, ap, subst, ◌∙◌, append_assoc, append-nil, arith, length-append}
 use Rattle.std.proofs.lemmas.List.Sums.{sum_by-append}
-use Rattle.std.proofs.lemmas.List.{map-append, map_push, take-append-drop, take_all}
-use Rattle.std.proofs.Math.Seq.{take-suc}
-use Rattle.std.specs.Prelude.{map, Result, Ok, Err}
+use Rattle.std.specs.Prelude.{Result, Ok, Err}
 use Rattle.mqb_outside.specs.Strings.{bytes_in}
 use Rattle.mqb_manager.specs.declared.posts.PostFault.{PostFault}
 use Rattle.mqb_manager.specs.declared.posts.PostFault.TheVariants.{NetFull, Memory}
@@ -74,44 +72,6 @@ stopped a b c done part rest wanted fault added within cut whole =
     let first = posted_then {T = Unit {0}} {U = Unit {0}} a b c done part tt (Err fault) (added, within) cut in
     subst (λ (strings : List (List ℕ)). PostedBy {T = Unit {0}} a c strings (Err fault)) whole
     (posted_no_more (Unit {0}) (Unit {0}) a c (done ++ part) rest fault first)
-
--- The strings of the members before a place were added.
-pub record IsAddedUpTo {A : Type 0} (spelled : A → List ℕ) (i : ℕ) (all : List A) (before now : List (List ℕ)) : Type 0 where
-  pub added : now ≡ before ++ map spelled (take i all)
-  pub within : IsWithin now
-
-pub added_next : {A : Type 0} (spelled : A → List ℕ) (i : ℕ) (all : List A) (d : A) (before now after : List (List ℕ)) → i < length all →
-    IsAddedUpTo spelled i all before now → (after ≡ now ++ spelled (get_or all i d) ∷ []) × IsWithin after →
-    IsAddedUpTo spelled (i + 1) all before after
-added_next {A} spelled i all d before now after within so_far posted =
-    let x : A = get_or all i d in
-    let next : suc i ≡ i + 1 = omega arith in
-    let taken : take (suc i) all ≡ take i all ++ x ∷ [] = take-suc all i d within in
-    let added : after ≡ before ++ map spelled (take (suc i) all) =
-    posted.0 ∙ ap (λ (xs : List (List ℕ)). xs ++ spelled x ∷ []) so_far.added
-    ∙ append_assoc before (map spelled (take i all)) (spelled x ∷ [])
-    ∙ ap (λ (xs : List (List ℕ)). before ++ xs) (sym (ap (λ (xs : List A). map spelled xs) taken ∙ map_push spelled (take i all) x)) in
-    record { added = subst (λ (n : ℕ). after ≡ before ++ map spelled (take n all)) next added; within = posted.1 }
-
-pub added_all : {A : Type 0} (spelled : A → List ℕ) (i : ℕ) (all : List A) (before now : List (List ℕ)) → length all ≤ i →
-    IsAddedUpTo spelled i all before now →
-    (now ≡ before ++ map spelled all) × IsWithin now
-added_all {A} spelled i all before now over so_far =
-    (so_far.added ∙ ap (λ (xs : List A). before ++ map spelled xs) (take_all i all over), so_far.within)
-
-pub stopped_at : {A : Type 0} (spelled : A → List ℕ) (i : ℕ) (all : List A) (d : A) (before now after : List (List ℕ)) (fault : PostFault) →
-    i < length all →
-    IsAddedUpTo spelled i all before now → PostedBy {T = Unit {0}} now after (spelled (get_or all i d) ∷ []) (Err fault) →
-    PostedBy {T = Unit {0}} before after (map spelled all) (Err fault)
-stopped_at {A} spelled i all d before now after fault within so_far cut =
-    let x : A = get_or all i d in
-    let rest : List A = drop (suc i) all in
-    let whole : (map spelled (take i all) ++ spelled x ∷ []) ++ map spelled rest ≡ map spelled all =
-    append_assoc (map spelled (take i all)) (spelled x ∷ []) (map spelled rest)
-    ∙ sym (map-append spelled (take i all) (x ∷ rest))
-    ∙ ap (λ (xs : List A). map spelled xs) (ap (λ (xs : List A). take i all ++ xs) (sym (drop-cons all i d within)) ∙ take-append-drop i all) in
-    stopped before now after (map spelled (take i all)) (spelled x ∷ []) (map spelled rest)
-    (map spelled all) fault so_far.added so_far.within cut whole
 
 -- what was put into an empty room is all that is there
 pub put_alone : (bytes room front text : List ℕ) → bytes ≡ room → room ≡ front ++ text → front ≡ [] → bytes ≡ text

@@ -68,49 +68,49 @@ express_sum : (n a b : ℕ) → express_behind (express_behind n a) b ≡ expres
 express_sum n zero b = let same : zero + b ≡ b = omega arith in rw same refl
 express_sum n (suc a) b = let more : suc a + b ≡ suc (a + b) = omega arith in rw more (express_sum (express_after n) a b)
 
--- one acknowledgement more, or none, when n of 64 were added
-pick : (own : Guid) (now number n : ℕ) (b c : Bool) (r : Receiving) (rest : List Receiving) → ltb n 64 ≡ c →
-    acks_of own now number (take (64 - n) (cond b (r ∷ rest) rest))
+-- one acknowledgement more, or none, when n of the most were added
+pick : (own : Guid) (now number most n : ℕ) (b c : Bool) (r : Receiving) (rest : List Receiving) → ltb n most ≡ c →
+    acks_of own now number (take (most - n) (cond b (r ∷ rest) rest))
     ≡ cond (b && c) (ack_of own now number r ∷ []) []
     ++ acks_of own now (express_behind number (length (cond (b && c) (ack_of own now number r ∷ []) [])))
-    (take (64 - (n + length (cond (b && c) (ack_of own now number r ∷ []) []))) rest)
-pick own now number n true true r rest h =
-    let left : 64 - n ≡ suc (63 - n) = grind (arith, nat_tests) in
-    let fewer : 64 - (n + 1) ≡ 63 - n = omega arith in
-    rw (left, fewer) refl
-pick own now number n true false r rest h =
-    let none : 64 - n ≡ 0 = grind (arith, nat_tests) in
-    let still : 64 - (n + 0) ≡ 0 = omega arith in
+    (take (most - (n + length (cond (b && c) (ack_of own now number r ∷ []) []))) rest)
+pick own now number most n true true r rest h =
+    let left : most - n ≡ suc (most - (n + 1)) = grind (arith, nat_tests) in
+    rw left refl
+pick own now number most n true false r rest h =
+    let none : most - n ≡ 0 = grind (arith, nat_tests) in
+    let still : most - (n + 0) ≡ 0 = grind (arith, nat_tests) in
     rw (none, still) refl
-pick own now number n false true r rest h = let same : n + 0 ≡ n = omega arith in rw same refl
-pick own now number n false false r rest h = let same : n + 0 ≡ n = omega arith in rw same refl
+pick own now number most n false true r rest h = let same : n + 0 ≡ n = omega arith in rw same refl
+pick own now number most n false false r rest h = let same : n + 0 ≡ n = omega arith in rw same refl
 
 -- The acknowledgements that were added, as far as a place in the rows, and the next number.
-pub record AckedSoFar (own : Guid) (now first : ℕ) (left ins : List Receiving) (list : List OrderAck) (next : ℕ) : Type 0 where
-  pub split : acks_of own now first (take 64 (owing ins)) ≡ list ++ acks_of own now next (take (64 - length list) (owing left))
+pub record AckedSoFar (own : Guid) (now first most : ℕ) (left ins : List Receiving) (list : List OrderAck) (next : ℕ) : Type 0 where
+  pub split : acks_of own now first (take most (owing ins)) ≡ list ++ acks_of own now next (take (most - length list) (owing left))
   pub next_is : next ≡ express_behind first (length list)
-  pub few : length list ≤ 64
+  pub few : length list ≤ most
 
-few_more : (n : ℕ) (b c : Bool) (a : OrderAck) → ltb n 64 ≡ c → n ≤ 64 → n + length (cond (b && c) (a ∷ []) []) ≤ 64
-few_more n true true a test few = grind (arith, nat_tests)
-few_more n true false a test few = omega arith
-few_more n false true a test few = omega arith
-few_more n false false a test few = omega arith
+few_more : (most n : ℕ) (b c : Bool) (a : OrderAck) → ltb n most ≡ c → n ≤ most → n + length (cond (b && c) (a ∷ []) []) ≤ most
+few_more most n true true a test few = grind (arith, nat_tests)
+few_more most n true false a test few = omega arith
+few_more most n false true a test few = omega arith
+few_more most n false false a test few = omega arith
 
-pub acked_next : (own : Guid) (now first : ℕ) (r : Receiving) (rs ins : List Receiving) (list list' : List OrderAck) (next next' : ℕ) →
-    AckedSoFar own now first (r ∷ rs) ins list next → list' ≡ list ++ next_ack own now next (length list) r →
-    next' ≡ express_behind next (length (next_ack own now next (length list) r)) → AckedSoFar own now first rs ins list' next'
-acked_next own now first r rs ins list list' next next' so_far added after =
-    let part : List OrderAck = next_ack own now next (length list) r in
+pub acked_next : (own : Guid) (now first most : ℕ) (r : Receiving) (rs ins : List Receiving) (list list' : List OrderAck) (next next' : ℕ) →
+    AckedSoFar own now first most (r ∷ rs) ins list next → list' ≡ list ++ next_ack own now next most (length list) r →
+    next' ≡ express_behind next (length (next_ack own now next most (length list) r)) → AckedSoFar own now first most rs ins list' next'
+acked_next own now first most r rs ins list list' next next' so_far added after =
+    let part : List OrderAck = next_ack own now next most (length list) r in
     let count : length list' ≡ length list + length part = ap (λ (xs : List OrderAck). length xs) added ∙ length-append list part in
     record {
       split = so_far.split
-          ∙ ap (λ (xs : List OrderAck). list ++ xs) (pick own now next (length list) r.owes (ltb (length list) 64) r (owing rs) refl)
+          ∙ ap (λ (xs : List OrderAck). list ++ xs) (pick own now next most (length list) r.owes (ltb (length list) most) r (owing rs) refl)
           ∙ sym (append_assoc list part _)
-          ∙ ap (λ (n : ℕ). (list ++ part) ++ acks_of own now n (take (64 - (length list + length part)) (owing rs))) (sym after)
-          ∙ ap (λ (n : ℕ). (list ++ part) ++ acks_of own now next' (take (64 - n) (owing rs))) (sym count)
-          ∙ ap (λ (xs : List OrderAck). xs ++ acks_of own now next' (take (64 - length list') (owing rs))) (sym added);
+          ∙ ap (λ (n : ℕ). (list ++ part) ++ acks_of own now n (take (most - (length list + length part)) (owing rs))) (sym after)
+          ∙ ap (λ (n : ℕ). (list ++ part) ++ acks_of own now next' (take (most - n) (owing rs))) (sym count)
+          ∙ ap (λ (xs : List OrderAck). xs ++ acks_of own now next' (take (most - length list') (owing rs))) (sym added);
       next_is = after ∙ ap (λ (n : ℕ). express_behind n (length part)) so_far.next_is ∙ express_sum first (length list) (length part)
           ∙ ap (λ (n : ℕ). express_behind first n) (sym count);
-      few = subst (λ (n : ℕ). n ≤ 64) (sym count) (few_more (length list) r.owes (ltb (length list) 64) (ack_of own now next r) refl so_far.few);
+      few = subst (λ (n : ℕ). n ≤ most) (sym count)
+          (few_more most (length list) r.owes (ltb (length list) most) (ack_of own now next r) refl so_far.few);
     }

@@ -1,7 +1,10 @@
 -- How what is said between managers is spelled as packets, and what a packet says.
 use Rattle.std.specs.Prelude.{ℕ, Bool, true, false, ◌==◌, ◌&&◌, ◌≤◌, ◌≡◌, List, [], ◌++◌, length, take, drop, replicate, Option, Some, None, if◌then◌else◌}
 use Rattle.std.specs.Int.{w32, to_le_bytes, from_le_bytes}
+use Rattle.std.specs.Option.{option_map}
+use Rattle.mqb_base.specs.declared.heads.SessionHead.{SessionHead}
 use Rattle.mqb_base.specs.declared.heads.TxHead.{TxHead}
+use Rattle.mqb_base.specs.declared.ids.Guid.{Guid}
 use Rattle.mqb_base.specs.declared.ids.Identity.{Identity}
 use Rattle.mqb_base.specs.declared.message.Delivery.{Delivery}
 use Rattle.mqb_base.specs.declared.message.Delivery.TheVariants.{Express, Recoverable, Transactional}
@@ -13,9 +16,12 @@ use Rattle.mqb_base.specs.Same.{same_bytes, same_ignoring_case}
 use Rattle.mqb_machine.specs.declared.packets.OrderAck.{OrderAck}
 use Rattle.mqb_machine.specs.declared.packets.Packet.{Packet}
 use Rattle.mqb_machine.specs.declared.packets.Packet.TheVariants as packet
+use Rattle.mqb_machine.specs.declared.packets.Said.{Said}
+use Rattle.mqb_machine.specs.declared.packets.Said.TheVariants as said
 use Rattle.mqb_machine.specs.Queueing.{order_layer}
 use Rattle.mqb_packet.specs.declared.packet.Packet as wire
 use Rattle.mqb_packet.specs.declared.packet.Packet.TheVariants as form
+use Rattle.mqb_packet.specs.declared.packet.UserPacket.{UserPacket}
 use Rattle.mqb_packet.specs.Plain.{IsWellFormedPacket, packet_size, plain_spelling}
 use Rattle.mqb_packet.specs.Values.{IsPacket}
 
@@ -54,16 +60,17 @@ ack_message host a = record {
   body = ack_body a;
 }
 
--- a message as it goes to a manager
-abbrev pub user_packet : Identity → Message → Option TxHead → wire.Packet
-user_packet to message tx = form.User (record { message = message; to = to.guid; remaining = message.reach; tx = tx; session = None })
+-- the user packet that says this to a manager with this host
+abbrev pub form_of : List ℕ → Guid → Option SessionHead → Said → UserPacket
+form_of host to session (said.Transfer t) = record { message = t.message; to = to; remaining = t.message.reach; tx = Some t.tx; session = session }
+form_of host to session (said.OrderAck a) = record { message = ack_message host a; to = to; remaining = 0xFFFFFFFF; tx = None; session = session }
 
 -- the packet that says this to a manager
 abbrev pub packet_for : Identity → Packet → wire.Packet
 packet_for to (packet.Establish establish) = form.Establish establish
 packet_for to (packet.Parameters parameters) = form.Parameters parameters
-packet_for to (packet.Transfer t) = user_packet to t.message (Some t.tx)
-packet_for to (packet.OrderAck a) = user_packet to (ack_message to.host a) None
+packet_for to (packet.Ack head) = form.Ack head
+packet_for to (packet.User u) = form.User (form_of to.host u.to u.session u.said)
 
 abbrev pub spelling : Identity → Packet → List ℕ
 spelling to p = plain_spelling (packet_for to p)
@@ -97,20 +104,24 @@ ack_in m = record {
 }
 
 -- What a message says: one of class 0 with a place in a stream is a message of it, an order acknowledgement is one, and anything else is discarded.
-abbrev pub said_in : List ℕ → Message → Option TxHead → Option Packet
-said_in own message (Some tx) = if message.class.0 == 0 then Some (packet.Transfer (record { tx = tx; message = message })) else None
-said_in own message None = if is_order_ack own message then Some (packet.OrderAck (ack_in message)) else None
+abbrev pub said_in : List ℕ → Message → Option TxHead → Option Said
+said_in own message (Some tx) = if message.class.0 == 0 then Some (said.Transfer (record { tx = tx; message = message })) else None
+said_in own message None = if is_order_ack own message then Some (said.OrderAck (ack_in message)) else None
+
+-- a user packet that says something
+abbrev pub user_saying : Guid → Option SessionHead → Said → Packet
+user_saying to session x = packet.User (record { to = to; session = session; said = x })
 
 -- what a packet says to the manager with this host
-abbrev pub said : List ℕ → wire.Packet → Option Packet
-said own (form.Establish establish) = Some (packet.Establish establish)
-said own (form.Parameters parameters) = Some (packet.Parameters parameters)
-said own (form.Ack head) = None
-said own (form.User user) = said_in own user.message user.tx
+abbrev pub said_by : List ℕ → wire.Packet → Option Packet
+said_by own (form.Establish establish) = Some (packet.Establish establish)
+said_by own (form.Parameters parameters) = Some (packet.Parameters parameters)
+said_by own (form.Ack head) = Some (packet.Ack head)
+said_by own (form.User user) = option_map (user_saying user.to user.session) (said_in own user.message user.tx)
 
 -- What holds of each packet that a manager sends: it can be spelled, within the greatest size, and its numbers fit their types.
 pub record IsSpelled (to : Identity) (p : Packet) : Type 0 where
   pub well_formed : IsWellFormedPacket (packet_for to p)
   pub fits : IsPacket (packet_for to p)
   pub short : packet_size (packet_for to p) ≤ 4194304
-  pub said_again : said to.host (packet_for to p) ≡ Some p
+  pub said_again : said_by to.host (packet_for to p) ≡ Some p

@@ -1,23 +1,25 @@
 ghost use Rattle.std.specs.Prelude.{◌≡◌, ◌≤◌, ◌+◌, ◌++◌, None, Some, length, IfOk, OnOk, OnErr};
 ghost use Rattle.mqb_base.specs.declared.ids.Identity.{Identity};
 ghost use Rattle.mqb_machine.specs.declared.packets.Packet.{Packet};
-ghost use Rattle.mqb_machine.specs.declared.packets.Packet.TheVariants as packet;
+ghost use Rattle.mqb_machine.specs.declared.packets.Said.TheVariants as said;
 ghost use Rattle.mqb_machine.specs.Pumping.{carried};
 ghost use Rattle.mqb_packet.specs.declared.packet.Packet as wire;
 ghost use Rattle.mqb_packet.specs.declared.packet.Packet.TheVariants as form;
 ghost use Rattle.mqb_packet.specs.Plain.{IsWellFormedPacket, IsWellFormedUser, carried_user, packet_size, plain_spelling, user_packet_size};
 ghost use Rattle.mqb_packet.specs.Spelled.{Spells};
 ghost use Rattle.mqb_manager.specs.Sendable.{IsSendable};
-ghost use Rattle.mqb_manager.specs.Formats.{IsSpelled, ack_body, ack_in, ack_message, is_order_ack, is_order_queue, order_queue, said, said_in, spelling, word_at};
+ghost use Rattle.mqb_manager.specs.Sending.{form_with};
+ghost use Rattle.mqb_manager.specs.Formats.{IsSpelled, ack_body, ack_in, ack_message, is_order_ack, is_order_queue, order_queue, said_by, said_in, spelling, user_saying, word_at};
 
 use crate::queues::ORDER_LAYER;
 use crate::values::name_fits;
 use mqb_base::{
     Bytes, Class, Delivery, Guid, Host, Identity, Memory, Message, MessageId, Name, QueueName,
-    SequenceId, TxHead, UNLIMITED, Units, remaining,
+    SequenceId, SessionHead, TxHead, UNLIMITED, Units, remaining,
 };
-use mqb_machine::{OrderAck, Packet, Transfer};
-use mqb_packet::{Carriage, PutFault, put_message, to_owned, view};
+use mqb_machine::{OrderAck, Packet, Said, Transfer, User};
+use mqb_packet::{Carriage, PutFault, put_message, put_packet, to_owned, view};
+use mqb_setup::Internal;
 use std::alloc::Global;
 
 /// The length of the body of an order acknowledgement.
@@ -69,32 +71,39 @@ fn ack_in(message: &Message) -> OrderAck
     }
 }
 
-fn said_in(own: &Name, message: Message, tx: Option<TxHead>) -> Option<Packet>
+fn said_in(own: &Name, message: Message, tx: Option<TxHead>) -> Option<Said>
     ensures { result ≡ said_in own.now message tx }
 {
     match tx {
         Some(tx) if message.class == Class::NORMAL => {
-            Some(Packet::Transfer(Transfer { tx, message }))
+            Some(Said::Transfer(Transfer { tx, message }))
         }
-        None if is_order_ack(own, &message) => Some(Packet::OrderAck(ack_in(&message))),
+        None if is_order_ack(own, &message) => Some(Said::OrderAck(ack_in(&message))),
         _ => None,
     }
 }
 
-fn said(own: &Name, packet: mqb_packet::Packet) -> Option<Packet>
-    ensures { result ≡ said own.now packet }
+fn said_by(own: &Name, packet: mqb_packet::Packet) -> Option<Packet>
+    ensures { result ≡ said_by own.now packet }
 {
     match packet {
         mqb_packet::Packet::Establish(establish) => Some(Packet::Establish(establish)),
         mqb_packet::Packet::Parameters(parameters) => Some(Packet::Parameters(parameters)),
-        mqb_packet::Packet::Ack(_) => None,
-        mqb_packet::Packet::User(user) => said_in(own, user.message, user.tx),
+        mqb_packet::Packet::Ack(head) => Some(Packet::Ack(head)),
+        mqb_packet::Packet::User(user) => {
+            let said = said_in(own, user.message, user.tx)?;
+            Some(Packet::User(User {
+                to: user.to,
+                session: user.session,
+                said,
+            }))
+        }
     }
 }
 
 /// What a packet's bytes say to the manager with this host. It is None where they say nothing that is heard.
 pub fn read_packet(alloc: Global, own: &Name, bytes: &[u8]) -> Result<Option<Packet>, Memory>
-    ensures said { (p : wire.Packet) → Spells p bytes.now → IfOk result (λ found. found ≡ said own.now p) }
+    ensures said { (p : wire.Packet) → Spells p bytes.now → IfOk result (λ found. found ≡ said_by own.now p) }
     ensures nothing { ((p : wire.Packet) → Spells p bytes.now → ⊥) → IfOk result (λ found. found ≡ None) }
     ensures again { (to : Identity) (p : Packet) → to.host ≡ own.now → IsSpelled to p → bytes.now ≡ spelling to p → IfOk result (λ found. found ≡ Some p) }
 {
@@ -102,7 +111,7 @@ pub fn read_packet(alloc: Global, own: &Name, bytes: &[u8]) -> Result<Option<Pac
         return Ok(None);
     };
     let packet = to_owned(alloc, &view)?;
-    Ok(said(own, packet))
+    Ok(said_by(own, packet))
 }
 
 /// The body of an order acknowledgement.
@@ -173,37 +182,40 @@ fn put_short(message: &Message, carriage: &Carriage, out: &mut Vec<u8>) -> Resul
     }
 }
 
-/// Appends the packet that carries a kept message to a manager, with what is left of its time to reach its queue. `out` is unchanged on a refusal.
+/// Appends the packet that carries a kept message to a manager, with what is left of its time to reach its queue and a header of the session. `out` is
+/// unchanged on a refusal.
 #[tactic(auto, using(crate::proofs::Packets::transfer_well_formed))]
 pub(crate) fn put_transfer(
     tx: &TxHead,
     message: &Message,
     to: &Identity,
     now: u32,
+    head: SessionHead,
     out: &mut Vec<u8>,
 ) -> Result<(), Memory>
     requires { IsSendable message.now }
-    ensures put { OnOk result (out.new.items ≡ out.old.items ++ spelling to.now (packet.Transfer (record { tx = tx.now; message = carried now message.now }))) }
+    ensures put { OnOk result (out.new.items ≡ out.old.items ++ spelling to.now (user_saying to.now.guid (Some head) (said.Transfer (record { tx = tx.now; message = carried now message.now })))) }
     ensures stays { OnErr result (out.new.items ≡ out.old.items) }
 {
     let carriage = Carriage {
         to: to.guid,
         remaining: remaining(message.sent, message.reach, now),
         tx: Some(*tx),
-        session: None,
+        session: Some(head),
     };
     put_short(message, &carriage, out)
 }
 
-/// Appends the packet of an order acknowledgement to a manager. `out` is unchanged on a refusal.
+/// Appends the packet of an order acknowledgement to a manager, with a header of the session. `out` is unchanged on a refusal.
 #[tactic(auto, using(crate::proofs::Packets::ack_well_formed, crate::proofs::Packets::ack_short))]
 pub(crate) fn put_ack(
     alloc: Global,
     ack: &OrderAck,
     to: &Identity,
+    head: SessionHead,
     out: &mut Vec<u8>,
 ) -> Result<(), Memory>
-    ensures put { OnOk result (out.new.items ≡ out.old.items ++ spelling to.now (packet.OrderAck ack.now)) }
+    ensures put { OnOk result (out.new.items ≡ out.old.items ++ spelling to.now (user_saying to.now.guid (Some head) (said.OrderAck ack.now))) }
     ensures stays { OnErr result (out.new.items ≡ out.old.items) }
 {
     name_fits(&to.host);
@@ -212,7 +224,31 @@ pub(crate) fn put_ack(
         to: to.guid,
         remaining: message.reach,
         tx: None,
-        session: None,
+        session: Some(head),
     };
     put_short(&message, &carriage, out)
+}
+
+/// The packet that has this part and no message.
+fn internal_packet(part: Internal) -> mqb_packet::Packet
+    ensures { result ≡ form_with part }
+{
+    match part {
+        Internal::Establish(establish) => mqb_packet::Packet::Establish(establish),
+        Internal::Parameters(parameters) => mqb_packet::Packet::Parameters(parameters),
+        Internal::Ack(head) => mqb_packet::Packet::Ack(head),
+    }
+}
+
+/// Appends the packet that has this part and no message. `out` is unchanged on a refusal.
+#[tactic(auto, using(crate::proofs::Packets::internal_well_formed, crate::proofs::Packets::internal_short))]
+pub(crate) fn put_internal(part: Internal, out: &mut Vec<u8>) -> Result<(), Memory>
+    ensures put { OnOk result (out.new.items ≡ out.old.items ++ plain_spelling (form_with part)) }
+    ensures stays { OnErr result (out.new.items ≡ out.old.items) }
+{
+    match put_packet(&internal_packet(part), out) {
+        Ok(()) => Ok(()),
+        Err(PutFault::Memory) => Err(Memory),
+        Err(PutFault::TooLarge) => unreachable!(),
+    }
 }

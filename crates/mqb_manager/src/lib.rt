@@ -4,6 +4,7 @@
 #![tactic(auto)]
 
 mod acks;
+mod counts;
 mod ending;
 mod formats;
 mod incoming;
@@ -13,6 +14,7 @@ mod outgoing;
 mod posts;
 mod queues;
 mod sends;
+mod sizes;
 mod values;
 
 pub use formats::read_packet;

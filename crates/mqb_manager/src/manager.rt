@@ -7,6 +7,7 @@ ghost use Rattle.mqb_manager.specs.Endings.{state_text};
 
 mod committing;
 mod hearing;
+mod listening;
 mod pumping;
 
 use crate::acks::{FIRST_EXPRESS, forget_owed};
@@ -18,6 +19,7 @@ use crate::sends::forget_all;
 use mqb_base::{Identity, Memory, QueueName, QueuePlan};
 use mqb_machine::{Messages, Queue, Receiving};
 use mqb_script::Reply;
+use mqb_session::Session;
 use std::alloc::Global;
 use std::marker::Model;
 
@@ -36,6 +38,7 @@ pub struct Manager {
     next_number: u32,
     next_ordinal: u32,
     next_express: u32,
+    session: Option<Session>,
 }
 
 impl Model for Manager {
@@ -54,6 +57,7 @@ impl Model for Manager {
       next_number = m.next_number;
       next_ordinal = m.next_ordinal;
       next_express = m.next_express;
+      session = m.session;
     } };
 }
 
@@ -78,6 +82,7 @@ impl Manager {
             next_number: 1,
             next_ordinal: 1,
             next_express: FIRST_EXPRESS,
+            session: None,
         }
     }
 
@@ -121,12 +126,35 @@ impl Manager {
         Ok(Reply::Done)
     }
 
+    /// Begins a session as the one that asks the peer. `window` is how many user packets may come that were not acknowledged.
+    pub fn initiate(&mut self, window: u16)
+        ensures { self.new ≡ spec.initiated self.old window }
+    {
+        let session = Session::initiator(self.identity.guid, self.peer.guid, window);
+        self.session = Some(session);
+    }
+
+    /// Begins a session as the one that is asked. `window` is how many user packets may come that were not acknowledged.
+    pub fn accept(&mut self, window: u16)
+        ensures { self.new ≡ spec.accepting self.old window }
+    {
+        self.session = Some(Session::acceptor(self.identity.guid, window));
+    }
+
+    /// Everything that is not acknowledged is sent again in this connection.
+    pub fn resend(&mut self)
+        ensures { self.new ≡ spec.resent self.old }
+    {
+        forget_all(&mut self.outs);
+    }
+
     /// The connection ended: what is not acknowledged is sent again in the next one, and no acknowledgement is owed.
     pub fn unlink(&mut self)
         ensures { self.new ≡ unlinked self.old }
     {
         forget_all(&mut self.outs);
         forget_owed(&mut self.ins);
+        self.session = None;
     }
 
     /// Appends the lines that say what the manager holds. After a refusal a part of them may stand in `out`.

@@ -1,6 +1,5 @@
 ghost use Rattle.std.specs.Prelude.{◌≡◌, ◌<◌, ◌≤◌, ◌^◌, ◌-◌, ◌+◌, [], ◌∷◌, ◌++◌, length, take, All, Contains, IsTrue, OnOk, OnErr};
 ghost use Rattle.mqb_heads.specs.Values.{IsMessage};
-ghost use Rattle.mqb_machine.specs.declared.packets.Packet.TheVariants as packet;
 ghost use Rattle.mqb_machine.specs.Pumping.{greatest_of};
 ghost use Rattle.mqb_manager.specs.Sendable.{IsCounted, IsSendable};
 
@@ -11,16 +10,15 @@ use mqb_base::{Identity, Memory, Message, QueueName, SequenceId, TxHead};
 use mqb_machine::OrderAck;
 use mqb_orders::{Kept, KeptList, OutRow};
 use mqb_outside::Medium;
+use mqb_session::{Kind, Session};
 use std::alloc::Global;
 
-/// How many packets one pump sends.
-pub(crate) const MOST_PACKETS: usize = 64;
-
-/// To whom and when a pump sends messages, and how many packets it sent before them.
+/// To whom and when a pump sends messages, how many packets it sends at most, and how many it sent before them.
 #[derive(Clone, Copy, Debug)]
 pub(crate) struct Pump<'a> {
     pub to: &'a Identity,
     pub moment: u32,
+    pub most: usize,
     pub before: usize,
 }
 
@@ -39,10 +37,10 @@ impl Outgoing {
     ghost use Rattle.mqb_manager.specs.Outgoing.{sending_of};
     ghost use Rattle.mqb_machine.specs.Acknowledging.{raises, acknowledged_by};
     ghost use Rattle.mqb_machine.specs.Committing.{joined, empty_row};
-    ghost use Rattle.mqb_machine.specs.Pumping.{head_of, heads_of, offered_on, placed_on, transfer_of, unsent, waiting_in, waits};
-    ghost use Rattle.mqb_manager.specs.Formats.{spelling};
+    ghost use Rattle.mqb_machine.specs.Pumping.{head_of, heads_of, offered_on, placed_on, stamped_behind, transfer_of, unsent, waiting_in, waits};
     ghost use Rattle.mqb_manager.specs.Posting.{IsWithin, PostedBy};
-    ghost use Rattle.mqb_manager.specs.Sending.{next_of, transfers_spelled};
+    ghost use Rattle.mqb_manager.specs.Sending.{HasRoom, next_of, said_transfers, saids_spelled};
+    ghost use Rattle.std.specs.List.{list_any};
 
     /// The row of a new stream.
     pub fn begin(alloc: Global, destination: QueueName, sequence: SequenceId) -> Outgoing
@@ -131,68 +129,85 @@ impl Outgoing {
         }
     }
 
-    /// Sends a kept message that waits, and notes the head of its packet.
-    #[tactic(auto, using(crate::proofs::Posting::none_posted, crate::proofs::Spelling::spelling_some))]
+    /// Whether some kept message waits.
+    pub fn is_some_waiting(&self) -> bool
+        ensures { result ≡ list_any (waits (sending_of self.now)) self.now.row.kept.kept }
+    {
+        self.row.kept.as_slice().iter().any(|kept| self.waits(kept))
+    }
+
+    /// Sends a kept message that waits with the next header of the session, and notes its place in the stream.
+    #[tactic(auto, using(crate::proofs::Posting::none_posted, crate::proofs::Room::may_stamp, crate::proofs::Spelling::spelling_some))]
     fn send<M: Medium>(
         &self,
         kept: &Kept,
         pump: &Pump<'_>,
+        session: &mut Session,
         heads: &mut Vec<TxHead>,
         scratch: &mut Vec<u8>,
         medium: &mut M,
     ) -> Result<(), PostFault>
         requires kept { Contains self.now.row.kept.kept kept.now }
         requires waits { IsTrue (waits (sending_of self.now) kept.now) }
+        requires room { HasRoom 1 session.old }
         requires within { IsWithin (M.strings medium.old) }
+        ensures stamped { OnOk result (session.new ≡ stamped_behind session.old 1) }
         ensures head { OnOk result (heads.new.items ≡ heads.old.items ++ head_of (sending_of self.now).row kept.now ∷ []) }
-        ensures posted { PostedBy (M.strings medium.old) (M.strings medium.new) (spelling pump.now.to.now (packet.Transfer (transfer_of pump.now.moment (sending_of self.now).row kept.now)) ∷ []) result }
+        ensures posted { PostedBy (M.strings medium.old) (M.strings medium.new) (saids_spelled pump.now.to.now session.old (said_transfers (transfer_of pump.now.moment (sending_of self.now).row kept.now ∷ []))) result }
     {
-        let head = self.head(kept);
+        let place = self.head(kept);
+        let head = session.stamp(Kind::Plain);
         scratch.clear();
-        put_transfer(&head, &kept.message, pump.to, pump.moment, scratch)?;
-        heads.push(head)?;
+        put_transfer(&place, &kept.message, pump.to, pump.moment, head, scratch)?;
+        heads.push(place)?;
         post(scratch, medium)
     }
 
-    /// Sends a kept message, if it waits and fewer than 64 packets were sent in all.
-    #[tactic(auto, using(crate::proofs::Posting::nothing_posted))]
+    /// Sends a kept message, if it waits and fewer than the most packets were sent in all.
+    #[tactic(auto, using(crate::proofs::Posting::nothing_posted, crate::proofs::Room::room_for_one))]
     fn send_next<M: Medium>(
         &self,
         kept: &Kept,
         pump: &Pump<'_>,
+        session: &mut Session,
         heads: &mut Vec<TxHead>,
         scratch: &mut Vec<u8>,
         medium: &mut M,
     ) -> Result<(), PostFault>
         requires kept { Contains self.now.row.kept.kept kept.now }
-        requires few { pump.now.before + length heads.old.items ≤ 64 }
+        requires few { pump.now.before + length heads.old.items ≤ pump.now.most }
+        requires room { HasRoom (pump.now.most - (pump.now.before + length heads.old.items)) session.old }
         requires within { IsWithin (M.strings medium.old) }
-        ensures heads { OnOk result (heads.new.items ≡ heads.old.items ++ heads_of (next_of pump.now.moment (pump.now.before + length heads.old.items) (sending_of self.now) kept.now)) }
-        ensures posted { PostedBy (M.strings medium.old) (M.strings medium.new) (transfers_spelled pump.now.to.now (next_of pump.now.moment (pump.now.before + length heads.old.items) (sending_of self.now) kept.now)) result }
-        ensures few { OnOk result (pump.now.before + length heads.new.items ≤ 64) }
+        ensures stamped { OnOk result (session.new ≡ stamped_behind session.old (length (next_of pump.now.moment pump.now.most (pump.now.before + length heads.old.items) (sending_of self.now) kept.now))) }
+        ensures heads { OnOk result (heads.new.items ≡ heads.old.items ++ heads_of (next_of pump.now.moment pump.now.most (pump.now.before + length heads.old.items) (sending_of self.now) kept.now)) }
+        ensures posted { PostedBy (M.strings medium.old) (M.strings medium.new) (saids_spelled pump.now.to.now session.old (said_transfers (next_of pump.now.moment pump.now.most (pump.now.before + length heads.old.items) (sending_of self.now) kept.now))) result }
+        ensures few { OnOk result (pump.now.before + length heads.new.items ≤ pump.now.most) }
     {
-        if pump.before + heads.len() < MOST_PACKETS && self.waits(kept) {
-            self.send(kept, pump, heads, scratch, medium)?;
+        if pump.before + heads.len() < pump.most && self.waits(kept) {
+            self.send(kept, pump, session, heads, scratch, medium)?;
         }
         Ok(())
     }
 
-    /// Sends the kept messages that wait, in order, until 64 packets were sent in all. So many were sent before those with these heads.
+    /// Sends the kept messages that wait, in order, until the most packets were sent in all. So many were sent before those with these heads.
     pub fn send_waiting<M: Medium>(
         &self,
         pump: &Pump<'_>,
+        session: &mut Session,
         heads: &mut Vec<TxHead>,
         scratch: &mut Vec<u8>,
         medium: &mut M,
     ) -> Result<(), PostFault>
-        requires few { pump.now.before + length heads.old.items ≤ 64 }
+        requires few { pump.now.before + length heads.old.items ≤ pump.now.most }
+        requires room { HasRoom (pump.now.most - (pump.now.before + length heads.old.items)) session.old }
         requires within { IsWithin (M.strings medium.old) }
-        ensures heads { OnOk result (heads.new.items ≡ heads.old.items ++ heads_of (take (64 - (pump.now.before + length heads.old.items)) (waiting_in pump.now.moment (sending_of self.now)))) }
-        ensures posted { PostedBy (M.strings medium.old) (M.strings medium.new) (transfers_spelled pump.now.to.now (take (64 - (pump.now.before + length heads.old.items)) (waiting_in pump.now.moment (sending_of self.now)))) result }
-        ensures few { OnOk result (pump.now.before + length heads.new.items ≤ 64) }
+        ensures stamped { OnOk result (session.new ≡ stamped_behind session.old (length (take (pump.now.most - (pump.now.before + length heads.old.items)) (waiting_in pump.now.moment (sending_of self.now))))) }
+        ensures heads { OnOk result (heads.new.items ≡ heads.old.items ++ heads_of (take (pump.now.most - (pump.now.before + length heads.old.items)) (waiting_in pump.now.moment (sending_of self.now)))) }
+        ensures posted { PostedBy (M.strings medium.old) (M.strings medium.new) (saids_spelled pump.now.to.now session.old (said_transfers (take (pump.now.most - (pump.now.before + length heads.old.items)) (waiting_in pump.now.moment (sending_of self.now))))) result }
+        ensures few { OnOk result (pump.now.before + length heads.new.items ≤ pump.now.most) }
     {
         for kept in self.row.kept.as_slice() {
-            self.send_next(kept, pump, heads, scratch, medium)?;
+            self.send_next(kept, pump, session, heads, scratch, medium)?;
         }
         Ok(())
     }

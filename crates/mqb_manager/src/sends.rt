@@ -3,38 +3,56 @@ ghost use Rattle.std.specs.List.{list_any};
 ghost use Rattle.mqb_base.specs.Same.{same_name};
 ghost use Rattle.mqb_machine.specs.Acknowledging.{is_news, raises, acknowledged_by};
 ghost use Rattle.mqb_machine.specs.Committing.{stream_at, joined_at, begun};
-ghost use Rattle.mqb_machine.specs.Pumping.{heads_of, offered_on, placed_on, transfers_waiting, unsent};
+ghost use Rattle.mqb_machine.specs.Pumping.{heads_of, offered_on, placed_on, stamped_behind, transfers_waiting, unsent, waits};
 ghost use Rattle.mqb_manager.specs.Outgoing.{sending_of};
 ghost use Rattle.mqb_orders.specs.Rows.{row_of};
 ghost use Rattle.mqb_manager.specs.Posting.{IsWithin, PostedBy};
 ghost use Rattle.mqb_manager.specs.Sendable.{IsSendable};
-ghost use Rattle.mqb_manager.specs.Sending.{transfers_spelled};
+ghost use Rattle.mqb_manager.specs.Sending.{HasRoom, said_transfers, saids_spelled};
 
 use crate::outgoing::{Outgoing, Pump};
 use crate::posts::PostFault;
 use mqb_base::{Memory, Message, QueueName, SequenceId, TxHead};
 use mqb_machine::OrderAck;
 use mqb_outside::Medium;
+use mqb_session::Session;
 use std::alloc::Global;
 
-/// Sends what waits, stream by stream, until 64 packets were sent in all. So many were sent before those with these heads.
+/// Sends what waits, stream by stream, until the most packets were sent in all. So many were sent before those with these heads.
 pub(crate) fn send_all<M: Medium>(
     outs: &[Outgoing],
     pump: &Pump<'_>,
+    session: &mut Session,
     heads: &mut Vec<TxHead>,
     scratch: &mut Vec<u8>,
     medium: &mut M,
 ) -> Result<(), PostFault>
-    requires few { pump.now.before + length heads.old.items ≤ 64 }
+    requires few { pump.now.before + length heads.old.items ≤ pump.now.most }
+    requires room { HasRoom (pump.now.most - (pump.now.before + length heads.old.items)) session.old }
     requires within { IsWithin (M.strings medium.old) }
-    ensures heads { OnOk result (heads.new.items ≡ heads.old.items ++ heads_of (take (64 - (pump.now.before + length heads.old.items)) (transfers_waiting pump.now.moment (map sending_of outs.now)))) }
-    ensures posted { PostedBy (M.strings medium.old) (M.strings medium.new) (transfers_spelled pump.now.to.now (take (64 - (pump.now.before + length heads.old.items)) (transfers_waiting pump.now.moment (map sending_of outs.now)))) result }
-    ensures few { OnOk result (pump.now.before + length heads.new.items ≤ 64) }
+    ensures stamped { OnOk result (session.new ≡ stamped_behind session.old (length (take (pump.now.most - (pump.now.before + length heads.old.items)) (transfers_waiting pump.now.moment (map sending_of outs.now))))) }
+    ensures heads { OnOk result (heads.new.items ≡ heads.old.items ++ heads_of (take (pump.now.most - (pump.now.before + length heads.old.items)) (transfers_waiting pump.now.moment (map sending_of outs.now)))) }
+    ensures posted { PostedBy (M.strings medium.old) (M.strings medium.new) (saids_spelled pump.now.to.now session.old (said_transfers (take (pump.now.most - (pump.now.before + length heads.old.items)) (transfers_waiting pump.now.moment (map sending_of outs.now))))) result }
+    ensures few { OnOk result (pump.now.before + length heads.new.items ≤ pump.now.most) }
 {
     for outgoing in outs {
-        outgoing.send_waiting(pump, heads, scratch, medium)?;
+        outgoing.send_waiting(pump, session, heads, scratch, medium)?;
     }
     Ok(())
+}
+
+fn is_one_waiting(outs: &[Outgoing]) -> bool
+    ensures { result ≡ list_any (λ o. list_any (waits (sending_of o)) (sending_of o).row.kept) outs.now }
+{
+    outs.iter().any(|outgoing| outgoing.is_some_waiting())
+}
+
+/// Whether some message of a stream waits.
+#[tactic(auto, using(crate::proofs::Views::list_any_map))]
+pub(crate) fn is_some_waiting(outs: &[Outgoing]) -> bool
+    ensures { result ≡ list_any (λ s. list_any (waits s) s.row.kept) (map sending_of outs.now) }
+{
+    is_one_waiting(outs)
 }
 
 /// Notes in every stream that packets with these heads were sent.

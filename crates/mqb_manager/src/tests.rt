@@ -1,10 +1,13 @@
 use crate::Manager;
 use mqb_base::{
-    Bytes, Class, Delivery, Draft, Guid, Heard, Host, Identity, Memory, Message, MessageId, Name,
-    NameError, Parts, QueueName, QueuePlan, SequenceId, TxHead, UNLIMITED, Units,
+    Bytes, Cause, Class, Delivery, Draft, Guid, Heard, Host, Identity, Memory, Message, MessageId,
+    Name, NameError, Op, Parts, QueueName, QueuePlan, SequenceId, SessionHead, TxHead, UNLIMITED,
+    Units,
 };
-use mqb_machine::{OrderAck, Transfer};
+use mqb_machine::{OrderAck, Packet, Said, Transfer, User};
+use mqb_outside::MemoryMedium;
 use mqb_script::Reply;
+use mqb_setup::{Establish, Parameters};
 use std::alloc::Global;
 use std::test::Fail;
 
@@ -35,15 +38,21 @@ pub(crate) fn plan(alloc: Global, quota: u32) -> Result<QueuePlan, NameError> {
     })
 }
 
-pub(crate) fn orders_at_beta(alloc: Global) -> Result<QueueName, NameError> {
+fn at_beta(alloc: Global, queue: &[u8]) -> Result<QueueName, NameError> {
     Ok(QueueName::Direct {
         host: Host::Os(Name::new(alloc, b"beta")?),
-        queue: Name::new(alloc, b"orders")?,
+        queue: Name::new(alloc, queue)?,
         journal: false,
     })
 }
 
-pub(crate) fn parts(alloc: Global, destination: QueueName) -> Result<Parts, Memory> {
+/// A step that sends a message to a queue of beta.
+pub(crate) fn send(alloc: Global, queue: &[u8]) -> Result<Op, Fail> {
+    let parts = parts(alloc, at_beta(alloc, queue)?)?;
+    Ok(Op::Send(Draft::build(parts)?))
+}
+
+fn parts(alloc: Global, destination: QueueName) -> Result<Parts, Memory> {
     Ok(Parts {
         destination,
         priority: 0,
@@ -107,7 +116,7 @@ pub(crate) fn beta(alloc: Global) -> Result<Manager, NameError> {
 }
 
 fn transfer(alloc: Global, number: u32, previous: u32, reach: u32) -> Result<Transfer, Fail> {
-    let destination = orders_at_beta(alloc)?;
+    let destination = at_beta(alloc, b"orders")?;
     Ok(Transfer {
         tx: TxHead {
             sequence: SEQUENCE,
@@ -116,6 +125,56 @@ fn transfer(alloc: Global, number: u32, previous: u32, reach: u32) -> Result<Tra
         },
         message: message(alloc, number, reach, destination)?,
     })
+}
+
+/// A user packet to a manager, with the session header that acknowledges so many, if any.
+fn user(to: Guid, acked: Option<u16>, said: Said) -> Packet {
+    let session = match acked {
+        Some(ack) => Some(head(ack, 1)),
+        None => None,
+    };
+    Packet::User(User { to, session, said })
+}
+
+fn head(ack: u16, user: u16) -> SessionHead {
+    SessionHead {
+        ack,
+        stored: 0,
+        stored_flags: 0,
+        user,
+        recoverable: 0,
+        window: 64,
+    }
+}
+
+/// Lets a manager send the set-up packet that it owes.
+fn turn(alloc: Global, manager: &mut Manager) -> Result<(), Fail> {
+    let mut medium = MemoryMedium::new(alloc);
+    manager.pump(100, &mut medium)?;
+    Ok(())
+}
+
+/// Takes a manager through the set-up of a session for which this one asks.
+fn make_ready(
+    alloc: Global,
+    manager: &mut Manager,
+    client: Guid,
+    server: Guid,
+) -> Result<(), Fail> {
+    manager.accept(64);
+    manager.hear(Packet::Establish(Establish {
+        client,
+        server,
+        stamp: 100,
+        refused: false,
+    }))?;
+    turn(alloc, manager)?;
+    manager.hear(Packet::Parameters(Parameters {
+        storage_time: 10_000,
+        ack_time: 20_000,
+        window: 64,
+    }))?;
+    turn(alloc, manager)
 }
 
 fn order_ack() -> OrderAck {
@@ -152,6 +211,7 @@ fn printed(alloc: Global, manager: &Manager) -> Result<Vec<u8>, Fail> {
 fn messages_are_heard(rt: HostRuntime) -> Result<(), Fail> {
     let alloc = rt.alloc();
     let mut manager = beta(alloc)?;
+    make_ready(alloc, &mut manager, ALPHA, BETA)?;
     let orders = plan(alloc, 2)?;
     assert!(rt; matches!(manager.create_queue(&orders)?, Reply::Done));
     let sequence = SEQUENCE;
@@ -213,7 +273,8 @@ fn messages_are_heard(rt: HostRuntime) -> Result<(), Fail> {
             },
         ),
     ] {
-        let reply = manager.hear(transfer(alloc, number, previous, reach)?)?;
+        let said = Said::Transfer(transfer(alloc, number, previous, reach)?);
+        let reply = manager.hear(user(BETA, None, said))?;
         assert_eq!(rt; heard(&reply), Some(wanted), "{number}");
     }
     let text = printed(alloc, &manager)?;
@@ -224,20 +285,86 @@ fn messages_are_heard(rt: HostRuntime) -> Result<(), Fail> {
 }
 
 #[test]
-fn messages_are_committed(rt: HostRuntime) -> Result<(), Fail> {
+fn transactions_are_committed(rt: HostRuntime) -> Result<(), Fail> {
     let alloc = rt.alloc();
     let mut manager = alpha(alloc)?;
-    let draft = Draft::build(parts(alloc, orders_at_beta(alloc)?)?)?;
-    for now in [100, 200] {
-        let reply = manager.commit(now, &draft)?;
-        assert!(rt; matches!(reply, Reply::Committed { .. }));
-    }
-    let reply = manager.hear_ack(&order_ack());
-    assert_eq!(rt; heard(&reply), Some(Heard::OldAck));
+    make_ready(alloc, &mut manager, BETA, ALPHA)?;
+    let mut ops = Vec::new(alloc);
+    ops.push(send(alloc, b"orders")?)?;
+    ops.push(send(alloc, b"bills")?)?;
+    ops.push(send(alloc, b"orders")?)?;
+    let reply = manager.commit(100, &ops)?;
+    assert!(rt; matches!(reply, Reply::Committed { .. }));
+    let ack = user(ALPHA, None, Said::OrderAck(order_ack()));
+    assert_eq!(rt; heard(&manager.hear(ack)?), Some(Heard::OldAck));
     manager.unlink();
     let text = printed(alloc, &manager)?;
     let wanted =
-        b"alpha dead\nalpha deadxact\nalpha journal\nalpha out 1 DIRECT=OS:beta\\PRIVATE$\\orders 2 0 0\n";
+        b"alpha dead\nalpha deadxact\nalpha journal\nalpha out 1 DIRECT=OS:beta\\PRIVATE$\\orders 2 0 0\nalpha out 2 DIRECT=OS:beta\\PRIVATE$\\bills 1 0 0\n";
     assert!(rt; text.as_slice() == wanted.as_slice());
+    Ok(())
+}
+
+#[test]
+fn a_transaction_has_at_most_64_steps(rt: HostRuntime) -> Result<(), Fail> {
+    let alloc = rt.alloc();
+    let mut manager = alpha(alloc)?;
+    let mut ops = Vec::new(alloc);
+    for _ in 0..64 {
+        ops.push(send(alloc, b"orders")?)?;
+    }
+    assert!(rt; matches!(manager.commit(100, &ops)?, Reply::Committed { .. }));
+    ops.push(send(alloc, b"orders")?)?;
+    assert!(rt; matches!(manager.commit(100, &ops)?, Reply::TooManyOps));
+    Ok(())
+}
+
+#[test]
+fn a_session_that_is_not_ready_closes(rt: HostRuntime) -> Result<(), Fail> {
+    let alloc = rt.alloc();
+    let mut manager = beta(alloc)?;
+    let unlinked = manager.hear(Packet::Ack(head(0, 0)))?;
+    assert!(rt; matches!(unlinked, Reply::Unlinked));
+    manager.accept(64);
+    let early = Some(Heard::Closed(Cause::Early));
+    let said = Said::Transfer(transfer(alloc, 1, 0, UNLIMITED)?);
+    assert_eq!(rt; heard(&manager.hear(user(BETA, Some(0), said))?), early);
+    let said = Said::Transfer(transfer(alloc, 1, 0, UNLIMITED)?);
+    assert_eq!(rt; heard(&manager.hear(user(BETA, Some(0), said))?), early);
+    Ok(())
+}
+
+#[test]
+fn the_header_of_a_packet_is_heard_first(rt: HostRuntime) -> Result<(), Fail> {
+    let alloc = rt.alloc();
+    let missing = Heard::Refused {
+        sequence: SEQUENCE,
+        number: 1,
+        class: Class::BAD_DESTINATION,
+    };
+    for (to, acked, wanted) in [
+        (BETA, 0, missing),
+        (BETA, 1, Heard::Closed(Cause::BadAck)),
+        (ALPHA, 0, Heard::Closed(Cause::Foreign)),
+    ] {
+        let mut manager = beta(alloc)?;
+        make_ready(alloc, &mut manager, ALPHA, BETA)?;
+        let said = Said::Transfer(transfer(alloc, 1, 0, UNLIMITED)?);
+        let reply = manager.hear(user(to, Some(acked), said))?;
+        assert_eq!(rt; heard(&reply), Some(wanted), "{acked}");
+    }
+    Ok(())
+}
+
+#[test]
+fn a_session_acknowledgement_is_of_what_was_sent(rt: HostRuntime) -> Result<(), Fail> {
+    let alloc = rt.alloc();
+    let mut manager = beta(alloc)?;
+    make_ready(alloc, &mut manager, ALPHA, BETA)?;
+    let bad = Heard::Closed(Cause::BadAck);
+    for (acked, wanted) in [(0, Heard::Session), (1, bad), (0, bad)] {
+        let reply = manager.hear(Packet::Ack(head(acked, 0)))?;
+        assert_eq!(rt; heard(&reply), Some(wanted), "{acked}");
+    }
     Ok(())
 }

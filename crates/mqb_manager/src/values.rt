@@ -2,11 +2,16 @@
 ghost use Rattle.std.specs.Prelude.{◌<◌, ◌^◌, All, IfSome};
 ghost use Rattle.mqb_heads.specs.Values.{IsMessage, IsMessageId};
 ghost use Rattle.mqb_names.specs.Values.{AreBytes, IsHost, IsName, IsQueueName};
-ghost use Rattle.mqb_manager.specs.Sendable.{IsNumbered};
+ghost use Rattle.mqb_setup.specs.Widths.{IsEstablish, IsInternal, IsParameters, IsSessionHead};
+ghost use Rattle.mqb_session.specs.Phases.{owed_by};
+ghost use Rattle.mqb_session.specs.State.{IsKept};
+ghost use Rattle.mqb_manager.specs.Sendable.{IsFitAt, IsNumbered};
 
-use mqb_base::{Guid, Host, Message, MessageId, Name, QueueName};
+use mqb_base::{Guid, Host, Message, MessageId, Name, QueueName, SessionHead};
 use mqb_machine::Receiving;
 use mqb_orders::InRow;
+use mqb_session::{Kind, Session};
+use mqb_setup::{Establish, Internal, Parameters};
 
 fn bytes_fit(bytes: &[u8])
     ensures { All (λ b. b < 256) bytes.now }
@@ -14,6 +19,10 @@ fn bytes_fit(bytes: &[u8])
 
 fn word_fits(word: u32)
     ensures { word < 2 ^ 32 }
+{}
+
+fn half_fits(half: u16)
+    ensures { half < 2 ^ 16 }
 {}
 
 fn units_fit(units: &[u16])
@@ -102,5 +111,65 @@ pub(crate) fn rows_fit(ins: &[Receiving])
 {
     for receiving in ins {
         row_fits(&receiving.row);
+    }
+}
+
+fn head_fits(head: &SessionHead)
+    ensures { IsSessionHead head.now }
+{
+    half_fits(head.ack);
+    half_fits(head.stored);
+    word_fits(head.stored_flags);
+    half_fits(head.user);
+    half_fits(head.recoverable);
+    half_fits(head.window);
+}
+
+fn parameters_fit(parameters: &Parameters)
+    ensures { IsParameters parameters.now }
+{
+    word_fits(parameters.storage_time);
+    word_fits(parameters.ack_time);
+    half_fits(parameters.window);
+}
+
+fn establish_fits(establish: &Establish)
+    ensures { IsEstablish establish.now }
+{
+    bytes_fit(&establish.client.0);
+    bytes_fit(&establish.server.0);
+    word_fits(establish.stamp);
+}
+
+fn part_fits(part: &Internal)
+    ensures { IsInternal part.now }
+{
+    match part {
+        Internal::Establish(establish) => establish_fits(establish),
+        Internal::Parameters(parameters) => parameters_fit(parameters),
+        Internal::Ack(head) => head_fits(head),
+    }
+}
+
+/// A session's counts, its window, and what it owes at this moment.
+fn session_fits(session: &Session, now: u32)
+    ensures kept { IsKept session.now }
+    ensures window { session.now.window < 2 ^ 16 }
+    ensures owed { IfSome (owed_by session.now.phase now session.now) IsInternal }
+{
+    session.phase();
+    let mut copy = *session;
+    half_fits(copy.stamp(Kind::Ack).window);
+    let mut copy = *session;
+    if let Some(part) = copy.owed(now) {
+        part_fits(&part);
+    }
+}
+
+pub(crate) fn session_fits_if(session: &Option<Session>, now: u32)
+    ensures { IfSome session.now (IsFitAt now) }
+{
+    if let Some(session) = session {
+        session_fits(session, now);
     }
 }

@@ -1,28 +1,22 @@
-ghost use Rattle.std.specs.Prelude.{◌≡◌, ◌<◌, false, nat_lt, length, IfOk, IfSome, OnOk, OnErr};
-ghost use Rattle.mqb_base.specs.Messages.{IsWellFormed};
+ghost use Rattle.std.specs.Prelude.{◌≡◌, ◌<◌, ◌≤◌, None, false, length, IfOk, IfSome, OnOk, OnErr};
 ghost use Rattle.mqb_machine.specs.Calls as spec;
-ghost use Rattle.mqb_machine.specs.Committing.{message_of, row_for, join, is_spent, carried_size, refusal_in};
+ghost use Rattle.mqb_machine.specs.Committing.{commit_refusal, committed_all, committed_one, is_spent, is_too_large, join, message_of, row_for, sends_in, spent_from, stream_at, whole_refusal};
 ghost use Rattle.mqb_manager.specs.Sendable.{IsSendable};
 
 use super::{Manager, name_copy};
+use crate::counts::spent_in;
 use crate::sends::{begin, join_at, stream_at};
+use crate::sizes::is_some_long;
 use mqb_base::{
-    Class, Delivery, Draft, Line, Memory, Message, MessageId, QueueName, SequenceId, Stream,
+    Class, Delivery, Draft, Line, Memory, Message, MessageId, Op, QueueName, SequenceId, Stream,
 };
-use mqb_heads::{props_len, user_len};
 use mqb_script::{Lines, Reply};
 
-/// The greatest number of messages in a stream.
-const MOST_NUMBERS: u32 = 65_535;
+/// The greatest number of steps of a transaction.
+const MOST_OPS: usize = 64;
 
-/// The greatest ordinal of a stream.
-const GREATEST_ORDINAL: u32 = 0xFFFF_FFFE;
-
-/// The greatest number of a durable message.
-const GREATEST_NUMBER: u32 = 0x7FFF_FFFF;
-
-/// The greatest number of bytes of a packet.
-const LONGEST_PACKET: usize = 4_194_304;
+/// The number behind the greatest one of a durable message.
+const NUMBERS_END: usize = 0x8000_0000;
 
 fn option_copy(name: &Option<QueueName>) -> Result<Option<QueueName>, Memory>
     ensures { IfOk result (λ copy. copy ≡ name.now) }
@@ -30,47 +24,54 @@ fn option_copy(name: &Option<QueueName>) -> Result<Option<QueueName>, Memory>
     Ok(name.clone()?)
 }
 
-/// Whether the packet of a message would be longer than packets may be, with the headers of its transaction and of a session.
-fn is_too_large(message: &Message) -> bool
-    requires { IsWellFormed message.now }
-    ensures { result ≡ nat_lt 4194304 (carried_size message.now) }
+/// How many of these are sends.
+fn count_sends(ops: &[Op]) -> usize
+    ensures count { result ≡ length (sends_in ops.now) }
+    ensures few { result ≤ length ops.now }
 {
-    let body = message.body.as_slice().len();
-    let extension = message.extension.as_slice().len();
-    if body.max(extension) > LONGEST_PACKET {
-        return true;
+    let mut count = 0;
+    for op in ops {
+        if let Op::Send(_) = op {
+            count += 1;
+        }
     }
-    16 + user_len(message) + 20 + props_len(message) + 16 > LONGEST_PACKET
+    count
 }
 
 impl Manager {
-    /// Whether the numbers of the stream at this place, or the ordinals of new streams, are spent.
-    fn is_spent(&self, at: Option<usize>) -> bool
-        requires { IfSome at (λ k. k < length self.now.outs) }
-        ensures { result ≡ is_spent self.now at }
+    /// The first send for which no number of its stream, or no ordinal, is left behind those before it.
+    fn spent(&self, now: u32, ops: &[Op]) -> Result<Option<Reply>, Memory>
+        requires few { length ops.now ≤ 64 }
+        ensures { IfOk result (λ spent. spent ≡ spent_from 0 self.now now (sends_in ops.now)) }
     {
-        match at {
-            Some(k) => self.outs[k].row.committed >= MOST_NUMBERS,
-            None => self.next_ordinal > GREATEST_ORDINAL,
-        }
+        spent_in(self.alloc, &self.outs, self.next_ordinal, ops)
     }
 
-    /// Why a message is not committed to the stream at this place, or to a new one.
-    fn commit_refusal(&self, at: Option<usize>, message: &Message) -> Option<Reply>
-        requires place { IfSome at (λ k. k < length self.now.outs) }
-        requires message { IsWellFormed message.now }
-        ensures { result ≡ refusal_in self.now at message.now }
+    /// Why a transaction is refused whose sends each find their stream.
+    fn whole_refusal(&self, now: u32, ops: &[Op]) -> Option<Reply>
+        requires few { length ops.now ≤ 64 }
+        ensures { result ≡ whole_refusal self.now now (sends_in ops.now) }
     {
-        if self.is_spent(at) {
-            return Some(Reply::SequenceSpent { op: 0 });
-        }
-        if self.next_number > GREATEST_NUMBER {
+        if self.next_number as usize + count_sends(ops) > NUMBERS_END {
             return Some(Reply::NumbersSpent);
         }
-        if is_too_large(message) {
+        if is_some_long(ops) {
             return Some(Reply::TooLarge);
         }
         None
+    }
+
+    /// Why a transaction is refused.
+    fn commit_refusal(&self, now: u32, ops: &[Op]) -> Result<Option<Reply>, Memory>
+        ensures { IfOk result (λ refusal. refusal ≡ commit_refusal self.now now ops.now) }
+    {
+        if ops.len() > MOST_OPS {
+            return Ok(Some(Reply::TooManyOps));
+        }
+        if let Some(spent) = self.spent(now, ops)? {
+            return Ok(Some(spent));
+        }
+        Ok(self.whole_refusal(now, ops))
     }
 
     /// The message that is made of a draft.
@@ -165,22 +166,47 @@ impl Manager {
         }
     }
 
-    /// Commits a message. On a refusal nothing has changed.
-    pub fn commit(&mut self, now: u32, draft: &Draft) -> Result<Reply, Memory>
-        ensures reply { IfOk result (λ reply. reply ≡ (spec.commit self.old now draft.now).reply) }
-        ensures after { OnOk result (self.new ≡ (spec.commit self.old now draft.now).after) }
-        ensures refused { OnErr result (self.new ≡ self.old) }
+    /// Commits a message, and answers its line.
+    fn commit_one(&mut self, now: u32, draft: &Draft) -> Result<Line, Memory>
+        requires open { is_spent self.old (stream_at self.old.outs draft.now.destination) ≡ false }
+        requires number { self.old.next_number < 0x80000000 }
+        requires short { is_too_large self.old now draft.now ≡ false }
+        ensures line { IfOk result (λ line. line ≡ spec.committed_line self.old (row_for self.old (stream_at self.old.outs draft.now.destination) now draft.now.destination)) }
+        ensures after { OnOk result (self.new ≡ committed_one self.old now draft.now) }
     {
         let destination = &draft.parts().destination;
         let at = stream_at(&self.outs, destination);
+        let line = self.committed_line(at, now, destination)?;
         let message = self.message(now, draft)?;
-        if let Some(refusal) = self.commit_refusal(at, &message) {
-            return Ok(refusal);
-        }
-        let mut lines = Lines::new(self.alloc);
-        lines.push(self.committed_line(at, now, destination)?)?;
         self.join(at, now, message)?;
         self.next_number += 1;
+        Ok(line)
+    }
+
+    /// Commits the messages of sends, one after the other, and answers their lines.
+    fn commit_sends(&mut self, now: u32, ops: &[Op]) -> Result<Lines, Memory>
+        requires taken { commit_refusal self.old now ops.now ≡ None }
+        ensures lines { IfOk result (λ lines. lines ≡ spec.committed_lines self.old now (sends_in ops.now)) }
+        ensures after { OnOk result (self.new ≡ committed_all self.old now (sends_in ops.now)) }
+    {
+        let mut lines = Lines::new(self.alloc);
+        for op in ops {
+            if let Op::Send(draft) = op {
+                lines.push(self.commit_one(now, draft)?)?;
+            }
+        }
+        Ok(lines)
+    }
+
+    /// Commits the sends of a transaction; a step that takes is passed over. After a refusal the manager is used no more.
+    pub fn commit(&mut self, now: u32, ops: &[Op]) -> Result<Reply, Memory>
+        ensures reply { IfOk result (λ reply. reply ≡ (spec.commit self.old now ops.now).reply) }
+        ensures after { OnOk result (self.new ≡ (spec.commit self.old now ops.now).after) }
+    {
+        if let Some(refusal) = self.commit_refusal(now, ops)? {
+            return Ok(refusal);
+        }
+        let lines = self.commit_sends(now, ops)?;
         Ok(Reply::Committed { lines })
     }
 }

@@ -8,7 +8,7 @@ use crate::incoming::{in_at, owe_all_again, put_row, row_at};
 use crate::queues::{arrive_at, refusal_at, resolved};
 use crate::sends::{acknowledge_all, is_news};
 use mqb_base::{Class, Heard, Line, Memory, Message, Stream, TxHead};
-use mqb_machine::{OrderAck, Receiving, Transfer};
+use mqb_machine::{OrderAck, Receiving, Said, Transfer};
 use mqb_orders::{InRow, Verdict, judge};
 use mqb_script::{Lines, Reply};
 use std::alloc::Global;
@@ -67,7 +67,7 @@ fn decided_row(transfer: &Transfer) -> Result<Receiving, Memory>
 }
 
 /// What is heard with no line in the ledger.
-fn unrecorded(alloc: Global, heard: Heard) -> Reply
+pub(super) fn unrecorded(alloc: Global, heard: Heard) -> Reply
     ensures { result ≡ Reply.Heard heard [] }
 {
     Reply::Heard {
@@ -121,8 +121,8 @@ impl Manager {
         unrecorded(self.alloc, Heard::Duplicate { sequence, number })
     }
 
-    /// Hears a message of a stream. After a refusal the manager is used no more.
-    pub fn hear(&mut self, transfer: Transfer) -> Result<Reply, Memory>
+    /// Hears a message of a stream.
+    fn hear_transfer(&mut self, transfer: Transfer) -> Result<Reply, Memory>
         ensures reply { IfOk result (λ reply. reply ≡ (spec.hear self.old transfer).reply) }
         ensures after { OnOk result (self.new ≡ (spec.hear self.old transfer).after) }
     {
@@ -139,7 +139,7 @@ impl Manager {
     }
 
     /// Hears an order acknowledgement.
-    pub fn hear_ack(&mut self, ack: &OrderAck) -> Reply
+    fn hear_ack(&mut self, ack: &OrderAck) -> Reply
         ensures reply { result ≡ (spec.hear_ack self.old ack.now).reply }
         ensures after { self.new ≡ (spec.hear_ack self.old ack.now).after }
     {
@@ -150,5 +150,16 @@ impl Manager {
         let ordinal = ack.sequence.ordinal;
         let number = ack.number;
         unrecorded(self.alloc, Heard::OrderAcked { ordinal, number })
+    }
+
+    /// Hears what a user packet says.
+    pub(super) fn hear_said(&mut self, said: Said) -> Result<Reply, Memory>
+        ensures reply { IfOk result (λ reply. reply ≡ (spec.hear_said self.old said).reply) }
+        ensures after { OnOk result (self.new ≡ (spec.hear_said self.old said).after) }
+    {
+        match said {
+            Said::Transfer(transfer) => self.hear_transfer(transfer),
+            Said::OrderAck(ack) => Ok(self.hear_ack(&ack)),
+        }
     }
 }

@@ -12,5 +12,5 @@ returns-clause-nothing c = λ none. absurd (none c.in_ok-packet.packet (read_as 
 
 pub returns-clause-again : goal.returns-clause-again
 returns-clause-again c = λ to p host spelled same.
-    c.said.ensures ∙ heard_again c.args.own.now to p c.args.bytes.now c.in_ok-packet.packet
+    c.said_by.ensures ∙ heard_again c.args.own.now to p c.args.bytes.now c.in_ok-packet.packet
     (read_as _ _ _ c.in-Ok.ensures.packet c.in_ok-packet.ensures.owned) host spelled same

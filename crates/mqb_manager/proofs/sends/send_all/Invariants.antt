@@ -8,6 +8,6 @@ use Rattle.mqb_manager.proofs.sends.send_all.Given as goal
 abbrev pub invariant-loop-outgoing : goal.invariant-loop-outgoing
 invariant-loop-outgoing g l =
     let strings = g.M.Medium.strings in
-    SentSoFar l.pump.to.now l.pump.before (transfers_waiting l.pump.moment (map sending_of l.outs))
+    SentSoFar l.pump.to.now l.pump.most l.pump.before (transfers_waiting l.pump.moment (map sending_of l.outs))
     (transfers_waiting l.pump.moment (map sending_of (drop l.outgoing-index l.outs)))
-    l.initial.heads.items l.heads.items (strings l.initial.medium) (strings l.medium)
+    l.initial.heads.items l.heads.items l.initial.session l.session (strings l.initial.medium) (strings l.medium)

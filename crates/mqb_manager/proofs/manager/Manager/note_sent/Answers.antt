@@ -20,6 +20,7 @@ returns c =
       next_number = m.next_number;
       next_ordinal = m.next_ordinal;
       next_express = m.next_express;
+      session = m.session;
     } in
     let before : List Sending = map sending_of m.outs.items in
     rw (← c.self.view_is) (ap with_outs (search (rules, common_steps) ∙ sym (map_map (placed_on heads) (offered_on heads) before)))

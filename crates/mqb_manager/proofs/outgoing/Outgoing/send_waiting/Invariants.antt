@@ -9,6 +9,6 @@ abbrev pub invariant-loop-kept : goal.invariant-loop-kept
 invariant-loop-kept g l =
     let strings = g.M.Medium.strings in
     let s = sending_of l.self in
-    SentSoFar l.pump.to.now l.pump.before (waiting_in l.pump.moment s) (map (transfer_of l.pump.moment s.row)
+    SentSoFar l.pump.to.now l.pump.most l.pump.before (waiting_in l.pump.moment s) (map (transfer_of l.pump.moment s.row)
     (filter (waits s) (drop l.kept-index l.kept-items)))
-    l.initial.heads.items l.heads.items (strings l.initial.medium) (strings l.medium)
+    l.initial.heads.items l.heads.items l.initial.session l.session (strings l.initial.medium) (strings l.medium)
