@@ -1,142 +1,138 @@
--- The four packets that set a connection up.
-use Rattle.std.proofs.Common.{◌≡◌, ℕ, ◌<◌, ◌^◌, List, [], ◌∷◌, ◌++◌, length, map, refl, sym, ap, subst, ◌∙◌, arith}
-use Rattle.std.specs.Prelude.{All, Some, Ok, is_some}
-use Rattle.std.proofs.Math.Seq.{drop-append_seam}
-use Rattle.std.proofs.lemmas.List.{map-append, length-map}
-use Rattle.std.proofs.lemmas.List.Elements.{All-nil, All-cons, All-append}
-use Rattle.mqb_base.specs.declared.ids.Identity.{Identity}
-use Rattle.mqb_setup.specs.declared.internal.Establish.{Establish}
-use Rattle.mqb_setup.specs.declared.internal.Parameters.{Parameters}
+-- A connection begins with four flows.
+use Rattle.std.proofs.Common.{◌≡◌, ℕ, ◌-◌, ◌≤◌, List, Bool, true, false, length, refl, sym, ap, subst, ◌∙◌, arith, length-append}
+use Rattle.std.specs.Prelude.{Ok, Err, Result, is_some, if◌then◌else◌}
 use Rattle.mqb_script.specs.declared.events.Which.{Which}
-use Rattle.mqb_script.specs.declared.events.Which.TheVariants.{Alpha, Beta}
-use Rattle.mqb_script.specs.declared.replies.Reply.{Reply}
 use Rattle.mqb_script.specs.declared.replies.Reply.TheVariants as reply
 use Rattle.mqb_script.specs.Managers.{other}
-use Rattle.mqb_machine.specs.declared.packets.Packet.TheVariants as packet
-use Rattle.mqb_machine.specs.Managers.{identity_of}
-use Rattle.mqb_machine.specs.Machine.{Machine, Posted, Answer, only, posted_by, establish, parameters, window_of, set_up, connect, numbers_after}
-use Rattle.mqb_manager.specs.Formats.{spelling, IsSpelled}
-use Rattle.mqb_manager.specs.Posting.{IsWithin}
-use Rattle.mqb_world.specs.declared.notes.Note.{Note}
-use Rattle.mqb_world.specs.Holding.{IsHolding, connected_on, connect_on, connect_strings}
-use Rattle.mqb_world.specs.Openings.{establish_string, parameters_string, opening_strings, AreSetUp}
-use Rattle.mqb_world.specs.Standing.{Held, held_of, note_of, string_of, strings_of, receiver_of, Stands, Applied, sent_between}
-use Rattle.mqb_world.proofs.Sending.{behind, only_applied, none_wanted, chosen_applied, chosen_wanted}
+use Rattle.mqb_machine.specs.Machine.{Machine, Answer, only, numbers_after, numbers_between, linking, connected}
+use Rattle.mqb_world.specs.declared.faults.WorldFault.{WorldFault}
+use Rattle.mqb_world.specs.declared.faults.WorldFault.TheVariants as fault
+use Rattle.mqb_world.specs.Moving.{Breaks, Moved, flowing, exchanged, setting_up, connecting}
+use Rattle.mqb_world.specs.Standing.{Held, Stands, Applied}
+use Rattle.mqb_world.proofs.Growing.{Grows, grows_on, grows_by_none, flow_grows, exchange_grows, set_up_grows, linking_same}
+use Rattle.mqb_world.proofs.Composing.{all_sent, refused_first, refused_then, refused_from}
+use Rattle.mqb_world.proofs.Sending.{as_applied, as_broken, notes_count}
 
--- the machine's answer where no connection stands
-abbrev connected : Machine → Which → ℕ → ℕ → ℕ → Answer
-connected m which now alpha_window beta_window = record {
-  reply = reply.Connected (numbers_after (length m.posted) 4);
-  after = record m { present = Some (length m.posted); posted = m.posted ++ set_up which now alpha_window beta_window };
-}
+-- Two flows.
 
--- They can be spelled.
+pub exchange_fails : (m : Machine) (which : Which) (now : ℕ) (strings strings_now : List (List ℕ)) (held : Held) (refusal : WorldFault)
+    → Applied m (flowing m which now) strings strings_now held (Err refusal) → Breaks m (exchanged m which now) strings strings_now refusal
+unfolding exchanged
+exchange_fails m which now strings strings_now held refusal applied =
+    let n = (flowing m which now).after in
+    refused_first m n (flowing n (other which) now).after strings strings_now refusal (flow_grows m which now) (flow_grows n (other which) now)
+    (as_broken m (flowing m which now) strings strings_now held refusal applied)
 
-guid_is_long : (which : Which) → length (identity_of which).guid.0 ≡ 16
-guid_is_long Alpha = refl
-guid_is_long Beta = refl
+pub exchange_fails_then : {before between : Held} {strings strings_between : List (List ℕ)} (m : Machine) (which : Which) (now : ℕ)
+    (strings_now : List (List ℕ)) (held : Held) (refusal : WorldFault) → Stands before strings m
+    → Stands between strings_between (flowing m which now).after
+    → Applied (flowing m which now).after (flowing (flowing m which now).after (other which) now) strings_between strings_now held (Err refusal)
+    → Breaks m (exchanged m which now) strings strings_now refusal
+unfolding exchanged
+exchange_fails_then {strings = strings} {strings_between = strings_between} m which now strings_now held refusal before between applied =
+    let n = (flowing m which now).after in
+    refused_then m n (flowing n (other which) now).after strings strings_between strings_now refusal before between (flow_grows m which now)
+    (flow_grows n (other which) now) (as_broken n (flowing n (other which) now) strings_between strings_now held refusal applied)
 
-establish_spelled : (to : Identity) (which : Which) (now : ℕ) → now < 2 ^ 32 → IsSpelled to (packet.Establish (establish which now))
-establish_spelled to which now short = record {
-  well_formed = tt;
-  fits = record { client = guid_is_long which; server = guid_is_long (other which); stamp = short };
-  short = omega arith;
-  said_again = refl;
-}
+pub exchange_stands : {held : Held} {strings : List (List ℕ)} (m : Machine) (which : Which) (now : ℕ)
+    → Stands held strings (flowing (flowing m which now).after (other which) now).after → Stands held strings (exchanged m which now)
+unfolding exchanged
+exchange_stands m which now stands = stands
 
-parameters_spelled : (to : Identity) (window : ℕ) → window < 2 ^ 16 → IsSpelled to (packet.Parameters (parameters window))
-parameters_spelled to window short = record {
-  well_formed = tt;
-  fits = record { storage_time = omega arith; ack_time = omega arith; window = short };
-  short = omega arith;
-  said_again = refl;
-}
+-- Four flows.
 
-window_fits : (which : Which) (alpha_window beta_window : ℕ) → alpha_window < 2 ^ 16 → beta_window < 2 ^ 16
-    → window_of which alpha_window beta_window < 2 ^ 16
-window_fits Alpha alpha_window beta_window one two = one
-window_fits Beta alpha_window beta_window one two = two
+pub set_up_fails : (m : Machine) (which : Which) (now : ℕ) (strings strings_now : List (List ℕ)) (refusal : WorldFault)
+    → Breaks m (exchanged m which now) strings strings_now refusal → Breaks m (setting_up m which now) strings strings_now refusal
+unfolding setting_up
+set_up_fails m which now strings strings_now refusal breaks =
+    let n = exchanged m which now in
+    refused_first m n (exchanged n which now) strings strings_now refusal (exchange_grows m which now) (exchange_grows n which now) breaks
 
-four_are : (P : Posted → Type 0) (p q r s : Posted) → P p → P q → P r → P s → All P (p ∷ q ∷ r ∷ s ∷ [])
-four_are P p q r s one two three four =
-    All-cons P p (q ∷ r ∷ s ∷ []) one (All-cons P q (r ∷ s ∷ []) two (All-cons P r (s ∷ []) three (All-cons P s [] four (All-nil P))))
+pub set_up_moves : {before between : Held} {strings strings_between : List (List ℕ)} (m : Machine) (which : Which) (now : ℕ)
+    (strings_now : List (List ℕ)) (held : Held) (result : Result (Unit {0}) WorldFault) → Stands before strings m
+    → Stands between strings_between (exchanged m which now)
+    → Moved (exchanged m which now) tt (exchanged (exchanged m which now) which now) strings_between strings_now held result
+    → Moved m tt (setting_up m which now) strings strings_now held result
+unfolding setting_up
+set_up_moves m which now strings_now held (Ok given) before between moved = moved
+set_up_moves {strings = strings} {strings_between = strings_between} m which now strings_now held (Err refusal) before between breaks =
+    let n = exchanged m which now in
+    refused_then m n (exchanged n which now) strings strings_between strings_now refusal before between (exchange_grows m which now)
+    (exchange_grows n which now) breaks
 
-pub set_up_spelled : (which : Which) (now alpha_window beta_window : ℕ) → now < 2 ^ 32 → alpha_window < 2 ^ 16 → beta_window < 2 ^ 16
-    → AreSetUp which now alpha_window beta_window
-set_up_spelled which now alpha_window beta_window moment one two =
-    let own = window_of which alpha_window beta_window in
-    let others = window_of (other which) alpha_window beta_window in
-    four_are (λ p. IsSpelled (receiver_of p) p.packet)
-    (posted_by which (packet.Establish (establish which now)))
-    (posted_by (other which) (packet.Establish (establish which now)))
-    (posted_by which (packet.Parameters (parameters own)))
-    (posted_by (other which) (packet.Parameters (parameters others)))
-    (establish_spelled (identity_of (other which)) which now moment)
-    (establish_spelled (identity_of (other (other which))) which now moment)
-    (parameters_spelled (identity_of (other which)) own (window_fits which alpha_window beta_window one two))
-    (parameters_spelled (identity_of (other (other which))) others (window_fits (other which) alpha_window beta_window one two))
+-- The connection.
 
--- Their strings.
+abbrev pub stood : Machine → Which → ℕ → ℕ → ℕ → Machine
+stood m which now alpha_window beta_window = setting_up (linking m which alpha_window beta_window) which now
 
-establish_said : (to : Identity) (e : Establish) → establish_string e ≡ spelling to (packet.Establish e)
-unfolding establish_string
-establish_said to e = refl
+connect_linked : (m : Machine) (which : Which) (now alpha_window beta_window : ℕ) → is_some m.present ≡ true
+    → connecting m which now alpha_window beta_window ≡ only m reply.Linked
+unfolding connecting
+connect_linked m which now alpha_window beta_window linked =
+    ap (λ (b : Bool). if b then only m reply.Linked else connected m (stood m which now alpha_window beta_window)) linked
 
-parameters_said : (to : Identity) (p : Parameters) → parameters_string p ≡ spelling to (packet.Parameters p)
-unfolding parameters_string
-parameters_said to p = refl
+connect_goes : (m : Machine) (which : Which) (now alpha_window beta_window : ℕ) → is_some m.present ≡ false
+    → connecting m which now alpha_window beta_window ≡ connected m (stood m which now alpha_window beta_window)
+unfolding connecting
+connect_goes m which now alpha_window beta_window unlinked =
+    ap (λ (b : Bool). if b then only m reply.Linked else connected m (stood m which now alpha_window beta_window)) unlinked
 
-opening_said : (which : Which) (now alpha_window beta_window : ℕ)
-    → opening_strings which now alpha_window beta_window ≡ strings_of (set_up which now alpha_window beta_window)
-unfolding establish_string parameters_string
-opening_said which now alpha_window beta_window = refl
+present_is : {held : Held} {strings : List (List ℕ)} {m : Machine} (test : Bool) → Stands held strings m → is_some held.present ≡ test
+    → is_some m.present ≡ test
+present_is test stands is = ap (λ (h : Held). is_some h.present) (sym stands.same) ∙ is
 
--- What is then held and sent.
+stood_grows : (m : Machine) (which : Which) (now alpha_window beta_window : ℕ) → Grows m (stood m which now alpha_window beta_window)
+stood_grows m which now alpha_window beta_window =
+    let begun = linking m which alpha_window beta_window in
+    grows_on (grows_by_none m begun (linking_same m which alpha_window beta_window)) (set_up_grows begun which now)
 
-connected_stands : {strings strings_now : List (List ℕ)} {m : Machine} (which : Which) (now alpha_window beta_window : ℕ)
-    → Stands (held_of m) strings m → AreSetUp which now alpha_window beta_window
-    → strings_now ≡ strings ++ opening_strings which now alpha_window beta_window → IsWithin strings_now
-    → Stands (connected_on (held_of m) which).after strings_now (connected m which now alpha_window beta_window).after
-connected_stands {m = m} which now alpha_window beta_window stands spelled added within =
-    let four = set_up which now alpha_window beta_window in
-    record {
-      same = ap (λ (n : ℕ). record (held_of m) { present = Some n; notes = map note_of m.posted ++ map note_of four }) (length-map m.posted note_of)
-          ∙ ap (λ (notes : List Note). record (held_of m) { present = Some (length m.posted); notes = notes })
-          (sym (map-append note_of m.posted four));
-      spelled = added
-          ∙ ap (λ (xs : List (List ℕ)). xs ++ opening_strings which now alpha_window beta_window) stands.spelled
-          ∙ ap (λ (xs : List (List ℕ)). strings_of m.posted ++ xs) (opening_said which now alpha_window beta_window)
-          ∙ sym (map-append string_of m.posted four);
-      each = All-append (λ p. IsSpelled (receiver_of p) p.packet) m.posted four stands.each spelled;
-      alpha = stands.alpha;
-      beta = stands.beta;
-      within = within;
-    }
+pub stood_notes : {before later : Held} {strings strings_now : List (List ℕ)} (m : Machine) (which : Which) (now alpha_window beta_window : ℕ)
+    → Stands before strings m → Stands later strings_now (stood m which now alpha_window beta_window) → length before.notes ≤ length later.notes
+stood_notes m which now alpha_window beta_window stands stood_now =
+    let grows = stood_grows m which now alpha_window beta_window in
+    omega (arith, notes_count stands, notes_count stood_now, ap length grows.posted ∙ length-append m.posted grows.more)
 
-connected_wanted : (m : Machine) (which : Which) (now alpha_window beta_window : ℕ)
-    → opening_strings which now alpha_window beta_window ≡ strings_of (sent_between m (connected m which now alpha_window beta_window).after)
-connected_wanted m which now alpha_window beta_window =
-    opening_said which now alpha_window beta_window ∙ ap strings_of (sym (drop-append_seam m.posted (set_up which now alpha_window beta_window)))
+pub connect_answers : {held : Held} {strings : List (List ℕ)} {m : Machine} (which : Which) (now alpha_window beta_window : ℕ)
+    → Stands held strings m → is_some held.present ≡ true
+    → Applied m (connecting m which now alpha_window beta_window) strings strings held (Ok reply.Linked)
+connect_answers {held} {strings} {m} which now alpha_window beta_window stands linked =
+    subst (λ (a : Answer). Applied m a strings strings held (Ok reply.Linked))
+    (sym (connect_linked m which now alpha_window beta_window (present_is true stands linked))) (refl, stands)
 
-pub connect_wanted : {held : Held} {strings : List (List ℕ)} {m : Machine} (which : Which) (now alpha_window beta_window : ℕ) → Stands held strings m
-    → connect_strings held which now alpha_window beta_window ≡ strings_of (sent_between m (connect m which now alpha_window beta_window).after)
-connect_wanted {m = m} which now alpha_window beta_window stands =
-    ap (λ (h : Held). connect_strings h which now alpha_window beta_window) stands.same
-    ∙ chosen_wanted m (is_some m.present) (only m reply.Linked) (connected m which now alpha_window beta_window)
-    (none_wanted m) (connected_wanted m which now alpha_window beta_window)
+pub connect_fails : {before : Held} {strings : List (List ℕ)} (m : Machine) (which : Which) (now alpha_window beta_window : ℕ)
+    (strings_now : List (List ℕ)) (held : Held) (refusal : WorldFault) → Stands before strings m → is_some before.present ≡ false
+    → Breaks (linking m which alpha_window beta_window) (stood m which now alpha_window beta_window) strings strings_now refusal
+    → Applied m (connecting m which now alpha_window beta_window) strings strings_now held (Err refusal)
+connect_fails {strings = strings} m which now alpha_window beta_window strings_now held refusal stands unlinked breaks =
+    let n = stood m which now alpha_window beta_window in
+    subst (λ (a : Answer). Applied m a strings strings_now held (Err refusal))
+    (sym (connect_goes m which now alpha_window beta_window (present_is false stands unlinked)))
+    (as_applied m (connected m n) strings strings_now held refusal
+    (refused_from m (linking m which alpha_window beta_window) n strings strings_now refusal (linking_same m which alpha_window beta_window) breaks))
 
-pub connect_applied : {held after : Held} {strings strings_now : List (List ℕ)} {m : Machine} {given : Reply} (which : Which)
-    (now alpha_window beta_window : ℕ) → Stands held strings m → AreSetUp which now alpha_window beta_window
-    → IsHolding (connect_on held which) given after
-    → strings_now ≡ strings ++ connect_strings held which now alpha_window beta_window → IsWithin strings_now
-    → Applied m (connect m which now alpha_window beta_window) strings strings_now after (Ok given)
-connect_applied {held} {after} {strings} {strings_now} {m} {given} which now alpha_window beta_window stands spelled holding added within =
-    chosen_applied m strings [] (opening_strings which now alpha_window beta_window) (is_some m.present)
-    (λ linked held_now sent. only_applied reply.Linked (behind stands) held_now sent)
-    (λ linked held_now sent. (
-      held_now.reply ∙ ap (λ (n : ℕ). reply.Connected (numbers_after n 4)) (length-map m.posted note_of),
-      subst (λ (h : Held). Stands h strings_now (connected m which now alpha_window beta_window).after) (sym held_now.after)
-          (connected_stands which now alpha_window beta_window (behind stands) spelled sent within),
-    ))
-    (subst (λ (h : Held). IsHolding (connect_on h which) given after) stands.same holding)
-    (added ∙ ap (λ (h : Held). strings ++ connect_strings h which now alpha_window beta_window) stands.same)
+-- memory runs out when the numbers are told
+pub connect_breaks_off : {before later : Held} {strings strings_now : List (List ℕ)} (m : Machine) (which : Which)
+    (now alpha_window beta_window : ℕ) (held : Held) → Stands before strings m → is_some before.present ≡ false
+    → Stands later strings_now (stood m which now alpha_window beta_window)
+    → Applied m (connecting m which now alpha_window beta_window) strings strings_now held (Err fault.Memory)
+connect_breaks_off {strings = strings} {strings_now = strings_now} m which now alpha_window beta_window held stands unlinked stood_now =
+    let n = stood m which now alpha_window beta_window in
+    subst (λ (a : Answer). Applied m a strings strings_now held (Err fault.Memory))
+    (sym (connect_goes m which now alpha_window beta_window (present_is false stands unlinked)))
+    (as_applied m (connected m n) strings strings_now held fault.Memory
+    (all_sent m n stands stood_now (stood_grows m which now alpha_window beta_window)))
+
+pub connect_applied : {before held : Held} {strings strings_now : List (List ℕ)} {numbers : List ℕ} (m : Machine) (which : Which)
+    (now alpha_window beta_window : ℕ) → Stands before strings m → is_some before.present ≡ false
+    → Stands held strings_now (stood m which now alpha_window beta_window)
+    → numbers ≡ numbers_after (length before.notes) (length held.notes - length before.notes)
+    → Applied m (connecting m which now alpha_window beta_window) strings strings_now held (Ok (reply.Connected numbers))
+connect_applied {before} {held} {strings} {strings_now} {numbers} m which now alpha_window beta_window stands unlinked stood_now same =
+    let n = stood m which now alpha_window beta_window in
+    let are : numbers ≡ numbers_between m n =
+    same
+    ∙ ap (λ (k : ℕ). numbers_after k (length held.notes - k)) (notes_count stands)
+    ∙ ap (λ (k : ℕ). numbers_after (length m.posted) (k - length m.posted)) (notes_count stood_now) in
+    subst (λ (a : Answer). Applied m a strings strings_now held (Ok (reply.Connected numbers)))
+    (sym (connect_goes m which now alpha_window beta_window (present_is false stands unlinked)))
+    (ap (λ (ns : List ℕ). reply.Connected ns) are, stood_now)

@@ -1,27 +1,27 @@
 -- A packet that is delivered is the one of its number that the machine sent.
-use Rattle.std.proofs.Common.{◌≡◌, ℕ, ◌-◌, List, Bool, true, false, Option, Some, None, refl, sym, ap, subst, ◌∙◌}
+use Rattle.std.proofs.Common.{◌≡◌, ℕ, ◌-◌, List, [], ◌∷◌, ◌++◌, Bool, true, Option, Some, None, refl, sym, ap, subst, ◌∙◌}
 use Rattle.std.specs.Prelude.{slice_get, Ok, if◌then◌else◌}
 use Rattle.std.specs.Option.{option_map}
 use Rattle.std.proofs.lemmas.Option.{slice_get-map, slice_get_within, get_or_from_slice_get, none-some, same_Some}
 use Rattle.std.proofs.lemmas.List.Elements.{All-get_or}
 use Rattle.mqb_base.specs.declared.ids.Identity.{Identity}
+use Rattle.mqb_script.specs.declared.arrivals.Arrival.{Arrival}
 use Rattle.mqb_script.specs.declared.events.Which.{Which}
-use Rattle.mqb_script.specs.declared.events.Which.TheVariants.{Alpha, Beta}
 use Rattle.mqb_script.specs.declared.replies.Reply.{Reply}
 use Rattle.mqb_script.specs.declared.replies.Reply.TheVariants as reply
 use Rattle.mqb_script.specs.Managers.{other}
 use Rattle.mqb_machine.specs.declared.packets.Packet.{Packet}
-use Rattle.mqb_machine.specs.declared.packets.Packet.TheVariants as packet
 use Rattle.mqb_machine.specs.Managers.{identity_of}
 use Rattle.mqb_machine.specs.State.{State}
-use Rattle.mqb_machine.specs.Calls.{hear, hear_ack}
-use Rattle.mqb_machine.specs.Machine.{Machine, Posted, Answer, state_of, only, is_on_its_way, hear_packet, deliver_posted, deliver}
+use Rattle.mqb_machine.specs.Calls.{hear_packet}
+use Rattle.mqb_machine.specs.Machine.{Machine, Posted, Answer, state_of, only, heard_by, is_on_its_way, deliver_posted, deliver, arrival, arrivals_from, delivered_all}
 use Rattle.mqb_manager.specs.Formats.{spelling, IsSpelled}
 use Rattle.mqb_world.specs.declared.notes.Note.{Note}
-use Rattle.mqb_world.specs.Holding.{Holds, IsHolding, manager_of, is_underway, hear_on}
+use Rattle.mqb_world.specs.Holding.{Holds, IsHolding, manager_of, is_underway, heard_on, hear_on}
 use Rattle.mqb_world.specs.Standing.{Held, held_of, note_of, string_of, receiver_of, Stands, IsPlaced, Applied, Delivered}
-use Rattle.mqb_world.proofs.Placing.{hear_placed, hear_ack_placed}
-use Rattle.mqb_world.proofs.Stepping.{manager_stands, manager_placed, called_stands, ended_stands}
+use Rattle.mqb_world.specs.Moving.{Passed}
+use Rattle.mqb_world.proofs.Stepping.{manager_is, manager_stands, manager_placed, behind}
+use Rattle.mqb_world.proofs.Hearing.{heard_reply, heard_after, chosen_stands, heard_stands}
 
 -- the packet of a number, of which a world has the note and its medium the string
 pub record PacketAt (m : Machine) (k : ℕ) (note : Note) (bytes : List ℕ) : Type 0 where
@@ -71,75 +71,71 @@ read_again found stands p reads is_own again =
 
 -- What is heard.
 
-heard_reply : (m : Machine) (which : Which) (p : Packet) → (hear_on (held_of m) which p).reply ≡ (hear_packet m which p).reply
-heard_reply m which (packet.Establish asked) = refl
-heard_reply m which (packet.Parameters given) = refl
-heard_reply m Alpha (packet.Transfer t) = refl
-heard_reply m Beta (packet.Transfer t) = refl
-heard_reply m Alpha (packet.OrderAck a) = refl
-heard_reply m Beta (packet.OrderAck a) = refl
-
-heard_after : (m : Machine) (which : Which) (p : Packet) → (hear_on (held_of m) which p).after ≡ held_of (hear_packet m which p).after
-heard_after m which (packet.Establish asked) = refl
-heard_after m which (packet.Parameters given) = refl
-heard_after m Alpha (packet.Transfer t) = refl
-heard_after m Beta (packet.Transfer t) = refl
-heard_after m Alpha (packet.OrderAck a) = refl
-heard_after m Beta (packet.OrderAck a) = refl
-
 -- a packet on its way is heard
 is_heard : (m : Machine) (k : ℕ) (p : Posted) → slice_get m.posted (k - 1) ≡ Some p → is_on_its_way m.present k p ≡ true
-    → deliver m k ≡ hear_packet m (other p.sender) p.packet
+    → deliver m k ≡ heard_by m (other p.sender) (hear_packet (state_of m (other p.sender)) p.packet)
 is_heard m k p there way =
     ap (deliver_posted m k) there
-    ∙ ap (λ (b : Bool). if b then hear_packet m (other p.sender) p.packet else only m reply.Gone) way
+    ∙ ap (λ (b : Bool). if b then heard_by m (other p.sender) (hear_packet (state_of m (other p.sender)) p.packet) else only m reply.Gone) way
 
 pub heard_delivered : {held now : Held} {strings : List (List ℕ)} {m : Machine} {k : ℕ} {note : Note} {bytes : List ℕ} {which : Which} {read : Packet}
     {given : Reply} → Stands held strings m → (p : PacketAt m k note bytes) → is_underway held.present k note ≡ true
     → which ≡ other note.sender → read ≡ p.sent.packet → IsHolding (hear_on held which read) given now → Delivered m k given now
 heard_delivered {held} {m = m} {k = k} {note = note} {which = which} {read = read} stands p underway reads is_read holding =
-    let heard : deliver m k ≡ hear_packet m (other p.sent.sender) p.sent.packet =
+    let reader = other p.sent.sender in
+    let call = hear_packet (state_of m reader) p.sent.packet in
+    let heard : deliver m k ≡ heard_by m reader call =
     is_heard m k p.sent p.there (ap (λ (n : Note). is_underway m.present k n) (sym p.noted)
     ∙ ap (λ (h : Held). is_underway h.present k note) (sym stands.same) ∙ underway) in
-    let reader : which ≡ other p.sent.sender = reads ∙ ap (λ (n : Note). other n.sender) p.noted in
-    let same : hear_on held which read ≡ hear_on (held_of m) (other p.sent.sender) p.sent.packet =
+    let same : hear_on held which read ≡ heard_on (held_of m) reader call =
     ap (λ (h : Held). hear_on h which read) stands.same
-    ∙ ap (λ (w : Which). hear_on (held_of m) w read) reader
-    ∙ ap (λ (q : Packet). hear_on (held_of m) (other p.sent.sender) q) is_read in
+    ∙ ap (λ (w : Which). hear_on (held_of m) w read) (reads ∙ ap (λ (n : Note). other n.sender) p.noted)
+    ∙ ap (λ (q : Packet). hear_on (held_of m) reader q) is_read
+    ∙ ap (λ (s : State). heard_on (held_of m) reader (hear_packet s p.sent.packet)) (manager_is m reader) in
     record {
-      reply = holding.reply ∙ ap (λ (h : Holds). h.reply) same ∙ heard_reply m (other p.sent.sender) p.sent.packet
-          ∙ ap (λ (a : Answer). a.reply) (sym heard);
-      after = holding.after ∙ ap (λ (h : Holds). h.after) same ∙ heard_after m (other p.sent.sender) p.sent.packet
-          ∙ ap (λ (a : Answer). held_of a.after) (sym heard);
+      reply = holding.reply ∙ ap (λ (h : Holds). h.reply) same ∙ heard_reply m reader call ∙ ap (λ (a : Answer). a.reply) (sym heard);
+      after = holding.after ∙ ap (λ (h : Holds). h.after) same ∙ heard_after m reader call ∙ ap (λ (a : Answer). held_of a.after) (sym heard);
     }
 
 -- What is then held.
-
-chosen_stands : {strings : List (List ℕ)} (test : Bool) (a b : Answer) → Stands (held_of a.after) strings a.after
-    → Stands (held_of b.after) strings b.after → Stands (held_of (if test then a else b).after) strings (if test then a else b).after
-chosen_stands true a b first second = first
-chosen_stands false a b first second = second
-
-heard_stands : {strings : List (List ℕ)} {m : Machine} (which : Which) (p : Packet) → Stands (held_of m) strings m
-    → Stands (held_of (hear_packet m which p).after) strings (hear_packet m which p).after
-heard_stands which (packet.Establish asked) stands = ended_stands stands
-heard_stands which (packet.Parameters given) stands = ended_stands stands
-heard_stands {m = m} Alpha (packet.Transfer t) stands = called_stands Alpha (hear m.alpha t) stands (hear_placed Alpha t m.alpha stands.alpha)
-heard_stands {m = m} Beta (packet.Transfer t) stands = called_stands Beta (hear m.beta t) stands (hear_placed Beta t m.beta stands.beta)
-heard_stands {m = m} Alpha (packet.OrderAck a) stands = called_stands Alpha (hear_ack m.alpha a) stands (hear_ack_placed Alpha a m.alpha stands.alpha)
-heard_stands {m = m} Beta (packet.OrderAck a) stands = called_stands Beta (hear_ack m.beta a) stands (hear_ack_placed Beta a m.beta stands.beta)
 
 posted_stands : {strings : List (List ℕ)} {m : Machine} (k : ℕ) (found : Option Posted) → Stands (held_of m) strings m
     → Stands (held_of (deliver_posted m k found).after) strings (deliver_posted m k found).after
 posted_stands k None stands = stands
 posted_stands {m = m} k (Some p) stands =
-    chosen_stands (is_on_its_way m.present k p) (hear_packet m (other p.sender) p.packet) (only m reply.Gone)
+    chosen_stands (is_on_its_way m.present k p) (heard_by m (other p.sender) (hear_packet (state_of m (other p.sender)) p.packet)) (only m reply.Gone)
     (heard_stands (other p.sender) p.packet stands) stands
+
+pub delivered_stands : {held now : Held} {strings : List (List ℕ)} {m : Machine} {given : Reply} (k : ℕ) → Stands held strings m
+    → Delivered m k given now → Stands now strings (deliver m k).after
+delivered_stands {strings = strings} {m = m} k stands delivered =
+    subst (λ (h : Held). Stands h strings (deliver m k).after) (sym delivered.after)
+    (posted_stands k (slice_get m.posted (k - 1)) (behind stands))
 
 pub deliver_applied : {held now : Held} {strings : List (List ℕ)} {m : Machine} {given : Reply} (k : ℕ) → Stands held strings m
     → Delivered m k given now → Applied m (deliver m k) strings strings now (Ok given)
-deliver_applied {strings = strings} {m = m} k stands delivered = (
-  delivered.reply,
-  subst (λ (h : Held). Stands h strings (deliver m k).after) (sym delivered.after)
-      (posted_stands k (slice_get m.posted (k - 1)) (subst (λ (h : Held). Stands h strings m) stands.same stands)),
-)
+deliver_applied k stands delivered = (delivered.reply, delivered_stands k stands delivered)
+
+-- Packets that are delivered one after another.
+
+arrivals_more : (m : Machine) (ks : List ℕ) (k : ℕ)
+    → arrivals_from m (ks ++ k ∷ []) ≡ arrivals_from m ks ++ arrival k (deliver (delivered_all m ks) k).reply ∷ []
+arrivals_more m [] k = refl
+arrivals_more m (j ∷ ks) k = ap (λ (xs : List Arrival). arrival j (deliver m j).reply ∷ xs) (arrivals_more (deliver m j).after ks k)
+
+all_more : (m : Machine) (ks : List ℕ) (k : ℕ) → delivered_all m (ks ++ k ∷ []) ≡ (deliver (delivered_all m ks) k).after
+all_more m [] k = refl
+all_more m (j ∷ ks) k = all_more (deliver m j).after ks k
+
+pub none_passed : {held : Held} {strings : List (List ℕ)} {m : Machine} → Stands held strings m → Passed m [] [] held strings
+none_passed stands = record { arrivals = refl; stands = stands }
+
+pub one_passed : {held now : Held} {strings : List (List ℕ)} {m : Machine} {given : List Arrival} {answer : Reply} (ks : List ℕ) (k : ℕ)
+    → Passed m ks given held strings → Delivered (delivered_all m ks) k answer now
+    → Passed m (ks ++ k ∷ []) (given ++ arrival k answer ∷ []) now strings
+one_passed {now = now} {strings = strings} {m = m} {given = given} {answer = answer} ks k passed delivered = record {
+  arrivals = ap (λ (xs : List Arrival). xs ++ arrival k answer ∷ []) passed.arrivals
+      ∙ ap (λ (r : Reply). arrivals_from m ks ++ arrival k r ∷ []) delivered.reply
+      ∙ sym (arrivals_more m ks k);
+  stands = subst (λ (n : Machine). Stands now strings n) (sym (all_more m ks k)) (delivered_stands k passed.stands delivered);
+}

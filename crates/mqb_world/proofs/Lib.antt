@@ -1,10 +1,15 @@
 pub mod Numbering
-pub mod Fours
 pub mod Fronts
 pub mod Placing
+pub mod Closing
 pub mod Stepping
-pub mod Delivering
+pub mod Flowing
+pub mod Growing
+pub mod Composing
 pub mod Sending
 pub mod Connecting
+pub mod Wholes
+pub mod Hearing
+pub mod Delivering
 pub mod Dropping
 pub mod Going

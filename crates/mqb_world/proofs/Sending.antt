@@ -1,11 +1,12 @@
 -- The packets that are sent join the medium behind those before them.
-use Rattle.std.proofs.Common.{◌≡◌, ℕ, List, [], ◌∷◌, ◌++◌, length, map, Bool, true, false, refl, sym, ap, subst, ◌∙◌, append-nil}
-use Rattle.std.specs.Prelude.{replicate, All, Ok, Err, is_some, IsSome, if◌then◌else◌}
-use Rattle.std.proofs.Math.Seq.{drop-length, drop-append_seam}
+use Rattle.std.proofs.Common.{◌≡◌, ℕ, ◌<◌, ◌^◌, List, [], ◌∷◌, ◌++◌, length, map, Some, None, refl, sym, ap, subst, ◌∙◌, arith}
+use Rattle.std.specs.Prelude.{replicate, All, Ok, Err}
+use Rattle.std.proofs.Math.Seq.{drop-append_seam}
 use Rattle.std.proofs.lemmas.List.{map-append, length-map}
 use Rattle.std.proofs.lemmas.List.Elements.{All-append, All-map}
 use Rattle.std.proofs.lemmas.Simd.{map-map}
 use Rattle.mqb_base.specs.declared.ids.Identity.{Identity}
+use Rattle.mqb_script.specs.declared.arrivals.Arrival.{Arrival}
 use Rattle.mqb_script.specs.declared.events.Which.{Which}
 use Rattle.mqb_script.specs.declared.events.Which.TheVariants.{Alpha, Beta}
 use Rattle.mqb_script.specs.declared.replies.Reply.{Reply}
@@ -13,56 +14,49 @@ use Rattle.mqb_script.specs.declared.replies.Reply.TheVariants as reply
 use Rattle.mqb_script.specs.Managers.{other}
 use Rattle.mqb_machine.specs.declared.packets.Packet.{Packet}
 use Rattle.mqb_machine.specs.Managers.{identity_of}
-use Rattle.mqb_machine.specs.Pumping.{packets_chosen}
-use Rattle.mqb_machine.specs.Calls.{pumped}
-use Rattle.mqb_machine.specs.Machine.{Machine, Posted, Answer, only, state_of, posted_by, pump_from, pump, numbers_after}
+use Rattle.mqb_machine.specs.Calls.{Pump, pump_of}
+use Rattle.mqb_machine.specs.Machine.{Machine, Posted, Answer, only, posted_by, pump_from, pump_by, numbers_after}
 use Rattle.mqb_manager.specs.Formats.{spelling, IsSpelled}
 use Rattle.mqb_manager.specs.Posting.{IsWithin, IsCutOff, HasFront}
 use Rattle.mqb_world.specs.declared.notes.Note.{Note}
 use Rattle.mqb_world.specs.declared.faults.WorldFault.{WorldFault}
 use Rattle.mqb_world.specs.declared.faults.WorldFault.TheVariants as fault
 use Rattle.mqb_world.specs.Faults.{SentBy}
-use Rattle.mqb_world.specs.Holding.{Holds, IsHolding, holds, sent_by, pumped_on, pump_on, pumped_strings, pump_strings, ArePumped}
+use Rattle.mqb_world.specs.Holding.{sent_by, pump_on, pumped_on, pumped_strings, ArePumped}
+use Rattle.mqb_world.specs.Moving.{Breaks, sent_in, sent_from, numbers_sent, flowing, Passed}
 use Rattle.mqb_world.specs.Standing.{Held, held_of, note_of, string_of, strings_of, receiver_of, Stands, Applied, sent_between}
 use Rattle.mqb_world.proofs.Placing.{pumped_placed}
+use Rattle.mqb_world.proofs.Stepping.{behind}
+use Rattle.mqb_world.proofs.Flowing.{refusal_in, flowed, pump_refused, pump_goes, flow_refused, flow_goes}
+use Rattle.mqb_world.proofs.Growing.{sent_grows, passed_grows}
+use Rattle.mqb_world.proofs.Composing.{all_sent, refused_first}
 
--- Nothing is sent.
+-- A step that has an answer.
 
-pub only_applied : {held now : Held} {strings strings_now : List (List ℕ)} {m : Machine} {given : Reply} (answer : Reply) → Stands held strings m
-    → IsHolding (holds held answer) given now → strings_now ≡ strings ++ [] → Applied m (only m answer) strings strings_now now (Ok given)
-only_applied {now = now} {strings = strings} {m = m} answer stands holding added = (
-  holding.reply,
-  subst (λ (xs : List (List ℕ)). Stands now xs m) (sym (added ∙ append-nil strings))
-      (subst (λ (h : Held). Stands h strings m) (sym holding.after) stands),
-)
+pub as_applied : (m : Machine) (a : Answer) (strings strings_now : List (List ℕ)) (held : Held) (refusal : WorldFault)
+    → Breaks m a.after strings strings_now refusal → Applied m a strings strings_now held (Err refusal)
+as_applied m a strings strings_now held fault.NetFull breaks = breaks
+as_applied m a strings strings_now held fault.Memory breaks = breaks
 
-pub none_wanted : (m : Machine) → [] ≡ strings_of (sent_between m m)
-none_wanted m = ap strings_of (sym (drop-length m.posted))
+pub as_broken : (m : Machine) (a : Answer) (strings strings_now : List (List ℕ)) (held : Held) (refusal : WorldFault)
+    → Applied m a strings strings_now held (Err refusal) → Breaks m a.after strings strings_now refusal
+as_broken m a strings strings_now held fault.NetFull applied = applied
+as_broken m a strings strings_now held fault.Memory applied = applied
 
--- One of two things is done.
+answered : {held : Held} {strings : List (List ℕ)} {m : Machine} {a : Answer} (answer : Reply) → a ≡ only m answer → Stands held strings m
+    → Applied m a strings strings held (Ok answer)
+answered {held} {strings} {m} answer is stands = subst (λ (a : Answer). Applied m a strings strings held (Ok answer)) (sym is) (refl, stands)
 
-pub chosen_applied : (m : Machine) (strings xs ys : List (List ℕ)) {strings_now : List (List ℕ)} {now : Held} {given : Reply} (test : Bool)
-    {h i : Holds} {a b : Answer}
-    → (test ≡ true → IsHolding h given now → strings_now ≡ strings ++ xs → Applied m a strings strings_now now (Ok given))
-    → (test ≡ false → IsHolding i given now → strings_now ≡ strings ++ ys → Applied m b strings strings_now now (Ok given))
-    → IsHolding (if test then h else i) given now → strings_now ≡ strings ++ (if test then xs else ys)
-    → Applied m (if test then a else b) strings strings_now now (Ok given)
-chosen_applied m strings xs ys true first second holding added = first refl holding added
-chosen_applied m strings xs ys false first second holding added = second refl holding added
+-- How many packets there are.
 
-pub chosen_wanted : (m : Machine) (test : Bool) (a b : Answer) {xs ys : List (List ℕ)} → xs ≡ strings_of (sent_between m a.after)
-    → ys ≡ strings_of (sent_between m b.after) → (if test then xs else ys) ≡ strings_of (sent_between m (if test then a else b).after)
-chosen_wanted m true a b first second = first
-chosen_wanted m false a b first second = second
+pub notes_count : {held : Held} {strings : List (List ℕ)} {m : Machine} → Stands held strings m → length held.notes ≡ length m.posted
+notes_count {m = m} stands = ap (λ (h : Held). length h.notes) stands.same ∙ length-map m.posted note_of
 
--- after a refusal
-pub refused_applied : (T : Type 0) (m : Machine) (answer : Answer) (strings strings_now : List (List ℕ)) (held : Held) {wanted : List (List ℕ)}
-    (refusal : WorldFault) → wanted ≡ strings_of (sent_between m answer.after) → SentBy {T = T} strings strings_now wanted (Err refusal)
-    → Applied m answer strings strings_now held (Err refusal)
-refused_applied T m answer strings strings_now held fault.NetFull wanted sent =
-    subst (λ (xs : List (List ℕ)). IsCutOff strings strings_now xs) wanted sent
-refused_applied T m answer strings strings_now held fault.Memory wanted sent =
-    subst (λ (xs : List (List ℕ)). HasFront strings strings_now xs) wanted sent
+pub strings_count : {held : Held} {strings : List (List ℕ)} {m : Machine} → Stands held strings m → length strings ≡ length m.posted
+strings_count {m = m} stands = ap length stands.spelled ∙ length-map m.posted string_of
+
+pub few_notes : {held : Held} {strings : List (List ℕ)} {m : Machine} → Stands held strings m → length held.notes < 2 ^ 32
+few_notes stands = omega (arith, notes_count stands, strings_count stands, stands.within.bytes, stands.within.count)
 
 -- What a manager sends.
 
@@ -97,62 +91,123 @@ each_behind which packets posted peer before spelled =
 
 pumped_stands : {strings strings_now : List (List ℕ)} {m : Machine} (which : Which) (now : ℕ) → Stands (held_of m) strings m
     → ArePumped (held_of m) which now → strings_now ≡ strings ++ pumped_strings (held_of m) which now → IsWithin strings_now
-    → Stands (pumped_on (held_of m) which now).after strings_now (pump_from m which now (state_of m which)).after
+    → Stands (pumped_on (held_of m) which (pump_on (held_of m) which now)) strings_now (sent_from m which now)
 pumped_stands {m = m} Alpha now stands spelled added within = record {
-  same = ap (λ (notes : List Note). record (held_of m) { alpha = pumped m.alpha now; notes = notes })
-      (notes_behind Alpha m.posted (packets_chosen m.alpha now));
-  spelled = added ∙ strings_behind Alpha (packets_chosen m.alpha now) m.posted stands.alpha.peer stands.spelled;
-  each = each_behind Alpha (packets_chosen m.alpha now) m.posted stands.alpha.peer stands.each spelled;
+  same = ap (λ (notes : List Note). record (held_of m) { alpha = (pump_of m.alpha now).after; notes = notes })
+      (notes_behind Alpha m.posted (pump_of m.alpha now).packets);
+  spelled = added ∙ strings_behind Alpha (pump_of m.alpha now).packets m.posted stands.alpha.peer stands.spelled;
+  each = each_behind Alpha (pump_of m.alpha now).packets m.posted stands.alpha.peer stands.each spelled;
   alpha = pumped_placed Alpha now m.alpha stands.alpha;
   beta = stands.beta;
   within = within;
 }
 pumped_stands {m = m} Beta now stands spelled added within = record {
-  same = ap (λ (notes : List Note). record (held_of m) { beta = pumped m.beta now; notes = notes })
-      (notes_behind Beta m.posted (packets_chosen m.beta now));
-  spelled = added ∙ strings_behind Beta (packets_chosen m.beta now) m.posted stands.beta.peer stands.spelled;
-  each = each_behind Beta (packets_chosen m.beta now) m.posted stands.beta.peer stands.each spelled;
+  same = ap (λ (notes : List Note). record (held_of m) { beta = (pump_of m.beta now).after; notes = notes })
+      (notes_behind Beta m.posted (pump_of m.beta now).packets);
+  spelled = added ∙ strings_behind Beta (pump_of m.beta now).packets m.posted stands.beta.peer stands.spelled;
+  each = each_behind Beta (pump_of m.beta now).packets m.posted stands.beta.peer stands.each spelled;
   alpha = stands.alpha;
   beta = pumped_placed Beta now m.beta stands.beta;
   within = within;
 }
 
-pumped_reply : (m : Machine) (which : Which) (now : ℕ) → (pumped_on (held_of m) which now).reply ≡ (pump_from m which now (state_of m which)).reply
-pumped_reply m Alpha now = ap (λ (n : ℕ). reply.Pumped (numbers_after n (length (packets_chosen m.alpha now)))) (length-map m.posted note_of)
-pumped_reply m Beta now = ap (λ (n : ℕ). reply.Pumped (numbers_after n (length (packets_chosen m.beta now)))) (length-map m.posted note_of)
+pub sent_stands : {held after : Held} {strings strings_now : List (List ℕ)} {m : Machine} (which : Which) (now : ℕ) → Stands held strings m
+    → ArePumped held which now → after ≡ pumped_on held which (pump_on held which now)
+    → strings_now ≡ strings ++ pumped_strings held which now → IsWithin strings_now → Stands after strings_now (sent_from m which now)
+sent_stands {held} {after} {strings} {strings_now} {m} which now stands spelled pumped added within =
+    subst (λ (h : Held). Stands h strings_now (sent_from m which now))
+    (sym (pumped ∙ ap (λ (h : Held). pumped_on h which (pump_on h which now)) stands.same))
+    (pumped_stands which now (behind stands) (subst (λ (h : Held). ArePumped h which now) stands.same spelled)
+    (added ∙ ap (λ (h : Held). strings ++ pumped_strings h which now) stands.same) within)
 
-pumped_wanted : {strings : List (List ℕ)} {m : Machine} (which : Which) (now : ℕ) → Stands (held_of m) strings m
-    → pumped_strings (held_of m) which now ≡ strings_of (sent_between m (pump_from m which now (state_of m which)).after)
-pumped_wanted {m = m} Alpha now stands =
-    spelled_to Alpha (packets_chosen m.alpha now) stands.alpha.peer
-    ∙ ap strings_of (sym (drop-append_seam m.posted (map (posted_by Alpha) (packets_chosen m.alpha now))))
-pumped_wanted {m = m} Beta now stands =
-    spelled_to Beta (packets_chosen m.beta now) stands.beta.peer
-    ∙ ap strings_of (sym (drop-append_seam m.posted (map (posted_by Beta) (packets_chosen m.beta now))))
+sent_is : (m : Machine) (which : Which) (now : ℕ) → pump_on (held_of m) which now ≡ sent_in m which now
+sent_is m Alpha now = refl
+sent_is m Beta now = refl
 
--- what holds of a world holds of what is held of the machine behind it
-pub behind : {held : Held} {strings : List (List ℕ)} {m : Machine} → Stands held strings m → Stands (held_of m) strings m
-behind {strings = strings} {m = m} stands = subst (λ (h : Held). Stands h strings m) stands.same stands
+numbers_are : {held : Held} {strings : List (List ℕ)} {m : Machine} (which : Which) (now : ℕ) → Stands held strings m
+    → numbers_after (length held.notes) (length (pump_on held which now).packets) ≡ numbers_sent m which now
+numbers_are {held = held} {m = m} which now stands =
+    ap (λ (n : ℕ). numbers_after n (length (pump_on held which now).packets)) (notes_count stands)
+    ∙ ap (λ (h : Held). numbers_after (length m.posted) (length (pump_on h which now).packets)) stands.same
+    ∙ ap (λ (p : Pump). numbers_after (length m.posted) (length p.packets)) (sent_is m which now)
 
-pub pump_wanted : {held : Held} {strings : List (List ℕ)} {m : Machine} (which : Which) (now : ℕ) → Stands held strings m
-    → pump_strings held which now ≡ strings_of (sent_between m (pump m which now).after)
-pump_wanted {m = m} which now stands =
-    ap (λ (h : Held). pump_strings h which now) stands.same
-    ∙ chosen_wanted m (is_some m.present) (pump_from m which now (state_of m which)) (only m reply.Unlinked)
-    (pumped_wanted which now (behind stands)) (none_wanted m)
+pub numbers_from : {held : Held} {strings : List (List ℕ)} {m : Machine} {before count : ℕ} (which : Which) (now : ℕ) → Stands held strings m
+    → before ≡ length held.notes → count ≡ length (pump_on held which now).packets → numbers_after before count ≡ numbers_sent m which now
+numbers_from {held = held} {before = before} which now stands so_far sent =
+    ap (λ (n : ℕ). numbers_after before n) sent
+    ∙ ap (λ (n : ℕ). numbers_after n (length (pump_on held which now).packets)) so_far
+    ∙ numbers_are which now stands
 
-pub pump_applied : {held after : Held} {strings strings_now : List (List ℕ)} {m : Machine} {given : Reply} (which : Which) (now : ℕ)
-    → Stands held strings m → (IsSome held.present → ArePumped held which now) → IsHolding (pump_on held which now) given after
-    → strings_now ≡ strings ++ pump_strings held which now → IsWithin strings_now
-    → Applied m (pump m which now) strings strings_now after (Ok given)
-pump_applied {held} {after} {strings} {strings_now} {m} {given} which now stands spelled holding added within =
-    chosen_applied m strings (pumped_strings (held_of m) which now) [] (is_some m.present)
-    (λ linked held_now sent. (
-      held_now.reply ∙ pumped_reply m which now,
-      subst (λ (h : Held). Stands h strings_now (pump_from m which now (state_of m which)).after) (sym held_now.after)
-          (pumped_stands which now (behind stands) (subst (λ (h : Held). IsSome h.present → ArePumped h which now) stands.same spelled linked)
-          sent within),
-    ))
-    (λ linked held_now sent. only_applied reply.Unlinked (behind stands) held_now sent)
-    (subst (λ (h : Held). IsHolding (pump_on h which now) given after) stands.same holding)
-    (added ∙ ap (λ (h : Held). strings ++ pump_strings h which now) stands.same)
+wanted_is : {strings : List (List ℕ)} {m : Machine} (which : Which) (now : ℕ) → Stands (held_of m) strings m
+    → pumped_strings (held_of m) which now ≡ strings_of (sent_between m (sent_from m which now))
+wanted_is {m = m} Alpha now stands =
+    spelled_to Alpha (pump_of m.alpha now).packets stands.alpha.peer
+    ∙ ap strings_of (sym (drop-append_seam m.posted (map (posted_by Alpha) (pump_of m.alpha now).packets)))
+wanted_is {m = m} Beta now stands =
+    spelled_to Beta (pump_of m.beta now).packets stands.beta.peer
+    ∙ ap strings_of (sym (drop-append_seam m.posted (map (posted_by Beta) (pump_of m.beta now).packets)))
+
+wanted_stands : {held : Held} {strings : List (List ℕ)} {m : Machine} (which : Which) (now : ℕ) → Stands held strings m
+    → pumped_strings held which now ≡ strings_of (sent_between m (sent_from m which now))
+wanted_stands which now stands = ap (λ (h : Held). pumped_strings h which now) stands.same ∙ wanted_is which now (behind stands)
+
+-- after a refusal
+pub sent_refused : (T : Type 0) {held : Held} {strings : List (List ℕ)} {m : Machine} (which : Which) (now : ℕ) (strings_now : List (List ℕ))
+    (refusal : WorldFault) → Stands held strings m → SentBy {T = T} strings strings_now (pumped_strings held which now) (Err refusal)
+    → Breaks m (sent_from m which now) strings strings_now refusal
+sent_refused T {strings = strings} which now strings_now fault.NetFull stands sent =
+    subst (λ (xs : List (List ℕ)). IsCutOff strings strings_now xs) (wanted_stands which now stands) sent
+sent_refused T {strings = strings} which now strings_now fault.Memory stands sent =
+    subst (λ (xs : List (List ℕ)). HasFront strings strings_now xs) (wanted_stands which now stands) sent
+
+-- A pump.
+
+pub pump_answers : {held : Held} {strings : List (List ℕ)} {m : Machine} (which : Which) (now : ℕ) (refusal : Reply) → Stands held strings m
+    → refusal_in m which ≡ Some refusal → Applied m (pump_by m which now) strings strings held (Ok refusal)
+pump_answers {m = m} which now refusal stands refused = answered refusal (pump_refused m which now refusal refused) stands
+
+pub pump_fails : (m : Machine) (which : Which) (now : ℕ) (strings strings_now : List (List ℕ)) (held : Held) (refusal : WorldFault)
+    → refusal_in m which ≡ None → Breaks m (sent_from m which now) strings strings_now refusal
+    → Applied m (pump_by m which now) strings strings_now held (Err refusal)
+pump_fails m which now strings strings_now held refusal free breaks =
+    subst (λ (a : Answer). Applied m a strings strings_now held (Err refusal)) (sym (pump_goes m which now free))
+    (as_applied m (pump_from m which (sent_in m which now)) strings strings_now held refusal breaks)
+
+pub pump_applied : {held : Held} {strings_now : List (List ℕ)} {numbers : List ℕ} (m : Machine) (which : Which) (now : ℕ)
+    (strings : List (List ℕ)) → refusal_in m which ≡ None → numbers ≡ numbers_sent m which now → Stands held strings_now (sent_from m which now)
+    → Applied m (pump_by m which now) strings strings_now held (Ok (reply.Pumped numbers))
+pump_applied {held} {strings_now} {numbers} m which now strings free same stands =
+    subst (λ (a : Answer). Applied m a strings strings_now held (Ok (reply.Pumped numbers))) (sym (pump_goes m which now free))
+    (ap (λ (ns : List ℕ). reply.Pumped ns) same, stands)
+
+-- A flow.
+
+pub flow_answers : {held : Held} {strings : List (List ℕ)} {m : Machine} (which : Which) (now : ℕ) (refusal : Reply) → Stands held strings m
+    → refusal_in m which ≡ Some refusal → Applied m (flowing m which now) strings strings held (Ok refusal)
+flow_answers {m = m} which now refusal stands refused = answered refusal (flow_refused m which now refusal refused) stands
+
+pub flow_fails : (m : Machine) (which : Which) (now : ℕ) (strings strings_now : List (List ℕ)) (held : Held) (refusal : WorldFault)
+    → refusal_in m which ≡ None → Breaks m (sent_from m which now) strings strings_now refusal
+    → Applied m (flowing m which now) strings strings_now held (Err refusal)
+flow_fails m which now strings strings_now held refusal free breaks =
+    subst (λ (a : Answer). Applied m a strings strings_now held (Err refusal)) (sym (flow_goes m which now free))
+    (as_applied m (flowed m which now) strings strings_now held refusal
+    (refused_first m (sent_from m which now) (flowed m which now).after strings strings_now refusal (sent_grows m which now)
+    (passed_grows (sent_from m which now) (numbers_sent m which now)) breaks))
+
+-- memory runs out while what was sent is delivered
+pub flow_breaks_off : {before between : Held} {strings strings_now : List (List ℕ)} (m : Machine) (which : Which) (now : ℕ) (held : Held)
+    → refusal_in m which ≡ None → Stands before strings m → Stands between strings_now (sent_from m which now)
+    → Applied m (flowing m which now) strings strings_now held (Err fault.Memory)
+flow_breaks_off {strings = strings} {strings_now = strings_now} m which now held free before sent =
+    flow_fails m which now strings strings_now held fault.Memory free
+    (all_sent m (sent_from m which now) before sent (sent_grows m which now))
+
+pub flow_applied : {held : Held} {strings_now : List (List ℕ)} {numbers : List ℕ} {arrivals : List Arrival} (m : Machine) (which : Which)
+    (now : ℕ) (strings : List (List ℕ)) → refusal_in m which ≡ None → numbers ≡ numbers_sent m which now
+    → Passed (sent_from m which now) numbers arrivals held strings_now
+    → Applied m (flowing m which now) strings strings_now held (Ok (reply.Flowed arrivals))
+flow_applied {held} {strings_now} {numbers} {arrivals} m which now strings free same passed =
+    let all = subst (λ (ns : List ℕ). Passed (sent_from m which now) ns arrivals held strings_now) same passed in
+    subst (λ (a : Answer). Applied m a strings strings_now held (Ok (reply.Flowed arrivals))) (sym (flow_goes m which now free))
+    (ap (λ (xs : List Arrival). reply.Flowed xs) all.arrivals, all.stands)

@@ -11,8 +11,6 @@ use Rattle.mqb_machine.specs.State.{State}
 use Rattle.mqb_machine.specs.Machine.{Machine, Posted, Answer, deliver}
 use Rattle.mqb_manager.specs.Formats.{spelling, IsSpelled}
 use Rattle.mqb_manager.specs.Posting.{IsWithin, IsCutOff, HasFront}
-use Rattle.mqb_packet.specs.declared.packet.Packet as wire
-use Rattle.mqb_packet.specs.declared.packet.Packet.TheVariants as form
 use Rattle.mqb_world.specs.declared.notes.Note.{Note}
 use Rattle.mqb_world.specs.declared.faults.WorldFault.{WorldFault}
 use Rattle.mqb_world.specs.declared.faults.WorldFault.TheVariants as fault
@@ -27,13 +25,6 @@ pub record Held : Type 0 where
 
 abbrev pub note_of : Posted → Note
 note_of p = record { sender = p.sender; dropped = p.dropped }
-
--- a packet of a session's set-up, which is short
-abbrev pub IsSetUp : wire.Packet → Type 0
-IsSetUp (form.User user) = ⊥
-IsSetUp (form.Establish establish) = Unit {0}
-IsSetUp (form.Parameters parameters) = Unit {0}
-IsSetUp (form.Ack head) = ⊥
 
 -- what is held of a machine
 abbrev pub held_of : Machine → Held

@@ -8,7 +8,6 @@ mod faults;
 mod identities;
 mod lines;
 mod notes;
-mod opening;
 #[cfg(test)]
 mod tests;
 mod world;

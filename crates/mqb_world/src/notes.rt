@@ -1,4 +1,4 @@
-ghost use Rattle.std.specs.Prelude.{◌≡◌, ◌+◌, ◌<◌, ◌^◌, ◌++◌, ◌∷◌, [], replicate, vec_len, OnOk};
+ghost use Rattle.std.specs.Prelude.{◌≡◌, ◌+◌, ◌<◌, ◌^◌, ◌++◌, replicate, vec_len, OnOk};
 ghost use Rattle.mqb_script.specs.Managers.{other};
 ghost use Rattle.mqb_world.specs.Holding.{sent_by};
 
@@ -38,15 +38,5 @@ pub(crate) fn note_sent(notes: &mut Vec<Note>, sender: Which, count: u32) -> Res
 {
     let length = notes.len();
     notes.resize(length + count as usize, Note::of(sender))?;
-    Ok(())
-}
-
-/// Notes the four packets that set a connection up, the first of which was sent by this manager.
-pub(crate) fn note_opening(notes: &mut Vec<Note>, sender: Which) -> Result<(), Memory>
-    ensures { OnOk result (notes.new.items ≡ notes.old.items ++ sent_by sender ∷ sent_by (other sender) ∷ sent_by sender ∷ sent_by (other sender) ∷ []) }
-{
-    let own = Note::of(sender);
-    let other = Note::of(sender.other());
-    notes.extend_from_slice(&[own, other, own, other])?;
     Ok(())
 }

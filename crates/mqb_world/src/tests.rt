@@ -18,16 +18,17 @@ pump alpha 1001
 deliver 5 1001
 ";
 
-/// The replies to the script, then to a pump back and its delivery, and then to a drop of a packet that comes again.
+/// The replies to the script, then to a flow back, and then to a drop of a packet that comes again, before the connection ends.
 const REPLIES: &[u8] = b"ok
 connected 1 2 3 4
 committed [committed 1 1 alpha.1]
 pumped 5
 put [put 1 1 alpha.1]
-pumped 6
-acked 1 1
+flowed 6: acked 1 1
+ok
 dropped
 gone
+disconnected
 end
 alpha dead
 alpha deadxact
@@ -92,19 +93,19 @@ fn a_message_is_exchanged(rt: HostRuntime) -> Result<(), Fail> {
     let script = read_script(rt.alloc(), &mut source)?;
     let mut stage = Stage::new(rt.alloc())?;
     stage.plays(script.events())?;
-    stage.happens(&Event::Pump {
+    stage.happens(&Event::Flow {
         manager: Which::Beta,
         now: 1002,
     })?;
-    stage.happens(&Event::Deliver {
-        packet: 6,
-        now: 1002,
+    stage.happens(&Event::Resend {
+        manager: Which::Alpha,
     })?;
     stage.happens(&Event::Drop { packet: 5 })?;
     stage.happens(&Event::Deliver {
         packet: 5,
         now: 1003,
     })?;
+    stage.happens(&Event::Disconnect)?;
     stage.world.print_end(&stage.hosts, &mut stage.text)?;
     assert!(rt; stage.text.as_slice() == REPLIES);
     Ok(())

@@ -1,28 +1,26 @@
-ghost use Rattle.std.specs.Prelude.{◌≡◌, ◌+◌, ◌-◌, ◌<◌, ◌≤◌, ◌^◌, ◌++◌, ◌∷◌, [], ℕ, List, length, vec_len, slice_get, IfOk, OnOk, IfSome, IsSome, IfErr};
-ghost use Rattle.std.specs.Option.{option_copied};
+ghost use Rattle.std.specs.Prelude.{◌≡◌, ◌-◌, ◌≤◌, ◌++◌, ◌∷◌, [], ℕ, List, slice_get, IfOk, OnOk, IfErr};
 ghost use Rattle.mqb_script.specs.Sizes.{IsSized};
-ghost use Rattle.mqb_machine.specs.Calls.{create, commit};
 ghost use Rattle.mqb_script.specs.declared.events.Event.{Event};
+ghost use Rattle.mqb_machine.specs.Calls.{create, commit};
 ghost use Rattle.mqb_machine.specs.Machine as spec;
 ghost use Rattle.mqb_machine.specs.Runs.{machine_after};
-ghost use Rattle.mqb_manager.specs.Posting.{IsWithin};
 ghost use Rattle.mqb_world.specs.declared.faults.WorldFault.TheVariants as fault;
 ghost use Rattle.mqb_world.specs.Endings.{held_text};
-ghost use Rattle.mqb_world.specs.Faults.{SentBy};
-ghost use Rattle.mqb_world.specs.Holding.{IsHolding, manager_of, called_on, commit_on, connect_on, connect_strings, pumped_on, pumped_strings, ArePumped, pump_on, pump_strings, is_underway, hear_on, drop_on, ended_on};
+ghost use Rattle.mqb_world.specs.Holding.{IsHolding, manager_of, called_on, disconnect_on, resend_on, drop_on, ended_on};
 ghost use Rattle.mqb_world.specs.Once.{GoesOn};
-ghost use Rattle.mqb_world.specs.Standing.{Stands, IsOwn, Applied, Delivered};
+ghost use Rattle.mqb_world.specs.Standing.{Stands, IsOwn, Applied};
+
+mod hearing;
+mod sending;
 
 use crate::faults::WorldFault;
 use crate::identities::{alpha, beta};
 use crate::lines::add_lines;
-use crate::notes::{Note, note_opening, note_sent};
-use crate::opening::{Opening, post_opening};
-use mqb_base::{Cause, Draft, Heard, Identity, Line, Memory, Op, QueuePlan};
-use mqb_machine::Packet;
-use mqb_manager::{Manager, read_packet};
+use crate::notes::Note;
+use mqb_base::{Identity, Line, Memory, QueuePlan};
+use mqb_manager::Manager;
 use mqb_outside::Medium;
-use mqb_script::{Event, Lines, Numbers, Ops, Reply, Which};
+use mqb_script::{Event, Ops, Reply, Which};
 use std::alloc::Global;
 use std::marker::Model;
 
@@ -49,38 +47,6 @@ impl Model for World {
       notes = w.notes.items;
       ledger = w.ledger.items;
     } };
-}
-
-/// The numbers of `count` packets, behind `before` that were sent before.
-fn numbers_after(alloc: Global, before: u32, count: u32) -> Result<Numbers, Memory>
-    requires { before + count < 2 ^ 32 }
-    ensures { IfOk result (λ numbers. numbers ≡ spec.numbers_after before count) }
-{
-    let mut numbers = Numbers::new(alloc);
-    for i in 0..count {
-        numbers.push(before + i + 1)?;
-    }
-    Ok(numbers)
-}
-
-/// The message of a transaction that is one send.
-fn only_send(ops: &[Op]) -> Option<&Draft>
-    ensures { option_copied result ≡ spec.only_send ops.now }
-{
-    match ops {
-        [Op::Send(draft)] => Some(draft),
-        _ => None,
-    }
-}
-
-/// The packet of this number belongs to the present connection.
-fn is_present(present: Option<u32>, k: u32) -> bool
-    ensures { result ≡ spec.is_present present k }
-{
-    match present {
-        None => false,
-        Some(before) => before < k,
-    }
 }
 
 impl World {
@@ -131,76 +97,14 @@ impl World {
     }
 
     fn commit(&mut self, which: Which, now: u32, ops: &Ops) -> Result<Reply, Memory>
-        ensures { IfOk result (λ reply. IsHolding (commit_on self.old which now (spec.only_send ops.now)) reply self.new) }
+        ensures { IfOk result (λ reply. IsHolding (called_on self.old which (commit (manager_of self.old which) now ops.now)) reply self.new) }
     {
-        let Some(draft) = only_send(ops.as_slice()) else {
-            return Ok(Reply::Done);
-        };
         let reply = match which {
-            Which::Alpha => self.alpha.commit(now, draft)?,
-            Which::Beta => self.beta.commit(now, draft)?,
+            Which::Alpha => self.alpha.commit(now, ops.as_slice())?,
+            Which::Beta => self.beta.commit(now, ops.as_slice())?,
         };
         self.note(&reply)?;
         Ok(reply)
-    }
-
-    fn connect<M: Medium>(&mut self, opening: &Opening, medium: &mut M) -> Result<Reply, WorldFault>
-        requires own { length self.old.notes ≡ length (M.strings medium.old) }
-        requires within { IsWithin (M.strings medium.old) }
-        ensures holding { IfOk result (λ reply. IsHolding (connect_on self.old opening.now.which) reply self.new) }
-        ensures sent { SentBy (M.strings medium.old) (M.strings medium.new) (connect_strings self.old opening.now.which opening.now.moment opening.now.alpha_window opening.now.beta_window) result }
-    {
-        if self.present.is_some() {
-            return Ok(Reply::Linked);
-        }
-        let before = self.notes.len() as u32;
-        let packets = numbers_after(self.alloc, before, 4)?;
-        note_opening(&mut self.notes, opening.which)?;
-        post_opening(self.alloc, opening, medium)?;
-        self.present = Some(before);
-        Ok(Reply::Connected { packets })
-    }
-
-    /// A manager sends what it chooses, and its packets are noted.
-    #[tactic(auto, using(crate::proofs::Fronts::all_are_front))]
-    fn send<M: Medium>(
-        &mut self,
-        which: Which,
-        now: u32,
-        medium: &mut M,
-    ) -> Result<Reply, WorldFault>
-        requires own { length self.old.notes ≡ length (M.strings medium.old) }
-        requires within { IsWithin (M.strings medium.old) }
-        ensures holding { IfOk result (λ reply. IsHolding (pumped_on self.old which now) reply self.new) }
-        ensures sent { SentBy (M.strings medium.old) (M.strings medium.new) (pumped_strings self.old which now) result }
-        ensures spelled { ArePumped self.old which now }
-    {
-        let count = match which {
-            Which::Alpha => self.alpha.pump(now, medium)?,
-            Which::Beta => self.beta.pump(now, medium)?,
-        };
-        let before = self.notes.len() as u32;
-        let packets = numbers_after(self.alloc, before, count)?;
-        note_sent(&mut self.notes, which, count)?;
-        Ok(Reply::Pumped { packets })
-    }
-
-    fn pump<M: Medium>(
-        &mut self,
-        which: Which,
-        now: u32,
-        medium: &mut M,
-    ) -> Result<Reply, WorldFault>
-        requires own { length self.old.notes ≡ length (M.strings medium.old) }
-        requires within { IsWithin (M.strings medium.old) }
-        ensures holding { IfOk result (λ reply. IsHolding (pump_on self.old which now) reply self.new) }
-        ensures sent { SentBy (M.strings medium.old) (M.strings medium.new) (pump_strings self.old which now) result }
-        ensures spelled { IsSome self.old.present → ArePumped self.old which now }
-    {
-        if self.present.is_none() {
-            return Ok(Reply::Unlinked);
-        }
-        self.send(which, now, medium)
     }
 
     /// The connection ends on both sides.
@@ -212,69 +116,27 @@ impl World {
         self.present = None;
     }
 
-    fn hear(&mut self, which: Which, packet: Packet) -> Result<Reply, Memory>
-        ensures { IfOk result (λ reply. IsHolding (hear_on self.old which packet) reply self.new) }
+    fn disconnect(&mut self) -> Reply
+        ensures { IsHolding (disconnect_on self.old) result self.new }
     {
-        let reply = match (which, packet) {
-            (_, Packet::Establish(_) | Packet::Parameters(_)) => {
-                self.end();
-                return Ok(Reply::Heard {
-                    heard: Heard::Closed(Cause::Repeated),
-                    lines: Lines::new(self.alloc),
-                });
-            }
-            (Which::Alpha, Packet::Transfer(transfer)) => self.alpha.hear(transfer)?,
-            (Which::Beta, Packet::Transfer(transfer)) => self.beta.hear(transfer)?,
-            (Which::Alpha, Packet::OrderAck(ack)) => self.alpha.hear_ack(&ack),
-            (Which::Beta, Packet::OrderAck(ack)) => self.beta.hear_ack(&ack),
-        };
-        self.note(&reply)?;
-        Ok(reply)
+        if self.present.is_none() {
+            return Reply::Unlinked;
+        }
+        self.end();
+        Reply::Disconnected
     }
 
-    /// Who a manager is.
-    fn identity(&self, which: Which) -> &Identity
-        ensures { result.now ≡ (manager_of self.now which).identity }
+    fn resend(&mut self, which: Which) -> Reply
+        ensures { IsHolding (resend_on self.old which) result self.new }
     {
+        if self.present.is_none() {
+            return Reply::Unlinked;
+        }
         match which {
-            Which::Alpha => self.alpha.identity(),
-            Which::Beta => self.beta.identity(),
+            Which::Alpha => self.alpha.resend(),
+            Which::Beta => self.beta.resend(),
         }
-    }
-
-    /// Who sent a packet, where it was sent.
-    fn note_of(&self, k: u32) -> Option<Note>
-        requires { 1 ≤ k }
-        ensures { result ≡ slice_get self.now.notes (k - 1) }
-    {
-        self.notes.get((k - 1) as usize).copied()
-    }
-
-    /// It may still be heard: its connection stands, and it was not dropped.
-    fn is_underway(&self, k: u32, note: Note) -> bool
-        ensures { result ≡ is_underway self.now.present k note }
-    {
-        !note.dropped && is_present(self.present, k)
-    }
-
-    /// What the manager that did not send it makes of a packet. The medium gives the packet's bytes.
-    fn deliver<M: Medium>(&mut self, k: u32, medium: &M) -> Result<Reply, Memory>
-        requires first { 1 ≤ k }
-        requires own { IsOwn self.old (M.strings medium.now) }
-        ensures { (m : spec.Machine) → Stands self.old (M.strings medium.now) m → IfOk result (λ reply. Delivered m k reply self.new) }
-    {
-        let Some(note) = self.note_of(k) else {
-            return Ok(Reply::NoPacket);
-        };
-        if !self.is_underway(k, note) {
-            return Ok(Reply::Gone);
-        }
-        let which = note.receiver();
-        let own = self.identity(which);
-        let Some(packet) = read_packet(self.alloc, &own.host, medium.packet(k))? else {
-            unreachable!();
-        };
-        self.hear(which, packet)
+        Reply::Done
     }
 
     fn drop_packet(&mut self, k: u32) -> Reply
@@ -305,13 +167,13 @@ impl World {
                 now,
                 alpha_window,
                 beta_window,
-            } => {
-                let opening = Opening::new(*manager, *now, *alpha_window, *beta_window);
-                self.connect(&opening, medium)?
-            }
+            } => self.connect(*manager, *now, *alpha_window, *beta_window, medium)?,
             Event::Pump { manager, now } => self.pump(*manager, *now, medium)?,
             Event::Deliver { packet, .. } => self.deliver(*packet, medium)?,
             Event::Drop { packet } => self.drop_packet(*packet),
+            Event::Disconnect => self.disconnect(),
+            Event::Flow { manager, now } => self.flow(*manager, *now, medium)?,
+            Event::Resend { manager } => self.resend(*manager),
         };
         Ok(reply)
     }

@@ -1,7 +1,7 @@
 use Rattle.std.proofs.Common.{◌≡◌, ℕ, ◌+◌, [], ◌∷◌, ◌++◌, arith}
 use Rattle.mqb_machine.specs.Machine.{numbers_after}
 use Rattle.mqb_world.proofs.Numbering.{numbered_next}
-use Rattle.mqb_world.proofs.world.numbers_after.Goals as goal
+use Rattle.mqb_world.proofs.world.sending.numbers_after.Goals as goal
 
 pub loop-i-preserved : goal.loop-i-preserved
 loop-i-preserved c =
