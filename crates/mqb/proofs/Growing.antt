@@ -5,21 +5,20 @@ use Rattle.std.proofs.Math.Seq.{drop-length, drop-append_seam, map-set_same}
 use Rattle.std.proofs.lemmas.List.{map-append, length-set, drop_all}
 use Rattle.std.proofs.lemmas.List.Sums.{sum_by-append, sum_by-cons}
 use Rattle.std.proofs.lemmas.Option.{get_or_from_slice_get}
-use Rattle.mqb_base.specs.declared.draft.Parts.{Parts}
 use Rattle.mqb_outside.specs.Strings.{bytes_in}
 use Rattle.mqb_script.specs.declared.events.Event.{Event}
 use Rattle.mqb_script.specs.declared.events.Event.TheVariants as event
 use Rattle.mqb_script.specs.declared.events.Which.{Which}
 use Rattle.mqb_script.specs.declared.events.Which.TheVariants.{Alpha, Beta}
+use Rattle.mqb_script.specs.declared.replies.Reply.{Reply}
 use Rattle.mqb_script.specs.declared.replies.Reply.TheVariants as reply
 use Rattle.mqb_script.specs.Managers.{other}
-use Rattle.mqb_machine.specs.declared.packets.Packet.{Packet}
-use Rattle.mqb_machine.specs.declared.packets.Packet.TheVariants as packet
-use Rattle.mqb_machine.specs.State.{State}
-use Rattle.mqb_machine.specs.Pumping.{packets_chosen}
-use Rattle.mqb_machine.specs.Calls.{Call, create, commit, hear, hear_ack}
-use Rattle.mqb_machine.specs.Machine.{Machine, Posted, Answer, beginning, state_of, called, only, commit_send, only_send, posted_by, set_up, connect, pump_from, hear_packet, is_on_its_way, deliver_posted, drop_posted, numbers_after, step}
+use Rattle.mqb_machine.specs.Calls.{Call, Pump, create, commit, pump_refusal, pump_of, hear_packet, resent}
+use Rattle.mqb_machine.specs.Machine.{Machine, Posted, Answer, beginning, state_of, with_state, called, only, ended, closes, heard_by, posted_by, pump_from, pump_unless, pump_by, flow, linking, connected, connect, is_on_its_way, deliver_posted, drop_posted, resend, step}
 use Rattle.mqb_machine.specs.Runs.{machine_from, machine_after}
+use Rattle.mqb_world.proofs.Growing.{Grows, grows_by_none, grows_on, flow_grows, set_up_grows, linking_same}
+use Rattle.mqb_world.proofs.Wholes.{flowing_is, connecting_is}
+use Rattle.mqb_world.specs.Moving.{flowing, setting_up, connecting}
 use Rattle.mqb_world.specs.Standing.{string_of, strings_of, sent_between}
 use Rattle.mqb.specs.Plays.{IsFull}
 use Rattle.mqb.proofs.Playing.{machine_split}
@@ -61,35 +60,59 @@ called_grew : (m : Machine) (which : Which) (call : Call) → GrewBy m (called m
 called_grew m Alpha call = stayed m.posted
 called_grew m Beta call = stayed m.posted
 
-commit_grew : (m : Machine) (which : Which) (now : ℕ) (parts : Option Parts) → GrewBy m (commit_send m which now parts)
-commit_grew m which now None = stayed m.posted
-commit_grew m which now (Some parts) = called_grew m which (commit (state_of m which) now parts)
+-- by what was posted since
+grew_by : (m n : Machine) → Grows m n → Grew m.posted n.posted
+grew_by m n grows = subst (λ (ps : List Posted). Grew m.posted ps) (sym grows.posted) (posted_more m.posted grows.more)
+
+linking_grows : (m : Machine) (which : Which) (alpha_window beta_window : ℕ) → Grows m (linking m which alpha_window beta_window)
+linking_grows m which alpha_window beta_window =
+    grows_by_none m (linking m which alpha_window beta_window) (linking_same m which alpha_window beta_window)
+
+connecting_grew : (m : Machine) (which : Which) (now alpha_window beta_window : ℕ) → GrewBy m (connecting m which now alpha_window beta_window)
+unfolding connecting
+connecting_grew m which now alpha_window beta_window =
+    let begun : Machine = linking m which alpha_window beta_window in
+    either m (is_some m.present) (only m reply.Linked) (connected m (setting_up begun which now)) (stayed m.posted)
+    (grew_by m (setting_up begun which now) (grows_on (linking_grows m which alpha_window beta_window) (set_up_grows begun which now)))
 
 connect_grew : (m : Machine) (which : Which) (now alpha_window beta_window : ℕ) → GrewBy m (connect m which now alpha_window beta_window)
 connect_grew m which now alpha_window beta_window =
-    let four : List Posted = set_up which now alpha_window beta_window in
-    either m (is_some m.present) (only m reply.Linked)
-    (record {
-      reply = reply.Connected (numbers_after (length m.posted) 4);
-      after = record m { present = Some (length m.posted); posted = m.posted ++ four };
-    })
-    (stayed m.posted) (posted_more m.posted four)
+    subst (λ (a : Answer). GrewBy m a) (connecting_is m which now alpha_window beta_window)
+    (connecting_grew m which now alpha_window beta_window)
 
-pump_grew : (m : Machine) (which : Which) (now : ℕ) (state : State) → GrewBy m (pump_from m which now state)
-pump_grew m Alpha now state = posted_more m.posted (map (posted_by Alpha) (packets_chosen state now))
-pump_grew m Beta now state = posted_more m.posted (map (posted_by Beta) (packets_chosen state now))
+from_grew : (m : Machine) (which : Which) (sent : Pump) → GrewBy m (pump_from m which sent)
+from_grew m Alpha sent = posted_more m.posted (map (posted_by Alpha) sent.packets)
+from_grew m Beta sent = posted_more m.posted (map (posted_by Beta) sent.packets)
 
-heard_grew : (m : Machine) (which : Which) (p : Packet) → GrewBy m (hear_packet m which p)
-heard_grew m which (packet.Establish asked) = stayed m.posted
-heard_grew m which (packet.Parameters given) = stayed m.posted
-heard_grew m which (packet.Transfer t) = called_grew m which (hear (state_of m which) t)
-heard_grew m which (packet.OrderAck a) = called_grew m which (hear_ack (state_of m which) a)
+unless_grew : (m : Machine) (which : Which) (refusal : Option Reply) (sent : Pump) → GrewBy m (pump_unless m which refusal sent)
+unless_grew m which None sent = from_grew m which sent
+unless_grew m which (Some refusal) sent = stayed m.posted
+
+pump_grew : (m : Machine) (which : Which) (now : ℕ) → GrewBy m (pump_by m which now)
+pump_grew m which now =
+    let sent : Pump = pump_of (state_of m which) now in
+    either m (is_some m.present) (pump_unless m which (pump_refusal (state_of m which)) sent) (only m reply.Unlinked)
+    (unless_grew m which (pump_refusal (state_of m which)) sent) (stayed m.posted)
+
+flow_grew : (m : Machine) (which : Which) (now : ℕ) → GrewBy m (flow m which now)
+flow_grew m which now =
+    subst (λ (a : Answer). GrewBy m a) (flowing_is m which now) (grew_by m (flowing m which now).after (flow_grows m which now))
+
+heard_grew : (m : Machine) (which : Which) (call : Call) → GrewBy m (heard_by m which call)
+heard_grew m which call = either m (closes call.reply) (only (ended m) call.reply) (called m which call) (stayed m.posted) (called_grew m which call)
 
 deliver_grew : (m : Machine) (k : ℕ) (found : Option Posted) → GrewBy m (deliver_posted m k found)
 deliver_grew m k None = stayed m.posted
 deliver_grew m k (Some p) =
-    either m (is_on_its_way m.present k p) (hear_packet m (other p.sender) p.packet) (only m reply.Gone)
-    (heard_grew m (other p.sender) p.packet) (stayed m.posted)
+    let call : Call = hear_packet (state_of m (other p.sender)) p.packet in
+    either m (is_on_its_way m.present k p) (heard_by m (other p.sender) call) (only m reply.Gone)
+    (heard_grew m (other p.sender) call) (stayed m.posted)
+
+resend_grew : (m : Machine) (which : Which) → GrewBy m (resend m which)
+resend_grew m Alpha =
+    either m (is_some m.present) (only (with_state m Alpha (resent m.alpha)) reply.Done) (only m reply.Unlinked) (stayed m.posted) (stayed m.posted)
+resend_grew m Beta =
+    either m (is_some m.present) (only (with_state m Beta (resent m.beta)) reply.Done) (only m reply.Unlinked) (stayed m.posted) (stayed m.posted)
 
 drop_grew : (m : Machine) (k : ℕ) (found : Option Posted) → slice_get m.posted (k - 1) ≡ found → GrewBy m (drop_posted m k found)
 drop_grew m k None there = stayed m.posted
@@ -98,13 +121,15 @@ drop_grew m k (Some p) there = marked m.posted (k - 1) p there
 pub strings_grow : (m : Machine) (e : Event)
     → strings_of (step m e).after.posted ≡ strings_of m.posted ++ strings_of (sent_between m (step m e).after)
 strings_grow m (event.Queue which plan) = called_grew m which (create (state_of m which) plan)
-strings_grow m (event.Commit which now ops) = commit_grew m which now (only_send ops)
+strings_grow m (event.Commit which now ops) = called_grew m which (commit (state_of m which) now ops)
 strings_grow m (event.Connect which now alpha_window beta_window) = connect_grew m which now alpha_window beta_window
-strings_grow m (event.Pump which now) =
-    either m (is_some m.present) (pump_from m which now (state_of m which)) (only m reply.Unlinked)
-    (pump_grew m which now (state_of m which)) (stayed m.posted)
+strings_grow m (event.Pump which now) = pump_grew m which now
 strings_grow m (event.Deliver k now) = deliver_grew m k (slice_get m.posted (k - 1))
 strings_grow m (event.Drop k) = drop_grew m k (slice_get m.posted (k - 1)) refl
+strings_grow m event.Disconnect =
+    either m (is_some m.present) (only (ended m) reply.Disconnected) (only m reply.Unlinked) (stayed m.posted) (stayed m.posted)
+strings_grow m (event.Flow which now) = flow_grew m which now
+strings_grow m (event.Resend which) = resend_grew m which
 
 -- Runs.
 

@@ -127,6 +127,92 @@ fn a_dropped_packet_is_gone(rt: HostRuntime) -> Result<(), Fail> {
     Ok(())
 }
 
+const THREE: &str =
+    "commit alpha 1000 send,DIRECT=OS:beta\\PRIVATE$\\orders,-,-,-,-,-,one send,DIRECT=OS:beta\\PRIVATE$\\orders,-,-,-,-,-,two send,DIRECT=OS:beta\\PRIVATE$\\orders,-,-,-,-,-,three\n";
+
+#[test]
+fn messages_sent_again_are_put_in_order(rt: HostRuntime) -> Result<(), Fail> {
+    let lines = [
+        QUEUE,
+        CONNECT,
+        THREE,
+        "pump alpha 1001\n",
+        "deliver 7 1001\n",
+        "deliver 6 1001\n",
+        "deliver 5 1001\n",
+        "resend alpha\n",
+        "pump alpha 1002\n",
+        "deliver 8 1002\n",
+        "deliver 9 1002\n",
+        "deliver 10 1002\n",
+        "pump beta 1003\n",
+        "deliver 11 1003\n",
+        "resend alpha\n",
+        "pump alpha 1004\n",
+        "deliver 12 1004\n",
+    ];
+    let text =
+        "1 ok\n2 connected 1 2 3 4\n3 committed [committed 1 1 alpha.1] [committed 1 2 alpha.2] [committed 1 3 alpha.3]\n4 pumped 5 6 7\n5 gap 1 3\n6 gap 1 2\n7 put [put 1 1 alpha.1]\n8 ok\n9 pumped 8 9 10\n10 duplicate 1 1\n11 put [put 1 2 alpha.2]\n12 put [put 1 3 alpha.3]\n13 pumped 11\n14 acked 1 3\n15 ok\n16 pumped 12\n17 session\nend\n";
+    replays(&rt, rt.alloc(), &lines, Status::Done, text)?;
+    Ok(())
+}
+
+#[test]
+fn a_flow_delivers_what_it_sent(rt: HostRuntime) -> Result<(), Fail> {
+    let lines = [
+        "queue beta orders tx 1 none\n",
+        CONNECT,
+        "commit alpha 1000 send,DIRECT=OS:beta\\PRIVATE$\\orders,-,-,-,-,-,one send,DIRECT=OS:beta\\PRIVATE$\\orders,-,-,-,-,-,two\n",
+        "flow alpha 1001\n",
+        "flow beta 1001\n",
+        "flow beta 1001\n",
+        "disconnect\n",
+        "flow alpha 1001\n",
+        "disconnect\n",
+        "resend alpha\n",
+    ];
+    let text =
+        "1 ok\n2 connected 1 2 3 4\n3 committed [committed 1 1 alpha.1] [committed 1 2 alpha.2]\n4 flowed 5: put [put 1 1 alpha.1] 6: refused 8003 [refused 1 2 8003 alpha.2]\n5 flowed 7: acked 1 2\n6 flowed\n7 disconnected\n8 unlinked\n9 unlinked\n10 unlinked\nend\n";
+    replays(&rt, rt.alloc(), &lines, Status::Done, text)?;
+    Ok(())
+}
+
+#[test]
+fn a_window_holds_the_sender_back(rt: HostRuntime) -> Result<(), Fail> {
+    let lines = [
+        QUEUE,
+        "connect alpha 1000 64 1\n",
+        THREE,
+        "pump alpha 1001\n",
+        "pump alpha 1001\n",
+        "deliver 5 1001\n",
+        "pump beta 1001\n",
+        "deliver 6 1001\n",
+        "pump alpha 1001\n",
+    ];
+    let text =
+        "1 ok\n2 connected 1 2 3 4\n3 committed [committed 1 1 alpha.1] [committed 1 2 alpha.2] [committed 1 3 alpha.3]\n4 pumped 5\n5 pumped\n6 put [put 1 1 alpha.1]\n7 pumped 6\n8 acked 1 1\n9 pumped 7\nend\n";
+    replays(&rt, rt.alloc(), &lines, Status::Done, text)?;
+    Ok(())
+}
+
+#[test]
+fn a_transaction_has_a_greatest_length(rt: HostRuntime) -> Result<(), Fail> {
+    let mut line = String::from_str(rt.alloc(), "commit alpha 1000")?;
+    for _ in 0..65 {
+        line.push_str(" send,DIRECT=OS:beta\\PRIVATE$\\orders,-,-,-,-,-,")?;
+    }
+    line.push_str("\n")?;
+    replays(
+        &rt,
+        rt.alloc(),
+        &[&line],
+        Status::Done,
+        "1 toomanyops\nend\n",
+    )?;
+    Ok(())
+}
+
 #[test]
 fn a_packet_has_a_greatest_size(rt: HostRuntime) -> Result<(), Fail> {
     let lines = [
@@ -179,7 +265,7 @@ fn faults_are_named(rt: HostRuntime) -> Result<(), Fail> {
     replays(
         &rt,
         alloc,
-        &[QUEUE, "disconnect\n"],
+        &[QUEUE, "tick alpha 1000\n"],
         unbuilt,
         "fault: script 2 unbuilt\n",
     )?;
@@ -289,6 +375,6 @@ fn replay_asks_the_medium(rt: HostRuntime) -> Result<(), Fail> {
         run(alloc, &words, &mut source, &mut sink, &mut medium),
         Status::Done
     );
-    assert_eq!(rt; medium.asked.get(), 2);
+    assert_eq!(rt; medium.asked.get(), 6);
     Ok(())
 }
