@@ -4,9 +4,9 @@ use Rattle.std.specs.Prelude.{Result, Ok, Err}
 use Rattle.std.proofs.lemmas.Option.{none-some, same_Some}
 use Rattle.mqb_outside.specs.Faults.{Rose}
 use Rattle.mqb_outside.specs.Told.{Gave}
-use Rattle.mqb_script.specs.declared.events.Event.{Event}
-use Rattle.mqb_script.specs.Grammar.{script_of}
-use Rattle.mqb_script.specs.Reading.{LONGEST, MOST_LINES, line_count}
+use Rattle.mqb_sketch_script.specs.declared.events.Event.{Event}
+use Rattle.mqb_sketch_script.specs.Grammar.{script_of}
+use Rattle.mqb_sketch_script.specs.Reading.{LONGEST, MOST_LINES, line_count}
 use Rattle.mqb.specs.declared.status.Status.{Status}
 use Rattle.mqb.specs.declared.status.Status.TheVariants as status
 use Rattle.mqb.specs.declared.words.Command.{Command}

@@ -6,20 +6,20 @@ use Rattle.std.proofs.lemmas.List.{map-append, length-set, drop_all}
 use Rattle.std.proofs.lemmas.List.Sums.{sum_by-append, sum_by-cons}
 use Rattle.std.proofs.lemmas.Option.{get_or_from_slice_get}
 use Rattle.mqb_outside.specs.Strings.{bytes_in}
-use Rattle.mqb_script.specs.declared.events.Event.{Event}
-use Rattle.mqb_script.specs.declared.events.Event.TheVariants as event
-use Rattle.mqb_script.specs.declared.events.Which.{Which}
-use Rattle.mqb_script.specs.declared.events.Which.TheVariants.{Alpha, Beta}
-use Rattle.mqb_script.specs.declared.replies.Reply.{Reply}
-use Rattle.mqb_script.specs.declared.replies.Reply.TheVariants as reply
-use Rattle.mqb_script.specs.Managers.{other}
-use Rattle.mqb_machine.specs.Calls.{Call, Pump, create, commit, pump_refusal, pump_of, hear_packet, resent}
-use Rattle.mqb_machine.specs.Machine.{Machine, Posted, Answer, beginning, state_of, with_state, called, only, ended, closes, heard_by, posted_by, pump_from, pump_unless, pump_by, flow, linking, connected, connect, is_on_its_way, deliver_posted, drop_posted, resend, step}
-use Rattle.mqb_machine.specs.Runs.{machine_from, machine_after}
-use Rattle.mqb_world.proofs.Growing.{Grows, grows_by_none, grows_on, flow_grows, set_up_grows, linking_same}
-use Rattle.mqb_world.proofs.Wholes.{flowing_is, connecting_is}
-use Rattle.mqb_world.specs.Moving.{flowing, setting_up, connecting}
-use Rattle.mqb_world.specs.Standing.{string_of, strings_of, sent_between}
+use Rattle.mqb_sketch_script.specs.declared.events.Event.{Event}
+use Rattle.mqb_sketch_script.specs.declared.events.Event.TheVariants as event
+use Rattle.mqb_sketch_script.specs.declared.events.Which.{Which}
+use Rattle.mqb_sketch_script.specs.declared.events.Which.TheVariants.{Alpha, Beta}
+use Rattle.mqb_sketch_script.specs.declared.replies.Reply.{Reply}
+use Rattle.mqb_sketch_script.specs.declared.replies.Reply.TheVariants as reply
+use Rattle.mqb_sketch_script.specs.Managers.{other}
+use Rattle.mqb_sketch_machine.specs.Calls.{Call, Pump, create, commit, pump_refusal, pump_of, hear_packet, resent}
+use Rattle.mqb_sketch_machine.specs.Machine.{Machine, Posted, Answer, beginning, state_of, with_state, called, only, ended, closes, heard_by, posted_by, pump_from, pump_unless, pump_by, flow, linking, connected, connect, is_on_its_way, deliver_posted, drop_posted, resend, step}
+use Rattle.mqb_sketch_machine.specs.Runs.{machine_from, machine_after}
+use Rattle.mqb_sketch_world.proofs.Growing.{Grows, grows_by_none, grows_on, flow_grows, set_up_grows, linking_same}
+use Rattle.mqb_sketch_world.proofs.Wholes.{flowing_is, connecting_is}
+use Rattle.mqb_sketch_world.specs.Moving.{flowing, setting_up, connecting}
+use Rattle.mqb_sketch_world.specs.Standing.{string_of, strings_of, sent_between}
 use Rattle.mqb.specs.Plays.{IsFull}
 use Rattle.mqb.proofs.Playing.{machine_split}
 

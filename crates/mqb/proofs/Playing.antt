@@ -3,13 +3,13 @@ use Rattle.std.proofs.Common.{◌≡◌, ℕ, ◌+◌, ◌<◌, ◌≤◌, List,
 use Rattle.std.proofs.lemmas.List.{take-append-drop}
 use Rattle.std.proofs.Math.Seq.{take-suc}
 use Rattle.mqb_outside.specs.Told.{Took}
-use Rattle.mqb_script.specs.declared.events.Event.{Event}
-use Rattle.mqb_script.specs.Texts.{printed}
-use Rattle.mqb_machine.specs.Managers.{hosts}
-use Rattle.mqb_machine.specs.Machine.{Machine, step, beginning}
-use Rattle.mqb_machine.specs.Runs.{machine_from, machine_after}
-use Rattle.mqb_world.specs.Endings.{end_text}
-use Rattle.mqb_world.specs.Transcripts.{replies_from, replies_of, transcript_of}
+use Rattle.mqb_sketch_script.specs.declared.events.Event.{Event}
+use Rattle.mqb_sketch_script.specs.Texts.{printed}
+use Rattle.mqb_sketch_machine.specs.Managers.{hosts}
+use Rattle.mqb_sketch_machine.specs.Machine.{Machine, step, beginning}
+use Rattle.mqb_sketch_machine.specs.Runs.{machine_from, machine_after}
+use Rattle.mqb_sketch_world.specs.Endings.{end_text}
+use Rattle.mqb_sketch_world.specs.Transcripts.{replies_from, replies_of, transcript_of}
 use Rattle.mqb.specs.Outputs.{TookFront}
 use Rattle.mqb.specs.Plays.{reply_line}
 use Rattle.mqb.proofs.Taking.{took_then, front_then, front_more}

@@ -4,20 +4,20 @@ use Rattle.std.specs.Prelude.{Ok, Err, Some, nat_lt}
 use Rattle.std.proofs.lemmas.Bool.Decides.{nat_tests}
 use Rattle.mqb_base.specs.declared.queue_names.QueueName.{QueueName}
 use Rattle.mqb_outside.specs.Told.{Gave, Took}
-use Rattle.mqb_script.specs.declared.events.Event.{Event}
-use Rattle.mqb_script.specs.declared.events.Which.{Which}
-use Rattle.mqb_script.specs.Reading.{Reads, LONGEST, MOST_LINES, line_count}
-use Rattle.mqb_machine.specs.Runs.{machine_after}
-use Rattle.mqb_history.specs.Laws.{IsExactlyOnce}
-use Rattle.mqb_history.proofs.Runs.{run_sound, once}
-use Rattle.mqb_world.specs.Standing.{strings_of}
-use Rattle.mqb_world.specs.Transcripts.{replies_of, transcript_of}
+use Rattle.mqb_sketch_script.specs.declared.events.Event.{Event}
+use Rattle.mqb_sketch_script.specs.declared.events.Which.{Which}
+use Rattle.mqb_sketch_script.specs.Reading.{Reads, LONGEST, MOST_LINES, line_count}
+use Rattle.mqb_sketch_machine.specs.Runs.{machine_after}
+use Rattle.mqb_sketch_history.specs.Laws.{IsExactlyOnce}
+use Rattle.mqb_sketch_history.proofs.Runs.{run_sound, once}
+use Rattle.mqb_sketch_world.specs.Standing.{strings_of}
+use Rattle.mqb_sketch_world.specs.Transcripts.{replies_of, transcript_of}
 use Rattle.mqb.specs.declared.play.PlayFault.{PlayFault}
 use Rattle.mqb.specs.declared.play.PlayFault.TheVariants as fault
 use Rattle.mqb.specs.declared.status.Status.{Status}
 use Rattle.mqb.specs.declared.status.Status.TheVariants as status
 use Rattle.mqb.specs.Outputs.{TookFront, net_full_text, output_of}
-use Rattle.mqb_script.specs.Grammar.{script_of}
+use Rattle.mqb_sketch_script.specs.Grammar.{script_of}
 use Rattle.mqb.specs.declared.words.Command.TheVariants.{Replay}
 use Rattle.mqb.specs.Plays.{Played, PlayCause, IsFull}
 use Rattle.mqb.specs.Runs.{Replays, IsAlwaysOnce, IsDone, IsNetFull, Tells, Stopped, ReadFaultHasCause, WriteFaultHasCause, UsageHasCause}

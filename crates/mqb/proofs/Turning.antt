@@ -3,16 +3,16 @@ use Rattle.std.proofs.Common.{◌≡◌, ℕ, List, [], ◌∷◌, ◌++◌, Opt
 use Rattle.std.specs.Prelude.{Result, Ok, Err}
 use Rattle.mqb_base.specs.declared.ids.Identity.{Identity}
 use Rattle.mqb_outside.specs.Told.{Took}
-use Rattle.mqb_script.specs.declared.events.Event.{Event}
-use Rattle.mqb_machine.specs.Machine.{Machine, step}
-use Rattle.mqb_machine.specs.Managers.{hosts}
-use Rattle.mqb_machine.specs.Runs.{machine_after}
-use Rattle.mqb_manager.specs.Posting.{IsCutOff}
-use Rattle.mqb_world.specs.Endings.{end_text}
-use Rattle.mqb_world.specs.Standing.{Held, Applied, strings_of, sent_between}
-use Rattle.mqb_world.specs.Transcripts.{replies_of}
-use Rattle.mqb_world.specs.declared.faults.WorldFault.{WorldFault}
-use Rattle.mqb_world.specs.declared.faults.WorldFault.TheVariants as world
+use Rattle.mqb_sketch_script.specs.declared.events.Event.{Event}
+use Rattle.mqb_sketch_machine.specs.Machine.{Machine, step}
+use Rattle.mqb_sketch_machine.specs.Managers.{hosts}
+use Rattle.mqb_sketch_machine.specs.Runs.{machine_after}
+use Rattle.mqb_sketch_manager.specs.Posting.{IsCutOff}
+use Rattle.mqb_sketch_world.specs.Endings.{end_text}
+use Rattle.mqb_sketch_world.specs.Standing.{Held, Applied, strings_of, sent_between}
+use Rattle.mqb_sketch_world.specs.Transcripts.{replies_of}
+use Rattle.mqb_sketch_world.specs.declared.faults.WorldFault.{WorldFault}
+use Rattle.mqb_sketch_world.specs.declared.faults.WorldFault.TheVariants as world
 use Rattle.mqb.specs.declared.play.PlayFault.{PlayFault}
 use Rattle.mqb.specs.declared.play.PlayFault.TheVariants as play
 use Rattle.mqb.specs.Faults.{play_fault}

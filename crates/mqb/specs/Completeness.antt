@@ -2,10 +2,10 @@
 use Rattle.std.specs.Prelude.{◌≡◌, ℕ, ◌≤◌, ◌⊎◌, List, Option, Some, Ok}
 use Rattle.mqb_outside.specs.Faults.{Rose}
 use Rattle.mqb_outside.specs.Strings.{bytes_in}
-use Rattle.mqb_script.specs.declared.events.Event.{Event}
-use Rattle.mqb_script.specs.Grammar.{script_of}
-use Rattle.mqb_machine.specs.Runs.{machine_after}
-use Rattle.mqb_world.specs.Standing.{strings_of}
+use Rattle.mqb_sketch_script.specs.declared.events.Event.{Event}
+use Rattle.mqb_sketch_script.specs.Grammar.{script_of}
+use Rattle.mqb_sketch_machine.specs.Runs.{machine_after}
+use Rattle.mqb_sketch_world.specs.Standing.{strings_of}
 use Rattle.mqb.specs.declared.status.Status.{Status}
 use Rattle.mqb.specs.declared.status.Status.TheVariants as status
 use Rattle.mqb.specs.declared.words.Command.{Command}

@@ -1,5 +1,5 @@
-use Rattle.mqb_world.specs.declared.faults.WorldFault.{WorldFault}
-use Rattle.mqb_world.specs.declared.faults.WorldFault.TheVariants as world
+use Rattle.mqb_sketch_world.specs.declared.faults.WorldFault.{WorldFault}
+use Rattle.mqb_sketch_world.specs.declared.faults.WorldFault.TheVariants as world
 use Rattle.mqb.specs.declared.play.PlayFault.{PlayFault}
 use Rattle.mqb.specs.declared.play.PlayFault.TheVariants as play
 

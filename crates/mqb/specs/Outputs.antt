@@ -1,10 +1,10 @@
 use Rattle.std.specs.Prelude.{◌≡◌, ℕ, List, ◌++◌, length, codes, nat_lt, Option, Result, Ok, Err, if◌then◌else◌}
 use Rattle.std.specs.Fmt.{decimal}
 use Rattle.mqb_outside.specs.Told.{Took}
-use Rattle.mqb_script.specs.declared.events.Event.{Event}
-use Rattle.mqb_script.specs.Grammar.{script_of}
-use Rattle.mqb_script.specs.Reading.{LONGEST, MOST_LINES, line_count}
-use Rattle.mqb_world.specs.Transcripts.{transcript_of}
+use Rattle.mqb_sketch_script.specs.declared.events.Event.{Event}
+use Rattle.mqb_sketch_script.specs.Grammar.{script_of}
+use Rattle.mqb_sketch_script.specs.Reading.{LONGEST, MOST_LINES, line_count}
+use Rattle.mqb_sketch_world.specs.Transcripts.{transcript_of}
 
 abbrev pub usage_text : List ℕ
 usage_text = codes "fault: usage\n"

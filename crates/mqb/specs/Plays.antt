@@ -3,14 +3,14 @@ use Rattle.std.specs.Prelude.{◌≡◌, ℕ, List, ◌∷◌, ◌++◌, Option,
 use Rattle.mqb_base.specs.declared.ids.Identity.{Identity}
 use Rattle.mqb_outside.specs.Faults.{Rose}
 use Rattle.mqb_outside.specs.Told.{Took}
-use Rattle.mqb_script.specs.declared.events.Event.{Event}
-use Rattle.mqb_script.specs.Texts.{printed}
-use Rattle.mqb_machine.specs.Machine.{Machine, step}
-use Rattle.mqb_machine.specs.Runs.{machine_after}
-use Rattle.mqb_manager.specs.Posting.{IsCutOff}
-use Rattle.mqb_world.specs.Endings.{held_text}
-use Rattle.mqb_world.specs.Standing.{Held, Stands, strings_of, sent_between}
-use Rattle.mqb_world.specs.Transcripts.{transcript_of, replies_of}
+use Rattle.mqb_sketch_script.specs.declared.events.Event.{Event}
+use Rattle.mqb_sketch_script.specs.Texts.{printed}
+use Rattle.mqb_sketch_machine.specs.Machine.{Machine, step}
+use Rattle.mqb_sketch_machine.specs.Runs.{machine_after}
+use Rattle.mqb_sketch_manager.specs.Posting.{IsCutOff}
+use Rattle.mqb_sketch_world.specs.Endings.{held_text}
+use Rattle.mqb_sketch_world.specs.Standing.{Held, Stands, strings_of, sent_between}
+use Rattle.mqb_sketch_world.specs.Transcripts.{transcript_of, replies_of}
 use Rattle.mqb.specs.declared.play.PlayFault.{PlayFault}
 use Rattle.mqb.specs.declared.play.PlayFault.TheVariants as fault
 use Rattle.mqb.specs.Outputs.{TookFront}

@@ -1,16 +1,16 @@
 use Rattle.std.specs.Prelude.{◌≡◌, ℕ, ◌<◌, ◌≤◌, ◌⊎◌, List, [], ◌++◌, length, codes, Option, Some, None, Ok, Err, IfSome}
 use Rattle.mqb_outside.specs.Faults.{Rose}
 use Rattle.mqb_outside.specs.Told.{Gave, Took}
-use Rattle.mqb_script.specs.declared.events.Event.{Event}
-use Rattle.mqb_script.specs.declared.reading.LineKind.{LineKind}
-use Rattle.mqb_script.specs.Grammar.{script_of}
-use Rattle.mqb_script.specs.Reading.{LONGEST, MOST_LINES, line_count}
+use Rattle.mqb_sketch_script.specs.declared.events.Event.{Event}
+use Rattle.mqb_sketch_script.specs.declared.reading.LineKind.{LineKind}
+use Rattle.mqb_sketch_script.specs.Grammar.{script_of}
+use Rattle.mqb_sketch_script.specs.Reading.{LONGEST, MOST_LINES, line_count}
 use Rattle.mqb_base.specs.declared.queue_names.QueueName.{QueueName}
-use Rattle.mqb_script.specs.declared.events.Which.{Which}
-use Rattle.mqb_machine.specs.Runs.{machine_after}
-use Rattle.mqb_history.specs.Laws.{IsExactlyOnce}
-use Rattle.mqb_world.specs.Standing.{strings_of}
-use Rattle.mqb_world.specs.Transcripts.{transcript_of, replies_of}
+use Rattle.mqb_sketch_script.specs.declared.events.Which.{Which}
+use Rattle.mqb_sketch_machine.specs.Runs.{machine_after}
+use Rattle.mqb_sketch_history.specs.Laws.{IsExactlyOnce}
+use Rattle.mqb_sketch_world.specs.Standing.{strings_of}
+use Rattle.mqb_sketch_world.specs.Transcripts.{transcript_of, replies_of}
 use Rattle.mqb.specs.declared.play.PlayFault.{PlayFault}
 use Rattle.mqb.specs.declared.play.PlayFault.TheVariants as fault
 use Rattle.mqb.specs.declared.status.Status.{Status}

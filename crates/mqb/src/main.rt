@@ -5,8 +5,6 @@ mod output;
 mod play;
 mod run;
 mod status;
-#[cfg(test)]
-mod tests;
 mod words;
 
 use mqb_outside::{MemoryMedium, StdSink, StdSource};

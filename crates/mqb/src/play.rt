@@ -1,16 +1,16 @@
 ghost use Rattle.std.specs.Prelude.{◌≡◌, [], ◌∷◌, ◌++◌, IfOk};
 ghost use Rattle.std.specs.List.{AllByRecursion};
-ghost use Rattle.mqb_script.specs.Sizes.{IsSized};
-ghost use Rattle.mqb_machine.specs.Machine.{Machine};
-ghost use Rattle.mqb_world.specs.Endings.{held_text};
-ghost use Rattle.mqb_world.specs.Standing.{Stands, IsOwn};
+ghost use Rattle.mqb_sketch_script.specs.Sizes.{IsSized};
+ghost use Rattle.mqb_sketch_machine.specs.Machine.{Machine};
+ghost use Rattle.mqb_sketch_world.specs.Endings.{held_text};
+ghost use Rattle.mqb_sketch_world.specs.Standing.{Stands, IsOwn};
 ghost use Rattle.mqb.specs.Plays.{PlayCause, Turned, Ended, Played};
 
 use crate::output::write_all;
 use mqb_base::{Failed, Identity, Memory};
 use mqb_outside::{Medium, Sink};
-use mqb_script::{Event, print_reply};
-use mqb_world::{World, WorldFault, hosts};
+use mqb_sketch_script::{Event, print_reply};
+use mqb_sketch_world::{World, WorldFault, hosts};
 use std::alloc::Global;
 
 /// Why a script was not played to its end.
@@ -86,7 +86,8 @@ fn end<K: Sink>(
     hosts: &[Identity],
     out: &mut K,
 ) -> Result<(), PlayFault>
-    ensures ended { Ended (K.taken out.old) (K.taken out.new) (held_text hosts.now world.now) result }
+    ensures ended { Ended (K.taken out.old) (K.taken out.new) (held_text hosts.now world.now)
+        result }
     ensures cause { PlayCause (K.write_faults out.old) (K.write_faults out.new) result }
 {
     let mut text = Vec::new(alloc);
@@ -104,7 +105,8 @@ pub fn play<K: Sink, M: Medium>(
 ) -> Result<(), PlayFault>
     requires sized { AllByRecursion (λ line. IsSized line.1) script.now }
     requires empty { M.strings medium.old ≡ [] }
-    ensures played { Played script.now (K.taken out.old) (K.taken out.new) (M.strings medium.new) result }
+    ensures played { Played script.now (K.taken out.old) (K.taken out.new) (M.strings medium.new)
+        result }
     ensures cause { PlayCause (K.write_faults out.old) (K.write_faults out.new) result }
 {
     let mut world = World::new(alloc)?;

@@ -12,7 +12,7 @@ use crate::status::Status;
 use crate::words::{Command, command_of};
 use mqb_base::Memory;
 use mqb_outside::{Medium, Sink, Source};
-use mqb_script::{LineKind, ScriptFault, read_script};
+use mqb_sketch_script::{LineKind, ScriptFault, read_script};
 use std::alloc::Global;
 
 const HELP: &[u8] =
@@ -56,7 +56,8 @@ fn fault_line(alloc: Global, line: u32) -> Result<Vec<u8>, Memory>
 
 /// Ends a play that was stopped: the fault line of a full medium is still written.
 fn stop<K: Sink>(out: &mut K, fault: PlayFault) -> Status
-    ensures { Stopped fault (K.taken out.old) (K.taken out.new) (K.write_faults out.old) (K.write_faults out.new) result }
+    ensures { Stopped fault (K.taken out.old) (K.taken out.new) (K.write_faults out.old)
+        (K.write_faults out.new) result }
 {
     match fault {
         PlayFault::NetFull => tell(out, b"fault: netfull\n", Status::NetFull),
@@ -73,7 +74,8 @@ fn replay<S: Source, K: Sink, M: Medium>(
     medium: &mut M,
 ) -> Status
     requires { M.strings medium.old ≡ [] }
-    ensures replayed { Replays (S.held input.old) (S.held input.new) (K.taken out.old) (K.taken out.new) (M.strings medium.new) result }
+    ensures replayed { Replays (S.held input.old) (S.held input.new) (K.taken out.old)
+        (K.taken out.new) (M.strings medium.new) result }
     ensures read { ReadFaultHasCause (S.read_faults input.old) (S.read_faults input.new) result }
     ensures write { WriteFaultHasCause (K.write_faults out.old) (K.write_faults out.new) result }
     ensures words { UsageHasCause (Some Replay) result }
@@ -104,17 +106,21 @@ pub fn run<S: Source, K: Sink, M: Medium>(
 ) -> Status
     requires { M.strings medium.old ≡ [] }
     // What is written, by command.
-    ensures ran { Runs (command_of (map string_bytes words.now)) (S.held input.old) (S.held input.new)
+    ensures ran { Runs (command_of (map string_bytes words.now))
+        (S.held input.old) (S.held input.new)
         (K.taken out.old) (K.taken out.new) (M.strings medium.new) result }
 
     // A script whose packets fit the medium is replayed whole, where the input and the output do not fail.
-    ensures complete { Completes (command_of (map string_bytes words.now)) (S.held input.old) (S.read_faults input.old) (S.read_faults input.new)
+    ensures complete { Completes (command_of (map string_bytes words.now))
+        (S.held input.old) (S.read_faults input.old) (S.read_faults input.new)
         (K.write_faults out.old) (K.write_faults out.new) result }
 
     // Where each fault comes from.
     ensures usage { UsageHasCause (command_of (map string_bytes words.now)) result }
-    ensures read_fault { ReadFaultHasCause (S.read_faults input.old) (S.read_faults input.new) result }
-    ensures write_fault { WriteFaultHasCause (K.write_faults out.old) (K.write_faults out.new) result }
+    ensures read_fault { ReadFaultHasCause (S.read_faults input.old) (S.read_faults input.new)
+        result }
+    ensures write_fault { WriteFaultHasCause (K.write_faults out.old) (K.write_faults out.new)
+        result }
 {
     match command_of(words) {
         Some(Command::Replay) => replay(alloc, input, out, medium),

@@ -1,7 +1,7 @@
 ghost use Rattle.std.specs.Prelude.{◌≡◌};
 ghost use Rattle.mqb.specs.Exits.{exit_of};
 
-use mqb_script::LineKind;
+use mqb_sketch_script::LineKind;
 
 /// How the program ended.
 #[derive(Clone, Copy, Debug, PartialEq, Eq)]

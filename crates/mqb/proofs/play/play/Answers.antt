@@ -4,14 +4,14 @@ use Rattle.std.specs.Prelude.{Err}
 use Rattle.std.specs.List.{AllByRecursion}
 use Rattle.mqb_base.specs.declared.ids.Identity.{Identity}
 use Rattle.mqb_outside.specs.Told.{Took}
-use Rattle.mqb_script.specs.declared.events.Event.{Event}
-use Rattle.mqb_script.specs.Sizes.{IsSized}
-use Rattle.mqb_machine.specs.Managers.{hosts}
-use Rattle.mqb_machine.specs.Machine.{Machine}
-use Rattle.mqb_machine.specs.Runs.{machine_after}
-use Rattle.mqb_world.specs.Endings.{held_text}
-use Rattle.mqb_world.specs.Standing.{Held, Stands, held_of, strings_of}
-use Rattle.mqb_world.specs.Transcripts.{replies_of}
+use Rattle.mqb_sketch_script.specs.declared.events.Event.{Event}
+use Rattle.mqb_sketch_script.specs.Sizes.{IsSized}
+use Rattle.mqb_sketch_machine.specs.Managers.{hosts}
+use Rattle.mqb_sketch_machine.specs.Machine.{Machine}
+use Rattle.mqb_sketch_machine.specs.Runs.{machine_after}
+use Rattle.mqb_sketch_world.specs.Endings.{held_text}
+use Rattle.mqb_sketch_world.specs.Standing.{Held, Stands, held_of, strings_of}
+use Rattle.mqb_sketch_world.specs.Transcripts.{replies_of}
 use Rattle.mqb.specs.Plays.{Turned, Ended, reply_line}
 use Rattle.mqb.proofs.Taking.{front_none}
 use Rattle.mqb.proofs.Playing.{taken_one, line_at, split_at, machine_one, replied_one}

@@ -1,11 +1,11 @@
 use Rattle.std.proofs.Common.{◌≡◌, ℕ, take, drop}
 use Rattle.std.specs.List.{AllByRecursion}
 use Rattle.mqb_outside.specs.Told.{Took}
-use Rattle.mqb_script.specs.Sizes.{IsSized}
-use Rattle.mqb_machine.specs.Managers.{hosts}
-use Rattle.mqb_machine.specs.Runs.{machine_after}
-use Rattle.mqb_world.specs.Standing.{Stands}
-use Rattle.mqb_world.specs.Transcripts.{replies_of}
+use Rattle.mqb_sketch_script.specs.Sizes.{IsSized}
+use Rattle.mqb_sketch_machine.specs.Managers.{hosts}
+use Rattle.mqb_sketch_machine.specs.Runs.{machine_after}
+use Rattle.mqb_sketch_world.specs.Standing.{Stands}
+use Rattle.mqb_sketch_world.specs.Transcripts.{replies_of}
 use Rattle.mqb.proofs.play.play.Given as goal
 
 abbrev pub invariant-loop-line : goal.invariant-loop-line

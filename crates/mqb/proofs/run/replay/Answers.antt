@@ -1,6 +1,6 @@
 use Rattle.std.proofs.Common.{◌≡◌, ℕ, List, ◌++◌, sym, subst}
 use Rattle.std.specs.Prelude.{Ok, Err}
-use Rattle.mqb_script.specs.declared.events.Event.{Event}
+use Rattle.mqb_sketch_script.specs.declared.events.Event.{Event}
 use Rattle.mqb.specs.Plays.{Played}
 use Rattle.mqb.proofs.Replaying.{done_from, stopped_from, stopped_write, stopped_read, stopped_words}
 use Rattle.mqb.proofs.run.replay.Goals as goal

@@ -1,0 +1,5 @@
+use Rattle.mqb_exactly_once.proofs.Always.{always}
+use Rattle.mqb_exactly_once.proofs.final_acks_are_true.Goals as goal
+
+pub returns : goal.returns
+returns c = λ channel xs run. (always channel xs run).final_acks

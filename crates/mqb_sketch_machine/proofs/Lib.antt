@@ -1,0 +1,3 @@
+pub mod Members
+pub mod Greatest
+pub mod Duplicates

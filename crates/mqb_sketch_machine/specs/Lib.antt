@@ -1,0 +1,13 @@
+pub mod KeptLists
+pub mod Rows
+pub mod State
+pub mod Queueing
+pub mod Committing
+pub mod Pumping
+pub mod Arriving
+pub mod Acknowledging
+pub mod Calls
+pub mod Managers
+pub mod Machine
+pub mod Runs
+pub mod Laws

@@ -1,0 +1,77 @@
+use Rattle.std.specs.Prelude.{◌≡◌, ℕ, ◌+◌, ◌<◌, ◌≤◌, Bool, List, [], ◌∷◌, ◌++◌, length, Option, Result, Ok, Err, IfSome, MatchBool}
+use Rattle.mqb_outside.specs.Told.{Gave}
+use Rattle.mqb_outside.specs.Faults.{Rose}
+use Rattle.mqb_sketch_script.specs.declared.events.Event.{Event}
+use Rattle.mqb_sketch_script.specs.declared.reading.LineKind.TheVariants.{Unbuilt}
+use Rattle.mqb_sketch_script.specs.declared.reading.ScriptFault.{ScriptFault}
+use Rattle.mqb_sketch_script.specs.declared.reading.ScriptFault.TheVariants as fault
+use Rattle.mqb_sketch_script.specs.Words.{lines_of}
+use Rattle.mqb_sketch_script.specs.Grammar.{script_from, script_of}
+
+-- the greatest length of a script
+abbrev pub LONGEST : ℕ
+LONGEST = 16777216
+
+-- the greatest number of a script's lines
+abbrev pub MOST_LINES : ℕ
+MOST_LINES = 200000
+
+-- how many of the parts between line feeds were begun: each but a last one that is empty
+abbrev pub begun : List (List ℕ) → ℕ
+begun [] = 0
+begun ([] ∷ []) = 0
+begun (line ∷ lines) = begun lines + 1
+
+-- the lines of a text: a line is begun by its first byte or by its line feed
+abbrev pub line_count : List ℕ → ℕ
+line_count text = begun (lines_of text)
+
+-- the answer to the bytes that were taken, once they were taken to the end of the input or until there were too many
+abbrev pub Answers : List ℕ → Result (List (ℕ × Event)) ScriptFault → Type 0
+Answers text (Ok events) = (length text ≤ LONGEST) × (line_count text ≤ MOST_LINES) × (script_of text ≡ Ok events)
+Answers text (Err (fault.Line number Unbuilt)) = (length text ≤ LONGEST) × (line_count text ≤ MOST_LINES) × (script_of text ≡ Err number)
+Answers text (Err fault.TooLong) = LONGEST < length text
+Answers text (Err fault.TooManyLines) = (length text ≤ LONGEST) × (MOST_LINES < line_count text)
+Answers text (Err fault.ReadFault) = length text ≤ LONGEST
+Answers text (Err fault.Memory) = length text ≤ LONGEST
+
+-- the answers for which the input was read to its end
+abbrev pub AtEnd : Option (List ℕ) → Result (List (ℕ × Event)) ScriptFault → Type 0
+AtEnd after (Ok events) = IfSome after (λ rest. rest ≡ [])
+AtEnd after (Err (fault.Line number kind)) = IfSome after (λ rest. rest ≡ [])
+AtEnd after (Err fault.TooManyLines) = IfSome after (λ rest. rest ≡ [])
+AtEnd after (Err _) = Unit {0}
+
+-- A script was read from a source that held before and holds after.
+pub record Reads (before after : Option (List ℕ)) (r : Result (List (ℕ × Event)) ScriptFault) : Type 0 where
+  -- what was taken
+  pub text : List ℕ
+  pub gave : Gave before after text
+  pub answers : Answers text r
+  pub ended : AtEnd after r
+
+-- only a fault of the source raises its count of faults
+abbrev pub ReadCause : ℕ → ℕ → Result (List (ℕ × Event)) ScriptFault → Type 0
+ReadCause before after (Err fault.ReadFault) = Rose before after
+ReadCause before after (Err (fault.Line number kind)) = after ≡ before
+ReadCause before after (Err fault.TooLong) = after ≡ before
+ReadCause before after (Err fault.TooManyLines) = after ≡ before
+ReadCause before after (Err fault.Memory) = after ≡ before
+ReadCause before after (Ok events) = after ≡ before
+
+-- All that a source held was taken, and it is no longer than a script may be.
+pub record IsWhole (before after : Option (List ℕ)) (text : List ℕ) : Type 0 where
+  pub short : length text ≤ LONGEST
+  pub gave : Gave before after text
+  pub ended : IfSome after (λ rest. rest ≡ [])
+
+-- what was read in front of more
+abbrev pub in_front : List (ℕ × Event) → Result (List (ℕ × Event)) ℕ → Result (List (ℕ × Event)) ℕ
+in_front events (Ok more) = Ok (events ++ more)
+in_front events (Err first) = Err first
+
+-- Line n was read behind the events of the lines before it; `good` says whether it is a line of a script.
+abbrev pub ReadsLine : ℕ → List ℕ → List (ℕ × Event) → List (ℕ × Event) → Bool → Type 0
+ReadsLine n line before after good = (rest : List (List ℕ)) →
+    MatchBool good (in_front before (script_from n (line ∷ rest)) ≡ in_front after (script_from (n + 1) rest))
+    (script_from n (line ∷ rest) ≡ Err n)

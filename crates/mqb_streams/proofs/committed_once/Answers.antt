@@ -1,9 +1,0 @@
-use Rattle.mqb_streams.specs.World.{Commitment}
-use Rattle.mqb_streams.specs.Runs.{after}
-use Rattle.mqb_streams.proofs.Decisions.{one_of_each}
-use Rattle.mqb_streams.proofs.Always.{always}
-use Rattle.mqb_streams.proofs.committed_once.Goals as goal
-
-pub returns : goal.returns
-returns c = λ channel xs run x y.
-    one_of_each (λ (z : Commitment). z.position) (after channel xs).committed x y (always channel xs run).commits

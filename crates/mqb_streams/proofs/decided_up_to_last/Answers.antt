@@ -1,6 +1,0 @@
-use Rattle.mqb_streams.specs.Runs.{after}
-use Rattle.mqb_streams.proofs.Always.{always, decided_up_to_last}
-use Rattle.mqb_streams.proofs.decided_up_to_last.Goals as goal
-
-pub returns : goal.returns
-returns c = λ channel xs run. decided_up_to_last (after channel xs) (always channel xs run)

@@ -1,5 +1,0 @@
-use Rattle.mqb_streams.proofs.Always.{always}
-use Rattle.mqb_streams.proofs.final_acks_are_true.Goals as goal
-
-pub returns : goal.returns
-returns c = λ channel xs run. (always channel xs run).final_acks

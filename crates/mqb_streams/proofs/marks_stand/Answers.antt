@@ -1,5 +1,0 @@
-use Rattle.mqb_streams.proofs.Always.{always}
-use Rattle.mqb_streams.proofs.marks_stand.Goals as goal
-
-pub returns : goal.returns
-returns c = λ channel xs run s. (always channel xs run).marks s

@@ -1,5 +1,0 @@
-use Rattle.mqb_streams.proofs.Always.{always}
-use Rattle.mqb_streams.proofs.transfers_are_truthful.Goals as goal
-
-pub returns : goal.returns
-returns c = λ channel xs run. (always channel xs run).truthful
