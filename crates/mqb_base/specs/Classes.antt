@@ -1,9 +1,26 @@
 use Rattle.std.specs.Prelude.{ℕ, Bool, not, ◌&&◌, ◌==◌, nat_le, ◌%◌, List, [], ◌∷◌}
 use Rattle.std.specs.List.{list_any}
+use Rattle.mqb_base.specs.declared.class.Class.{Class}
+use Rattle.mqb_base.specs.declared.class.TheConstants.Class.{
+  NORMAL,
+  REACHED_QUEUE,
+  ORDER_ACKNOWLEDGEMENT,
+  RECEIVED,
+  BAD_DESTINATION,
+  PURGED_AT_SOURCE,
+  REACH_TIMEOUT,
+  QUOTA_EXCEEDED,
+  QUEUE_NOT_TRANSACTIONAL,
+  MESSAGE_NOT_TRANSACTIONAL,
+  QUEUE_DELETED,
+  QUEUE_PURGED,
+  RECEIVE_TIMEOUT,
+}
 
 -- the classes that a message may have
 abbrev pub classes : List ℕ
-classes = 0x0000 ∷ 0x0002 ∷ 0x00FF ∷ 0x4000 ∷ 0x8000 ∷ 0x8001 ∷ 0x8002 ∷ 0x8003 ∷ 0x8009 ∷ 0x800A ∷ 0xC000 ∷ 0xC001 ∷ 0xC002 ∷ []
+classes = NORMAL.0 ∷ REACHED_QUEUE.0 ∷ ORDER_ACKNOWLEDGEMENT.0 ∷ RECEIVED.0 ∷ BAD_DESTINATION.0 ∷ PURGED_AT_SOURCE.0 ∷ REACH_TIMEOUT.0
+    ∷ QUOTA_EXCEEDED.0 ∷ QUEUE_NOT_TRANSACTIONAL.0 ∷ MESSAGE_NOT_TRANSACTIONAL.0 ∷ QUEUE_DELETED.0 ∷ QUEUE_PURGED.0 ∷ RECEIVE_TIMEOUT.0 ∷ []
 
 abbrev pub is_class : ℕ → Bool
 is_class class = list_any (λ c. c == class) classes

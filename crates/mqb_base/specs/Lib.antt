@@ -2,8 +2,12 @@ pub mod Answers
 pub mod Names
 pub mod QueueNames
 pub mod Classes
+pub mod Bits
+pub mod Lanes
 pub mod Times
 pub mod Drafts
 pub mod Messages
 pub mod Same
 pub mod Sequences
+pub mod Rooms
+pub mod Lending

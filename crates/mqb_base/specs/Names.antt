@@ -1,4 +1,5 @@
 use Rattle.std.specs.Prelude.{ℕ, Bool, ◌==◌, ◌||◌, ◌&&◌, not, nat_lt, nat_le, List, length, position, Option, Some, None, option_map, if◌then◌else◌}
+use Rattle.mqb_base.specs.declared.names.TheConstants.{MAX_NAME}
 use Rattle.mqb_base.specs.declared.names.NameError.{NameError}
 use Rattle.mqb_base.specs.declared.names.NameError.TheVariants.{Length, Byte}
 
@@ -8,5 +9,5 @@ is_name_byte b = (nat_le 0x21 b && nat_le b 0x7E) && not (b == 0x5C || b == 0x3B
 
 -- why bytes are no name: their count is not 1 to 64, or the first byte that may not stand in one
 abbrev pub name_fault : List ℕ → Option NameError
-name_fault bytes = if length bytes == 0 || nat_lt 64 (length bytes) then Some Length
+name_fault bytes = if length bytes == 0 || nat_lt MAX_NAME (length bytes) then Some Length
     else option_map (λ at. Byte at) (position (λ b. not (is_name_byte b)) bytes)

@@ -2,6 +2,7 @@ use Rattle.std.specs.Prelude.{ℕ, Bool, true, false, not, ◌==◌, ◌&&◌, L
 use Rattle.std.specs.Char.{to_ascii_lowercase}
 use Rattle.std.specs.Cmp.Lexicographic.{pointwise}
 use Rattle.mqb_base.specs.declared.ids.Guid.{Guid}
+use Rattle.mqb_base.specs.declared.ids.MessageId.{MessageId}
 use Rattle.mqb_base.specs.declared.queue_names.Host.{Host}
 use Rattle.mqb_base.specs.declared.queue_names.Host.TheVariants.{Os, Tcp}
 use Rattle.mqb_base.specs.declared.queue_names.MachineQueue.{MachineQueue}
@@ -24,6 +25,9 @@ same_flag false b = not b
 
 abbrev pub same_guid : Guid → Guid → Bool
 same_guid a b = same_bytes a.0 b.0
+
+abbrev pub same_id : MessageId → MessageId → Bool
+same_id a b = same_guid a.qm b.qm && a.number == b.number
 
 abbrev pub same_host : Host → Host → Bool
 same_host (Os a) (Os b) = same_bytes a b

@@ -3,8 +3,10 @@ ghost use Rattle.mqb_base.specs.Answers.{RefusedExactly};
 ghost use Rattle.mqb_base.specs.Drafts.{draft_fault};
 ghost use Rattle.mqb_base.specs.QueueNames.{absent_or_queue};
 
+use crate::bits::{MAX_ACK, MAX_JOURNAL};
 use crate::bytes::Bytes;
 use crate::ids::MessageId;
+use crate::message::{MAX_LABEL, MAX_PRIORITY};
 use crate::names::Name;
 use crate::queue_names::QueueName;
 use crate::units::Units;
@@ -12,7 +14,7 @@ use std::marker::Model;
 use thiserror::Error;
 
 /// The parts of a message that its sender chooses. Their units and bits are those of `Message`.
-#[derive(Clone, Debug, PartialEq, Eq, Drop)]
+#[derive(Debug, PartialEq, Eq, Drop)]
 pub struct Parts {
     pub destination: QueueName,
     pub priority: u8,
@@ -86,7 +88,7 @@ impl Draft {
         if !parts.destination.names_queue() {
             return Err(DraftFault::Destination);
         }
-        if parts.priority > 7 {
+        if parts.priority > MAX_PRIORITY {
             return Err(DraftFault::Priority);
         }
         if !names_queue(&parts.admin) {
@@ -95,13 +97,13 @@ impl Draft {
         if !names_queue(&parts.response) {
             return Err(DraftFault::Response);
         }
-        if parts.ack > 15 {
+        if parts.ack > MAX_ACK {
             return Err(DraftFault::Ack);
         }
-        if parts.journal > 3 {
+        if parts.journal > MAX_JOURNAL {
             return Err(DraftFault::Journal);
         }
-        if parts.label.as_slice().len() > 250 {
+        if parts.label.as_slice().len() > MAX_LABEL {
             return Err(DraftFault::Label);
         }
         Ok(Draft { parts })

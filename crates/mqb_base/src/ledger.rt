@@ -1,6 +1,9 @@
+ghost use Rattle.std.specs.Prelude.{◌≡◌};
+
 use crate::class::Class;
 use crate::ids::{Guid, MessageId, SequenceId};
 use crate::queue_names::QueueName;
+use std::alloc::AllocError;
 
 /// A stream: a source manager, a destination name as it was written, and a sequence.
 #[derive(Clone, Debug, PartialEq, Eq, Drop)]
@@ -11,7 +14,7 @@ pub struct Stream {
 }
 
 /// One line of the ledger: what a record did to one message.
-#[derive(Clone, Debug, PartialEq, Eq, Drop)]
+#[derive(Debug, PartialEq, Eq, Drop)]
 pub enum Line {
     /// It joined a stream under this number.
     Committed {
@@ -76,4 +79,57 @@ pub enum Line {
     Swept {
         id: MessageId,
     },
+}
+
+impl Clone for Line {
+    ghost is_clone = { λ old copy. copy ≡ old };
+
+    fn clone(&self) -> Result<Line, AllocError> {
+        Ok(match self {
+            Line::Committed { stream, number, id } => Line::Committed {
+                stream: stream.clone()?,
+                number: *number,
+                id: *id,
+            },
+            Line::Expired {
+                stream,
+                number,
+                id,
+                moment,
+            } => Line::Expired {
+                stream: stream.clone()?,
+                number: *number,
+                id: *id,
+                moment: *moment,
+            },
+            Line::Put { stream, number, id } => Line::Put {
+                stream: stream.clone()?,
+                number: *number,
+                id: *id,
+            },
+            Line::Refused {
+                stream,
+                number,
+                class,
+                id,
+            } => Line::Refused {
+                stream: stream.clone()?,
+                number: *number,
+                class: *class,
+                id: *id,
+            },
+            Line::Local { id } => Line::Local { id: *id },
+            Line::Stored { id } => Line::Stored { id: *id },
+            Line::Bounced { class, id } => Line::Bounced {
+                class: *class,
+                id: *id,
+            },
+            Line::Released { id } => Line::Released { id: *id },
+            Line::Took { id } => Line::Took { id: *id },
+            Line::Emptied { id } => Line::Emptied { id: *id },
+            Line::Purged { id } => Line::Purged { id: *id },
+            Line::Lapsed { id } => Line::Lapsed { id: *id },
+            Line::Swept { id } => Line::Swept { id: *id },
+        })
+    }
 }

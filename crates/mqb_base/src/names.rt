@@ -1,13 +1,20 @@
 ghost use Rattle.std.specs.Prelude.{◌≡◌, ◌==◌, not, position, IfOk, None};
 ghost use Rattle.std.specs.Cmp.{partial_equiv_from_equiv};
 ghost use Rattle.std.specs.Cmp.Lexicographic.{pointwise, nat_list_eq_equiv};
+ghost use Rattle.std.specs.Cmp.Rules.{hashing};
+ghost use Rattle.std.specs.Hash as fed;
+ghost use Rattle.std.proofs.Common.{rules};
 ghost use Rattle.mqb_base.specs.Answers.{RefusedBy};
 ghost use Rattle.mqb_base.specs.Names.{name_fault, is_name_byte};
 ghost use Rattle.mqb_base.specs.Same.{same_ignoring_case};
 
 use std::alloc::{AllocError, Global};
+use std::hash::{Hash, Hasher};
 use std::marker::Model;
 use thiserror::Error;
+
+/// The most bytes of a name.
+pub const MAX_NAME: usize = 64;
 
 /// The name of a host or a queue: 1 to 64 bytes from 0x21 to 0x7E without `\`, `;`, `=` and `,`. Contracts see the list of its bytes.
 #[derive(Debug, Drop)]
@@ -38,7 +45,8 @@ impl Model for Name {
     ghost invariant = { λ n. name_fault n.bytes.items ≡ None };
 }
 
-fn is_name_byte(byte: u8) -> bool
+/// Whether a byte may stand in a name.
+pub fn is_name_byte(byte: u8) -> bool
     ensures { result ≡ is_name_byte byte }
 {
     matches!(byte, 0x21..=0x7E) && !matches!(byte, b'\\' | b';' | b'=' | b',')
@@ -53,7 +61,7 @@ fn first_outside(bytes: &[u8]) -> Option<usize>
 fn fault_of(bytes: &[u8]) -> Option<NameError>
     ensures { result ≡ name_fault bytes.now }
 {
-    if bytes.is_empty() || bytes.len() > 64 {
+    if bytes.is_empty() || bytes.len() > MAX_NAME {
         return Some(NameError::Length);
     }
     first_outside(bytes).map(|at| NameError::Byte { at })
@@ -113,4 +121,14 @@ impl PartialEq for Name {
 
 impl Eq for Name {
     ghost laws = { nat_list_eq_equiv };
+}
+
+impl Hash for Name {
+    ghost hash_input = { λ name. fed.slice fed.u8 name };
+
+    ghost respects_eq = { Prim.search (hashing, rules) };
+
+    fn hash<H: Hasher>(&self, state: &mut H) {
+        self.bytes.hash(state);
+    }
 }

@@ -3,16 +3,17 @@ ghost use Rattle.mqb_base.specs.QueueNames.{names_queue};
 
 use crate::ids::Guid;
 use crate::names::Name;
+use std::alloc::AllocError;
 
 /// A host, by its name or its IPv4 address.
-#[derive(Clone, Debug, PartialEq, Eq, Drop)]
+#[derive(Debug, PartialEq, Eq, Hash, Drop)]
 pub enum Host {
     Os(Name),
     Tcp([u8; 4]),
 }
 
 /// A queue that every manager has.
-#[derive(Clone, Copy, Debug, PartialEq, Eq)]
+#[derive(Clone, Copy, Debug, PartialEq, Eq, Hash)]
 pub enum MachineQueue {
     DeadLetter,
     DeadXact,
@@ -20,7 +21,7 @@ pub enum MachineQueue {
 }
 
 /// The format name of a queue. With `journal` it names the queue's journal.
-#[derive(Clone, Debug, PartialEq, Eq, Drop)]
+#[derive(Debug, PartialEq, Eq, Hash, Drop)]
 pub enum QueueName {
     Public {
         guid: Guid,
@@ -53,5 +54,51 @@ impl QueueName {
             | QueueName::Direct { journal, .. } => !*journal,
             QueueName::Machine { .. } => false,
         }
+    }
+}
+
+impl Clone for Host {
+    ghost is_clone = { λ old copy. copy ≡ old };
+
+    fn clone(&self) -> Result<Host, AllocError> {
+        match self {
+            Host::Os(name) => Ok(Host::Os(name.clone()?)),
+            Host::Tcp(address) => Ok(Host::Tcp(*address)),
+        }
+    }
+}
+
+impl Clone for QueueName {
+    ghost is_clone = { λ old copy. copy ≡ old };
+
+    fn clone(&self) -> Result<QueueName, AllocError> {
+        Ok(match self {
+            QueueName::Public { guid, journal } => QueueName::Public {
+                guid: *guid,
+                journal: *journal,
+            },
+            QueueName::Private {
+                qm,
+                number,
+                journal,
+            } => QueueName::Private {
+                qm: *qm,
+                number: *number,
+                journal: *journal,
+            },
+            QueueName::Direct {
+                host,
+                queue,
+                journal,
+            } => QueueName::Direct {
+                host: host.clone()?,
+                queue: queue.clone()?,
+                journal: *journal,
+            },
+            QueueName::Machine { qm, kind } => QueueName::Machine {
+                qm: *qm,
+                kind: *kind,
+            },
+        })
     }
 }

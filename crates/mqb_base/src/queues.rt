@@ -21,3 +21,13 @@ pub enum Place {
     DeadXact,
     Journal,
 }
+
+/// A list of messages of one manager as its store names it: a queue by its number, which is its place among the queues, from 1.
+#[derive(Clone, Copy, Debug, PartialEq, Eq)]
+pub enum EntryPlace {
+    Queue(u32),
+    JournalOf(u32),
+    Dead,
+    DeadXact,
+    Journal,
+}
