@@ -32,6 +32,16 @@ impl<'a> Cursor<'a> {
         Cursor { bytes, at: 0 }
     }
 
+    /// Another cursor at the same place: what reads ahead with it leaves this one.
+    pub fn fork(&self) -> Cursor<'a>
+        ensures { result ≡ self.now }
+    {
+        Cursor {
+            bytes: self.bytes,
+            at: self.at,
+        }
+    }
+
     pub fn at(&self) -> usize
         ensures { result ≡ self.now.at }
     {

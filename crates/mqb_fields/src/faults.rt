@@ -1,3 +1,5 @@
+ghost use Rattle.std.specs.Prelude.{◌≡◌};
+
 use thiserror::Error;
 
 /// Fewer bytes are left at a place than were asked for.
@@ -40,7 +42,20 @@ pub struct HeadFault {
     pub kind: HeadKind,
 }
 
-/// A field that passes the packet's end is a fault of the size field, at 8.
+impl HeadFault {
+    /// A part that passes the packet's end is a fault of the size field, which is at 8.
+    pub const PAST_END: HeadFault = HeadFault {
+        at: 8,
+        kind: HeadKind::Size,
+    };
+
+    pub fn new(at: usize, kind: HeadKind) -> HeadFault
+        ensures { result ≡ record { at = at; kind = kind } }
+    {
+        HeadFault { at, kind }
+    }
+}
+
 impl From<Short> for HeadFault {
     ghost use Rattle.std.specs.Prelude.{◌≡◌};
     ghost use Rattle.mqb_fields.specs.Faults.{past_end};
@@ -48,9 +63,6 @@ impl From<Short> for HeadFault {
     ghost from_gives = { λ _ fault. fault ≡ past_end };
 
     fn from(_short: Short) -> HeadFault {
-        HeadFault {
-            at: 8,
-            kind: HeadKind::Size,
-        }
+        HeadFault::PAST_END
     }
 }

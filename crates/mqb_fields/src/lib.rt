@@ -14,7 +14,4 @@ mod writing;
 pub use cursor::Cursor;
 pub use faults::{HeadFault, HeadKind, Short};
 pub use laws::{all_is_put, guid_is_read, number_is_read, parts_are_one};
-pub use writing::{put_guid, put_u16, put_u32};
-
-#[cfg(test)]
-mod tests;
+pub use writing::{put_bytes, put_guid, put_u16, put_u32};

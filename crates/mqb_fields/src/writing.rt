@@ -1,5 +1,5 @@
 ghost use Rattle.std.specs.Prelude.{◌≡◌, ◌≤◌, ◌+◌, length};
-ghost use Rattle.mqb_fields.specs.Writing.{put_at, bytes_of};
+ghost use Rattle.mqb_fields.specs.Writing.{Wrote, put_at, bytes_of};
 ghost use Rattle.mqb_fields.specs.Guids.{swapped};
 
 use crate::guids::swapped;
@@ -19,11 +19,14 @@ pub fn put_u32(to: &mut [u8], at: usize, number: u32)
     LittleEndian::write_u32(&mut to[at..at + 4], number);
 }
 
-fn put_bytes(to: &mut [u8], at: usize, bytes: &[u8])
+/// Writes bytes, and tells where they end.
+pub fn put_bytes(to: &mut [u8], at: usize, bytes: &[u8]) -> usize
     requires { at + length bytes.now ≤ length to.old }
-    ensures { to.new ≡ put_at to.old at bytes.now }
+    ensures { Wrote to.old at bytes.now to.new result }
 {
-    to[at..at + bytes.len()].copy_from_slice(bytes);
+    let end = at + bytes.len();
+    to[at..end].copy_from_slice(bytes);
+    end
 }
 
 /// Writes a GUID, whose bytes are given in the order of its text.

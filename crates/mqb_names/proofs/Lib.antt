@@ -1,12 +1,1 @@
 pub mod Ends
-pub mod Guids
-pub mod Units
-pub mod Lengths
-pub mod Again
-pub mod DirectAgain
-pub mod PrintedAgain
-pub mod WireAgain
-pub mod TextWords
-pub mod TextGuids
-pub mod TextRead
-pub mod TextWritten

@@ -5,3 +5,4 @@ pub mod Directs
 pub mod Wire
 pub mod Values
 pub mod Grammar
+pub mod lemmas

@@ -1,4 +1,4 @@
-use Rattle.std.specs.Prelude.{ℕ, ◌+◌, ◌/◌, ◌%◌, ◌^◌, Bool, true, false, List, [], ◌∷◌, ◌++◌, map, slice_index, nat_lt, if◌then◌else◌, codes}
+use Rattle.std.specs.Prelude.{ℕ, ◌+◌, ◌/◌, ◌%◌, ◌^◌, Bool, true, false, List, [], ◌∷◌, ◌++◌, map, slice_index, nat_lt, codes}
 use Rattle.uuid.specs.Text.{lower, hex_digit, hyphenated_text}
 use Rattle.mqb_base.specs.declared.ids.Guid.{Guid}
 use Rattle.mqb_base.specs.declared.queue_names.Host.{Host}
@@ -25,11 +25,15 @@ printed_guid guid = hyphenated_text lower guid.0
 abbrev pub printed_number : ℕ → List ℕ
 printed_number number = map (λ place. hex_digit lower (number / 16 ^ place % 16)) (7 ∷ 6 ∷ 5 ∷ 4 ∷ 3 ∷ 2 ∷ 1 ∷ 0 ∷ [])
 
+-- a byte of one, two or three decimal digits
+abbrev pub decimal_octet : (one two : Bool) → ℕ → List ℕ
+decimal_octet true two n = (48 + n) ∷ []
+decimal_octet false true n = (48 + n / 10) ∷ (48 + n % 10) ∷ []
+decimal_octet false false n = (48 + n / 100) ∷ (48 + n / 10 % 10) ∷ (48 + n % 10) ∷ []
+
 -- a byte in decimal
-unfoldable pub printed_octet : ℕ → List ℕ
-printed_octet n = if nat_lt n 10 then (48 + n) ∷ []
-    else if nat_lt n 100 then (48 + n / 10) ∷ (48 + n % 10) ∷ []
-    else (48 + n / 100) ∷ (48 + n / 10 % 10) ∷ (48 + n % 10) ∷ []
+abbrev pub printed_octet : ℕ → List ℕ
+printed_octet n = decimal_octet (nat_lt n 10) (nat_lt n 100) n
 
 abbrev pub printed_address : List ℕ → List ℕ
 printed_address a =

@@ -8,8 +8,9 @@ use Rattle.mqb_base.specs.declared.queue_names.QueueName.TheVariants.{Public, Pr
 use Rattle.mqb_fields.specs.declared.faults.Short as fields
 use Rattle.mqb_fields.specs.Guids.{swapped}
 use Rattle.mqb_fields.specs.Reading.{◌>>=◌, Reading, rest_of, number_at, guid_at}
-use Rattle.mqb_fields.specs.Writing.{bytes_of, put_at}
+use Rattle.mqb_fields.specs.Writing.{bytes_of}
 use Rattle.mqb_names.specs.declared.faults.PartFault.{PartFault}
+use Rattle.mqb_names.specs.declared.wire.TheConstants.{MAX_DIRECT_UNITS}
 use Rattle.mqb_names.specs.declared.wire.NameView.{NameView}
 use Rattle.mqb_names.specs.declared.wire.WireFault.{WireFault}
 use Rattle.mqb_names.specs.declared.wire.WireFault.TheVariants.{Short, Bad}
@@ -26,9 +27,9 @@ text_of [] = Some []
 text_of (low ∷ []) = None
 text_of (low ∷ high ∷ rest) = if nat_lt low 0x80 && high == 0 then option_map (λ text. low ∷ text) (text_of rest) else None
 
--- a list of bytes with the units of a text at a place
-unfoldable pub put_text_at : List ℕ → ℕ → List ℕ → List ℕ
-put_text_at to at text = put_at to at (units text)
+-- the count of a text's units, and the units
+abbrev pub direct_wire : List ℕ → List ℕ
+direct_wire text = bytes_of 2 (length text) ++ units text
 
 -- the type of a name
 abbrev pub kind_of : QueueName → ℕ
@@ -41,16 +42,16 @@ kind_of (Machine qm kind) = 0
 abbrev pub wire : QueueName → List ℕ
 wire (Public guid journal) = swapped guid.0
 wire (Private qm number journal) = swapped qm.0 ++ bytes_of 4 number
-wire (Direct host queue journal) = bytes_of 2 (length (printed_direct host queue)) ++ units (printed_direct host queue)
+wire (Direct host queue journal) = direct_wire (printed_direct host queue)
 wire (Machine qm kind) = []
 
 -- bytes from their first one on
 abbrev pub start : List ℕ → Reading
 start bytes = record { bytes = bytes; at = 0 }
 
--- how many bytes a direct name has, by the count of its units, which is at most 141
+-- how many bytes a direct name has, by the count of its units, which is at most the greatest
 abbrev pub direct_length : Result (ℕ × Reading) fields.Short → Result ℕ WireFault
-direct_length (Ok x) = if nat_lt 141 x.0 then Err Bad else Ok (2 + 2 * x.0)
+direct_length (Ok x) = if nat_lt MAX_DIRECT_UNITS x.0 then Err Bad else Ok (2 + 2 * x.0)
 direct_length (Err e) = Err Short
 
 -- how many bytes a name of this type has that begins here
@@ -80,7 +81,7 @@ private_from r = do
   Ok (Private (record { 0 = qm.0 }) number.0 false)
 
 abbrev pub direct_from : List ℕ → Option QueueName
-direct_from units = if nat_lt 282 (length units) then None
+direct_from units = if nat_lt (2 * MAX_DIRECT_UNITS) (length units) then None
     else option_map (λ direct. Direct direct.0 direct.1 false) (option_and_then direct_of (text_of units))
 
 -- the name whose wire form these bytes are

@@ -107,7 +107,8 @@ fn owned_name(alloc: Global, bytes: &[u8]) -> Result<Name, Memory>
 
 /// The name with this host and queue, which were read.
 pub(crate) fn owned(alloc: Global, part: DirectPart<'_>, journal: bool) -> Result<QueueName, Memory>
-    ensures { IfOk result (λ name. name ≡ form.Direct (host_of part.entry.host) part.entry.queue.now journal) }
+    ensures { IfOk result (λ name. name ≡
+        form.Direct (host_of part.entry.host) part.entry.queue.now journal) }
 {
     let host = match part.host {
         HostPart::Os(name) => Host::Os(owned_name(alloc, name)?),

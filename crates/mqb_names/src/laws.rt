@@ -9,7 +9,8 @@ ghost use Rattle.mqb_names.specs.Wire.{kind_of, spelled, wire, wire_at};
 
 /// A text is read as a name exactly where it is a spelling of that name.
 pub fn spelling_is_read()
-    ensures { (text : List ℕ) (name : QueueName) → IsQueueName name → (name_of text ≡ Ok name) ↔ IsText text name }
+    ensures { (text : List ℕ) (name : QueueName) → IsQueueName name → (name_of text ≡ Ok name) ↔
+        IsText text name }
 {}
 
 /// The printed form of a name is read as that name.
@@ -24,7 +25,9 @@ pub fn one_printed_form()
 
 /// The wire form of a name is found whatever follows it, and spells that name.
 pub fn wire_is_read()
-    ensures used { (name : QueueName) (rest : List ℕ) → IsQueueName name → IsTrue (names_queue name) →
+    ensures used { (name : QueueName) (rest : List ℕ) → IsQueueName name →
+        IsTrue (names_queue name) →
         wire_at (kind_of name) (wire name ++ rest) ≡ Ok (length (wire name)) }
-    ensures name { (name : QueueName) → IsQueueName name → IsTrue (names_queue name) → spelled (kind_of name) (wire name) ≡ Some name }
+    ensures name { (name : QueueName) → IsQueueName name → IsTrue (names_queue name) →
+        spelled (kind_of name) (wire name) ≡ Some name }
 {}

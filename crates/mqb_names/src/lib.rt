@@ -8,19 +8,18 @@ mod direct;
 mod faults;
 mod laws;
 mod parts;
+mod printed_lengths;
 mod printing;
 mod reading;
+mod texts;
 mod wire;
 mod wire_reading;
 mod wire_writing;
 
 pub use faults::{NameFault, NameKind};
 pub use laws::{one_printed_form, printed_is_read, spelling_is_read, wire_is_read};
-pub use printing::write_name;
+pub use printing::{write_guid, write_name};
 pub use reading::read_name;
-pub use wire::{NameView, WireFault};
+pub use wire::{MAX_DIRECT_UNITS, NameView, WireFault};
 pub use wire_reading::read_wire_name;
 pub use wire_writing::{put_wire_name, wire_len};
-
-#[cfg(test)]
-mod tests;

@@ -5,6 +5,7 @@ ghost use Rattle.uuid.specs.Text.{is_hex_digit};
 ghost use Rattle.mqb_fields.specs.Reading.{rest_of, moved};
 ghost use Rattle.mqb_names.specs.Parts.{begins, guid_of, same_word, is_stop, is_name, hex_digits, hex_value, hex_number, octet_of, octet_and_rest, address_of};
 
+use mqb_base::{MAX_NAME, is_name_byte};
 use mqb_fields::Cursor;
 use uuid::Uuid;
 
@@ -35,7 +36,8 @@ pub(crate) fn advance(cursor: &mut Cursor<'_>, count: usize)
 /// Moves behind a word where it stands next, whatever its case.
 pub(crate) fn skip_word(cursor: &mut Cursor<'_>, word: &[u8]) -> bool
     ensures found { result ≡ begins (rest_of cursor.old) word.now }
-    ensures moved { cursor.new ≡ (if result then moved (length word.now) cursor.old else cursor.old) }
+    ensures moved { cursor.new ≡ (if result then moved (length word.now) cursor.old
+        else cursor.old) }
 {
     if !begins(cursor.rest(), word) {
         return false;
@@ -165,12 +167,6 @@ pub(crate) fn address(text: &[u8]) -> Option<[u8; 4]>
     Some([a, b, c, d])
 }
 
-fn is_name_byte(byte: u8) -> bool
-    ensures { result ≡ is_name_byte byte }
-{
-    matches!(byte, 0x21..=0x7E) && !matches!(byte, b'\\' | b';' | b'=' | b',')
-}
-
 fn first_outside(bytes: &[u8]) -> Option<usize>
     ensures { result ≡ position (λ b. not (is_name_byte b)) bytes.now }
 {
@@ -181,7 +177,7 @@ fn first_outside(bytes: &[u8]) -> Option<usize>
 pub(crate) fn is_name(bytes: &[u8]) -> bool
     ensures { result ≡ is_name bytes.now }
 {
-    if bytes.is_empty() || bytes.len() > 64 {
+    if bytes.is_empty() || bytes.len() > MAX_NAME {
         return false;
     }
     first_outside(bytes).is_none()

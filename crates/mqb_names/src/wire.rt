@@ -1,5 +1,8 @@
 use thiserror::Error;
 
+/// The most UTF-16 units of a direct name: `OS:`, a host, `\PRIVATE$\` and a queue.
+pub const MAX_DIRECT_UNITS: usize = 141;
+
 /// Why no wire form of a name stands at the front of bytes.
 #[derive(Clone, Copy, Debug, PartialEq, Eq, Error)]
 pub enum WireFault {

@@ -4,13 +4,10 @@ ghost use Rattle.mqb_names.specs.Directs.{names_of};
 ghost use Rattle.mqb_names.specs.Wire.{IsWireForm, direct_of, direct_from, length_at, private_from, public_from, spelled, start, text_of, used, wire_at};
 
 use crate::direct::{DirectPart, direct_part, owned};
-use crate::wire::{NameView, WireFault};
+use crate::wire::{MAX_DIRECT_UNITS, NameView, WireFault};
 use mqb_base::{Guid, Memory, QueueName};
 use mqb_fields::{Cursor, Short};
 use std::alloc::Global;
-
-/// The greatest count of a direct name's units.
-const MOST_UNITS: usize = 141;
 
 /// Writes the text of units to the start of the room, and tells how long it is. A unit from 0x80 on makes no text.
 fn copy_text(units: &[u8], room: &mut [u8]) -> Option<usize>
@@ -71,10 +68,10 @@ fn private_name(part: &[u8]) -> Result<QueueName, Short>
 fn is_direct(units: &[u8]) -> bool
     ensures { result ≡ is_some (direct_from units.now) }
 {
-    if units.len() > 2 * MOST_UNITS {
+    if units.len() > 2 * MAX_DIRECT_UNITS {
         return false;
     }
-    let mut text = [0; MOST_UNITS];
+    let mut text = [0; MAX_DIRECT_UNITS];
     match copy_text(units, &mut text) {
         Some(len) => direct_of(&text[..len]).is_some(),
         None => false,
@@ -84,10 +81,10 @@ fn is_direct(units: &[u8]) -> bool
 fn direct_name(alloc: Global, units: &[u8]) -> Result<Option<QueueName>, Memory>
     ensures { IfOk result (λ name. name ≡ direct_from units.now) }
 {
-    if units.len() > 2 * MOST_UNITS {
+    if units.len() > 2 * MAX_DIRECT_UNITS {
         return Ok(None);
     }
-    let mut text = [0; MOST_UNITS];
+    let mut text = [0; MAX_DIRECT_UNITS];
     let Some(len) = copy_text(units, &mut text) else {
         return Ok(None);
     };
@@ -105,7 +102,7 @@ fn length_at(kind: u8, bytes: &[u8]) -> Result<usize, WireFault>
         1 => Ok(16),
         2 => Ok(20),
         3 => match Cursor::new(bytes).u16() {
-            Ok(count) if count > 141 => Err(WireFault::Bad),
+            Ok(count) if usize::from(count) > MAX_DIRECT_UNITS => Err(WireFault::Bad),
             Ok(count) => Ok(2 + 2 * usize::from(count)),
             Err(_) => Err(WireFault::Short),
         },

@@ -1,4 +1,4 @@
-use Rattle.mqb_fields.proofs.Again.{guid_again}
+use Rattle.mqb_fields.specs.lemmas.Again.{guid_again}
 use Rattle.mqb_fields.proofs.laws.guid_is_read.Goals as goal
 
 pub returns : goal.returns

@@ -1,4 +1,4 @@
-use Rattle.mqb_fields.proofs.Again.{number_again}
+use Rattle.mqb_fields.specs.lemmas.Again.{number_again}
 use Rattle.mqb_fields.proofs.laws.number_is_read.Goals as goal
 
 pub returns : goal.returns

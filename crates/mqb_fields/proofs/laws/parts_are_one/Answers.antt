@@ -1,4 +1,4 @@
-use Rattle.mqb_fields.proofs.Again.{put_then}
+use Rattle.mqb_fields.specs.lemmas.Again.{put_then}
 use Rattle.mqb_fields.proofs.laws.parts_are_one.Goals as goal
 
 pub returns : goal.returns

@@ -1,5 +1,5 @@
-use Rattle.mqb_names.proofs.TextRead.{text_read}
-use Rattle.mqb_names.proofs.TextWritten.{text_written}
+use Rattle.mqb_names.specs.lemmas.TextRead.{text_read}
+use Rattle.mqb_names.specs.lemmas.TextWritten.{text_written}
 use Rattle.mqb_names.proofs.laws.spelling_is_read.Goals as goal
 
 pub returns : goal.returns

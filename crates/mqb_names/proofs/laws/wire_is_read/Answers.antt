@@ -1,4 +1,4 @@
-use Rattle.mqb_names.proofs.WireAgain.{spelled_again, wire_again}
+use Rattle.mqb_names.specs.lemmas.WireAgain.{spelled_again, wire_again}
 use Rattle.mqb_names.proofs.laws.wire_is_read.Goals as goal
 
 pub returns : goal.returns

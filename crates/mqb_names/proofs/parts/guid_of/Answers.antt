@@ -1,5 +1,5 @@
 use Rattle.std.proofs.Common.{arith, sym, ◌∙◌}
-use Rattle.mqb_names.proofs.Guids.{guid_short, guid_parsed, none_parsed}
+use Rattle.mqb_names.specs.lemmas.Guids.{guid_short, guid_parsed, none_parsed}
 use Rattle.mqb_names.proofs.parts.guid_of.Goals as goal
 
 pub returns-then-text-lt36-clause-guid : goal.returns-then-text-lt36-clause-guid

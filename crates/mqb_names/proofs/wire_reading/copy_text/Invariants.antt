@@ -1,6 +1,6 @@
 use Rattle.std.proofs.Common.{◌≡◌, ◌+◌, ◌*◌, length, take}
 use Rattle.mqb_names.specs.Wire.{text_of}
-use Rattle.mqb_names.proofs.Units.{with_front}
+use Rattle.mqb_names.specs.lemmas.Units.{with_front}
 use Rattle.mqb_names.proofs.wire_reading.copy_text.Given as goal
 
 -- the text so far, and what the units that are left add to it

@@ -1,6 +1,6 @@
 use Rattle.std.proofs.Common.{sym, ◌∙◌, arith}
 use Rattle.std.proofs.lemmas.List.{length-take-le}
-use Rattle.mqb_names.proofs.Lengths.{length_taken, length_long}
+use Rattle.mqb_names.specs.lemmas.Lengths.{length_taken, length_long}
 use Rattle.mqb_names.proofs.wire_reading.read_wire_name.Goals as goal
 
 pub is_spelled-requires : goal.is_spelled-requires

@@ -1,4 +1,4 @@
-use Rattle.mqb_names.proofs.Lengths.{length_long}
+use Rattle.mqb_names.specs.lemmas.Lengths.{length_long}
 use Rattle.mqb_names.proofs.wire.NameView.to_owned.Goals as goal
 
 pub slice_bounds-direct_name-count : goal.slice_bounds-direct_name-count
