@@ -2,11 +2,15 @@
 use Rattle.std.specs.Prelude.{◌≡◌, ℕ, ◌+◌, ◌≤◌, ◌==◌, ◌&&◌, nat_lt, nat_le, IsTrue, List, [], ◌∷◌, ◌++◌, length, Result, Ok, Err, if◌then◌else◌}
 use Rattle.mqb_fields.specs.declared.faults.HeadFault.{HeadFault}
 use Rattle.mqb_fields.specs.declared.faults.HeadKind.TheVariants.{Short, Version, Debug, Signature, Size}
+use Rattle.mqb_fields.specs.Faults.{fault_at}
+use Rattle.mqb_fields.specs.Packets.{field_at, skipped}
 use Rattle.mqb_fields.specs.Reading.{◌>>=◌, Reading}
 use Rattle.mqb_fields.specs.Writing.{bytes_of}
 use Rattle.mqb_names.specs.Wire.{start}
+use Rattle.mqb_base.specs.declared.message.TheConstants.{MAX_PRIORITY}
+use Rattle.mqb_base.specs.declared.times.TheConstants.{UNLIMITED}
+use Rattle.mqb_heads.specs.declared.base.TheConstants.{MIN_PACKET, MAX_PACKET}
 use Rattle.mqb_heads.specs.declared.base.BaseHead.{BaseHead}
-use Rattle.mqb_heads.specs.Fields.{fault_at, field_at, skipped}
 use Rattle.mqb_heads.specs.Flags.{bit, bits, flag}
 
 abbrev pub version_at : Reading → Result Reading HeadFault
@@ -29,7 +33,7 @@ signature_at r = do
 abbrev pub size_at : Reading → Result (ℕ × Reading) HeadFault
 size_at r = do
   size ← field_at 4 r
-  if nat_le 20 size.0 && nat_le size.0 4194304 then Ok size else fault_at r.at Size
+  if nat_le MIN_PACKET size.0 && nat_le size.0 MAX_PACKET then Ok size else fault_at r.at Size
 
 unfoldable pub base_at : Reading → Result (BaseHead × Reading) HeadFault
 base_at r = do
@@ -51,16 +55,16 @@ base_of bytes = if nat_lt (length bytes) 16 then fault_at (length bytes) Short e
 
 -- what holds of each base header that was read
 pub record IsBaseRead (head : BaseHead) : Type 0 where
-  pub priority : head.priority ≤ 7
-  pub least : 20 ≤ head.size
-  pub most : head.size ≤ 4194304
+  pub priority : head.priority ≤ MAX_PRIORITY
+  pub least : MIN_PACKET ≤ head.size
+  pub most : head.size ≤ MAX_PACKET
 
 -- A base header that may be written: an internal packet has no priority and no limit of time.
 pub record IsBaseHead (head : BaseHead) : Type 0 where
-  pub priority : head.priority ≤ 7
-  pub least : 20 ≤ head.size
-  pub most : head.size ≤ 4194304
-  pub internal : IsTrue head.internal → (head.priority ≡ 0) × (head.reach ≡ 0xFFFFFFFF)
+  pub priority : head.priority ≤ MAX_PRIORITY
+  pub least : MIN_PACKET ≤ head.size
+  pub most : head.size ≤ MAX_PACKET
+  pub internal : IsTrue head.internal → (head.priority ≡ 0) × (head.reach ≡ UNLIMITED)
 
 abbrev pub base_flags : BaseHead → ℕ
 base_flags head = head.priority + flag 3 head.internal + flag 4 head.session

@@ -1,27 +1,19 @@
--- Fields of a packet, and names and padding among them.
+-- Identifiers, names and padding in a packet.
 use Rattle.std.specs.Prelude.{ℕ, ◌-◌, ◌%◌, ◌==◌, List, [], ◌++◌, length, replicate, Option, Some, None, Result, Ok, Err, if◌then◌else◌}
 use Rattle.mqb_base.specs.declared.queue_names.QueueName.{QueueName}
 use Rattle.mqb_base.specs.declared.ids.Guid.{Guid}
 use Rattle.mqb_base.specs.declared.ids.MessageId.{MessageId}
 use Rattle.mqb_fields.specs.declared.faults.HeadFault.{HeadFault}
-use Rattle.mqb_fields.specs.declared.faults.HeadKind.{HeadKind}
 use Rattle.mqb_fields.specs.declared.faults.HeadKind.TheVariants.{Name}
-use Rattle.mqb_fields.specs.Faults.{past_end, in_packet}
+use Rattle.mqb_fields.specs.Faults.{past_end, fault_at, in_packet}
+use Rattle.mqb_fields.specs.Packets.{field_at, lent_at, skipped}
 use Rattle.mqb_fields.specs.Guids.{swapped}
-use Rattle.mqb_fields.specs.Reading.{◌>>=◌, Reading, rest_of, part_at, after, number_at, guid_at}
+use Rattle.mqb_fields.specs.Reading.{◌>>=◌, Reading, rest_of, guid_at}
 use Rattle.mqb_fields.specs.Writing.{bytes_of}
 use Rattle.mqb_names.specs.declared.wire.NameView.{NameView}
 use Rattle.mqb_names.specs.declared.wire.WireFault.{WireFault}
 use Rattle.mqb_names.specs.declared.wire.WireFault.TheVariants.{Short, Bad}
 use Rattle.mqb_names.specs.Wire.{kind_of, wire, wire_at}
-
--- a fault of this kind at this place
-abbrev pub fault_at : {X : Type 0} → ℕ → HeadKind → Result X HeadFault
-fault_at at kind = Err (record { at = at; kind = kind })
-
--- a number
-abbrev pub field_at : ℕ → Reading → Result (ℕ × Reading) HeadFault
-field_at width r = in_packet (number_at width r)
 
 abbrev pub source_at : Reading → Result (Guid × Reading) HeadFault
 source_at r = do
@@ -34,14 +26,6 @@ id_at r = do
   qm ← source_at r
   number ← field_at 4 qm.1
   Ok (record { qm = qm.0; number = number.0 }, number.1)
-
--- bytes that are lent as they stand
-abbrev pub lent_at : ℕ → Reading → Result (List ℕ × Reading) HeadFault
-lent_at count r = in_packet (part_at count r)
-
--- bytes that are read as anything
-abbrev pub skipped : ℕ → Reading → Result Reading HeadFault
-skipped count r = in_packet (after count r)
 
 -- a name in a packet: its type, and its wire form
 pub record WireName : Type 0 where

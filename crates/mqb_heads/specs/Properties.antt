@@ -4,17 +4,20 @@ use Rattle.std.specs.List.{flat_map}
 use Rattle.mqb_base.specs.declared.class.Class.{Class}
 use Rattle.mqb_base.specs.declared.ids.MessageId.{MessageId}
 use Rattle.mqb_base.specs.declared.message.Message.{Message}
+use Rattle.mqb_base.specs.declared.bits.TheConstants.{MAX_ACK}
+use Rattle.mqb_base.specs.declared.message.TheConstants.{MAX_LABEL}
 use Rattle.mqb_base.specs.Classes.{is_class}
-use Rattle.mqb_base.specs.Messages.{IsWellFormed}
 use Rattle.mqb_fields.specs.declared.faults.HeadFault.{HeadFault}
 use Rattle.mqb_fields.specs.declared.faults.HeadKind.TheVariants as fault
+use Rattle.mqb_fields.specs.Faults.{fault_at}
+use Rattle.mqb_fields.specs.Packets.{field_at, lent_at}
 use Rattle.mqb_fields.specs.Reading.{◌>>=◌, Reading}
 use Rattle.mqb_fields.specs.Writing.{bytes_of}
 use Rattle.mqb_heads.specs.declared.properties.PropsHead.{PropsHead}
 use Rattle.mqb_heads.specs.declared.properties.Marks.{Marks}
 use Rattle.mqb_heads.specs.declared.properties.Sizes.{Sizes}
 use Rattle.mqb_heads.specs.declared.properties.Parts as declared
-use Rattle.mqb_heads.specs.Fields.{fault_at, field_at, id_at, lent_at, padded_at, padding, padded, plain_id}
+use Rattle.mqb_heads.specs.Fields.{id_at, padded_at, padding, padded, plain_id}
 use Rattle.mqb_heads.specs.Flags.{bits}
 
 -- what a properties header says
@@ -42,15 +45,15 @@ seen_props head = record {
 
 -- what holds of each properties header that was read
 pub record IsPropsRead (props : Props) : Type 0 where
-  pub ack : props.ack ≤ 15
+  pub ack : props.ack ≤ MAX_ACK
   pub class : IsTrue (is_class props.class.0)
-  pub label : (units : ℕ) × (units ≤ 250) × (length props.label ≡ 2 * units)
+  pub label : (units : ℕ) × (units ≤ MAX_LABEL) × (length props.label ≡ 2 * units)
 
 -- the count of the label's units
 abbrev pub label_len_at : Reading → Result (ℕ × Reading) HeadFault
 label_len_at r = do
   len ← field_at 1 r
-  if nat_lt 250 len.0 then fault_at r.at fault.Label else Ok len
+  if nat_lt MAX_LABEL len.0 then fault_at r.at fault.Label else Ok len
 
 abbrev pub class_at : Reading → Result (Class × Reading) HeadFault
 class_at r = do
@@ -132,9 +135,11 @@ props_at r = do
 abbrev pub label_bytes : List ℕ → List ℕ
 label_bytes units = flat_map (bytes_of 2) units
 
--- a message whose properties header may be written: the sizes of its parts fit their fields
+-- A message whose properties header may be written: its class is in the table, its acknowledgement bits are four, and the sizes of its parts fit.
 pub record FitsProps (m : Message) : Type 0 where
-  pub message : IsWellFormed m
+  pub ack : m.ack ≤ MAX_ACK
+  pub class : IsTrue (is_class m.class.0)
+  pub label : length m.label ≤ MAX_LABEL
   pub extension : length m.extension < 2 ^ 32
   pub body : length m.body < 2 ^ 32
 

@@ -4,7 +4,7 @@ use Rattle.mqb_base.specs.declared.heads.TxHead.{TxHead}
 use Rattle.mqb_fields.specs.declared.faults.HeadFault.{HeadFault}
 use Rattle.mqb_fields.specs.Reading.{◌>>=◌, Reading}
 use Rattle.mqb_fields.specs.Writing.{bytes_of}
-use Rattle.mqb_heads.specs.Fields.{field_at, skipped}
+use Rattle.mqb_fields.specs.Packets.{field_at, skipped}
 
 unfoldable pub tx_at : Reading → Result (TxHead × Reading) HeadFault
 tx_at r = do

@@ -1,19 +1,23 @@
 -- The user header.
-use Rattle.std.specs.Prelude.{ℕ, ◌+◌, ◌≤◌, IfSome, Bool, true, false, ◌&&◌, ◌||◌, nat_le, List, ◌++◌, length, Option, option_map, Result, Ok, if◌then◌else◌}
+use Rattle.std.specs.Prelude.{ℕ, ◌+◌, ◌≤◌, IfSome, IsTrue, Bool, true, false, ◌&&◌, ◌||◌, nat_le, List, ◌++◌, length, Option, option_map, Result, Ok, if◌then◌else◌}
 use Rattle.mqb_base.specs.declared.ids.Guid.{Guid}
 use Rattle.mqb_base.specs.declared.message.Delivery.{Delivery}
 use Rattle.mqb_base.specs.declared.message.Delivery.TheVariants.{Express, Recoverable, Transactional}
 use Rattle.mqb_base.specs.declared.message.Message.{Message}
+use Rattle.mqb_base.specs.declared.bits.TheConstants.{MAX_JOURNAL}
+use Rattle.mqb_base.specs.QueueNames.{names_queue, absent_or_queue}
 use Rattle.mqb_fields.specs.declared.faults.HeadFault.{HeadFault}
 use Rattle.mqb_fields.specs.declared.faults.HeadKind.TheVariants.{Secured, Name}
 use Rattle.mqb_fields.specs.Guids.{swapped}
+use Rattle.mqb_fields.specs.Faults.{fault_at}
+use Rattle.mqb_fields.specs.Packets.{field_at}
 use Rattle.mqb_fields.specs.Reading.{◌>>=◌, Reading}
 use Rattle.mqb_fields.specs.Writing.{bytes_of}
 use Rattle.mqb_names.specs.Wire.{kind_of, wire, IsWireForm}
 use Rattle.mqb_heads.specs.declared.user.UserHead.{UserHead}
 use Rattle.mqb_heads.specs.declared.user.UserFlags.{UserFlags}
 use Rattle.mqb_heads.specs.declared.user.Names as declared
-use Rattle.mqb_heads.specs.Fields.{WireName, seen_name, wire_name, kind_or_none, wire_or_none, fault_at, field_at, source_at, name_at, optional_name_at, padded_at, padding, padded}
+use Rattle.mqb_heads.specs.Fields.{WireName, seen_name, wire_name, kind_or_none, wire_or_none, source_at, name_at, optional_name_at, padded_at, padding, padded}
 use Rattle.mqb_heads.specs.Flags.{bit, bits, flag, placed}
 
 -- what a user header says
@@ -51,7 +55,7 @@ IsNameRead name = IsWireForm name.kind name.part
 
 -- what holds of each user header that was read
 pub record IsUserRead (user : User) : Type 0 where
-  pub journal : user.journal ≤ 3
+  pub journal : user.journal ≤ MAX_JOURNAL
   pub destination : IsNameRead user.destination
   pub admin : IfSome user.admin IsNameRead
   pub response : IfSome user.response IsNameRead
@@ -120,6 +124,13 @@ user_at r = do
     },
     end,
   )
+
+-- A message whose user header may be written: its names name queues, and its journal bits are two.
+pub record FitsUser (m : Message) : Type 0 where
+  pub destination : IsTrue (names_queue m.destination)
+  pub admin : IsTrue (absent_or_queue m.admin)
+  pub response : IsTrue (absent_or_queue m.response)
+  pub journal : m.journal ≤ MAX_JOURNAL
 
 abbrev pub is_durable : Delivery → Bool
 is_durable Express = false

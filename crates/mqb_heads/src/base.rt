@@ -1,18 +1,18 @@
 ghost use Rattle.std.specs.Prelude.{◌≡◌, ◌≤◌, length};
 ghost use Rattle.mqb_fields.specs.Reading.{Moves, Reads};
-ghost use Rattle.mqb_fields.specs.Writing.{put_at};
-ghost use Rattle.mqb_heads.specs.Writing.{Wrote};
+ghost use Rattle.mqb_fields.specs.Writing.{Wrote, put_at};
 ghost use Rattle.mqb_heads.specs.Base.{IsBaseHead, base_at, base_flags, base_of, flags_at, signature_at, plain_base, size_at, version_at};
 
 use crate::flags::{bit, bits, flag};
-use crate::writing::{put_bytes, put_half, put_word};
-use mqb_fields::{Cursor, HeadFault, HeadKind};
+use crate::writing::{put_half, put_word};
+use mqb_base::MAX_PRIORITY;
+use mqb_fields::{Cursor, HeadFault, HeadKind, put_bytes};
 
-/// The size of the least packet, in bytes.
-pub const LEAST_PACKET: u32 = 20;
+/// The least size of a packet, in bytes.
+pub const MIN_PACKET: u32 = 20;
 
-/// The size of the greatest packet, in bytes.
-pub const GREATEST_PACKET: u32 = 4_194_304;
+/// The greatest size of a packet, in bytes.
+pub const MAX_PACKET: u32 = 4_194_304;
 
 const VERSION: u8 = 0x10;
 
@@ -32,58 +32,42 @@ pub struct BaseHead {
 
 fn read_version(cursor: &mut Cursor<'_>) -> Result<(), HeadFault>
     ensures read { Moves version_at cursor.old cursor.new result }
-    ensures same_bytes { cursor.new.bytes ≡ cursor.old.bytes }
 {
     let at = cursor.at();
     if cursor.u8()? != VERSION {
-        return Err(HeadFault {
-            at,
-            kind: HeadKind::Version,
-        });
+        return Err(HeadFault::new(at, HeadKind::Version));
     }
     Ok(())
 }
 
 fn read_flags(cursor: &mut Cursor<'_>) -> Result<u16, HeadFault>
     ensures read { Reads flags_at cursor.old cursor.new result }
-    ensures same_bytes { cursor.new.bytes ≡ cursor.old.bytes }
 {
     let at = cursor.at();
     let flags = cursor.u16()?;
     if bit(u32::from(flags), 5) {
-        return Err(HeadFault {
-            at,
-            kind: HeadKind::Debug,
-        });
+        return Err(HeadFault::new(at, HeadKind::Debug));
     }
     Ok(flags)
 }
 
 fn read_signature(cursor: &mut Cursor<'_>) -> Result<(), HeadFault>
     ensures read { Moves signature_at cursor.old cursor.new result }
-    ensures same_bytes { cursor.new.bytes ≡ cursor.old.bytes }
 {
     let at = cursor.at();
     if cursor.u32()? != SIGNATURE {
-        return Err(HeadFault {
-            at,
-            kind: HeadKind::Signature,
-        });
+        return Err(HeadFault::new(at, HeadKind::Signature));
     }
     Ok(())
 }
 
 fn read_size(cursor: &mut Cursor<'_>) -> Result<u32, HeadFault>
     ensures read { Reads size_at cursor.old cursor.new result }
-    ensures same_bytes { cursor.new.bytes ≡ cursor.old.bytes }
 {
     let at = cursor.at();
     let size = cursor.u32()?;
-    if !(LEAST_PACKET..=GREATEST_PACKET).contains(&size) {
-        return Err(HeadFault {
-            at,
-            kind: HeadKind::Size,
-        });
+    if !(MIN_PACKET..=MAX_PACKET).contains(&size) {
+        return Err(HeadFault::new(at, HeadKind::Size));
     }
     Ok(size)
 }
@@ -91,7 +75,6 @@ fn read_size(cursor: &mut Cursor<'_>) -> Result<u32, HeadFault>
 #[tactic(auto, unfolding(crate::specs::Base::base_at))]
 fn base_at(cursor: &mut Cursor<'_>) -> Result<BaseHead, HeadFault>
     ensures read { Reads base_at cursor.old cursor.new result }
-    ensures same_bytes { cursor.new.bytes ≡ cursor.old.bytes }
 {
     read_version(cursor)?;
     cursor.skip(1)?;
@@ -113,16 +96,13 @@ pub fn read_base(bytes: &[u8]) -> Result<BaseHead, HeadFault>
     ensures { result ≡ base_of bytes.now }
 {
     if bytes.len() < 16 {
-        return Err(HeadFault {
-            at: bytes.len(),
-            kind: HeadKind::Short,
-        });
+        return Err(HeadFault::new(bytes.len(), HeadKind::Short));
     }
     base_at(&mut Cursor::new(bytes))
 }
 
 fn base_flags(head: &BaseHead) -> u16
-    requires { head.now.priority ≤ 7 }
+    requires { head.now.priority ≤ MAX_PRIORITY }
     ensures { result ≡ base_flags head.now }
 {
     let flags = u32::from(head.priority) + flag(3, head.internal) + flag(4, head.session);
@@ -130,7 +110,7 @@ fn base_flags(head: &BaseHead) -> u16
 }
 
 fn put_fields(head: &BaseHead, to: &mut [u8]) -> usize
-    requires priority { head.now.priority ≤ 7 }
+    requires priority { head.now.priority ≤ MAX_PRIORITY }
     requires room { 16 ≤ length to.old }
     ensures { Wrote to.old 0 (plain_base head.now) to.new result }
 {

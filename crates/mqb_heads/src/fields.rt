@@ -1,28 +1,20 @@
 ghost use Rattle.std.specs.Prelude.{◌≡◌};
 ghost use Rattle.mqb_fields.specs.Reading.{Moves, Reads, ReadsAs};
-ghost use Rattle.mqb_heads.specs.Fields.{seen_name, id_at, name_at, optional_name_at, padded_at, padding, source_at, skipped};
+ghost use Rattle.mqb_heads.specs.Fields.{seen_name, id_at, name_at, optional_name_at, padded_at, padding, source_at};
 ghost use Rattle.std.specs.Prelude.{option_map};
 
 use mqb_base::{Guid, MessageId};
 use mqb_fields::{Cursor, HeadFault, HeadKind};
 use mqb_names::{NameView, WireFault, read_wire_name};
 
-/// A part that passes the packet's end is a fault of the packet's size.
-const PAST_END: HeadFault = HeadFault {
-    at: 8,
-    kind: HeadKind::Size,
-};
-
 pub(crate) fn read_guid(cursor: &mut Cursor<'_>) -> Result<Guid, HeadFault>
     ensures read { Reads source_at cursor.old cursor.new result }
-    ensures same_bytes { cursor.new.bytes ≡ cursor.old.bytes }
 {
     Ok(Guid(cursor.guid()?))
 }
 
 pub(crate) fn read_id(cursor: &mut Cursor<'_>) -> Result<MessageId, HeadFault>
     ensures read { Reads id_at cursor.old cursor.new result }
-    ensures same_bytes { cursor.new.bytes ≡ cursor.old.bytes }
 {
     let qm = read_guid(cursor)?;
     let number = cursor.u32()?;
@@ -31,7 +23,6 @@ pub(crate) fn read_id(cursor: &mut Cursor<'_>) -> Result<MessageId, HeadFault>
 
 pub(crate) fn read_name<'a>(cursor: &mut Cursor<'a>, kind: u8) -> Result<NameView<'a>, HeadFault>
     ensures read { ReadsAs seen_name (name_at kind) cursor.old cursor.new result }
-    ensures same_bytes { cursor.new.bytes ≡ cursor.old.bytes }
 {
     let at = cursor.at();
     match read_wire_name(kind, cursor.rest()) {
@@ -39,11 +30,8 @@ pub(crate) fn read_name<'a>(cursor: &mut Cursor<'a>, kind: u8) -> Result<NameVie
             cursor.skip(len)?;
             Ok(name)
         }
-        Err(WireFault::Short) => Err(PAST_END),
-        Err(WireFault::Bad) => Err(HeadFault {
-            at,
-            kind: HeadKind::Name,
-        }),
+        Err(WireFault::Short) => Err(HeadFault::PAST_END),
+        Err(WireFault::Bad) => Err(HeadFault::new(at, HeadKind::Name)),
     }
 }
 
@@ -52,8 +40,8 @@ pub(crate) fn read_optional_name<'a>(
     cursor: &mut Cursor<'a>,
     kind: u8,
 ) -> Result<Option<NameView<'a>>, HeadFault>
-    ensures read { ReadsAs (λ name. option_map seen_name name) (optional_name_at kind) cursor.old cursor.new result }
-    ensures same_bytes { cursor.new.bytes ≡ cursor.old.bytes }
+    ensures read { ReadsAs (λ name. option_map seen_name name) (optional_name_at kind)
+        cursor.old cursor.new result }
 {
     if kind == 0 {
         return Ok(None);
@@ -71,7 +59,6 @@ pub(crate) fn padding(len: usize) -> usize
 /// Skips the padding of the header that began at `start`.
 pub(crate) fn skip_padding(cursor: &mut Cursor<'_>, start: usize) -> Result<(), HeadFault>
     ensures read { Moves (padded_at start) cursor.old cursor.new result }
-    ensures same_bytes { cursor.new.bytes ≡ cursor.old.bytes }
 {
     cursor.skip(padding(cursor.at().saturating_sub(start)))?;
     Ok(())

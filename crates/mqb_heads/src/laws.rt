@@ -2,30 +2,32 @@ ghost use Rattle.std.specs.Prelude.{◌≡◌, ◌<◌, ◌^◌, ◌++◌, ℕ, 
 ghost use Rattle.mqb_base.specs.declared.heads.TxHead.{TxHead};
 ghost use Rattle.mqb_base.specs.declared.ids.Guid.{Guid};
 ghost use Rattle.mqb_base.specs.declared.message.Message.{Message};
-ghost use Rattle.mqb_base.specs.Messages.{IsWellFormed};
 ghost use Rattle.mqb_fields.specs.Reading.{Reading, moved, rest_of};
 ghost use Rattle.mqb_heads.specs.declared.base.BaseHead.{BaseHead};
 ghost use Rattle.mqb_heads.specs.Base.{IsBaseHead, IsBaseRead, base_of, plain_base};
 ghost use Rattle.mqb_heads.specs.Transactions.{plain_tx, tx_at};
 ghost use Rattle.mqb_heads.specs.Properties.{FitsProps, IsPropsRead, Props, plain_props, props_at, props_of, props_size};
-ghost use Rattle.mqb_heads.specs.User.{IsUserRead, User, plain_user, user_at, user_of, user_size};
+ghost use Rattle.mqb_heads.specs.User.{FitsUser, IsUserRead, User, plain_user, user_at, user_of, user_size};
 ghost use Rattle.mqb_heads.specs.Values.{IsMessage, IsTxHead};
 ghost use Rattle.mqb_names.specs.Values.{AreBytes};
 
 /// A base header that is written is read again, whatever follows.
 pub fn base_is_read()
-    ensures { (head : BaseHead) (rest : List ℕ) → IsBaseHead head → head.reach < 2 ^ 32 → base_of (plain_base head ++ rest) ≡ Ok head }
+    ensures { (head : BaseHead) (rest : List ℕ) → IsBaseHead head → head.reach < 2 ^ 32 →
+        base_of (plain_base head ++ rest) ≡ Ok head }
 {}
 
 /// A transaction header that is written is read again, wherever it stands and whatever follows.
 pub fn tx_is_read()
-    ensures { (r : Reading) (head : TxHead) (rest : List ℕ) → IsTxHead head → rest_of r ≡ plain_tx head ++ rest →
+    ensures { (r : Reading) (head : TxHead) (rest : List ℕ) → IsTxHead head →
+        rest_of r ≡ plain_tx head ++ rest →
         tx_at r ≡ Ok (head, moved (length (plain_tx head)) r) }
 {}
 
 /// A user header that is written is read again, wherever it stands and whatever follows.
 pub fn user_is_read()
-    ensures { (r : Reading) (m : Message) (target : Guid) (rest : List ℕ) → IsWellFormed m → IsMessage m → AreBytes 16 target.0 →
+    ensures { (r : Reading) (m : Message) (target : Guid) (rest : List ℕ) → FitsUser m →
+        IsMessage m → AreBytes 16 target.0 →
         rest_of r ≡ plain_user m target ++ rest → user_at r ≡ Ok (user_of m target, moved (length (plain_user m target)) r) }
 {}
 

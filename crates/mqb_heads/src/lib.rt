@@ -14,7 +14,7 @@ mod transaction;
 mod user;
 mod writing;
 
-pub use base::{BaseHead, GREATEST_PACKET, LEAST_PACKET, put_base, read_base};
+pub use base::{BaseHead, MAX_PACKET, MIN_PACKET, put_base, read_base};
 pub use laws::{
     base_is_read, base_is_well_formed, props_are_well_formed, props_is_read, sizes, tx_is_read,
     user_is_read, user_is_well_formed,
@@ -23,6 +23,3 @@ pub use mqb_fields::{HeadFault, HeadKind};
 pub use properties::{PropsHead, props_len, put_props, read_props};
 pub use transaction::{put_tx, read_tx};
 pub use user::{UserHead, put_user, read_user, user_len};
-
-#[cfg(test)]
-mod tests;

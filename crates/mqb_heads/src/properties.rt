@@ -1,18 +1,13 @@
-ghost use Rattle.std.specs.Prelude.{◌≡◌, ◌≤◌, ◌<◌, ◌+◌, ◌^◌, IfOk, length};
+ghost use Rattle.std.specs.Prelude.{◌≡◌, ◌≤◌, ◌<◌, ◌+◌, ◌^◌, IfOk, OnErr, length};
 ghost use Rattle.mqb_fields.specs.Reading.{Moves, Reads, ReadsAs};
-ghost use Rattle.mqb_base.specs.Messages.{IsWellFormed};
-ghost use Rattle.mqb_fields.specs.Writing.{put_at};
-ghost use Rattle.mqb_heads.specs.Writing.{Wrote};
+ghost use Rattle.mqb_fields.specs.Writing.{Wrote, put_at};
 ghost use Rattle.mqb_heads.specs.Properties.{allocated_at, class_at, label_len_at, marks_at, FitsProps, parts_at, plain_props, props_at, props_fields, props_parts, props_size, seen_parts, seen_props, sizes_at, unsecured_at};
 
 use crate::fields::{padding, read_id, skip_padding};
 use crate::flags::bits;
-use crate::writing::{put_bytes, put_half, put_id, put_label, put_word, put_zeros};
-use mqb_base::{Class, Message, MessageId};
-use mqb_fields::{Cursor, HeadFault, HeadKind};
-
-/// The greatest count of a label's units.
-const MOST_UNITS: u8 = 250;
+use crate::writing::{put_half, put_id, put_label, put_word, put_zeros};
+use mqb_base::{Class, MAX_LABEL, Message, MessageId};
+use mqb_fields::{Cursor, HeadFault, HeadKind, put_bytes};
 
 /// The properties header. `label` has two bytes a unit.
 #[derive(Clone, Copy, Debug)]
@@ -50,37 +45,28 @@ struct Parts<'a> {
 
 fn read_label_len(cursor: &mut Cursor<'_>) -> Result<u8, HeadFault>
     ensures read { Reads label_len_at cursor.old cursor.new result }
-    ensures same_bytes { cursor.new.bytes ≡ cursor.old.bytes }
 {
     let at = cursor.at();
     let len = cursor.u8()?;
-    if len > MOST_UNITS {
-        return Err(HeadFault {
-            at,
-            kind: HeadKind::Label,
-        });
+    if usize::from(len) > MAX_LABEL {
+        return Err(HeadFault::new(at, HeadKind::Label));
     }
     Ok(len)
 }
 
 fn read_class(cursor: &mut Cursor<'_>) -> Result<Class, HeadFault>
     ensures read { Reads class_at cursor.old cursor.new result }
-    ensures same_bytes { cursor.new.bytes ≡ cursor.old.bytes }
 {
     let at = cursor.at();
     let class = Class(cursor.u16()?);
     if !class.is_known() {
-        return Err(HeadFault {
-            at,
-            kind: HeadKind::Class,
-        });
+        return Err(HeadFault::new(at, HeadKind::Class));
     }
     Ok(class)
 }
 
 fn read_marks(cursor: &mut Cursor<'_>) -> Result<Marks, HeadFault>
     ensures read { Reads marks_at cursor.old cursor.new result }
-    ensures same_bytes { cursor.new.bytes ≡ cursor.old.bytes }
 {
     let ack = bits(u32::from(cursor.u8()?), 0, 4);
     let label_len = read_label_len(cursor)?;
@@ -94,37 +80,28 @@ fn read_marks(cursor: &mut Cursor<'_>) -> Result<Marks, HeadFault>
 
 fn read_allocated(cursor: &mut Cursor<'_>, body: u32) -> Result<u32, HeadFault>
     ensures read { Reads (allocated_at body) cursor.old cursor.new result }
-    ensures same_bytes { cursor.new.bytes ≡ cursor.old.bytes }
     ensures enough { IfOk result (λ allocated. body ≤ allocated) }
 {
     let at = cursor.at();
     let allocated = cursor.u32()?;
     if allocated < body {
-        return Err(HeadFault {
-            at,
-            kind: HeadKind::Sizes,
-        });
+        return Err(HeadFault::new(at, HeadKind::Sizes));
     }
     Ok(allocated)
 }
 
 fn skip_unsecured(cursor: &mut Cursor<'_>) -> Result<(), HeadFault>
     ensures read { Moves unsecured_at cursor.old cursor.new result }
-    ensures same_bytes { cursor.new.bytes ≡ cursor.old.bytes }
 {
     let at = cursor.at();
     if cursor.u32()? != 0 {
-        return Err(HeadFault {
-            at,
-            kind: HeadKind::Secured,
-        });
+        return Err(HeadFault::new(at, HeadKind::Secured));
     }
     Ok(())
 }
 
 fn read_sizes(cursor: &mut Cursor<'_>) -> Result<Sizes, HeadFault>
     ensures read { Reads sizes_at cursor.old cursor.new result }
-    ensures same_bytes { cursor.new.bytes ≡ cursor.old.bytes }
     ensures enough { IfOk result (λ sizes. sizes.body ≤ sizes.allocated) }
 {
     let body = cursor.u32()?;
@@ -147,7 +124,6 @@ fn read_parts<'a>(
 ) -> Result<Parts<'a>, HeadFault>
     requires { sizes.now.body ≤ sizes.now.allocated }
     ensures read { ReadsAs seen_parts (parts_at label_len sizes.now) cursor.old cursor.new result }
-    ensures same_bytes { cursor.new.bytes ≡ cursor.old.bytes }
 {
     let label = cursor.take(2 * usize::from(label_len))?;
     let extension = cursor.take(sizes.extension as usize)?;
@@ -160,20 +136,21 @@ fn read_parts<'a>(
     })
 }
 
-/// Reads a properties header, and lends its label, its extension and its body.
+/// Reads a properties header, and lends its label, its extension and its body. After a fault the cursor is where it was.
 #[tactic(auto, unfolding(crate::specs::Properties::props_at))]
 pub fn read_props<'a>(cursor: &mut Cursor<'a>) -> Result<PropsHead<'a>, HeadFault>
     ensures read { ReadsAs seen_props props_at cursor.old cursor.new result }
-    ensures same_bytes { cursor.new.bytes ≡ cursor.old.bytes }
+    ensures stays { OnErr result (cursor.new ≡ cursor.old) }
 {
-    let start = cursor.at();
-    let marks = read_marks(cursor)?;
-    let correlation = read_id(cursor)?;
-    let body_type = cursor.u32()?;
-    let tag = cursor.u32()?;
-    let sizes = read_sizes(cursor)?;
-    let parts = read_parts(cursor, marks.label_len, &sizes)?;
-    skip_padding(cursor, start)?;
+    let mut ahead = cursor.fork();
+    let marks = read_marks(&mut ahead)?;
+    let correlation = read_id(&mut ahead)?;
+    let body_type = ahead.u32()?;
+    let tag = ahead.u32()?;
+    let sizes = read_sizes(&mut ahead)?;
+    let parts = read_parts(&mut ahead, marks.label_len, &sizes)?;
+    skip_padding(&mut ahead, cursor.at())?;
+    *cursor = ahead;
     Ok(PropsHead {
         ack: marks.ack,
         class: marks.class,

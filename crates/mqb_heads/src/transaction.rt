@@ -1,24 +1,25 @@
 ghost use Rattle.mqb_fields.specs.Reading.{Reads};
-ghost use Rattle.std.specs.Prelude.{◌≡◌, ◌≤◌, length};
-ghost use Rattle.mqb_fields.specs.Writing.{put_at};
-ghost use Rattle.mqb_heads.specs.Writing.{Wrote};
+ghost use Rattle.std.specs.Prelude.{◌≡◌, ◌≤◌, OnErr, length};
+ghost use Rattle.mqb_fields.specs.Writing.{Wrote, put_at};
 ghost use Rattle.mqb_heads.specs.Transactions.{plain_tx, tx_at};
 
 use crate::writing::put_word;
 use mqb_base::{SequenceId, TxHead};
 use mqb_fields::{Cursor, HeadFault};
 
-/// Reads a transaction header.
+/// Reads a transaction header. After a fault the cursor is where it was.
 #[tactic(auto, unfolding(crate::specs::Transactions::tx_at))]
 pub fn read_tx(cursor: &mut Cursor<'_>) -> Result<TxHead, HeadFault>
     ensures read { Reads tx_at cursor.old cursor.new result }
-    ensures same_bytes { cursor.new.bytes ≡ cursor.old.bytes }
+    ensures stays { OnErr result (cursor.new ≡ cursor.old) }
 {
-    cursor.skip(4)?;
-    let ordinal = cursor.u32()?;
-    let stamp = cursor.u32()?;
-    let number = cursor.u32()?;
-    let previous = cursor.u32()?;
+    let mut ahead = cursor.fork();
+    ahead.skip(4)?;
+    let ordinal = ahead.u32()?;
+    let stamp = ahead.u32()?;
+    let number = ahead.u32()?;
+    let previous = ahead.u32()?;
+    *cursor = ahead;
     Ok(TxHead {
         sequence: SequenceId { ordinal, stamp },
         number,

@@ -1,9 +1,7 @@
-ghost use Rattle.std.specs.Prelude.{◌≡◌, ◌≤◌, ◌<◌, ◌+◌, ◌^◌, length};
+ghost use Rattle.std.specs.Prelude.{◌≡◌, ◌≤◌, OnErr, ◌<◌, ◌+◌, ◌^◌, length};
 ghost use Rattle.mqb_fields.specs.Reading.{Reads, ReadsAs};
-ghost use Rattle.mqb_base.specs.Messages.{IsWellFormed};
-ghost use Rattle.mqb_fields.specs.Writing.{put_at};
-ghost use Rattle.mqb_heads.specs.Writing.{Wrote};
-ghost use Rattle.mqb_heads.specs.User.{flags_of, have_types, names_at, plain_user, seen_names, seen_user, user_at, user_fields, user_flags, user_flags_at, user_names, user_size};
+ghost use Rattle.mqb_fields.specs.Writing.{Wrote, put_at};
+ghost use Rattle.mqb_heads.specs.User.{FitsUser, flags_of, have_types, names_at, plain_user, seen_names, seen_user, user_at, user_fields, user_flags, user_flags_at, user_names, user_size};
 
 use crate::fields::{padding, read_guid, read_name, read_optional_name, skip_padding};
 use crate::flags::{bit, bits, flag, placed};
@@ -67,22 +65,15 @@ impl UserFlags {
 
 fn read_flags(cursor: &mut Cursor<'_>) -> Result<UserFlags, HeadFault>
     ensures read { Reads user_flags_at cursor.old cursor.new result }
-    ensures same_bytes { cursor.new.bytes ≡ cursor.old.bytes }
 {
     let at = cursor.at();
     let word = cursor.u32()?;
     let flags = UserFlags::of(word);
     if bit(word, 13) {
-        return Err(HeadFault {
-            at,
-            kind: HeadKind::Secured,
-        });
+        return Err(HeadFault::new(at, HeadKind::Secured));
     }
     if !flags.have_types() {
-        return Err(HeadFault {
-            at,
-            kind: HeadKind::Name,
-        });
+        return Err(HeadFault::new(at, HeadKind::Name));
     }
     Ok(flags)
 }
@@ -96,7 +87,6 @@ struct Names<'a> {
 
 fn read_names<'a>(cursor: &mut Cursor<'a>, flags: &UserFlags) -> Result<Names<'a>, HeadFault>
     ensures read { ReadsAs seen_names (names_at flags.now) cursor.old cursor.new result }
-    ensures same_bytes { cursor.new.bytes ≡ cursor.old.bytes }
 {
     let destination = read_name(cursor, flags.destination)?;
     let admin = read_optional_name(cursor, flags.admin)?;
@@ -108,21 +98,22 @@ fn read_names<'a>(cursor: &mut Cursor<'a>, flags: &UserFlags) -> Result<Names<'a
     })
 }
 
-/// Reads a user header, and lends its names.
+/// Reads a user header, and lends its names. After a fault the cursor is where it was.
 #[tactic(auto, unfolding(crate::specs::User::user_at))]
 pub fn read_user<'a>(cursor: &mut Cursor<'a>) -> Result<UserHead<'a>, HeadFault>
     ensures read { ReadsAs seen_user user_at cursor.old cursor.new result }
-    ensures same_bytes { cursor.new.bytes ≡ cursor.old.bytes }
+    ensures stays { OnErr result (cursor.new ≡ cursor.old) }
 {
-    let start = cursor.at();
-    let source = read_guid(cursor)?;
-    let target = read_guid(cursor)?;
-    let life = cursor.u32()?;
-    let sent = cursor.u32()?;
-    let number = cursor.u32()?;
-    let flags = read_flags(cursor)?;
-    let names = read_names(cursor, &flags)?;
-    skip_padding(cursor, start)?;
+    let mut ahead = cursor.fork();
+    let source = read_guid(&mut ahead)?;
+    let target = read_guid(&mut ahead)?;
+    let life = ahead.u32()?;
+    let sent = ahead.u32()?;
+    let number = ahead.u32()?;
+    let flags = read_flags(&mut ahead)?;
+    let names = read_names(&mut ahead, &flags)?;
+    skip_padding(&mut ahead, cursor.at())?;
+    *cursor = ahead;
     Ok(UserHead {
         source,
         target,
@@ -162,7 +153,7 @@ fn put_fields(message: &Message, target: &Guid, to: &mut [u8]) -> usize
 }
 
 fn put_names(message: &Message, to: &mut [u8], at: usize) -> usize
-    requires message { IsWellFormed message.now }
+    requires message { FitsUser message.now }
     requires room { at + length (user_names message.now) ≤ length to.old }
     ensures { Wrote to.old at (user_names message.now) to.new result }
 {
@@ -172,7 +163,7 @@ fn put_names(message: &Message, to: &mut [u8], at: usize) -> usize
 }
 
 fn put_padded(message: &Message, target: &Guid, to: &mut [u8]) -> usize
-    requires message { IsWellFormed message.now }
+    requires message { FitsUser message.now }
     requires room { user_size message.now ≤ length to.old }
     ensures { Wrote to.old 0 (plain_user message.now target.now) to.new result }
 {
@@ -183,7 +174,7 @@ fn put_padded(message: &Message, target: &Guid, to: &mut [u8]) -> usize
 
 /// How many bytes the user header of a message has, to whichever manager it goes.
 pub fn user_len(message: &Message) -> usize
-    requires { IsWellFormed message.now }
+    requires { FitsUser message.now }
     ensures size { result ≡ user_size message.now }
     ensures most { result < 2 ^ 34 }
 {
@@ -196,7 +187,7 @@ pub fn user_len(message: &Message) -> usize
 
 /// Writes the user header of a message to the manager `target` at the start of a buffer, and tells how many bytes it has.
 pub fn put_user(message: &Message, target: &Guid, to: &mut [u8]) -> usize
-    requires message { IsWellFormed message.now }
+    requires message { FitsUser message.now }
     requires room { user_size message.now ≤ length to.old }
     ensures put { to.new ≡ put_at to.old 0 (plain_user message.now target.now) }
     ensures len { result ≡ length (plain_user message.now target.now) }

@@ -3,24 +3,14 @@
 ghost use Rattle.std.specs.Prelude.{◌≡◌, ◌≤◌, ◌<◌, ◌+◌, ◌*◌, ◌^◌, IsTrue, length, replicate};
 ghost use Rattle.mqb_base.specs.QueueNames.{absent_or_queue, names_queue};
 ghost use Rattle.mqb_fields.specs.Guids.{swapped};
-ghost use Rattle.mqb_fields.specs.Writing.{bytes_of};
+ghost use Rattle.mqb_fields.specs.Writing.{Wrote, bytes_of};
 ghost use Rattle.mqb_heads.specs.Fields.{kind_or_none, plain_id, wire_or_none};
 ghost use Rattle.mqb_heads.specs.Properties.{label_bytes};
-ghost use Rattle.mqb_heads.specs.Writing.{Wrote};
 ghost use Rattle.mqb_names.specs.Wire.{kind_of, wire};
 
 use mqb_base::{Guid, MessageId, QueueName};
 use mqb_fields::{put_u16, put_u32};
 use mqb_names::{put_wire_name, wire_len};
-
-pub(crate) fn put_bytes(to: &mut [u8], at: usize, bytes: &[u8]) -> usize
-    requires { at + length bytes.now ≤ length to.old }
-    ensures { Wrote to.old at bytes.now to.new result }
-{
-    let end = at + bytes.len();
-    to[at..end].copy_from_slice(bytes);
-    end
-}
 
 pub(crate) fn put_zeros(to: &mut [u8], at: usize, count: usize) -> usize
     requires { at + count ≤ length to.old }

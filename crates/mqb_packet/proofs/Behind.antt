@@ -8,12 +8,12 @@ use Rattle.mqb_fields.specs.Writing.{put_at}
 use Rattle.mqb_heads.specs.Base.{plain_base}
 use Rattle.mqb_heads.specs.Properties.{plain_props, props_size}
 use Rattle.mqb_heads.specs.User.{plain_user, user_size}
-use Rattle.mqb_heads.specs.Writing.{Wrote}
-use Rattle.mqb_heads.proofs.Put.{user_sizes, props_sizes}
+use Rattle.mqb_fields.specs.Writing.{Wrote}
+use Rattle.mqb_heads.specs.lemmas.Put.{user_sizes, props_sizes}
 use Rattle.mqb_setup.specs.declared.internal.Establish.{Establish}
 use Rattle.mqb_setup.specs.declared.internal.Internal.TheVariants as part
 use Rattle.mqb_setup.specs.Internals.{filler, plain_internal}
-use Rattle.mqb_setup.proofs.Parts.{length_filler}
+use Rattle.mqb_setup.specs.lemmas.Parts.{length_filler}
 use Rattle.mqb_packet.specs.declared.packet.Packet.{Packet}
 use Rattle.mqb_packet.specs.declared.packet.Packet.TheVariants as packet
 use Rattle.mqb_packet.specs.declared.packet.UserPacket.{UserPacket}

@@ -14,24 +14,27 @@ use Rattle.mqb_fields.specs.declared.faults.HeadFault.{HeadFault}
 use Rattle.mqb_fields.specs.Reading.{Reading, rest_of, moved}
 use Rattle.mqb_names.specs.Values.{IsQueueName}
 use Rattle.mqb_names.specs.Wire.{start}
-use Rattle.mqb_names.proofs.Again.{rest_again}
-use Rattle.mqb_names.proofs.WireAgain.{spelled_again}
+use Rattle.mqb_names.specs.lemmas.Again.{rest_again}
+use Rattle.mqb_names.specs.lemmas.WireAgain.{spelled_again}
 use Rattle.mqb_heads.specs.Base.{IsBaseHead, base_of, plain_base}
-use Rattle.mqb_heads.specs.Fields.{skipped, wire_name}
+use Rattle.mqb_fields.specs.Packets.{skipped}
+use Rattle.mqb_heads.specs.Fields.{wire_name}
+use Rattle.mqb_heads.specs.declared.base.TheConstants.{MAX_PACKET}
+use Rattle.mqb_packet.specs.lemmas.Fits.{fits_user, fits_props}
 use Rattle.mqb_heads.specs.Properties.{FitsProps, label_bytes, props_at, plain_props, props_of}
 use Rattle.mqb_heads.specs.Transactions.{tx_at}
 use Rattle.mqb_heads.specs.User as heads
 use Rattle.mqb_heads.specs.Values.{IsTxHead}
-use Rattle.mqb_heads.proofs.FieldsAgain.{skip_again}
-use Rattle.mqb_heads.proofs.HeadsAgain.{base_again, tx_again}
-use Rattle.mqb_heads.proofs.PropsAgain.{props_again}
-use Rattle.mqb_heads.proofs.UserAgain.{user_again}
+use Rattle.mqb_heads.specs.lemmas.FieldsAgain.{skip_again}
+use Rattle.mqb_heads.specs.lemmas.HeadsAgain.{base_again, tx_again}
+use Rattle.mqb_heads.specs.lemmas.PropsAgain.{props_again}
+use Rattle.mqb_heads.specs.lemmas.UserAgain.{user_again}
 use Rattle.mqb_setup.specs.declared.internal.Internal as setup
 use Rattle.mqb_setup.specs.declared.internal.Internal.TheVariants as part
 use Rattle.mqb_setup.specs.Internals.{internal_at, plain_internal}
 use Rattle.mqb_setup.specs.Sessions.{session_at}
 use Rattle.mqb_setup.specs.Widths.{IsInternal, IsSessionHead}
-use Rattle.mqb_setup.proofs.Again.{internal_again, session_again}
+use Rattle.mqb_setup.specs.lemmas.Again.{internal_again, session_again}
 use Rattle.mqb_packet.specs.declared.packet.Packet.{Packet}
 use Rattle.mqb_packet.specs.declared.packet.Packet.TheVariants as packet
 use Rattle.mqb_packet.specs.declared.packet.UserPacket.{UserPacket}
@@ -61,7 +64,7 @@ session_if_again r (Some head) rest valid e = rw (session_again r head rest vali
 regrouped : (a b c d e : List ℕ) → a ++ b ++ c ++ d ++ e ≡ a ++ (b ++ (c ++ (d ++ (e ++ []))))
 regrouped a b c d e = simp (append_assoc, append-nil)
 
-user_packet_again : (u : UserPacket) → IsWellFormedUser u → IsUserPacket u → user_packet_size u ≤ 4194304 → packet_of (plain_user_packet u) ≡ Ok (User (user_parts_of u))
+user_packet_again : (u : UserPacket) → IsWellFormedUser u → IsUserPacket u → user_packet_size u ≤ MAX_PACKET → packet_of (plain_user_packet u) ≡ Ok (User (user_parts_of u))
 unfolding packet_of user_parts_at
 user_packet_again u valid value fits =
     let m = u.message in
@@ -92,15 +95,15 @@ user_packet_again u valid value fits =
     let at_session : rest_of r3 ≡ session = rest_again r2 props_part session (length props_part) refl at_props in
     let r4 = moved (length session_part) r3 in
     let at_end : rest_of r4 ≡ [] = rest_again r3 session_part [] (length session_part) refl at_session in
-    let fits_props : FitsProps m = record { message = valid.message; extension = omega (arith, fits); body = omega (arith, fits) } in
-    let user_is : heads.user_at r16 ≡ Ok (heads.user_of m u.to, r1) = user_again r16 m u.to tx valid.message value.message value.to at_user in
+    let props_fit : FitsProps m = fits_props m valid.message (omega (arith, fits)) (omega (arith, fits)) in
+    let user_is : heads.user_at r16 ≡ Ok (heads.user_of m u.to, r1) = user_again r16 m u.to tx (fits_user m valid.message) value.message value.to at_user in
     let tx_is : head_if (heads.is_transactional m.delivery) tx_at r1 ≡ Ok (u.tx, r2) = tx_if_again r1 u.tx (heads.is_transactional m.delivery) props valid.tx value.tx at_tx in
-    let props_is : props_at r2 ≡ Ok (props_of m, r3) = props_again r2 m session fits_props value.message at_props in
+    let props_is : props_at r2 ≡ Ok (props_of m, r3) = props_again r2 m session props_fit value.message at_props in
     let session_is : head_if (is_some u.session) session_at r3 ≡ Ok (u.session, r4) = session_if_again r3 u.session [] value.session at_session in
     let parts_is : parts_at (base_for u) bytes r16 ≡ Ok (User (user_parts_of u), r4) = rw (user_is, tx_is, props_is, session_is) refl in
     rw (base_is, sized_is, parts_is, at_end) refl
 
-internal_packet_again : (p : setup.Internal) (session : Bool) (size : ℕ) → IsInternal p → 20 ≤ size → size ≤ 4194304 → length (plain_base (internal_base session size) ++ plain_internal p) ≡ size
+internal_packet_again : (p : setup.Internal) (session : Bool) (size : ℕ) → IsInternal p → 20 ≤ size → size ≤ MAX_PACKET → length (plain_base (internal_base session size) ++ plain_internal p) ≡ size
     → packet_of (plain_base (internal_base session size) ++ plain_internal p) ≡ Ok (Internal p)
 unfolding packet_of
 internal_packet_again p session size valid least most len =
@@ -121,7 +124,7 @@ internal_packet_again p session size valid least most len =
     let parts_is : parts_at base bytes r16 ≡ Ok (Internal p, r1) = rw inner_is refl in
     rw (base_is, sized_is, parts_is, at_end) refl
 
-pub packet_again : (p : Packet) → IsWellFormedPacket p → IsPacket p → packet_size p ≤ 4194304 → packet_of (plain_spelling p) ≡ Ok (parts_of p)
+pub packet_again : (p : Packet) → IsWellFormedPacket p → IsPacket p → packet_size p ≤ MAX_PACKET → packet_of (plain_spelling p) ≡ Ok (parts_of p)
 packet_again (packet.User u) valid value fits = user_packet_again u valid value fits
 packet_again (packet.Establish e) valid value fits = internal_packet_again (part.Establish e) false 572 value (omega arith) (omega arith) (plain_length (packet.Establish e))
 packet_again (packet.Parameters p) valid value fits = internal_packet_again (part.Parameters p) false 32 value (omega arith) (omega arith) refl
@@ -150,5 +153,5 @@ said_again (packet.Establish e) valid value = refl
 said_again (packet.Parameters p) valid value = refl
 said_again (packet.Ack head) valid value = refl
 
-pub spelling_again : (p : Packet) → IsWellFormedPacket p → IsPacket p → packet_size p ≤ 4194304 → Spells p (plain_spelling p)
+pub spelling_again : (p : Packet) → IsWellFormedPacket p → IsPacket p → packet_size p ≤ MAX_PACKET → Spells p (plain_spelling p)
 spelling_again p valid value fits = record { parts = parts_of p; read = packet_again p valid value fits; said = said_again p valid value }

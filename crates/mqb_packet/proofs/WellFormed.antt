@@ -17,7 +17,7 @@ use Rattle.mqb_heads.specs.Fields.{WireName}
 use Rattle.mqb_heads.specs.Properties.{IsPropsRead, props_at}
 use Rattle.mqb_heads.specs.Transactions.{tx_at}
 use Rattle.mqb_heads.specs.User as heads
-use Rattle.mqb_heads.proofs.ReadLaws.{bind_ok, if_ok, base_read, user_read, props_read}
+use Rattle.mqb_heads.specs.lemmas.ReadLaws.{bind_ok, if_ok, base_read, user_read, props_read}
 use Rattle.mqb_setup.specs.declared.internal.Internal.TheVariants as part
 use Rattle.mqb_setup.specs.Internals.{internal_at}
 use Rattle.mqb_setup.specs.Sessions.{session_at}

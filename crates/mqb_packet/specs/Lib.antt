@@ -2,3 +2,4 @@ pub mod Parts
 pub mod Spelled
 pub mod Plain
 pub mod Values
+pub mod lemmas

@@ -8,7 +8,7 @@ use Rattle.mqb_fields.specs.Reading.{◌>>=◌, Reading, rest_of}
 use Rattle.mqb_names.specs.Wire.{start}
 use Rattle.mqb_heads.specs.declared.base.BaseHead.{BaseHead}
 use Rattle.mqb_heads.specs.Base.{base_of}
-use Rattle.mqb_heads.specs.Fields.{skipped}
+use Rattle.mqb_fields.specs.Packets.{skipped}
 use Rattle.mqb_heads.specs.Properties.{Props, seen_props, props_at}
 use Rattle.mqb_heads.specs.Transactions.{tx_at}
 use Rattle.mqb_heads.specs.User as heads

@@ -3,6 +3,7 @@ use Rattle.std.specs.Prelude.{◌≡◌, ℕ, ◌+◌, Bool, true, false, is_som
 use Rattle.mqb_base.specs.declared.heads.SessionHead.{SessionHead}
 use Rattle.mqb_base.specs.declared.heads.TxHead.{TxHead}
 use Rattle.mqb_base.specs.declared.message.Message.{Message}
+use Rattle.mqb_base.specs.declared.times.TheConstants.{UNLIMITED}
 use Rattle.mqb_base.specs.Messages.{IsWellFormed}
 use Rattle.mqb_heads.specs.declared.base.BaseHead.{BaseHead}
 use Rattle.mqb_heads.specs.Base.{plain_base}
@@ -13,6 +14,9 @@ use Rattle.mqb_setup.specs.declared.internal.Internal.TheVariants as part
 use Rattle.mqb_setup.specs.Internals.{plain_internal}
 use Rattle.mqb_setup.specs.Sessions.{plain_session}
 use Rattle.mqb_packet.specs.declared.packet.Carriage.{Carriage}
+use Rattle.mqb_packet.specs.declared.packet.Headers.{Headers}
+use Rattle.mqb_packet.specs.declared.packet.Headers.TheVariants.{Bare, Session, TxAndSession}
+use Rattle.mqb_packet.specs.declared.writing.TheConstants.{BASE_SIZE, TX_SIZE, SESSION_SIZE}
 use Rattle.mqb_packet.specs.declared.packet.Packet.{Packet}
 use Rattle.mqb_packet.specs.declared.packet.Packet.TheVariants as packet
 use Rattle.mqb_packet.specs.declared.packet.UserPacket.{UserPacket}
@@ -49,14 +53,24 @@ session_or_none (Some head) = plain_session head
 
 abbrev pub tx_size : Option TxHead → ℕ
 tx_size None = 0
-tx_size (Some head) = 20
+tx_size (Some head) = TX_SIZE
 
 abbrev pub session_size : Option SessionHead → ℕ
 session_size None = 0
-session_size (Some head) = 16
+session_size (Some head) = SESSION_SIZE
+
+-- how many bytes a message's packet has with so many bytes of a transaction header and of a session header
+abbrev pub size_with : Message → (tx session : ℕ) → ℕ
+size_with m tx session = BASE_SIZE + user_size m + tx + props_size m + session
+
+-- how many bytes a message's packet has with these headers
+abbrev pub message_size : Headers → Message → ℕ
+message_size Bare m = size_with m 0 0
+message_size Session m = size_with m 0 SESSION_SIZE
+message_size TxAndSession m = size_with m TX_SIZE SESSION_SIZE
 
 abbrev pub user_packet_size : UserPacket → ℕ
-user_packet_size user = 16 + user_size user.message + tx_size user.tx + props_size user.message + session_size user.session
+user_packet_size user = size_with user.message (tx_size user.tx) (session_size user.session)
 
 -- how many bytes the plain spelling of a packet has
 abbrev pub packet_size : Packet → ℕ
@@ -73,7 +87,7 @@ plain_user_packet user = plain_base (base_for user) ++ plain_user user.message u
 
 -- The base header of an internal packet has no priority and no limit of time. A session header is there in an acknowledgement alone.
 abbrev pub internal_base : (session : Bool) → (size : ℕ) → BaseHead
-internal_base session size = record { priority = 0; internal = true; session = session; size = size; reach = 0xFFFFFFFF }
+internal_base session size = record { priority = 0; internal = true; session = session; size = size; reach = UNLIMITED }
 
 abbrev pub plain_spelling : Packet → List ℕ
 plain_spelling (packet.User user) = plain_user_packet user

@@ -1,7 +1,7 @@
 use std::alloc::AllocError;
 use thiserror::Error;
 
-/// A packet has more than 4,194,304 bytes.
+/// A packet has more than `MAX_PACKET` bytes.
 #[derive(Clone, Copy, Debug, PartialEq, Eq, Error)]
 #[error("the packet is too large")]
 pub struct TooLarge;

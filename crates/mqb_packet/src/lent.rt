@@ -6,15 +6,9 @@ ghost use Rattle.mqb_packet.specs.Parts.{head_if, internal_parts_at, packet_of, 
 ghost use Rattle.mqb_packet.specs.Spelled.{IsLent, Lends};
 
 use mqb_base::{SessionHead, TxHead};
-use mqb_fields::{Cursor, HeadFault, HeadKind};
+use mqb_fields::{Cursor, HeadFault};
 use mqb_heads::{BaseHead, PropsHead, UserHead, read_base, read_props, read_tx, read_user};
 use mqb_setup::{Establish, Internal, Parameters, read_internal, read_session};
-
-/// The packet's size is not the count of its bytes, or a part passes their end.
-const NOT_ITS_SIZE: HeadFault = HeadFault {
-    at: 8,
-    kind: HeadKind::Size,
-};
 
 /// A user packet whose names, label, extension and body are slices of `whole`, all of its bytes.
 #[derive(Clone, Copy, Debug)]
@@ -82,7 +76,8 @@ fn read_user_packet<'a>(
     base: BaseHead,
     whole: &'a [u8],
 ) -> Result<PacketView<'a>, HeadFault>
-    ensures read { ReadsAs seen_packet (user_packet_at base whole.now) cursor.old cursor.new result }
+    ensures read { ReadsAs seen_packet (user_packet_at base whole.now) cursor.old cursor.new
+        result }
     ensures whole { IfOk result (λ view. Lends whole.now view) }
 {
     Ok(PacketView::User(read_user_parts(cursor, base, whole)?))
@@ -123,13 +118,13 @@ pub fn view(bytes: &[u8]) -> Result<PacketView<'_>, HeadFault>
 {
     let base = read_base(bytes)?;
     if base.size as usize != bytes.len() {
-        return Err(NOT_ITS_SIZE);
+        return Err(HeadFault::PAST_END);
     }
     let mut cursor = Cursor::new(bytes);
     cursor.skip(16)?;
     let packet = read_parts(&mut cursor, base, bytes)?;
     if !cursor.rest().is_empty() {
-        return Err(NOT_ITS_SIZE);
+        return Err(HeadFault::PAST_END);
     }
     Ok(packet)
 }

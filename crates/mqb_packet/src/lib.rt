@@ -16,11 +16,8 @@ pub use faults::{PutFault, TooLarge};
 pub use laws::{each_view_spells_a_packet, one_packet_is_spelled, plain_is_read, plain_size};
 pub use lent::{PacketView, UserView, view};
 pub use mqb_fields::{HeadFault, HeadKind};
-pub use mqb_heads::{BaseHead, PropsHead, UserHead};
+pub use mqb_heads::{BaseHead, MAX_PACKET, PropsHead, UserHead};
 pub use mqb_setup::{Establish, Parameters};
 pub use owned::to_owned;
-pub use packet::{Carriage, Packet, UserPacket};
-pub use writing::{put_message, put_packet, size_of};
-
-#[cfg(test)]
-mod tests;
+pub use packet::{Carriage, Headers, Packet, UserPacket};
+pub use writing::{message_size, put_message, put_packet, size_of};

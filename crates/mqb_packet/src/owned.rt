@@ -9,12 +9,9 @@ ghost use Rattle.mqb_packet.specs.Spelled.{IsLent, delivery_of, message_in, opti
 
 use crate::lent::{PacketView, UserView};
 use crate::packet::{Packet, UserPacket};
-use mqb_base::{Bytes, Delivery, Memory, Message, MessageId, QueueName, Units};
+use mqb_base::{Bytes, Delivery, MAX_LABEL, Memory, Message, MessageId, QueueName, Units};
 use mqb_names::NameView;
 use std::alloc::Global;
-
-/// The greatest count of a label's units.
-const MOST_UNITS: usize = 250;
 
 /// Writes the units of a label to the start of the room, and tells how many there are.
 fn copy_units(label: &[u8], room: &mut [u16]) -> usize
@@ -33,10 +30,10 @@ fn copy_units(label: &[u8], room: &mut [u16]) -> usize
 }
 
 fn owned_label(alloc: Global, label: &[u8]) -> Result<Units, Memory>
-    requires { length label.now ≤ 500 }
+    requires { length label.now ≤ 2 * MAX_LABEL }
     ensures { IfOk result (λ units. units ≡ units_of label.now) }
 {
-    let mut room = [0; MOST_UNITS];
+    let mut room = [0; MAX_LABEL];
     let len = copy_units(label, &mut room);
     Units::from_slice(alloc, &room[..len])
 }
@@ -104,7 +101,8 @@ fn owned_message(alloc: Global, view: &UserView<'_>) -> Result<Message, Memory>
 fn owned_user(alloc: Global, view: &UserView<'_>) -> Result<UserPacket, Memory>
     requires user { IsUserRead (heads.seen_user view.now.user) }
     requires props { IsPropsRead (seen_props view.now.props) }
-    ensures { IfOk result (λ owned. option_map (user_packet (seen_user view.now)) (message_in (seen_user view.now)) ≡ Some owned) }
+    ensures { IfOk result (λ owned. option_map (user_packet (seen_user view.now))
+        (message_in (seen_user view.now)) ≡ Some owned) }
 {
     let message = owned_message(alloc, view)?;
     Ok(UserPacket {

@@ -14,6 +14,14 @@ pub struct Carriage {
     pub session: Option<SessionHead>,
 }
 
+/// Which headers are counted with a message's own: none, a session header, or a transaction header and a session header.
+#[derive(Clone, Copy, Debug, PartialEq, Eq)]
+pub enum Headers {
+    Bare,
+    Session,
+    TxAndSession,
+}
+
 /// A message on its way to the manager `to`. `remaining` is the seconds that are left for it to reach its queue, of which 0xFFFFFFFF are without
 /// limit.
 #[derive(Clone, Debug, PartialEq, Eq, Drop)]

@@ -2,20 +2,25 @@ ghost use Rattle.std.specs.Prelude.{◌≡◌, ◌≤◌, ◌<◌, ◌+◌, ◌+
 ghost use Rattle.mqb_base.specs.Messages.{IsWellFormed};
 ghost use Rattle.mqb_heads.specs.Base.{plain_base};
 ghost use Rattle.mqb_heads.specs.Properties.{FitsProps, plain_props, props_size};
-ghost use Rattle.mqb_heads.specs.User.{plain_user, user_size};
-ghost use Rattle.mqb_heads.specs.Writing.{Wrote};
+ghost use Rattle.mqb_heads.specs.User.{FitsUser, plain_user, user_size};
+ghost use Rattle.mqb_fields.specs.Writing.{Wrote};
 ghost use Rattle.mqb_setup.specs.Internals.{plain_internal};
 ghost use Rattle.mqb_packet.specs.declared.packet.Packet.TheVariants as packet;
-ghost use Rattle.mqb_packet.specs.Plain.{IsWellFormedPacket, IsWellFormedUser, base_for, carried_user, internal_base, packet_size, plain_spelling, plain_user_packet, session_or_none, session_size, tx_or_none, tx_size, user_packet_size};
+ghost use Rattle.mqb_packet.specs.Plain.{IsWellFormedPacket, IsWellFormedUser, base_for, carried_user, internal_base, message_size, packet_size, size_with, plain_spelling, plain_user_packet, session_or_none, session_size, tx_or_none, tx_size, user_packet_size};
 
 use crate::faults::{PutFault, TooLarge};
-use crate::packet::{Carriage, Packet};
-use mqb_base::{Guid, Message, SessionHead, TxHead};
-use mqb_heads::{
-    BaseHead, GREATEST_PACKET, props_len, put_base, put_props, put_tx, put_user, user_len,
-};
+use crate::packet::{Carriage, Headers, Packet};
+use mqb_base::{Guid, Message, SessionHead, TxHead, UNLIMITED};
+use mqb_heads::{BaseHead, MAX_PACKET, props_len, put_base, put_props, put_tx, put_user, user_len};
 use mqb_setup::{Internal, put_internal, put_session};
 use std::alloc::AllocError;
+
+/// The sizes of headers, in bytes.
+const BASE_SIZE: usize = 16;
+
+const TX_SIZE: usize = 20;
+
+const SESSION_SIZE: usize = 16;
 
 /// The sizes of internal packets, in bytes.
 const ESTABLISH_SIZE: u32 = 572;
@@ -24,46 +29,71 @@ const PARAMETERS_SIZE: u32 = 32;
 
 const ACK_SIZE: u32 = 36;
 
-/// The time that the base header of an internal packet says: without limit.
-const NO_LIMIT: u32 = 0xFFFF_FFFF;
-
 fn tx_len(head: &Option<TxHead>) -> usize
-    ensures { result ≡ tx_size head.now }
+    ensures size { result ≡ tx_size head.now }
+    ensures most { result ≤ TX_SIZE }
 {
-    if head.is_some() { 20 } else { 0 }
+    if head.is_some() { TX_SIZE } else { 0 }
 }
 
 fn session_len(head: &Option<SessionHead>) -> usize
-    ensures { result ≡ session_size head.now }
+    ensures size { result ≡ session_size head.now }
+    ensures most { result ≤ SESSION_SIZE }
 {
-    if head.is_some() { 16 } else { 0 }
+    if head.is_some() { SESSION_SIZE } else { 0 }
 }
 
-fn user_size(message: &Message, carriage: &Carriage) -> Result<u32, TooLarge>
-    requires { IsWellFormed message.now }
-    ensures size { IfOk result (λ size. size ≡ user_packet_size (carried_user message.now carriage.now)) }
-    ensures too_large { IsErr result ↔ (4194304 < user_packet_size (carried_user message.now carriage.now)) }
+/// How many bytes a message's packet has with so many bytes of a transaction header and of a session header.
+fn size_with(message: &Message, tx: usize, session: usize) -> Result<u32, TooLarge>
+    requires message { IsWellFormed message.now }
+    requires tx { tx ≤ TX_SIZE }
+    requires session { session ≤ SESSION_SIZE }
+    ensures size { IfOk result (λ size. size ≡ size_with message.now tx session) }
+    ensures too_large { IsErr result ↔ (MAX_PACKET < size_with message.now tx session) }
 {
-    let most = GREATEST_PACKET as usize;
+    let most = MAX_PACKET as usize;
     if message.extension.as_slice().len() > most || message.body.as_slice().len() > most {
         return Err(TooLarge);
     }
-    let size = 16
-        + user_len(message)
-        + tx_len(&carriage.tx)
-        + props_len(message)
-        + session_len(&carriage.session);
+    let size = BASE_SIZE + user_len(message) + tx + props_len(message) + session;
     if size > most {
         return Err(TooLarge);
     }
     Ok(size as u32)
 }
 
+/// How many bytes the plain spelling of a message's packet has with these headers, without writing it.
+pub fn message_size(message: &Message, headers: Headers) -> Result<u32, TooLarge>
+    requires { IsWellFormed message.now }
+    ensures size { IfOk result (λ size. size ≡ message_size headers message.now) }
+    ensures too_large { IsErr result ↔ (MAX_PACKET < message_size headers message.now) }
+{
+    match headers {
+        Headers::Bare => size_with(message, 0, 0),
+        Headers::Session => size_with(message, 0, SESSION_SIZE),
+        Headers::TxAndSession => size_with(message, TX_SIZE, SESSION_SIZE),
+    }
+}
+
+fn user_size(message: &Message, carriage: &Carriage) -> Result<u32, TooLarge>
+    requires { IsWellFormed message.now }
+    ensures size { IfOk result (λ size. size ≡
+        user_packet_size (carried_user message.now carriage.now)) }
+    ensures too_large { IsErr result ↔ (MAX_PACKET <
+        user_packet_size (carried_user message.now carriage.now)) }
+{
+    size_with(
+        message,
+        tx_len(&carriage.tx),
+        session_len(&carriage.session),
+    )
+}
+
 /// How many bytes the plain spelling of a packet has.
 pub fn size_of(packet: &Packet) -> Result<u32, TooLarge>
     requires { IsWellFormedPacket packet.now }
     ensures size { IfOk result (λ size. size ≡ packet_size packet.now) }
-    ensures too_large { IsErr result ↔ (4194304 < packet_size packet.now) }
+    ensures too_large { IsErr result ↔ (MAX_PACKET < packet_size packet.now) }
 {
     match packet {
         Packet::User(user) => user_size(&user.message, &user.carriage()),
@@ -74,7 +104,7 @@ pub fn size_of(packet: &Packet) -> Result<u32, TooLarge>
 }
 
 fn put_user_behind(to: &mut [u8], at: usize, message: &Message, target: &Guid) -> usize
-    requires message { IsWellFormed message.now }
+    requires message { FitsUser message.now }
     requires room { at + user_size message.now ≤ length to.old }
     ensures { Wrote to.old at (plain_user message.now target.now) to.new result }
 {
@@ -132,7 +162,7 @@ fn base_for(message: &Message, carriage: &Carriage, size: u32) -> BaseHead
 fn put_user_packet(message: &Message, carriage: &Carriage, size: u32, to: &mut [u8])
     requires message { IsWellFormed message.now }
     requires size { size ≡ user_packet_size (carried_user message.now carriage.now) }
-    requires most { size ≤ 4194304 }
+    requires most { size ≤ MAX_PACKET }
     requires room { length to.old ≡ size }
     ensures { to.new ≡ plain_user_packet (carried_user message.now carriage.now) }
 {
@@ -147,7 +177,7 @@ fn put_user_packet(message: &Message, carriage: &Carriage, size: u32, to: &mut [
 fn put_internal_packet(part: &Internal, session: bool, size: u32, to: &mut [u8])
     requires size { size ≡ 16 + length (plain_internal part.now) }
     requires least { 20 ≤ size }
-    requires most { size ≤ 4194304 }
+    requires most { size ≤ MAX_PACKET }
     requires room { length to.old ≡ size }
     ensures { to.new ≡ plain_base (internal_base session size) ++ plain_internal part.now }
 {
@@ -156,7 +186,7 @@ fn put_internal_packet(part: &Internal, session: bool, size: u32, to: &mut [u8])
         internal: true,
         session,
         size,
-        reach: NO_LIMIT,
+        reach: UNLIMITED,
     };
     let head = put_base(&base, to);
     put_internal_behind(to, head, part);
@@ -165,7 +195,7 @@ fn put_internal_packet(part: &Internal, session: bool, size: u32, to: &mut [u8])
 fn write(packet: &Packet, size: u32, to: &mut [u8])
     requires packet { IsWellFormedPacket packet.now }
     requires size { size ≡ packet_size packet.now }
-    requires most { size ≤ 4194304 }
+    requires most { size ≤ MAX_PACKET }
     requires room { length to.old ≡ size }
     ensures { to.new ≡ plain_spelling packet.now }
 {
@@ -200,9 +230,11 @@ pub fn put_message(
     out: &mut Vec<u8>,
 ) -> Result<(), PutFault>
     requires { IsWellFormedUser (carried_user message.now carriage.now) }
-    ensures put { OnOk result (out.new.items ≡ out.old.items ++ plain_spelling (packet.User (carried_user message.now carriage.now))) }
+    ensures put { OnOk result (out.new.items ≡
+        out.old.items ++ plain_spelling (packet.User (carried_user message.now carriage.now))) }
     ensures stays { OnErr result (out.new.items ≡ out.old.items) }
-    ensures too_large { (result ≡ Err PutFault.TooLarge) ↔ (4194304 < packet_size (packet.User (carried_user message.now carriage.now))) }
+    ensures too_large { (result ≡ Err PutFault.TooLarge) ↔
+        (MAX_PACKET < packet_size (packet.User (carried_user message.now carriage.now))) }
 {
     let size = user_size(message, carriage)?;
     let start = put_room(out, size)?;
@@ -215,7 +247,7 @@ pub fn put_packet(packet: &Packet, out: &mut Vec<u8>) -> Result<(), PutFault>
     requires { IsWellFormedPacket packet.now }
     ensures put { OnOk result (out.new.items ≡ out.old.items ++ plain_spelling packet.now) }
     ensures stays { OnErr result (out.new.items ≡ out.old.items) }
-    ensures too_large { (result ≡ Err PutFault.TooLarge) ↔ (4194304 < packet_size packet.now) }
+    ensures too_large { (result ≡ Err PutFault.TooLarge) ↔ (MAX_PACKET < packet_size packet.now) }
 {
     let size = size_of(packet)?;
     let start = put_room(out, size)?;

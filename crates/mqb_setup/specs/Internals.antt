@@ -1,8 +1,9 @@
 -- The internal header of a packet, and the part of its type.
-use Rattle.std.specs.Prelude.{ℕ, ◌+◌, ◌/◌, ◌%◌, ◌==◌, Bool, List, ◌++◌, replicate, Result, Ok, Err, if◌then◌else◌}
+use Rattle.std.specs.Prelude.{ℕ, ◌+◌, ◌/◌, ◌%◌, ◌==◌, Bool, List, ◌++◌, replicate, Result, Ok, if◌then◌else◌}
 use Rattle.mqb_fields.specs.declared.faults.HeadFault.{HeadFault}
 use Rattle.mqb_fields.specs.declared.faults.HeadKind.TheVariants.{Kind}
-use Rattle.mqb_fields.specs.Faults.{in_packet}
+use Rattle.mqb_fields.specs.Faults.{fault_at, in_packet}
+use Rattle.mqb_fields.specs.Packets.{field_at, skipped}
 use Rattle.mqb_fields.specs.Guids.{swapped}
 use Rattle.mqb_fields.specs.Reading.{◌>>=◌, Reading, guid_at}
 use Rattle.mqb_fields.specs.Writing.{bytes_of}
@@ -10,7 +11,7 @@ use Rattle.mqb_setup.specs.declared.internal.Establish.{Establish}
 use Rattle.mqb_setup.specs.declared.internal.Parameters.{Parameters}
 use Rattle.mqb_setup.specs.declared.internal.Internal.{Internal}
 use Rattle.mqb_setup.specs.declared.internal.Internal.TheVariants as part
-use Rattle.mqb_setup.specs.Sessions.{field_at, after_any, session_at, plain_session}
+use Rattle.mqb_setup.specs.Sessions.{session_at, plain_session}
 
 -- the type of an internal packet: bits 0 to 3 of the flags
 abbrev pub type_of : ℕ → ℕ
@@ -26,34 +27,34 @@ establish_at refused r = do
   client ← in_packet (guid_at r)
   server ← in_packet (guid_at client.1)
   stamp ← field_at 4 server.1
-  reserved ← after_any 4 stamp.1
-  filler ← after_any 512 reserved
+  reserved ← skipped 4 stamp.1
+  filler ← skipped 512 reserved
   Ok (record { client = record { 0 = client.0 }; server = record { 0 = server.0 }; stamp = stamp.0; refused = refused }, filler)
 
 unfoldable pub parameters_at : Reading → Result (Parameters × Reading) HeadFault
 parameters_at r = do
   storage_time ← field_at 4 r
   ack_time ← field_at 4 storage_time.1
-  reserved ← after_any 2 ack_time.1
+  reserved ← skipped 2 ack_time.1
   window ← field_at 2 reserved
   Ok (record { storage_time = storage_time.0; ack_time = ack_time.0; window = window.0 }, window.1)
 
 -- what stands behind the flags, two reserved bytes first
 abbrev pub ack_from : Reading → Result (Internal × Reading) HeadFault
 ack_from r = do
-  reserved ← after_any 2 r
+  reserved ← skipped 2 r
   head ← session_at reserved
   Ok (part.Ack head.0, head.1)
 
 abbrev pub establish_from : Bool → Reading → Result (Internal × Reading) HeadFault
 establish_from refused r = do
-  reserved ← after_any 2 r
+  reserved ← skipped 2 r
   establish ← establish_at refused reserved
   Ok (part.Establish establish.0, establish.1)
 
 abbrev pub parameters_from : Reading → Result (Internal × Reading) HeadFault
 parameters_from r = do
-  reserved ← after_any 2 r
+  reserved ← skipped 2 r
   parameters ← parameters_at reserved
   Ok (part.Parameters parameters.0, parameters.1)
 
@@ -64,7 +65,7 @@ internal_at r = do
   if type_of flags.0 == 1 then ack_from flags.1
       else if type_of flags.0 == 2 then establish_from (is_refused flags.0) flags.1
       else if type_of flags.0 == 3 then parameters_from flags.1
-      else Err (record { at = r.at; kind = Kind })
+      else fault_at r.at Kind
 
 -- what stands at the end of an Establish and says nothing
 unfoldable pub filler : List ℕ

@@ -1,3 +1,4 @@
 pub mod Sessions
 pub mod Internals
 pub mod Widths
+pub mod lemmas

@@ -2,17 +2,9 @@
 use Rattle.std.specs.Prelude.{ℕ, List, ◌++◌, Result, Ok}
 use Rattle.mqb_base.specs.declared.heads.SessionHead.{SessionHead}
 use Rattle.mqb_fields.specs.declared.faults.HeadFault.{HeadFault}
-use Rattle.mqb_fields.specs.Faults.{in_packet}
-use Rattle.mqb_fields.specs.Reading.{◌>>=◌, Reading, number_at, after}
+use Rattle.mqb_fields.specs.Packets.{field_at, skipped}
+use Rattle.mqb_fields.specs.Reading.{◌>>=◌, Reading}
 use Rattle.mqb_fields.specs.Writing.{bytes_of}
-
--- a number of so many bytes
-abbrev pub field_at : ℕ → Reading → Result (ℕ × Reading) HeadFault
-field_at width r = in_packet (number_at width r)
-
--- where so many bytes end, which may hold anything
-abbrev pub after_any : ℕ → Reading → Result Reading HeadFault
-after_any count r = in_packet (after count r)
 
 unfoldable pub session_at : Reading → Result (SessionHead × Reading) HeadFault
 session_at r = do
@@ -22,7 +14,7 @@ session_at r = do
   user ← field_at 2 stored_flags.1
   recoverable ← field_at 2 user.1
   window ← field_at 2 recoverable.1
-  end ← after_any 2 window.1
+  end ← skipped 2 window.1
   Ok (record { ack = ack.0; stored = stored.0; stored_flags = stored_flags.0; user = user.0; recoverable = recoverable.0; window = window.0 }, end)
 
 abbrev pub plain_session : SessionHead → List ℕ

@@ -10,13 +10,15 @@ ghost use Rattle.mqb_setup.specs.Widths.{IsInternal, IsSessionHead};
 
 /// A session header that was put is read again wherever it stands, whatever follows, and the reading goes on behind it.
 pub fn session_is_read()
-    ensures { (r : Reading) (head : SessionHead) (rest : List ℕ) → IsSessionHead head → rest_of r ≡ plain_session head ++ rest →
+    ensures { (r : Reading) (head : SessionHead) (rest : List ℕ) → IsSessionHead head →
+        rest_of r ≡ plain_session head ++ rest →
         session_at r ≡ Ok (head, moved (length (plain_session head)) r) }
 {}
 
 /// An internal header and its part that were put are read again wherever they stand, whatever follows, and the reading goes on behind them.
 pub fn internal_is_read()
-    ensures { (r : Reading) (part : Internal) (rest : List ℕ) → IsInternal part → rest_of r ≡ plain_internal part ++ rest →
+    ensures { (r : Reading) (part : Internal) (rest : List ℕ) → IsInternal part →
+        rest_of r ≡ plain_internal part ++ rest →
         internal_at r ≡ Ok (part, moved (length (plain_internal part)) r) }
 {}
 

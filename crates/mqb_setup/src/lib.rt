@@ -14,6 +14,3 @@ pub use laws::{internal_is_read, lengths_of_parts, session_is_read};
 pub use mqb_fields::{HeadFault, HeadKind};
 pub use reading::{read_internal, read_session};
 pub use writing::{put_internal, put_session};
-
-#[cfg(test)]
-mod tests;

@@ -10,19 +10,21 @@ use mqb_fields::{Cursor, HeadFault, HeadKind};
 /// How many bytes the part of an Establish has that say nothing.
 const FILLER: usize = 512;
 
-/// Reads a session header of 16 bytes.
+/// Reads a session header of 16 bytes. After a fault the cursor is where it was.
 #[tactic(auto, unfolding(crate::specs::Sessions::session_at))]
 pub fn read_session(cursor: &mut Cursor<'_>) -> Result<SessionHead, HeadFault>
     ensures read { Reads session_at cursor.old cursor.new result }
-    ensures same_bytes { cursor.new.bytes ≡ cursor.old.bytes }
+    ensures stays { OnErr result (cursor.new ≡ cursor.old) }
 {
-    let ack = cursor.u16()?;
-    let stored = cursor.u16()?;
-    let stored_flags = cursor.u32()?;
-    let user = cursor.u16()?;
-    let recoverable = cursor.u16()?;
-    let window = cursor.u16()?;
-    cursor.skip(2)?;
+    let mut ahead = cursor.fork();
+    let ack = ahead.u16()?;
+    let stored = ahead.u16()?;
+    let stored_flags = ahead.u32()?;
+    let user = ahead.u16()?;
+    let recoverable = ahead.u16()?;
+    let window = ahead.u16()?;
+    ahead.skip(2)?;
+    *cursor = ahead;
     Ok(SessionHead {
         ack,
         stored,
@@ -36,7 +38,6 @@ pub fn read_session(cursor: &mut Cursor<'_>) -> Result<SessionHead, HeadFault>
 #[tactic(auto, unfolding(crate::specs::Internals::establish_at))]
 fn read_establish(cursor: &mut Cursor<'_>, refused: bool) -> Result<Establish, HeadFault>
     ensures read { Reads (establish_at refused) cursor.old cursor.new result }
-    ensures same_bytes { cursor.new.bytes ≡ cursor.old.bytes }
 {
     let client = Guid(cursor.guid()?);
     let server = Guid(cursor.guid()?);
@@ -54,7 +55,6 @@ fn read_establish(cursor: &mut Cursor<'_>, refused: bool) -> Result<Establish, H
 #[tactic(auto, unfolding(crate::specs::Internals::parameters_at))]
 fn read_parameters(cursor: &mut Cursor<'_>) -> Result<Parameters, HeadFault>
     ensures read { Reads parameters_at cursor.old cursor.new result }
-    ensures same_bytes { cursor.new.bytes ≡ cursor.old.bytes }
 {
     let storage_time = cursor.u32()?;
     let ack_time = cursor.u32()?;
@@ -69,7 +69,6 @@ fn read_parameters(cursor: &mut Cursor<'_>) -> Result<Parameters, HeadFault>
 
 fn ack_part(cursor: &mut Cursor<'_>) -> Result<Internal, HeadFault>
     ensures read { Reads ack_from cursor.old cursor.new result }
-    ensures same_bytes { cursor.new.bytes ≡ cursor.old.bytes }
 {
     cursor.skip(2)?;
     Ok(Internal::Ack(read_session(cursor)?))
@@ -77,7 +76,6 @@ fn ack_part(cursor: &mut Cursor<'_>) -> Result<Internal, HeadFault>
 
 fn establish_part(cursor: &mut Cursor<'_>, refused: bool) -> Result<Internal, HeadFault>
     ensures read { Reads (establish_from refused) cursor.old cursor.new result }
-    ensures same_bytes { cursor.new.bytes ≡ cursor.old.bytes }
 {
     cursor.skip(2)?;
     Ok(Internal::Establish(read_establish(cursor, refused)?))
@@ -85,27 +83,26 @@ fn establish_part(cursor: &mut Cursor<'_>, refused: bool) -> Result<Internal, He
 
 fn parameters_part(cursor: &mut Cursor<'_>) -> Result<Internal, HeadFault>
     ensures read { Reads parameters_from cursor.old cursor.new result }
-    ensures same_bytes { cursor.new.bytes ≡ cursor.old.bytes }
 {
     cursor.skip(2)?;
     Ok(Internal::Parameters(read_parameters(cursor)?))
 }
 
-/// Reads an internal header of 4 bytes and the part of its type: 16 bytes of an acknowledgement, 552 of an Establish, 12 of Parameters.
+/// Reads an internal header of 4 bytes and the part of its type: 16 bytes of an acknowledgement, 552 of an Establish, 12 of Parameters. After a fault
+/// the cursor is where it was.
 #[tactic(auto, unfolding(crate::specs::Internals::internal_at))]
 pub fn read_internal(cursor: &mut Cursor<'_>) -> Result<Internal, HeadFault>
     ensures read { Reads internal_at cursor.old cursor.new result }
-    ensures same_bytes { cursor.new.bytes ≡ cursor.old.bytes }
+    ensures stays { OnErr result (cursor.new ≡ cursor.old) }
 {
-    let at = cursor.at();
-    let flags = cursor.u16()?;
-    match flags % 16 {
-        1 => ack_part(cursor),
-        2 => establish_part(cursor, flags / 16 % 2 == 1),
-        3 => parameters_part(cursor),
-        _ => Err(HeadFault {
-            at,
-            kind: HeadKind::Kind,
-        }),
-    }
+    let mut ahead = cursor.fork();
+    let flags = ahead.u16()?;
+    let internal = match flags % 16 {
+        1 => ack_part(&mut ahead)?,
+        2 => establish_part(&mut ahead, flags / 16 % 2 == 1)?,
+        3 => parameters_part(&mut ahead)?,
+        _ => return Err(HeadFault::new(cursor.at(), HeadKind::Kind)),
+    };
+    *cursor = ahead;
+    Ok(internal)
 }

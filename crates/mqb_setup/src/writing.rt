@@ -1,11 +1,11 @@
-ghost use Rattle.std.specs.Prelude.{◌≡◌, ◌≤◌, ◌+◌, length};
+ghost use Rattle.std.specs.Prelude.{◌≡◌, ◌≤◌, length};
 ghost use Rattle.mqb_fields.specs.Writing.{put_at};
 ghost use Rattle.mqb_setup.specs.Internals.{flags_of, plain_establish, plain_internal, plain_parameters, plain_part};
 ghost use Rattle.mqb_setup.specs.Sessions.{plain_session};
 
 use crate::internal::{Establish, Internal, Parameters};
 use mqb_base::SessionHead;
-use mqb_fields::{put_guid, put_u16, put_u32};
+use mqb_fields::{put_bytes, put_guid, put_u16, put_u32};
 
 /// What stands at the end of an Establish.
 const FILLER: [u8; 512] = [0x5A; 512];
@@ -26,13 +26,6 @@ pub fn put_session(head: &SessionHead, to: &mut [u8]) -> usize
     16
 }
 
-fn put_bytes(to: &mut [u8], at: usize, bytes: &[u8])
-    requires { at + length bytes.now ≤ length to.old }
-    ensures { to.new ≡ put_at to.old at bytes.now }
-{
-    to[at..at + bytes.len()].copy_from_slice(bytes);
-}
-
 fn put_establish(establish: &Establish, to: &mut [u8]) -> usize
     requires room { length (plain_establish establish.now) ≤ length to.old }
     ensures put { to.new ≡ put_at to.old 0 (plain_establish establish.now) }
@@ -42,8 +35,7 @@ fn put_establish(establish: &Establish, to: &mut [u8]) -> usize
     put_guid(to, 16, &establish.server.0);
     put_u32(to, 32, establish.stamp);
     put_u32(to, 36, 0);
-    put_bytes(to, 40, &FILLER);
-    552
+    put_bytes(to, 40, &FILLER)
 }
 
 fn put_parameters(parameters: &Parameters, to: &mut [u8]) -> usize

@@ -188,8 +188,8 @@ all_run : (h : History) (steps : List Step) → IsRun h → IsRun (fold after h 
 all_run h [] run = run
 all_run h (step ∷ steps) run = all_run (after h step) steps (step_run h step run)
 
-history_run : (limit : ℕ) (steps : List Step) → 20 ≤ limit → IsRun (history limit steps)
-history_run limit steps least = all_run (start limit) steps (record { least = least; whole = refl; each = tt; place = refl; one_packet = omega (arith, end_least limit []) })
+history_run : (limit room : ℕ) (steps : List Step) → 20 ≤ limit → IsRun (history limit room steps)
+history_run limit room steps least = all_run (start limit room) steps (record { least = least; whole = refl; each = tt; place = refl; one_packet = omega (arith, end_least limit []) })
 
 -- the limit stays
 feed_limit : (h : History) (bytes : List ℕ) (b : Bool)
@@ -227,23 +227,23 @@ answer_run h (Broken fault place) run e =
 answer_run h (Wants need) run e =
     record { whole = run.whole; each = run.each; end = λ front back parts frame. whole_apart h.framing (Wants need) e refl (front_waits h.framing front back parts frame) }
 
-pub answer_is_cut : (limit : ℕ) (steps : List Step) → 20 ≤ limit → IsAnswerOf (history limit steps) (next (history limit steps).framing)
-answer_is_cut limit steps least = answer_run (history limit steps) (next (history limit steps).framing) (history_run limit steps least) refl
+pub answer_is_cut : (limit room : ℕ) (steps : List Step) → 20 ≤ limit → IsAnswerOf (history limit room steps) (next (history limit room steps).framing)
+answer_is_cut limit room steps least = answer_run (history limit room steps) (next (history limit room steps).framing) (history_run limit room steps least) refl
 
 wants_cut : (h : History) (answer : Answer) → wants_more answer ≡ true → IsAnswerOf h answer → CutsInto h.framing.limit h.taken h.frames h.framing.held
 wants_cut h (Whole bytes) wants is = absurd cc
 wants_cut h (Broken fault place) wants is = absurd cc
 wants_cut h (Wants need) wants is = is
 
-pub same_packets : (limit : ℕ) (steps others : List Step) → 20 ≤ limit
-    → wants_more (next (history limit steps).framing) ≡ true → wants_more (next (history limit others).framing) ≡ true
-    → (history limit steps).taken ≡ (history limit others).taken
-    → ((history limit steps).frames ≡ (history limit others).frames) × ((history limit steps).framing.held ≡ (history limit others).framing.held)
-same_packets limit steps others least wants more same =
-    let h = history limit steps in
-    let g = history limit others in
-    let one = wants_cut h (next h.framing) wants (answer_is_cut limit steps least) in
-    let two = wants_cut g (next g.framing) more (answer_is_cut limit others least) in
-    let first = subst (λ (n : ℕ). CutsInto n h.taken h.frames h.framing.held) (same_limit limit (start limit) steps refl) one in
-    let second = subst (λ (n : ℕ). CutsInto n g.taken g.frames g.framing.held) (same_limit limit (start limit) others refl) two in
+pub same_packets : (limit room : ℕ) (steps others : List Step) → 20 ≤ limit
+    → wants_more (next (history limit room steps).framing) ≡ true → wants_more (next (history limit room others).framing) ≡ true
+    → (history limit room steps).taken ≡ (history limit room others).taken
+    → ((history limit room steps).frames ≡ (history limit room others).frames) × ((history limit room steps).framing.held ≡ (history limit room others).framing.held)
+same_packets limit room steps others least wants more same =
+    let h = history limit room steps in
+    let g = history limit room others in
+    let one = wants_cut h (next h.framing) wants (answer_is_cut limit room steps least) in
+    let two = wants_cut g (next g.framing) more (answer_is_cut limit room others least) in
+    let first = subst (λ (n : ℕ). CutsInto n h.taken h.frames h.framing.held) (same_limit limit (start limit room) steps refl) one in
+    let second = subst (λ (n : ℕ). CutsInto n g.taken g.frames g.framing.held) (same_limit limit (start limit room) others refl) two in
     cut_once limit h.taken h.framing.held g.framing.held h.frames g.frames first (subst (λ (t : List ℕ). CutsInto limit t g.frames g.framing.held) (sym same) second)

@@ -7,7 +7,7 @@ use Rattle.mqb_fields.specs.Faults.{past_end}
 use Rattle.mqb_fields.specs.Reading.{◌>>=◌}
 use Rattle.mqb_heads.specs.declared.base.BaseHead.{BaseHead}
 use Rattle.mqb_heads.specs.Base.{base_of}
-use Rattle.mqb_heads.proofs.ReadLaws.{bind_ok, if_ok, unless_ok, base_read}
+use Rattle.mqb_heads.specs.lemmas.ReadLaws.{bind_ok, if_ok, unless_ok, base_read}
 use Rattle.mqb_stream.specs.Cutting.{packet_size}
 use Rattle.mqb_stream.specs.Framing.{end_by, packet_end}
 

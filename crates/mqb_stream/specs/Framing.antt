@@ -1,14 +1,16 @@
 -- What a framer holds, answers and takes.
 use Rattle.std.specs.Prelude.{ℕ, ◌+◌, ◌-◌, ◌^◌, ◌<◌, ◌≤◌, Bool, true, false, nat_lt, List, [], ◌++◌, take, length, Result, Ok, Err, if◌then◌else◌}
 use Rattle.mqb_fields.specs.declared.faults.HeadFault.{HeadFault}
+use Rattle.mqb_heads.specs.declared.base.TheConstants.{MIN_PACKET, MAX_PACKET}
 use Rattle.mqb_stream.specs.declared.framer.Full.{Full}
 use Rattle.mqb_stream.specs.declared.framer.Next.{Next}
 use Rattle.mqb_stream.specs.declared.framer.Next.TheVariants as answer
 use Rattle.mqb_stream.specs.Cutting.{packet_size}
 
--- the greatest size of a packet, the place in the stream of the present packet's first byte, and the bytes of it that were taken
+-- the greatest size of a packet, the room of the buffer, the place in the stream of the present packet's first byte, and the bytes of it that were taken
 pub record Framing : Type 0 where
   pub limit : ℕ
+  pub room : ℕ
   pub place : ℕ
   pub held : List ℕ
 
@@ -62,8 +64,8 @@ advanced f = record f { place = f.place + length f.held; held = [] }
 
 -- The bytes that are held are of one packet, and there is room for the greatest.
 pub record IsFramer (limit place : ℕ) (held : List ℕ) (room : ℕ) : Type 0 where
-  pub least : 20 ≤ limit
-  pub most : limit ≤ 4194304
+  pub least : MIN_PACKET ≤ limit
+  pub most : limit ≤ MAX_PACKET
   pub room_fits : limit ≤ room
   pub one_packet : length held ≤ packet_end limit held
   pub place_fits : place + length held < 2 ^ 64

@@ -14,8 +14,8 @@ pub record History : Type 0 where
   pub taken : List ℕ
   pub frames : List (List ℕ)
 
-abbrev pub start : ℕ → History
-start limit = record { framing = record { limit = limit; place = 0; held = [] }; taken = []; frames = [] }
+abbrev pub start : (limit room : ℕ) → History
+start limit room = record { framing = record { limit = limit; room = room; place = 0; held = [] }; taken = []; frames = [] }
 
 -- the part of the bytes that a framer takes
 abbrev pub part_of : Framing → List ℕ → List ℕ
@@ -34,8 +34,8 @@ abbrev pub after : History → Step → History
 after h (Feed bytes) = after_feed h bytes
 after h Advance = after_advance h (next h.framing)
 
-abbrev pub history : ℕ → List Step → History
-history limit steps = fold after (start limit) steps
+abbrev pub history : (limit room : ℕ) → List Step → History
+history limit room steps = fold after (start limit room) steps
 
 -- An answer is that of the cutting of all bytes that were taken.
 abbrev pub IsAnswerOf : History → Answer → Type 0

@@ -3,16 +3,18 @@ ghost use Rattle.mqb_stream.specs.Cutting.{packet_size};
 ghost use Rattle.mqb_stream.specs.Framing.{advanced, answer_of, fed, is_whole, next, packet_end, taken_of, wants_more};
 
 use mqb_base::Memory;
-use mqb_fields::{HeadFault, HeadKind};
-use mqb_heads::read_base;
+use mqb_fields::HeadFault;
+use mqb_heads::{MAX_PACKET, MIN_PACKET, read_base};
 use std::alloc::Global;
 use std::marker::Model;
+use thiserror::Error;
 
 /// The bytes of a base header.
 const HEAD: usize = 16;
 
 /// A whole packet or a bad base header waits, so that no byte was taken.
-#[derive(Clone, Copy, Debug, PartialEq, Eq)]
+#[derive(Clone, Copy, Debug, PartialEq, Eq, Error)]
+#[error("a packet waits")]
 pub struct Full;
 
 /// What is to be done: a whole packet waits, a base header is bad, or more bytes are wanted. `place` is the packet's first byte in the stream.
@@ -24,8 +26,8 @@ pub enum Next<'a> {
     More { need: u32 },
 }
 
-/// Cuts a stream into packets of at most `limit` bytes. Contracts see the limit, the place of the present packet in the stream, and what was taken
-/// of it.
+/// Cuts a stream into packets of at most `limit` bytes. Contracts see the limit, the room of its buffer in bytes, the place of the present packet in
+/// the stream, and what was taken of it.
 #[derive(Debug, Drop)]
 pub struct Framer {
     buffer: Vec<u8>,
@@ -39,7 +41,7 @@ impl Model for Framer {
 
     ghost Value = { Framing };
 
-    ghost view = { λ f. record { limit = f.limit; place = f.place; held = f.buffer.items } };
+    ghost view = { λ f. record { limit = f.limit; room = vec_capacity f.buffer; place = f.place; held = f.buffer.items } };
 
     ghost invariant = { λ f. IsFramer f.limit f.place f.buffer.items (vec_capacity f.buffer) };
 }
@@ -52,12 +54,20 @@ fn packet_size(limit: u32, held: &[u8]) -> Result<u32, HeadFault>
 {
     let head = read_base(&held[..HEAD])?;
     if head.size > limit {
-        return Err(HeadFault {
-            at: 8,
-            kind: HeadKind::Size,
-        });
+        return Err(HeadFault::PAST_END);
     }
     Ok(head.size)
+}
+
+/// Appends bytes for which there is room.
+fn append(buffer: &mut Vec<u8>, bytes: &[u8])
+    requires { vec_len buffer.old + length bytes.now ≤ vec_capacity buffer.old }
+    ensures bytes { buffer.new.items ≡ buffer.old.items ++ bytes.now }
+    ensures room { vec_capacity buffer.new ≡ vec_capacity buffer.old }
+{
+    for byte in bytes {
+        buffer.push_reserved(*byte);
+    }
 }
 
 /// Takes bytes until so many are held, and tells how many it took.
@@ -70,10 +80,10 @@ fn fill(buffer: &mut Vec<u8>, bytes: &[u8], len: usize) -> usize
     ensures within { result ≤ length bytes.now }
     ensures most { vec_len buffer.new ≤ len }
     ensures all { vec_len buffer.new < len → result ≡ length bytes.now }
-    ensures room { vec_capacity buffer.old ≤ vec_capacity buffer.new }
+    ensures room { vec_capacity buffer.new ≡ vec_capacity buffer.old }
 {
     let count = bytes.len().min(len - buffer.len());
-    let _there_is_room = buffer.extend_from_slice(&bytes[..count]);
+    append(buffer, &bytes[..count]);
     count
 }
 
@@ -86,7 +96,7 @@ fn fill_head(buffer: &mut Vec<u8>, bytes: &[u8]) -> usize
     ensures all { vec_len buffer.new < 16 → result ≡ length bytes.now }
     ensures short { vec_len buffer.old < 16 → vec_len buffer.new ≤ 16 }
     ensures long { 16 ≤ vec_len buffer.old → buffer.new.items ≡ buffer.old.items }
-    ensures room { vec_capacity buffer.old ≤ vec_capacity buffer.new }
+    ensures room { vec_capacity buffer.new ≡ vec_capacity buffer.old }
 {
     if buffer.len() < HEAD {
         return fill(buffer, bytes, HEAD);
@@ -110,13 +120,14 @@ fn packet_end(limit: u32, held: &[u8]) -> usize
 
 /// Takes what belongs to the packet whose first bytes are held, and tells how many bytes it took.
 fn fill_packet(limit: u32, buffer: &mut Vec<u8>, bytes: &[u8]) -> usize
-    requires least { 20 ≤ limit }
+    requires least { MIN_PACKET ≤ limit }
     requires room { limit ≤ vec_capacity buffer.old }
     requires one_packet { length buffer.old.items ≤ packet_end limit buffer.old.items }
-    ensures held { buffer.new.items ≡ take (packet_end limit (buffer.old.items ++ bytes.now)) (buffer.old.items ++ bytes.now) }
+    ensures held { buffer.new.items ≡
+        take (packet_end limit (buffer.old.items ++ bytes.now)) (buffer.old.items ++ bytes.now) }
     ensures taken { vec_len buffer.new ≡ vec_len buffer.old + result }
     ensures within { result ≤ length bytes.now }
-    ensures room { vec_capacity buffer.old ≤ vec_capacity buffer.new }
+    ensures room { vec_capacity buffer.new ≡ vec_capacity buffer.old }
 {
     let begun = fill_head(buffer, bytes);
     let end = packet_end(limit, buffer.as_slice());
@@ -127,9 +138,10 @@ fn fill_packet(limit: u32, buffer: &mut Vec<u8>, bytes: &[u8]) -> usize
 impl Framer {
     /// A framer of packets of at most `limit` bytes. Its buffer never grows.
     pub fn new(alloc: Global, limit: u32) -> Result<Framer, Memory>
-        requires least { 20 ≤ limit }
-        requires most { limit ≤ 4194304 }
-        ensures { IfOk result (λ framer. framer ≡ record { limit = limit; place = 0; held = [] }) }
+        requires least { MIN_PACKET ≤ limit }
+        requires most { limit ≤ MAX_PACKET }
+        ensures { IfOk result (λ framer. framer ≡
+            record { limit = limit; room = limit; place = 0; held = [] }) }
     {
         Ok(Framer {
             buffer: Vec::with_capacity(alloc, limit as usize)?,

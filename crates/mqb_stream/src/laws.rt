@@ -1,4 +1,5 @@
 ghost use Rattle.std.specs.Prelude.{◌≡◌, ◌≤◌, ℕ, List, true};
+ghost use Rattle.mqb_heads.specs.declared.base.TheConstants.{MIN_PACKET};
 ghost use Rattle.mqb_stream.specs.Cutting.{CutsInto};
 ghost use Rattle.mqb_stream.specs.Framing.{next, wants_more};
 ghost use Rattle.mqb_stream.specs.Histories.{IsAnswerOf, Step, history};
@@ -11,13 +12,14 @@ pub fn one_cutting()
 
 /// After any feeds and advances a framer's answer is that of the cutting of all bytes that it took.
 pub fn next_is_cut()
-    ensures { (limit : ℕ) (steps : List Step) → 20 ≤ limit → IsAnswerOf (history limit steps) (next (history limit steps).framing) }
+    ensures { (limit room : ℕ) (steps : List Step) → MIN_PACKET ≤ limit →
+        IsAnswerOf (history limit room steps) (next (history limit room steps).framing) }
 {}
 
 /// The pieces in which the same bytes come do not matter, once each whole packet was dropped.
 pub fn pieces_do_not_matter()
-    ensures { (limit : ℕ) (steps others : List Step) → 20 ≤ limit →
-        wants_more (next (history limit steps).framing) ≡ true → wants_more (next (history limit others).framing) ≡ true →
-        (history limit steps).taken ≡ (history limit others).taken →
-        ((history limit steps).frames ≡ (history limit others).frames) × ((history limit steps).framing.held ≡ (history limit others).framing.held) }
+    ensures { (limit room : ℕ) (steps others : List Step) → MIN_PACKET ≤ limit →
+        wants_more (next (history limit room steps).framing) ≡ true → wants_more (next (history limit room others).framing) ≡ true →
+        (history limit room steps).taken ≡ (history limit room others).taken →
+        ((history limit room steps).frames ≡ (history limit room others).frames) × ((history limit room steps).framing.held ≡ (history limit room others).framing.held) }
 {}

@@ -1,4 +1,4 @@
-use Rattle.mqb_heads.proofs.ReadLaws.{base_read}
+use Rattle.mqb_heads.specs.lemmas.ReadLaws.{base_read}
 use Rattle.mqb_heads.proofs.laws.base_is_well_formed.Goals as goal
 
 pub returns : goal.returns

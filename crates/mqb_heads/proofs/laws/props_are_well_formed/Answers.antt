@@ -1,4 +1,4 @@
-use Rattle.mqb_heads.proofs.ReadLaws.{props_read}
+use Rattle.mqb_heads.specs.lemmas.ReadLaws.{props_read}
 use Rattle.mqb_heads.proofs.laws.props_are_well_formed.Goals as goal
 
 pub returns : goal.returns

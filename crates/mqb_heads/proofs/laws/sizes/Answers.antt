@@ -1,4 +1,4 @@
-use Rattle.mqb_heads.proofs.Put.{user_sizes, props_sizes}
+use Rattle.mqb_heads.specs.lemmas.Put.{user_sizes, props_sizes}
 use Rattle.mqb_heads.proofs.laws.sizes.Goals as goal
 
 pub returns : goal.returns

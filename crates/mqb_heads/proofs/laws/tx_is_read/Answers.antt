@@ -1,4 +1,4 @@
-use Rattle.mqb_heads.proofs.HeadsAgain.{tx_again}
+use Rattle.mqb_heads.specs.lemmas.HeadsAgain.{tx_again}
 use Rattle.mqb_heads.proofs.laws.tx_is_read.Goals as goal
 
 pub returns : goal.returns

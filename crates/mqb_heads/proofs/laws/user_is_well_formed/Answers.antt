@@ -1,4 +1,4 @@
-use Rattle.mqb_heads.proofs.ReadLaws.{user_read}
+use Rattle.mqb_heads.specs.lemmas.ReadLaws.{user_read}
 use Rattle.mqb_heads.proofs.laws.user_is_well_formed.Goals as goal
 
 pub returns : goal.returns

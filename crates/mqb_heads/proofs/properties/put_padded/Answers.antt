@@ -1,6 +1,7 @@
 use Rattle.std.proofs.Common.{◌++◌, arith}
 use Rattle.mqb_heads.specs.Properties.{props_fields, props_parts}
-use Rattle.mqb_heads.proofs.Put.{◌>>◌, said, padding_is, length_parts}
+use Rattle.mqb_fields.specs.lemmas.Wrote.{◌>>◌, said}
+use Rattle.mqb_heads.specs.lemmas.Put.{padding_is, length_parts}
 use Rattle.mqb_heads.proofs.properties.put_padded.Goals as goal
 
 pub put_parts-end-requires : goal.put_parts-end-requires

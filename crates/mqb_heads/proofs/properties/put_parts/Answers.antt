@@ -1,6 +1,6 @@
 use Rattle.mqb_heads.specs.Properties.{label_bytes}
 use Rattle.std.proofs.Common.{ap}
-use Rattle.mqb_heads.proofs.Put.{◌>>◌, said}
+use Rattle.mqb_fields.specs.lemmas.Wrote.{◌>>◌, said}
 use Rattle.mqb_heads.proofs.properties.put_parts.Goals as goal
 
 pub returns : goal.returns

@@ -1,4 +1,4 @@
-use Rattle.mqb_heads.proofs.Put.{◌>>◌}
+use Rattle.mqb_fields.specs.lemmas.Wrote.{◌>>◌}
 use Rattle.mqb_heads.proofs.transaction.put_fields.Goals as goal
 
 pub returns : goal.returns

@@ -1,6 +1,6 @@
 use Rattle.std.proofs.Common.{ap}
 use Rattle.mqb_fields.specs.Writing.{bytes_of}
-use Rattle.mqb_heads.proofs.Put.{◌>>◌, said}
+use Rattle.mqb_fields.specs.lemmas.Wrote.{◌>>◌, said}
 use Rattle.mqb_heads.proofs.user.put_fields.Goals as goal
 
 pub returns : goal.returns

@@ -1,6 +1,7 @@
 use Rattle.std.proofs.Common.{◌++◌}
 use Rattle.mqb_heads.specs.User.{user_fields, user_names}
-use Rattle.mqb_heads.proofs.Put.{◌>>◌, said, padding_is}
+use Rattle.mqb_fields.specs.lemmas.Wrote.{◌>>◌, said}
+use Rattle.mqb_heads.specs.lemmas.Put.{padding_is}
 use Rattle.mqb_heads.proofs.user.put_padded.Goals as goal
 
 pub returns : goal.returns

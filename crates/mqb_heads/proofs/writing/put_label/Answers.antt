@@ -1,5 +1,6 @@
 use Rattle.std.proofs.Common.{arith}
-use Rattle.mqb_heads.proofs.Put.{◌>>◌, said, label_more, label_room}
+use Rattle.mqb_fields.specs.lemmas.Wrote.{◌>>◌, said}
+use Rattle.mqb_heads.specs.lemmas.Put.{label_more, label_room}
 use Rattle.mqb_heads.proofs.writing.put_label.Goals as goal
 
 pub put_half-end-requires : goal.put_half-end-requires

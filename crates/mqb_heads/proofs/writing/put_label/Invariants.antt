@@ -1,6 +1,6 @@
 use Rattle.std.proofs.Common.{take}
 use Rattle.mqb_heads.specs.Properties.{label_bytes}
-use Rattle.mqb_heads.specs.Writing.{Wrote}
+use Rattle.mqb_fields.specs.Writing.{Wrote}
 use Rattle.mqb_heads.proofs.writing.put_label.Given as goal
 
 -- the units so far are written

@@ -1,7 +1,7 @@
 use Rattle.std.proofs.Common.{◌≤◌, ◌∙◌, ◌++◌, length, sym, arith, length-append}
-use Rattle.mqb_fields.proofs.Again.{put_all}
+use Rattle.mqb_fields.specs.lemmas.Again.{put_all}
 use Rattle.mqb_heads.specs.Base.{plain_base}
-use Rattle.mqb_heads.proofs.Put.{◌>>◌}
+use Rattle.mqb_fields.specs.lemmas.Wrote.{◌>>◌}
 use Rattle.mqb_setup.specs.Internals.{plain_internal}
 use Rattle.mqb_packet.specs.Plain.{internal_base}
 use Rattle.mqb_packet.proofs.Behind.{wrote_first}

@@ -1,6 +1,6 @@
 use Rattle.std.proofs.Common.{◌≤◌, ◌+◌, ℕ, length, subst, sym}
 use Rattle.mqb_heads.specs.Properties.{plain_props}
-use Rattle.mqb_heads.proofs.Put.{props_sizes}
+use Rattle.mqb_heads.specs.lemmas.Put.{props_sizes}
 use Rattle.mqb_packet.proofs.Behind.{wrote_behind}
 use Rattle.mqb_packet.proofs.writing.put_props_behind.Goals as goal
 

@@ -1,6 +1,6 @@
 use Rattle.std.proofs.Common.{◌≤◌, ◌+◌, ℕ, length, subst, sym}
 use Rattle.mqb_heads.specs.User.{plain_user}
-use Rattle.mqb_heads.proofs.Put.{user_sizes}
+use Rattle.mqb_heads.specs.lemmas.Put.{user_sizes}
 use Rattle.mqb_packet.proofs.Behind.{wrote_behind}
 use Rattle.mqb_packet.proofs.writing.put_user_behind.Goals as goal
 

@@ -1,9 +1,9 @@
 use Rattle.std.proofs.Common.{◌≡◌, ◌∙◌, ◌+◌, ℕ, ap, sym, arith}
-use Rattle.mqb_fields.proofs.Again.{put_all}
+use Rattle.mqb_fields.specs.lemmas.Again.{put_all}
 use Rattle.mqb_heads.specs.Base.{plain_base}
 use Rattle.mqb_heads.specs.Properties.{props_size}
 use Rattle.mqb_heads.specs.User.{user_size}
-use Rattle.mqb_heads.proofs.Put.{◌>>◌, said}
+use Rattle.mqb_fields.specs.lemmas.Wrote.{◌>>◌, said}
 use Rattle.mqb_packet.specs.Plain.{carried_user, plain_user_packet, tx_size}
 use Rattle.mqb_packet.proofs.Behind.{wrote_first, length_before, user_length}
 use Rattle.mqb_packet.proofs.writing.put_user_packet.Goals as goal

@@ -1,4 +1,4 @@
-use Rattle.mqb_setup.proofs.Again.{internal_again}
+use Rattle.mqb_setup.specs.lemmas.Again.{internal_again}
 use Rattle.mqb_setup.proofs.laws.internal_is_read.Goals as goal
 
 pub returns : goal.returns

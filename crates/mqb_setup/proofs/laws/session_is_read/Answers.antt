@@ -1,4 +1,4 @@
-use Rattle.mqb_setup.proofs.Again.{session_again}
+use Rattle.mqb_setup.specs.lemmas.Again.{session_again}
 use Rattle.mqb_setup.proofs.laws.session_is_read.Goals as goal
 
 pub returns : goal.returns

@@ -1,7 +1,7 @@
 use Rattle.std.proofs.Common.{◌∙◌, ap, ℕ, arith, refl}
 use Rattle.mqb_fields.specs.Writing.{bytes_of, put_at}
 use Rattle.mqb_setup.specs.Internals.{flags_of, plain_part}
-use Rattle.mqb_setup.proofs.Parts.{internal_put}
+use Rattle.mqb_setup.specs.lemmas.Parts.{internal_put}
 use Rattle.mqb_setup.proofs.writing.put_internal.Goals as goal
 
 pub returns-clause-put : goal.returns-clause-put

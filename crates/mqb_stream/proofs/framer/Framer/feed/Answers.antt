@@ -21,7 +21,7 @@ invariant_of-self c =
 
 pub returns-clause-fed : goal.returns-clause-fed
 unfolding fed
-returns-clause-fed c = rw (← c.self.view_is, c.fill_packet.ensures.held) refl
+returns-clause-fed c = rw (← c.self.view_is, c.fill_packet.ensures.held, c.fill_packet.ensures.room) refl
 
 pub returns-clause-answer : goal.returns-clause-answer
 unfolding fed

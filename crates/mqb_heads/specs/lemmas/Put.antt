@@ -4,30 +4,9 @@ use Rattle.std.proofs.lemmas.List.{length-take-le, length-replicate, take_more, 
 use Rattle.mqb_base.specs.declared.message.Message.{Message}
 use Rattle.mqb_base.specs.declared.ids.Guid.{Guid}
 use Rattle.mqb_fields.specs.Writing.{put_at, bytes_of}
-use Rattle.mqb_fields.proofs.Again.{put_then}
 use Rattle.mqb_heads.specs.Fields.{padding, padded}
 use Rattle.mqb_heads.specs.Properties.{label_bytes, props_fields, props_parts, plain_props, props_size}
 use Rattle.mqb_heads.specs.User.{user_fields, user_names, plain_user, user_size}
-use Rattle.mqb_heads.specs.Writing.{Wrote}
-
-pub length_put : (to bytes : List ℕ) (at : ℕ) → at + length bytes ≤ length to → length (put_at to at bytes) ≡ length to
-length_put to bytes at room =
-    omega (arith, length-append (take at to ++ bytes) (drop (at + length bytes) to), length-append (take at to) bytes, length-take-le at to (omega arith), length-drop (at + length bytes) to)
-
-infixl 10 ◌>>◌
-pub ◌>>◌ : {old mid new : List ℕ} {at split stop : ℕ} {x y : List ℕ} → Wrote old at x mid split → Wrote mid split y new stop → Wrote old at (x ++ y) new stop
-◌>>◌ {old = old} {mid = mid} {new = new} {at = at} {split = split} {stop = stop} {x = x} {y = y} first second =
-    let same : length mid ≡ length old = ap length first.put ∙ length_put old x at first.room in
-    let both : length (x ++ y) ≡ length x + length y = length-append x y in
-    record {
-      room = omega (arith, first.end, second.room);
-      put = second.put ∙ ap (λ (list : List ℕ). put_at list split y) first.put ∙ ap (λ (n : ℕ). put_at (put_at old at x) n y) first.end ∙ put_then old x y at first.room;
-      end = omega (arith, first.end, second.end);
-    }
-
--- the same bytes, said otherwise
-pub said : {old bytes new : List ℕ} {at stop : ℕ} (same : List ℕ) → bytes ≡ same → Wrote old at bytes new stop → Wrote old at same new stop
-said {old = old} {new = new} {at = at} {stop = stop} same e wrote = subst (λ (list : List ℕ). Wrote old at list new stop) e wrote
 
 -- padding behind what was written
 pub padding_is : (bytes : List ℕ) (count end : ℕ) → count ≡ padding end → end ≡ 0 + length bytes → replicate {A = ℕ} count 0 ≡ replicate (padding (length bytes)) 0

@@ -3,7 +3,7 @@ use Rattle.std.proofs.Common.{◌≡◌, ℕ, ◌+◌, ◌-◌, ◌≤◌, List,
 use Rattle.std.proofs.lemmas.List.{length-take-le, drop-drop, drop_all, take_all, append-nil, length-replicate}
 use borrow.Rule.Slice.PartMut.{put_mid}
 use Rattle.mqb_fields.specs.Writing.{put_at}
-use Rattle.mqb_fields.proofs.Again.{put_then}
+use Rattle.mqb_fields.specs.lemmas.Again.{put_then}
 use Rattle.mqb_setup.specs.Internals.{filler}
 
 pub length_filler : length filler ≡ 512

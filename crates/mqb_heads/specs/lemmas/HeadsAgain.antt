@@ -5,14 +5,14 @@ use Rattle.mqb_base.specs.declared.heads.TxHead.{TxHead}
 use Rattle.mqb_fields.specs.Reading.{Reading, rest_of, moved}
 use Rattle.mqb_fields.specs.Writing.{bytes_of}
 use Rattle.mqb_names.specs.Wire.{start}
-use Rattle.mqb_names.proofs.Again.{rest_again}
+use Rattle.mqb_names.specs.lemmas.Again.{rest_again}
 use Rattle.mqb_heads.specs.declared.base.BaseHead.{BaseHead}
 use Rattle.mqb_heads.specs.Base.{version_at, flags_at, signature_at, size_at, base_at, base_of, head_of, IsBaseHead, base_flags, plain_base}
-use Rattle.mqb_heads.specs.Fields.{skipped}
+use Rattle.mqb_fields.specs.Packets.{skipped}
 use Rattle.mqb_heads.specs.Transactions.{tx_at, plain_tx}
 use Rattle.mqb_heads.specs.Values.{IsTxHead}
-use Rattle.mqb_heads.proofs.FieldsAgain.{field_again, skip_again, moved_to}
-use Rattle.mqb_heads.proofs.Words.{base_bits}
+use Rattle.mqb_heads.specs.lemmas.FieldsAgain.{field_again, skip_again, moved_to}
+use Rattle.mqb_heads.specs.lemmas.Words.{base_bits}
 
 pub base_at_again : (r : Reading) (head : BaseHead) (rest : List ℕ) → IsBaseHead head → head.reach < 2 ^ 32 → rest_of r ≡ plain_base head ++ rest → base_at r ≡ Ok (head, moved 16 r)
 unfolding base_at

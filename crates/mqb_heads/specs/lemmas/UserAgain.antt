@@ -8,22 +8,21 @@ use Rattle.mqb_base.specs.declared.message.Delivery.TheVariants.{Express, Recove
 use Rattle.mqb_base.specs.declared.message.Message.{Message}
 use Rattle.mqb_base.specs.declared.queue_names.QueueName.{QueueName}
 use Rattle.mqb_base.specs.declared.queue_names.QueueName.TheVariants.{Public, Private, Direct, Machine}
-use Rattle.mqb_base.specs.Messages.{IsWellFormed}
 use Rattle.mqb_base.specs.QueueNames.{names_queue}
 use Rattle.mqb_fields.specs.Guids.{swapped}
 use Rattle.mqb_fields.specs.Reading.{Reading, rest_of, moved}
 use Rattle.mqb_fields.specs.Writing.{bytes_of}
 use Rattle.mqb_names.specs.Values.{AreBytes}
 use Rattle.mqb_names.specs.Wire.{kind_of, wire}
-use Rattle.mqb_names.proofs.Again.{rest_again}
+use Rattle.mqb_names.specs.lemmas.Again.{rest_again}
 use Rattle.mqb_heads.specs.declared.user.UserFlags.{UserFlags}
 use Rattle.mqb_heads.specs.Fields.{padding, wire_name, kind_or_none, wire_or_none}
 use Rattle.mqb_heads.specs.Flags.{bit, flag}
-use Rattle.mqb_heads.specs.User.{user_at, user_flags_at, flags_of, have_types, Names, names_at, is_durable, is_transactional, user_flags, user_fields, user_names, plain_user, user_of}
+use Rattle.mqb_heads.specs.User.{FitsUser, user_at, user_flags_at, flags_of, have_types, Names, names_at, is_durable, is_transactional, user_flags, user_fields, user_names, plain_user, user_of}
 use Rattle.mqb_heads.specs.Values.{IsMessage}
-use Rattle.mqb_heads.proofs.FieldsAgain.{field_again, source_again, name_again, optional_again, padding_again, moved_to}
-use Rattle.mqb_heads.proofs.Put.{length_padded, length_user}
-use Rattle.mqb_heads.proofs.Words.{user_bits}
+use Rattle.mqb_heads.specs.lemmas.FieldsAgain.{field_again, source_again, name_again, optional_again, padding_again, moved_to}
+use Rattle.mqb_heads.specs.lemmas.Put.{length_padded, length_user}
+use Rattle.mqb_heads.specs.lemmas.Words.{user_bits}
 
 abbrev low_of : Delivery → ℕ
 low_of d = flag 0 (is_durable d) + flag 1 (is_transactional d)
@@ -75,7 +74,7 @@ flags_for m = record {
   journal = m.journal;
 }
 
-flags_are : (m : Message) → IsWellFormed m → (flags_of (user_flags m) ≡ flags_for m) × (bit 13 (user_flags m) ≡ false) × (user_flags m < 256 ^ 4)
+flags_are : (m : Message) → FitsUser m → (flags_of (user_flags m) ≡ flags_for m) × (bit 13 (user_flags m) ≡ false) × (user_flags m < 256 ^ 4)
 flags_are m valid =
     let back = user_bits (low_of m.delivery) (kind_of m.destination) (kind_or_none m.admin) (kind_or_none m.response) m.journal
     (low_few m.delivery) (few_kinds m.destination) (few_or_none m.admin) (few_or_none m.response) valid.journal in (
@@ -92,7 +91,7 @@ flags_are m valid =
       back.fits,
     )
 
-flags_again : (r : Reading) (m : Message) (rest : List ℕ) → IsWellFormed m → rest_of r ≡ bytes_of 4 (user_flags m) ++ rest → user_flags_at r ≡ Ok (flags_for m, moved 4 r)
+flags_again : (r : Reading) (m : Message) (rest : List ℕ) → FitsUser m → rest_of r ≡ bytes_of 4 (user_flags m) ++ rest → user_flags_at r ≡ Ok (flags_for m, moved 4 r)
 flags_again r m rest valid e =
     let are = flags_are m valid in
     let least : leb 1 (kind_of m.destination) ≡ true = le-leb _ _ (has_kind m.destination valid.destination) in
@@ -110,7 +109,7 @@ names_of m = record { destination = wire_name m.destination; admin = option_map 
 abbrev behind_names : Message → Reading → Reading
 behind_names m r = moved (length (wire_or_none m.response)) (moved (length (wire_or_none m.admin)) (moved (length (wire m.destination)) r))
 
-names_again : (r : Reading) (m : Message) (rest : List ℕ) → IsWellFormed m → IsMessage m → rest_of r ≡ wire m.destination ++ (wire_or_none m.admin ++ (wire_or_none m.response ++ rest))
+names_again : (r : Reading) (m : Message) (rest : List ℕ) → FitsUser m → IsMessage m → rest_of r ≡ wire m.destination ++ (wire_or_none m.admin ++ (wire_or_none m.response ++ rest))
     → (names_at (flags_for m) r ≡ Ok (names_of m, behind_names m r)) × (rest_of (behind_names m r) ≡ rest)
 names_again r m rest valid value e =
     let response = wire_or_none m.response ++ rest in
@@ -133,7 +132,7 @@ regrouped a b c z rest = simp append_assoc
 length_names : (m : Message) → length (user_names m) ≡ length (wire m.destination) + length (wire_or_none m.admin) + length (wire_or_none m.response)
 length_names m = omega (arith, length-append (wire m.destination ++ wire_or_none m.admin) (wire_or_none m.response), length-append (wire m.destination) (wire_or_none m.admin))
 
-pub user_again : (r : Reading) (m : Message) (target : Guid) (rest : List ℕ) → IsWellFormed m → IsMessage m → AreBytes 16 target.0 → rest_of r ≡ plain_user m target ++ rest
+pub user_again : (r : Reading) (m : Message) (target : Guid) (rest : List ℕ) → FitsUser m → IsMessage m → AreBytes 16 target.0 → rest_of r ≡ plain_user m target ++ rest
     → user_at r ≡ Ok (user_of m target, moved (length (plain_user m target)) r)
 unfolding user_at
 user_again r m target rest valid value goes e =

@@ -6,7 +6,7 @@ use Rattle.mqb_base.specs.declared.heads.SessionHead.{SessionHead}
 use Rattle.mqb_fields.specs.Reading.{Reading, rest_of, moved, part_at, number_at, guid_at, after}
 use Rattle.mqb_fields.specs.Writing.{bytes_of}
 use Rattle.mqb_fields.specs.Guids.{swapped}
-use Rattle.mqb_fields.proofs.Again.{number_back, swapped_twice}
+use Rattle.mqb_fields.specs.lemmas.Again.{number_back, swapped_twice}
 use Rattle.mqb_setup.specs.declared.internal.Establish.{Establish}
 use Rattle.mqb_setup.specs.declared.internal.Parameters.{Parameters}
 use Rattle.mqb_setup.specs.declared.internal.Internal.{Internal}
@@ -14,7 +14,7 @@ use Rattle.mqb_setup.specs.declared.internal.Internal.TheVariants as part
 use Rattle.mqb_setup.specs.Internals.{establish_at, filler, internal_at, parameters_at, plain_establish, plain_internal, plain_parameters, type_of, is_refused}
 use Rattle.mqb_setup.specs.Sessions.{session_at, plain_session}
 use Rattle.mqb_setup.specs.Widths.{IsSessionHead, IsEstablish, IsParameters, IsInternal}
-use Rattle.mqb_setup.proofs.Parts.{length_filler}
+use Rattle.mqb_setup.specs.lemmas.Parts.{length_filler}
 
 -- what stands at a place, and what follows it
 abbrev pub Stands : Reading → List ℕ → List ℕ → Type 0

@@ -7,32 +7,32 @@ use Rattle.mqb_base.specs.Classes.{is_class}
 use Rattle.mqb_fields.specs.Guids.{swapped}
 use Rattle.mqb_fields.specs.Reading.{Reading, rest_of, moved}
 use Rattle.mqb_fields.specs.Writing.{bytes_of}
-use Rattle.mqb_names.proofs.Again.{rest_again}
+use Rattle.mqb_names.specs.lemmas.Again.{rest_again}
 use Rattle.mqb_heads.specs.Fields.{padding, plain_id}
 use Rattle.mqb_heads.specs.Flags.{bits}
 use Rattle.mqb_heads.specs.Properties.{label_len_at, class_at, marks_at, allocated_at, unsecured_at, sizes_at, parts_at, props_at, FitsProps, label_bytes, props_fields, props_parts, plain_props, props_of}
 use Rattle.mqb_heads.specs.Values.{IsMessage}
-use Rattle.mqb_heads.proofs.FieldsAgain.{field_again, id_again, lent_again, padding_again, moved_to}
-use Rattle.mqb_heads.proofs.Put.{length_padded, length_props, length_label}
+use Rattle.mqb_heads.specs.lemmas.FieldsAgain.{field_again, id_again, lent_again, padding_again, moved_to}
+use Rattle.mqb_heads.specs.lemmas.Put.{length_padded, length_props, length_label}
 
 marks_again : (r : Reading) (m : Message) (rest : List ℕ) → FitsProps m → IsMessage m → rest_of r ≡ (m.ack ∷ length m.label ∷ []) ++ (bytes_of 2 m.class.0 ++ rest)
     → marks_at r ≡ Ok (record { ack = m.ack; label_len = length m.label; class = m.class }, moved 2 (moved 1 (moved 1 r)))
 marks_again r m rest valid value e =
     let class = bytes_of 2 m.class.0 ++ rest in
-    let ack_byte : bytes_of 1 m.ack ≡ m.ack ∷ [] = ap (λ (b : ℕ). b ∷ []) (omega (arith, valid.message.ack)) in
-    let len_byte : bytes_of 1 (length m.label) ≡ length m.label ∷ [] = ap (λ (b : ℕ). b ∷ []) (omega (arith, valid.message.label)) in
+    let ack_byte : bytes_of 1 m.ack ≡ m.ack ∷ [] = ap (λ (b : ℕ). b ∷ []) (omega (arith, valid.ack)) in
+    let len_byte : bytes_of 1 (length m.label) ≡ length m.label ∷ [] = ap (λ (b : ℕ). b ∷ []) (omega (arith, valid.label)) in
     let at_ack : rest_of r ≡ bytes_of 1 m.ack ++ (length m.label ∷ class) = e ∙ ap (λ (b : List ℕ). b ++ (length m.label ∷ class)) (sym ack_byte) in
     let r1 = moved 1 r in
     let at_len : rest_of r1 ≡ length m.label ∷ class = rest_again r (bytes_of 1 m.ack) (length m.label ∷ class) 1 refl at_ack in
     let at_label_len : rest_of r1 ≡ bytes_of 1 (length m.label) ++ class = at_len ∙ ap (λ (b : List ℕ). b ++ class) (sym len_byte) in
     let r2 = moved 1 r1 in
     let at_class : rest_of r2 ≡ class = rest_again r1 (bytes_of 1 (length m.label)) class 1 refl at_label_len in
-    let few : ltb 250 (length m.label) ≡ false = le-ltb _ _ valid.message.label in
-    let low : bits 0 4 m.ack ≡ m.ack = omega (arith, valid.message.ack) in
-    let known : is_class m.class.0 ≡ true = valid.message.class in
-    let len_is : label_len_at r1 ≡ Ok (length m.label, r2) = rw (field_again r1 1 (length m.label) class refl (omega (arith, valid.message.label)) at_label_len, few) refl in
+    let few : ltb 250 (length m.label) ≡ false = le-ltb _ _ valid.label in
+    let low : bits 0 4 m.ack ≡ m.ack = omega (arith, valid.ack) in
+    let known : is_class m.class.0 ≡ true = valid.class in
+    let len_is : label_len_at r1 ≡ Ok (length m.label, r2) = rw (field_again r1 1 (length m.label) class refl (omega (arith, valid.label)) at_label_len, few) refl in
     let class_is : class_at r2 ≡ Ok (m.class, moved 2 r2) = rw (field_again r2 2 m.class.0 rest refl (omega (arith, value.class)) at_class, known) refl in
-    rw (field_again r 1 m.ack (length m.label ∷ class) refl (omega (arith, valid.message.ack)) at_ack, len_is, class_is, low) refl
+    rw (field_again r 1 m.ack (length m.label ∷ class) refl (omega (arith, valid.ack)) at_ack, len_is, class_is, low) refl
 
 unsecured_again : (r : Reading) (rest : List ℕ) → rest_of r ≡ bytes_of 4 0 ++ rest → unsecured_at r ≡ Ok (moved 4 r)
 unsecured_again r rest e = rw (field_again r 4 0 rest refl (omega arith) e) refl

@@ -12,12 +12,13 @@ use Rattle.mqb_fields.specs.Faults.{in_packet}
 use Rattle.mqb_fields.specs.Guids.{swapped}
 use Rattle.mqb_fields.specs.Reading.{Reading, rest_of, moved, part_at}
 use Rattle.mqb_fields.specs.Writing.{bytes_of}
-use Rattle.mqb_fields.proofs.Again.{number_back, swapped_twice}
+use Rattle.mqb_fields.specs.lemmas.Again.{number_back, swapped_twice}
 use Rattle.mqb_names.specs.Values.{AreBytes, IsQueueName}
 use Rattle.mqb_names.specs.Wire.{kind_of, wire, wire_at}
-use Rattle.mqb_names.proofs.Again.{rest_again}
-use Rattle.mqb_names.proofs.WireAgain.{wire_again}
-use Rattle.mqb_heads.specs.Fields.{field_at, source_at, id_at, lent_at, skipped, name_at, optional_name_at, padding, padded_at, plain_id, wire_name, kind_or_none, wire_or_none}
+use Rattle.mqb_names.specs.lemmas.Again.{rest_again}
+use Rattle.mqb_names.specs.lemmas.WireAgain.{wire_again}
+use Rattle.mqb_fields.specs.Packets.{field_at, lent_at, skipped}
+use Rattle.mqb_heads.specs.Fields.{source_at, id_at, name_at, optional_name_at, padding, padded_at, plain_id, wire_name, kind_or_none, wire_or_none}
 use Rattle.mqb_heads.specs.Values.{IsMessageId}
 
 pub part_again : (r : Reading) (part rest : List ℕ) (count : ℕ) → length part ≡ count → rest_of r ≡ part ++ rest → part_at count r ≡ Ok (part, moved count r)

@@ -1,7 +1,7 @@
 -- What holds of each header that was read.
-use Rattle.std.proofs.Common.{◌≡◌, ◌≤◌, ℕ, ◌*◌, ◌-◌, ◌==◌, Bool, true, false, ◌&&◌, cond, ltb, leb, List, length, take, is_some, Option, Some, None, Result, Ok, Err, refl, sym, ap, subst, ◌∙◌, arith, length-drop}
+use Rattle.std.proofs.Common.{◌≡◌, ◌≤◌, ℕ, ◌*◌, ◌-◌, ◌==◌, Bool, true, false, ◌&&◌, ◌||◌, cond, ltb, leb, List, length, take, is_some, Option, Some, None, Result, Ok, Err, refl, sym, ap, subst, ◌∙◌, arith, length-drop}
 use Rattle.std.specs.Prelude.{IfSome, IsTrue}
-use Rattle.std.proofs.lemmas.Bool.{ltb-false, leb-true, and_parts}
+use Rattle.std.proofs.lemmas.Bool.{eqb-true, ltb-false, leb-true, and_parts}
 use Rattle.std.proofs.lemmas.List.{length-take-le}
 use Rattle.mqb_base.specs.declared.class.Class.{Class}
 use Rattle.mqb_base.specs.Classes.{is_class}
@@ -12,15 +12,16 @@ use Rattle.mqb_fields.specs.Reading.{◌>>=◌, Reading, rest_of, part_at, numbe
 use Rattle.mqb_names.specs.declared.wire.WireFault.{WireFault}
 use Rattle.mqb_names.specs.declared.wire.WireFault.TheVariants.{Short, Bad}
 use Rattle.mqb_names.specs.Wire.{start, length_at, spelled, wire_at, IsWireForm}
-use Rattle.mqb_names.proofs.Lengths.{length_taken}
+use Rattle.mqb_names.specs.lemmas.Lengths.{length_taken}
 use Rattle.mqb_heads.specs.declared.base.BaseHead.{BaseHead}
 use Rattle.mqb_heads.specs.declared.properties.Marks.{Marks}
 use Rattle.mqb_heads.specs.declared.properties.Sizes.{Sizes}
 use Rattle.mqb_heads.specs.declared.user.UserFlags.{UserFlags}
 use Rattle.mqb_heads.specs.Base.{IsBaseRead, version_at, flags_at, signature_at, size_at, base_at, head_of, base_of}
-use Rattle.mqb_heads.specs.Fields.{skipped, WireName, field_at, source_at, id_at, lent_at, in_name, name_at, some_name, optional_name_at, padded_at}
+use Rattle.mqb_fields.specs.Packets.{skipped, field_at, lent_at}
+use Rattle.mqb_heads.specs.Fields.{WireName, source_at, id_at, in_name, name_at, some_name, optional_name_at, padded_at}
 use Rattle.mqb_heads.specs.Flags.{bit, bits}
-use Rattle.mqb_heads.specs.Properties.{Props, Parts, IsPropsRead, label_len_at, class_at, marks_at, sizes_at, parts_at, props_at}
+use Rattle.mqb_heads.specs.Properties.{Props, Parts, IsPropsRead, label_len_at, class_at, marks_at, allocated_at, unsecured_at, sizes_at, parts_at, props_at}
 use Rattle.mqb_heads.specs.User.{User, Names, IsNameRead, IsUserRead, flags_of, have_types, user_flags_at, names_at, user_at}
 
 abbrev done : {X E : Type 0} → X → Result X E
@@ -66,7 +67,7 @@ wire_form kind bytes len e =
     let named = if_ok (is_some (spelled kind (take sized.0 bytes))) Bad sized.0 len enough.1 in
     subst (λ (l : ℕ). IsWireForm kind (take l bytes)) named.1 (length_taken kind bytes sized.0 sized.1 (ltb-false _ _ enough.0), named.0)
 
-name_read : (kind : ℕ) (r : Reading) (name : WireName) (end : Reading) → name_at kind r ≡ Ok (name, end) → IsNameRead name
+pub name_read : (kind : ℕ) (r : Reading) (name : WireName) (end : Reading) → name_at kind r ≡ Ok (name, end) → IsNameRead name
 name_read kind r name end e =
     let found = bind_ok (in_name r.at (wire_at kind (rest_of r))) _ (name, end) e in
     let part = bind_ok (lent_at found.0 r) _ (name, end) found.2 in
@@ -106,6 +107,51 @@ names_read flags r names end e =
 few_journal : (word : ℕ) → (flags_of word).journal ≤ 3
 few_journal word = omega arith
 
+-- what the flags say, bit by bit, of the word that they were read of
+pub record FlagsRead (flags : UserFlags) (r end : Reading) : Type 0 where
+  pub word : ℕ
+  pub read : field_at 4 r ≡ Ok (word, end)
+  pub recoverable : flags.recoverable ≡ (bit 0 word || bit 1 word)
+  pub transaction : flags.transaction ≡ bit 1 word
+  pub destination : flags.destination ≡ bits 2 3 word
+  pub admin : flags.admin ≡ bits 5 3 word
+  pub response : flags.response ≡ bits 8 3 word
+  pub journal : flags.journal ≡ bits 11 2 word
+  pub security : bit 13 word ≡ false
+
+pub flags_word : (r : Reading) (flags : UserFlags) (end : Reading) → user_flags_at r ≡ Ok (flags, end) → FlagsRead flags r end
+flags_word r flags end e =
+    let word = bind_ok (field_at 4 r) _ (flags, end) e in
+    let plain = unless_ok (bit 13 word.0.0) _ _ (flags, end) word.2 in
+    let typed = if_ok (have_types (flags_of word.0.0)) _ (flags_of word.0.0, word.0.1) (flags, end) plain.1 in
+    subst (λ (p : UserFlags × Reading). FlagsRead p.0 r p.1) typed.1 (record {
+      word = word.0.0;
+      read = word.1;
+      recoverable = refl;
+      transaction = refl;
+      destination = refl;
+      admin = refl;
+      response = refl;
+      journal = refl;
+      security = plain.0;
+    })
+
+-- the names one after another, each of the type that the flags say
+pub record NamesInTurn (flags : UserFlags) (r : Reading) (names : Names) (end : Reading) : Type 0 where
+  pub behind_first : Reading
+  pub behind_second : Reading
+  pub destination : name_at flags.destination r ≡ Ok (names.destination, behind_first)
+  pub admin : optional_name_at flags.admin behind_first ≡ Ok (names.admin, behind_second)
+  pub response : optional_name_at flags.response behind_second ≡ Ok (names.response, end)
+
+pub names_in_turn : (flags : UserFlags) (r : Reading) (names : Names) (end : Reading) → names_at flags r ≡ Ok (names, end) → NamesInTurn flags r names end
+names_in_turn flags r names end e =
+    let destination = bind_ok (name_at flags.destination r) _ (names, end) e in
+    let admin = bind_ok (optional_name_at flags.admin destination.0.1) _ (names, end) destination.2 in
+    let response = bind_ok (optional_name_at flags.response admin.0.1) _ (names, end) admin.2 in
+    subst (λ (p : Names × Reading). NamesInTurn flags r p.0 p.1) (ok_is _ _ response.2)
+    (record { behind_first = destination.0.1; behind_second = admin.0.1; destination = destination.1; admin = admin.1; response = response.1 })
+
 flags_read : (r : Reading) (flags : UserFlags) (end : Reading) → user_flags_at r ≡ Ok (flags, end) → flags.journal ≤ 3
 flags_read r flags end e =
     let word = bind_ok (field_at 4 r) _ (flags, end) e in
@@ -143,6 +189,109 @@ class_read r class end e =
     let field = bind_ok (field_at 2 r) _ (class, end) e in
     let known = if_ok (is_class field.0.0) _ (record { 0 = field.0.0 }, field.0.1) (class, end) field.2 in
     subst (λ (p : Class × Reading). IsTrue (is_class p.0.0)) known.1 known.0
+
+-- the marks field by field
+pub record MarksInTurn (marks : Marks) (r end : Reading) : Type 0 where
+  pub ack : ℕ
+  pub behind_ack : Reading
+  pub behind_len : Reading
+  pub read_ack : field_at 1 r ≡ Ok (ack, behind_ack)
+  pub read_len : field_at 1 behind_ack ≡ Ok (marks.label_len, behind_len)
+  pub read_class : field_at 2 behind_len ≡ Ok (marks.class.0, end)
+  pub ack_bits : marks.ack ≡ bits 0 4 ack
+  pub most : marks.label_len ≤ 250
+  pub class : IsTrue (is_class marks.class.0)
+
+pub marks_in_turn : (r : Reading) (marks : Marks) (end : Reading) → marks_at r ≡ Ok (marks, end) → MarksInTurn marks r end
+marks_in_turn r marks end e =
+    let ack = bind_ok (field_at 1 r) _ (marks, end) e in
+    let len = bind_ok (label_len_at ack.0.1) _ (marks, end) ack.2 in
+    let class = bind_ok (class_at len.0.1) _ (marks, end) len.2 in
+    let len_field = bind_ok (field_at 1 ack.0.1) _ len.0 len.1 in
+    let few = unless_ok (ltb 250 len_field.0.0) _ (Ok len_field.0) len.0 len_field.2 in
+    let class_field = bind_ok (field_at 2 len.0.1) _ class.0 class.1 in
+    let known = if_ok (is_class class_field.0.0) _ (record { 0 = class_field.0.0 }, class_field.0.1) class.0 class_field.2 in
+    subst (λ (p : Marks × Reading). MarksInTurn p.0 r p.1) (ok_is _ _ class.2) (record {
+      ack = ack.0.0;
+      behind_ack = ack.0.1;
+      behind_len = len.0.1;
+      read_ack = ack.1;
+      read_len = len_field.1 ∙ ap (λ (p : ℕ × Reading). done p) (ok_is _ _ few.1);
+      read_class = class_field.1 ∙ ap (λ (p : Class × Reading). done (p.0.0, p.1)) known.1;
+      ack_bits = refl;
+      most = label_len_read ack.0.1 len.0.0 len.0.1 len.1;
+      class = class_read len.0.1 class.0.0 class.0.1 class.1;
+    })
+
+-- the sizes field by field
+pub record SizesInTurn (sizes : Sizes) (r end : Reading) : Type 0 where
+  pub first : Reading
+  pub second : Reading
+  pub third : Reading
+  pub fourth : Reading
+  pub fifth : Reading
+  pub body : field_at 4 r ≡ Ok (sizes.body, first)
+  pub allocated : field_at 4 first ≡ Ok (sizes.allocated, second)
+  pub privacy : field_at 4 second ≡ Ok (0, third)
+  pub hash : field_at 4 third ≡ Ok (0, fourth)
+  pub cipher : field_at 4 fourth ≡ Ok (0, fifth)
+  pub extension : field_at 4 fifth ≡ Ok (sizes.extension, end)
+  pub enough : sizes.body ≤ sizes.allocated
+
+unsecured_is : (r end : Reading) → unsecured_at r ≡ Ok end → field_at 4 r ≡ Ok (0, end)
+unsecured_is r end e =
+    let number = bind_ok (field_at 4 r) _ end e in
+    let none = if_ok (number.0.0 == 0) _ number.0.1 end number.2 in
+    number.1 ∙ ap (λ (n : ℕ). done (n, number.0.1)) (eqb-true _ _ none.0) ∙ ap (λ (end : Reading). done (0, end)) none.1
+
+allocated_is : (body : ℕ) (r : Reading) (x : ℕ × Reading) → allocated_at body r ≡ Ok x → (field_at 4 r ≡ Ok x) × (body ≤ x.0)
+allocated_is body r x e =
+    let number = bind_ok (field_at 4 r) _ x e in
+    let enough = unless_ok (ltb number.0.0 body) _ (Ok number.0) x number.2 in
+    subst (λ (x : ℕ × Reading). (field_at 4 r ≡ Ok x) × (body ≤ x.0)) (ok_is _ x enough.1) (number.1, ltb-false _ _ enough.0)
+
+pub sizes_in_turn : (r : Reading) (sizes : Sizes) (end : Reading) → sizes_at r ≡ Ok (sizes, end) → SizesInTurn sizes r end
+sizes_in_turn r sizes end e =
+    let body = bind_ok (field_at 4 r) _ (sizes, end) e in
+    let allocated = bind_ok (allocated_at body.0.0 body.0.1) _ (sizes, end) body.2 in
+    let privacy = bind_ok (unsecured_at allocated.0.1) _ (sizes, end) allocated.2 in
+    let hash = bind_ok (unsecured_at privacy.0) _ (sizes, end) privacy.2 in
+    let cipher = bind_ok (unsecured_at hash.0) _ (sizes, end) hash.2 in
+    let extension = bind_ok (field_at 4 cipher.0) _ (sizes, end) cipher.2 in
+    let kept = allocated_is body.0.0 body.0.1 allocated.0 allocated.1 in
+    subst (λ (p : Sizes × Reading). SizesInTurn p.0 r p.1) (ok_is _ _ extension.2) (record {
+      first = body.0.1;
+      second = allocated.0.1;
+      third = privacy.0;
+      fourth = hash.0;
+      fifth = cipher.0;
+      body = body.1;
+      allocated = kept.0;
+      privacy = unsecured_is allocated.0.1 privacy.0 privacy.1;
+      hash = unsecured_is privacy.0 hash.0 hash.1;
+      cipher = unsecured_is hash.0 cipher.0 cipher.1;
+      extension = extension.1;
+      enough = kept.1;
+    })
+
+-- the parts one after another
+pub record PartsInTurn (label_len : ℕ) (sizes : Sizes) (r : Reading) (parts : Parts) (end : Reading) : Type 0 where
+  pub first : Reading
+  pub second : Reading
+  pub kept : List ℕ
+  pub label : lent_at (2 * label_len) r ≡ Ok (parts.label, first)
+  pub extension : lent_at sizes.extension first ≡ Ok (parts.extension, second)
+  pub allocated : lent_at sizes.allocated second ≡ Ok (kept, end)
+  pub body : parts.body ≡ take sizes.body kept
+
+pub parts_in_turn : (label_len : ℕ) (sizes : Sizes) (r : Reading) (parts : Parts) (end : Reading) → parts_at label_len sizes r ≡ Ok (parts, end)
+    → PartsInTurn label_len sizes r parts end
+parts_in_turn label_len sizes r parts end e =
+    let label = bind_ok (lent_at (2 * label_len) r) _ (parts, end) e in
+    let extension = bind_ok (lent_at sizes.extension label.0.1) _ (parts, end) label.2 in
+    let allocated = bind_ok (lent_at sizes.allocated extension.0.1) _ (parts, end) extension.2 in
+    subst (λ (p : Parts × Reading). PartsInTurn label_len sizes r p.0 p.1) (ok_is _ _ allocated.2)
+    (record { first = label.0.1; second = extension.0.1; kept = allocated.0.0; label = label.1; extension = extension.1; allocated = allocated.1; body = refl })
 
 pub record AreMarksRead (marks : Marks) : Type 0 where
   pub ack : marks.ack ≤ 15
@@ -217,10 +366,3 @@ pub base_read : (bytes : List ℕ) (head : BaseHead) → base_of bytes ≡ Ok he
 base_read bytes head e =
     let long = unless_ok (ltb (length bytes) 16) _ (head_of (base_at (start bytes))) head e in
     head_read (base_at (start bytes)) head (λ h end. base_at_read (start bytes) h end) long.1
-
--- A number that was read leaves the bytes as they are.
-pub number_keeps : (width : ℕ) (r : Reading) (number : ℕ) (end : Reading) → number_at width r ≡ Ok (number, end) → end.bytes ≡ r.bytes
-number_keeps width r number end e =
-    let part = bind_ok (part_at width r) _ (number, end) e in
-    let read = unless_ok (ltb (length r.bytes - r.at) width) _ (Ok (take width (rest_of r), moved width r)) part.0 part.1 in
-    sym (ap (λ (p : ℕ × Reading). p.1.bytes) (ok_is _ _ part.2)) ∙ sym (ap (λ (p : List ℕ × Reading). p.1.bytes) (ok_is _ _ read.1))
