@@ -1,7 +1,8 @@
-use Rattle.std.specs.Prelude.{◌≡◌, ◌⊎◌, ℕ, ◌+◌, ◌≤◌, min, Bool, true, List, Option}
+use Rattle.std.specs.Prelude.{◌≡◌, ◌⊎◌, ℕ, ◌+◌, ◌≤◌, min, Bool, true, List, length, Option}
 use Rattle.mqb_outside.specs.Faults.{END}
 use Rattle.mqb_devices.specs.declared.power.Pick.{Pick}
 use Rattle.mqb_devices.specs.Images.{Each, Same}
+use Rattle.mqb_devices.specs.declared.disk.TheConstants.{MAX_DISK}
 
 -- what was asked of a power switch, which no call of a disk changes
 pub record Switch : Type 0 where
@@ -21,7 +22,9 @@ pub record View : Type 1 where
   pub since : ℕ → List ℕ → Type 0
   -- it keeps the list of its calls, so that since tells all of these
   pub keeps_calls : Bool
-  -- how often the disk has failed
+  -- how many calls were made of it
+  pub calls : ℕ
+  -- how often it has failed
   pub faults : ℕ
   pub switch : Switch
 
@@ -39,6 +42,7 @@ pub record Elapses (old new : View) : Type 0 where
   pub later : old.moment ≤ new.moment
   pub nothing_else : (t : ℕ) (c : List ℕ) → t ≤ old.moment → new.since t c → old.since t c ⊎ new.leaves c
   pub keeps : (t : ℕ) (c : List ℕ) → t ≤ old.moment → old.since t c → new.since t c
+  pub keeping : new.keeps_calls ≡ old.keeps_calls
 
 -- A crash now leaves a content that has P, and so does a crash at any moment since old, where such moments are told.
 pub record LeavesOnly (old new : View) (P : List ℕ → Type 0) : Type 0 where
@@ -47,6 +51,7 @@ pub record LeavesOnly (old new : View) (P : List ℕ → Type 0) : Type 0 where
   pub each : Each (new.since old.moment) P
   -- for a run that began earlier
   pub before : (t : ℕ) (c : List ℕ) → t ≤ old.moment → new.since t c → old.since t c ⊎ P c
+  pub keeping : new.keeps_calls ≡ old.keeps_calls
 
 -- after calls that only read: no new content is left at any moment of them
 pub record OnlyReads (old new : View) : Type 0 where
@@ -54,10 +59,10 @@ pub record OnlyReads (old new : View) : Type 0 where
   pub run : LeavesOnly old new old.leaves
   pub switch : new.switch ≡ old.switch
 
--- a count went up by 1, or stays at its end
-pub record Counted (before now : ℕ) : Type 0 where
+-- a count went up by n, or as far as its end
+pub record Counted (n before now : ℕ) : Type 0 where
   pub later : before ≤ now
-  pub next : now ≡ min (before + 1) END
+  pub sum : now ≡ min (before + n) END
 
 -- laws of what is told
 pub record Lawful (d : View) : Type 0 where
@@ -69,3 +74,7 @@ pub record Lawful (d : View) : Type 0 where
   pub only_now : Each (d.since d.moment) d.leaves
   -- this moment is one of those since an earlier one
   pub counts_now : d.keeps_calls ≡ true → (t : ℕ) → t ≤ d.moment → Each d.leaves (d.since t)
+  -- a disk that keeps its calls tells what a read gives
+  pub tells : d.keeps_calls ≡ true → (c : List ℕ) × d.reads c
+  -- neither what a read gives nor what a crash may leave is longer than a disk can be
+  pub bound : Each d.leaves (λ c. length c ≤ MAX_DISK)

@@ -1,5 +1,5 @@
-ghost use Rattle.std.specs.Prelude.{◌≡◌, ◌<◌, ◌≤◌, ℕ, List, [], Option, length, take, IfOk, IfSome, OnErr};
-ghost use Rattle.mqb_outside.specs.Told.{Gave, Took};
+ghost use Rattle.std.specs.Prelude.{◌≡◌, ℕ, List, Option};
+ghost use Rattle.mqb_outside.specs.Told.{Reads, Writes};
 ghost use Rattle.mqb_outside.specs.Faults.{HasCause};
 
 use mqb_base::Failed;
@@ -18,10 +18,7 @@ pub trait Conn: Source + Sink {
 
     /// Fills the front of `buf`, and says how much of it. For a `buf` that is not empty, 0 is the end of what comes.
     fn receive(&mut self, buf: &mut [u8]) -> Result<usize, Failed>
-        ensures within { IfOk result (λ n. n ≤ length buf.old) }
-        ensures gave { IfOk result (λ n. Gave (Self.held self.old) (Self.held self.new) (take n buf.new)) }
-        ensures ended { IfOk result (λ n. n ≡ 0 → 0 < length buf.old → IfSome (Self.held self.old) (λ rest. rest ≡ [])) }
-        ensures unchanged { OnErr result (Self.held self.new ≡ Self.held self.old) }
+        ensures reads { Reads (Self.held self.old) (Self.held self.new) buf.old buf.new result }
         ensures cause { HasCause (Self.read_faults self.old) (Self.read_faults self.new) result }
         ensures taken { Self.taken self.new ≡ Self.taken self.old }
         ensures write_faults { Self.write_faults self.new ≡ Self.write_faults self.old }
@@ -30,10 +27,7 @@ pub trait Conn: Source + Sink {
 
     /// Takes a front of `bytes`, and says how much of it: at least one byte, where there is one.
     fn send(&mut self, bytes: &[u8]) -> Result<usize, Failed>
-        ensures within { IfOk result (λ n. n ≤ length bytes.now) }
-        ensures some { IfOk result (λ n. 0 < length bytes.now → 0 < n) }
-        ensures took { IfOk result (λ n. Took (Self.taken self.old) (Self.taken self.new) (take n bytes.now)) }
-        ensures unchanged { OnErr result (Self.taken self.new ≡ Self.taken self.old) }
+        ensures writes { Writes (Self.taken self.old) (Self.taken self.new) bytes.now result }
         ensures cause { HasCause (Self.write_faults self.old) (Self.write_faults self.new) result }
         ensures held { Self.held self.new ≡ Self.held self.old }
         ensures read_faults { Self.read_faults self.new ≡ Self.read_faults self.old }

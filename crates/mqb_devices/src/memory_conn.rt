@@ -1,5 +1,5 @@
-ghost use Rattle.std.specs.Prelude.{◌≡◌, ◌↔◌, ◌+◌, ◌<◌, ◌≤◌, [], Some, None, IsTrue, IfOk, IfSome, OnErr, length, take};
-ghost use Rattle.mqb_outside.specs.Told.{Gave, Took};
+ghost use Rattle.std.specs.Prelude.{◌≡◌, ◌↔◌, ◌+◌, ◌<◌, ◌≤◌, [], Some, None, IsTrue, IsErr, IfOk, length};
+ghost use Rattle.mqb_outside.specs.Told.{Reads, Writes};
 ghost use Rattle.mqb_outside.specs.Faults.{HasCause};
 
 use crate::conn::Conn;
@@ -19,6 +19,9 @@ pub struct MemoryConn {
 }
 
 impl MemoryConn {
+    ghost use Rattle.mqb_outside.specs.Plans.{planned, is_to_fail, called};
+    ghost use Rattle.mqb_devices.specs.Conns.{held_by, taken_on, reads_of, writes_of};
+
     /// It holds a copy of `bytes`. `failing_reads` and `failing_writes` are the numbers of the calls that fail, each counted from 1.
     pub fn new(
         alloc: Global,
@@ -32,6 +35,8 @@ impl MemoryConn {
         ensures read_faults { IfOk result (λ conn. ⟦<MemoryConn as Source>⟧.read_faults conn ≡ 0) }
         ensures write_faults { IfOk result (λ conn. ⟦<MemoryConn as Sink>⟧.write_faults conn ≡ 0) }
         ensures address { IfOk result (λ conn. ⟦<MemoryConn as Conn>⟧.address conn ≡ None) }
+        ensures reads { IfOk result (λ conn. reads_of conn ≡ planned failing_reads.now) }
+        ensures writes { IfOk result (λ conn. writes_of conn ≡ planned failing_writes.now) }
     {
         Ok(MemoryConn {
             source: MemorySource::new(alloc, bytes, failing_reads)?,
@@ -62,12 +67,12 @@ impl MemoryConn {
 
     // Reads of its source, and counts a fault.
     fn hear(&mut self, buf: &mut [u8]) -> Result<usize, Failed>
-        ensures within { IfOk result (λ n. n ≤ length buf.old) }
-        ensures gave { IfOk result (λ n. Gave (⟦<MemorySource as Source>⟧.held self.old.source) (⟦<MemorySource as Source>⟧.held self.new.source) (take n buf.new)) }
-        ensures ended { IfOk result (λ n. n ≡ 0 → 0 < length buf.old → IfSome (⟦<MemorySource as Source>⟧.held self.old.source) (λ rest. rest ≡ [])) }
-        ensures unchanged { OnErr result (⟦<MemorySource as Source>⟧.held self.new.source ≡ ⟦<MemorySource as Source>⟧.held self.old.source) }
+        ensures fails { IsErr result ↔ IsTrue (is_to_fail (reads_of self.old)) }
+        ensures called { reads_of self.new ≡ called (reads_of self.old) }
+        ensures reads { Reads (held_by self.old) (held_by self.new) buf.old buf.new result }
         ensures cause { HasCause self.old.read_faults self.new.read_faults result }
-        ensures rest { self.new ≡ record self.old { source = self.new.source; read_faults = self.new.read_faults } }
+        ensures rest { self.new
+            ≡ record self.old { source = self.new.source; read_faults = self.new.read_faults } }
     {
         let heard = self.source.read(buf);
         if heard.is_err() {
@@ -78,12 +83,13 @@ impl MemoryConn {
 
     // Writes to its sink, and counts a fault.
     fn tell(&mut self, bytes: &[u8]) -> Result<usize, Failed>
-        ensures within { IfOk result (λ n. n ≤ length bytes.now) }
-        ensures some { IfOk result (λ n. 0 < length bytes.now → 0 < n) }
-        ensures took { IfOk result (λ n. Took (⟦<MemorySink as Sink>⟧.taken self.old.sink) (⟦<MemorySink as Sink>⟧.taken self.new.sink) (take n bytes.now)) }
-        ensures unchanged { OnErr result (⟦<MemorySink as Sink>⟧.taken self.new.sink ≡ ⟦<MemorySink as Sink>⟧.taken self.old.sink) }
+        ensures fails { IsTrue (is_to_fail (writes_of self.old)) → IsErr result }
+        ensures called { writes_of self.new ≡ called (writes_of self.old) }
+        ensures writes { Writes (taken_on self.old) (taken_on self.new) bytes.now result }
+        ensures all { IfOk result (λ n. n ≡ length bytes.now) }
         ensures cause { HasCause self.old.write_faults self.new.write_faults result }
-        ensures rest { self.new ≡ record self.old { sink = self.new.sink; write_faults = self.new.write_faults } }
+        ensures rest { self.new
+            ≡ record self.old { sink = self.new.sink; write_faults = self.new.write_faults } }
     {
         let told = self.sink.write(bytes);
         if told.is_err() {
@@ -101,35 +107,76 @@ impl MemoryConn {
 }
 
 impl Source for MemoryConn {
-    ghost held = { λ c. ⟦<MemorySource as Source>⟧.held c.source };
+    ghost use Rattle.mqb_outside.specs.Plans.{is_to_fail, called};
+    ghost use Rattle.mqb_devices.specs.Conns.{held_by, read_faults_of, reads_of, writes_of};
 
-    ghost read_faults = { λ c. c.read_faults };
+    ghost held = { held_by };
 
-    fn read(&mut self, buf: &mut [u8]) -> Result<usize, Failed> {
+    ghost read_faults = { read_faults_of };
+
+    fn read(&mut self, buf: &mut [u8]) -> Result<usize, Failed>
+        ensures fails { IsErr result ↔ IsTrue (is_to_fail (reads_of self.old)) }
+        ensures called { reads_of self.new ≡ called (reads_of self.old) }
+        ensures writes { writes_of self.new ≡ writes_of self.old }
+        ensures reads { Reads (held_by self.old) (held_by self.new) buf.old buf.new result }
+        ensures cause { HasCause (read_faults_of self.old) (read_faults_of self.new) result }
+    {
         self.hear(buf)
     }
 }
 
 impl Sink for MemoryConn {
-    ghost taken = { λ c. ⟦<MemorySink as Sink>⟧.taken c.sink };
+    ghost use Rattle.mqb_outside.specs.Plans.{is_to_fail, called};
+    ghost use Rattle.mqb_devices.specs.Conns.{taken_on, reads_of, write_faults_of, writes_of};
 
-    ghost write_faults = { λ c. c.write_faults };
+    ghost taken = { taken_on };
 
-    fn write(&mut self, bytes: &[u8]) -> Result<usize, Failed> {
+    ghost write_faults = { write_faults_of };
+
+    fn write(&mut self, bytes: &[u8]) -> Result<usize, Failed>
+        ensures fails { IsTrue (is_to_fail (writes_of self.old)) → IsErr result }
+        ensures called { writes_of self.new ≡ called (writes_of self.old) }
+        ensures reads { reads_of self.new ≡ reads_of self.old }
+        ensures writes { Writes (taken_on self.old) (taken_on self.new) bytes.now result }
+        ensures cause { HasCause (write_faults_of self.old) (write_faults_of self.new) result }
+    {
         self.tell(bytes)
     }
 }
 
 impl Conn for MemoryConn {
-    ghost given = { λ c. Some c.given };
+    ghost use Rattle.mqb_outside.specs.Plans.{is_to_fail, called};
+    ghost use Rattle.mqb_devices.specs.Conns.{address_of, given_to, held_by, read_faults_of, reads_of, taken_on, write_faults_of, writes_of};
 
-    ghost address = { λ c. c.address };
+    ghost given = { given_to };
 
-    fn receive(&mut self, buf: &mut [u8]) -> Result<usize, Failed> {
+    ghost address = { address_of };
+
+    fn receive(&mut self, buf: &mut [u8]) -> Result<usize, Failed>
+        ensures fails { IsErr result ↔ IsTrue (is_to_fail (reads_of self.old)) }
+        ensures called { reads_of self.new ≡ called (reads_of self.old) }
+        ensures writes { writes_of self.new ≡ writes_of self.old }
+        ensures reads { Reads (held_by self.old) (held_by self.new) buf.old buf.new result }
+        ensures cause { HasCause (read_faults_of self.old) (read_faults_of self.new) result }
+        ensures taken { taken_on self.new ≡ taken_on self.old }
+        ensures write_faults { write_faults_of self.new ≡ write_faults_of self.old }
+        ensures given { given_to self.new ≡ given_to self.old }
+        ensures address { address_of self.new ≡ address_of self.old }
+    {
         self.hear(buf)
     }
 
-    fn send(&mut self, bytes: &[u8]) -> Result<usize, Failed> {
+    fn send(&mut self, bytes: &[u8]) -> Result<usize, Failed>
+        ensures fails { IsTrue (is_to_fail (writes_of self.old)) → IsErr result }
+        ensures called { writes_of self.new ≡ called (writes_of self.old) }
+        ensures reads { reads_of self.new ≡ reads_of self.old }
+        ensures writes { Writes (taken_on self.old) (taken_on self.new) bytes.now result }
+        ensures cause { HasCause (write_faults_of self.old) (write_faults_of self.new) result }
+        ensures held { held_by self.new ≡ held_by self.old }
+        ensures read_faults { read_faults_of self.new ≡ read_faults_of self.old }
+        ensures given { given_to self.new ≡ given_to self.old }
+        ensures address { address_of self.new ≡ address_of self.old }
+    {
         self.tell(bytes)
     }
 }

@@ -24,11 +24,13 @@ pub trait Net {
 
     /// A connection that a peer made.
     fn accept(&mut self) -> Result<Self::C, Failed>
-        ensures faultless { IfOk result (λ c. (Self.C.read_faults c ≡ 0) × (Self.C.write_faults c ≡ 0)) }
+        ensures faultless { IfOk result
+            (λ c. (Self.C.read_faults c ≡ 0) × (Self.C.write_faults c ≡ 0)) }
         ensures given { IfOk result (λ c. Self.C.given c ≡ Self.C.held c) }
         ensures taken { IfOk result (λ c. IfSome (Self.C.taken c) (λ text. text ≡ [])) }
         ensures address { IfOk result (λ c. Self.C.address c ≡ None) }
-        ensures opened { OnOk result (unfinished self.new ≡ option_map (λ n. n + 1) (unfinished self.old)) }
+        ensures opened { OnOk result
+            (unfinished self.new ≡ option_map (λ n. n + 1) (unfinished self.old)) }
         ensures unchanged { OnErr result (unfinished self.new ≡ unfinished self.old) }
         ensures finished { finished self.new ≡ finished self.old }
         ensures lost { lost self.new ≡ lost self.old }
@@ -36,11 +38,14 @@ pub trait Net {
 
     /// A connection to a peer.
     fn connect(&mut self, address: [u8; 4]) -> Result<Self::C, Failed>
-        ensures faultless { IfOk result (λ c. (Self.C.read_faults c ≡ 0) × (Self.C.write_faults c ≡ 0)) }
+        ensures faultless { IfOk result
+            (λ c. (Self.C.read_faults c ≡ 0) × (Self.C.write_faults c ≡ 0)) }
         ensures given { IfOk result (λ c. Self.C.given c ≡ Self.C.held c) }
         ensures taken { IfOk result (λ c. IfSome (Self.C.taken c) (λ text. text ≡ [])) }
-        ensures address { IfOk result (λ c. IsSome (finished self.old) → Self.C.address c ≡ Some address) }
-        ensures opened { OnOk result (unfinished self.new ≡ option_map (λ n. n + 1) (unfinished self.old)) }
+        ensures address { IfOk result (λ c. IsSome (finished self.old)
+            → Self.C.address c ≡ Some address) }
+        ensures opened { OnOk result
+            (unfinished self.new ≡ option_map (λ n. n + 1) (unfinished self.old)) }
         ensures unchanged { OnErr result (unfinished self.new ≡ unfinished self.old) }
         ensures finished { finished self.new ≡ finished self.old }
         ensures lost { lost self.new ≡ lost self.old }
@@ -57,8 +62,13 @@ pub trait Net {
           held = Self.C.held conn;
           taken = Self.C.taken conn;
         } ∷ []) (finished self.old) }
-        ensures lost { 0 < Self.C.read_faults conn + Self.C.write_faults conn → Rose (lost self.old) (lost self.new) }
-        ensures kept { Self.C.read_faults conn + Self.C.write_faults conn ≡ 0 → lost self.new ≡ lost self.old }
+        ensures lost { 0 < Self.C.read_faults conn + Self.C.write_faults conn
+            → Rose (lost self.old) (lost self.new) }
+        ensures kept { Self.C.read_faults conn + Self.C.write_faults conn ≡ 0
+            → lost self.new ≡ lost self.old }
         ensures closed { unfinished self.new ≡ option_map (λ n. n - 1) (unfinished self.old) }
         ensures faults { faults self.new ≡ faults self.old };
+
+    /// A net that tells the connections that were taken back tells how many are not.
+    ghost tells: { (net : Self) → IsSome (finished net) → IsSome (unfinished net) };
 }

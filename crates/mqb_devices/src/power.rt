@@ -38,12 +38,15 @@ pub trait Power: Disk {
     fn arm(&mut self, call: u32, mode: Mode)
         requires { 1 ≤ call }
         ensures armed { armed self.new ≡ Some (call, mode) }
-        ensures arms { Counted (Self.view self.old).switch.arms (Self.view self.new).switch.arms }
-        ensures restarts { (Self.view self.new).switch.restarts ≡ (Self.view self.old).switch.restarts }
-        ensures pick { (Self.view self.new).switch.last_pick ≡ (Self.view self.old).switch.last_pick }
+        ensures arms { Counted 1 (Self.view self.old).switch.arms (Self.view self.new).switch.arms }
+        ensures restarts { (Self.view self.new).switch.restarts
+            ≡ (Self.view self.old).switch.restarts }
+        ensures pick { (Self.view self.new).switch.last_pick
+            ≡ (Self.view self.old).switch.last_pick }
         ensures stopped { is_stopped self.new ≡ is_stopped self.old }
         ensures unchanged { Unchanged (Self.view self.old) (Self.view self.new) }
         ensures time { Elapses (Self.view self.old) (Self.view self.new) }
+        ensures calls { (Self.view self.new).calls ≡ (Self.view self.old).calls }
         ensures faults { (Self.view self.new).faults ≡ (Self.view self.old).faults };
 
     fn stopped(&self) -> bool
@@ -55,10 +58,12 @@ pub trait Power: Disk {
         ensures one_of { Each (Self.view self.new).reads (Self.view self.old).leaves }
         ensures armed { armed self.new ≡ None }
         ensures arms { (Self.view self.new).switch.arms ≡ (Self.view self.old).switch.arms }
-        ensures restarts { Counted (Self.view self.old).switch.restarts (Self.view self.new).switch.restarts }
+        ensures restarts { Counted 1 (Self.view self.old).switch.restarts
+            (Self.view self.new).switch.restarts }
         ensures pick { (Self.view self.new).switch.last_pick ≡ Some pick }
         ensures stopped { is_stopped self.new ≡ false }
         ensures time { Elapses (Self.view self.old) (Self.view self.new) }
+        ensures calls { (Self.view self.new).calls ≡ (Self.view self.old).calls }
         ensures faults { (Self.view self.new).faults ≡ (Self.view self.old).faults };
 
     /// It tells what a read gives.

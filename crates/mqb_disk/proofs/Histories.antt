@@ -1,16 +1,17 @@
 -- What a call more makes of a history.
-use Rattle.std.proofs.Common.{◌≡◌, inl, inr, ℕ, ◌≤◌, List, [], ◌∷◌, ◌++◌, length, take, drop, map, reverse, refl, sym, ◌∙◌, ap, subst, arith, length-drop}
+use Rattle.std.proofs.Common.{◌≡◌, inl, inr, ℕ, ◌≤◌, true, List, [], ◌∷◌, ◌++◌, length, take, drop, map, reverse, refl, sym, ◌∙◌, ap, subst, arith, length-drop}
 use Rattle.std.specs.List.{All}
 use Rattle.std.proofs.lemmas.List.{map-append, reverse-append, take-append-le, drop-append-le, drop_at, take_all}
 use Rattle.std.proofs.lemmas.List.Elements.{All-head, All-tail, All-push, All-weaker}
-use Rattle.mqb_devices.specs.Images.{Torn, MayBeCut, Follows}
+use Rattle.mqb_devices.specs.Images.{Each, Torn, MayBeCut, Follows}
 use Rattle.mqb_devices.specs.Disk.{Unchanged, Elapses, OnlyReads}
-use Rattle.mqb_devices.proofs.Steps.{written_torn, nothing_torn}
-use Rattle.mqb_devices.proofs.Runs.{reads_once}
+use Rattle.mqb_devices.specs.Steps.{written_torn, nothing_torn}
+use Rattle.mqb_devices.specs.Runs.{reads_once}
 use Rattle.mqb_disk.specs.declared.trace_disk.Call.{Call}
 use Rattle.mqb_disk.specs.declared.trace_disk.Call.TheVariants as call
 use Rattle.mqb_disk.specs.TraceViews.{is_left, view_of, lawful_of}
-use Rattle.mqb_disk.specs.History.{Event, Wrote, WasCut, end_of, fits, event_of, history, held, ImageAt}
+use Rattle.mqb_devices.specs.declared.disk.TheConstants.{MAX_DISK}
+use Rattle.mqb_disk.specs.History.{Event, Wrote, WasCut, Synced, end_of, fits, event_of, history, held, ImageAt, reaches_within}
 
 same_event : (bytes more : List ℕ) (one : Call) → fits (length bytes) one → event_of (bytes ++ more) one ≡ event_of bytes one
 same_event bytes more (call.Wrote at from n) within =
@@ -45,22 +46,24 @@ cut_leaves_events events n c (inl is) = (held events, is_left events, inr is)
 cut_leaves_events events n c (inr from) = from
 
 -- a call that was not kept
-pub quiet_time : (events later : List Event) (before after : ℕ) → later ≡ events → Elapses (view_of events before) (view_of later after)
-quiet_time events later before after is = subst (λ (l : List Event). Elapses (view_of events before) (view_of l after)) (sym is) (record {
+pub quiet_time : (events later : List Event) (calls calls_later before after : ℕ) → later ≡ events → Elapses (view_of events calls before) (view_of later calls_later after)
+quiet_time events later calls calls_later before after is = subst (λ (l : List Event). Elapses (view_of events calls before) (view_of l calls_later after)) (sym is) (record {
   later = omega arith;
   nothing_else = λ t c le left. inl left;
   keeps = λ t c le left. left;
+  keeping = λ _. true;
 })
 
-quiet_unchanged : (events : List Event) (before after : ℕ) → Unchanged (view_of events before) (view_of events after)
-quiet_unchanged events before after = record {
+quiet_unchanged : (events : List Event) (calls calls_later before after : ℕ) → Unchanged (view_of events calls before) (view_of events calls_later after)
+quiet_unchanged events calls calls_later before after = record {
   reads = record { none_new = λ c told. told; none_lost = λ c told. told };
   leaves = record { none_new = λ c told. told; none_lost = λ c told. told };
 }
 
-pub quiet_reads : (events later : List Event) (before after : ℕ) → later ≡ events → OnlyReads (view_of events before) (view_of later after)
-quiet_reads events later before after is = subst (λ (l : List Event). OnlyReads (view_of events before) (view_of l after)) (sym is)
-    (reads_once (view_of events before) (view_of events after) (lawful_of events before) (quiet_unchanged events before after) (quiet_time events events before after refl) refl)
+pub quiet_reads : (room : ℕ) (events later : List Event) (calls calls_later before after : ℕ) → All (reaches_within room) events → room ≤ MAX_DISK → later ≡ events → OnlyReads (view_of events calls before) (view_of later calls_later after)
+quiet_reads room events later calls calls_later before after within small is = subst (λ (l : List Event). OnlyReads (view_of events calls before) (view_of l calls_later after)) (sym is)
+    (reads_once (view_of events calls before) (view_of events calls_later after) (lawful_of room events calls before within small)
+    (quiet_unchanged events calls calls_later before after) (quiet_time events events calls calls_later before after refl) refl)
 
 pub quiet_torn : (events later : List Event) (at n : ℕ) → later ≡ events → Follows (Torn at n) (ImageAt events) (ImageAt later)
 quiet_torn events later at n is c image = (c, subst (λ (l : List Event). ImageAt l c) is image, nothing_torn at n c)
@@ -85,3 +88,10 @@ history_wrote bytes later more calls later_calls at from all place is calls_are 
 
 pub fits_more : (size larger : ℕ) (calls : List Call) (last : Call) → size ≤ larger → All (fits size) calls → fits larger last → All (fits larger) (calls ++ last ∷ [])
 fits_more size larger calls last le all fit = All-push (fits larger) calls last (All-weaker (fits size) (fits larger) (λ one within. (let w : end_of one ≤ size = within in omega arith)) calls all) fit
+
+-- after a sync that was kept a crash leaves what a read gives
+pub synced_leaves : (bytes : List ℕ) (calls later : List Call) → later ≡ calls ++ call.Synced ∷ [] → Each (ImageAt (history bytes later)) (ImageAt (history bytes calls))
+synced_leaves bytes calls later is c image =
+    let kept : history bytes later ≡ Synced ∷ history bytes calls =
+    ap (history bytes) is ∙ ap reverse (map-append (event_of bytes) calls (call.Synced ∷ [])) ∙ reverse-append (map (event_of bytes) calls) (Synced ∷ []) in
+    subst (ImageAt (history bytes calls)) (sym (subst (λ (l : List Event). ImageAt l c) kept image)) (is_left (history bytes calls))

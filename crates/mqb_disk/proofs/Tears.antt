@@ -5,7 +5,7 @@ use Rattle.std.proofs.lemmas.List.{length-take, length-replicate}
 use Rattle.mqb_devices.specs.declared.power.Pick.{Pick}
 use Rattle.mqb_devices.specs.declared.power.Pick.TheVariants.{Old, New, Half, Ones}
 use Rattle.mqb_devices.specs.Images.{Follows, Written, Torn, IsCut, MayBeCut}
-use Rattle.mqb_devices.proofs.Steps.{written_torn, nothing_torn}
+use Rattle.mqb_devices.specs.Steps.{written_torn, nothing_torn}
 use Rattle.mqb_disk.specs.Picks.{begun, stands, left_of, left_by}
 use Rattle.mqb_disk.specs.Changes.{Step, Left}
 use Rattle.mqb_disk.specs.declared.change.Change.{Change}

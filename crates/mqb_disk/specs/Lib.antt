@@ -1,6 +1,9 @@
 pub mod Extent
 pub mod Changes
 pub mod Picks
+pub mod Turns
+pub mod Switches
 pub mod Views
 pub mod History
 pub mod TraceViews
+pub mod FileViews

@@ -1,10 +1,14 @@
-use Rattle.std.specs.Prelude.{◌≡◌, ◌⊎◌, ℕ, List, Bool, false, cond}
-use Rattle.std.proofs.Common.{inl, sym, ◌∙◌, subst}
+use Rattle.std.specs.Prelude.{◌≡◌, ◌⊎◌, ℕ, ◌<◌, ◌≤◌, List, Bool, false, cond, vec_len, length}
+use Rattle.std.proofs.Common.{inl, sym, ◌∙◌, subst, arith}
 use Rattle.mqb_devices.specs.Disk.{View, Lawful}
 use Rattle.mqb_devices.specs.declared.power.Pick.{Pick}
-use Rattle.mqb_disk.specs.Changes.{Left}
-use Rattle.mqb_disk.specs.Extent.{standing}
+use Rattle.mqb_disk.specs.Changes.{Left, left_within}
+use Rattle.mqb_disk.specs.Extent.{Extent, standing}
 use Rattle.mqb_disk.specs.Picks.{left_by}
+use Rattle.mqb_disk.specs.Turns.{Power}
+use Rattle.mqb_disk.specs.Switches.{power_in}
+use Rattle.mqb_disk.specs.declared.change.Change.{Change}
+use Rattle.mqb_disk.specs.declared.memory_disk.TheConstants.{MAX_CHANGES}
 use Rattle.mqb_disk.specs.declared.memory_disk.MemoryDisk.{MemoryDisk}
 
 -- what a disk in memory tells: its images now, and none of past moments
@@ -15,6 +19,7 @@ memory_view d = record {
   moment = 0;
   since = λ t c. ⊥;
   keeps_calls = false;
+  calls = d.switch.calls;
   faults = d.switch.faults;
   switch = record { arms = d.switch.arms; restarts = d.switch.restarts; last_pick = d.switch.last_pick };
 }
@@ -26,7 +31,30 @@ memory_lawful d = record {
   is_left = λ c is. inl is;
   only_now = λ c none. absurd none;
   counts_now = λ keeps t le c left. absurd (subst (λ (b : Bool). cond b ⊥ (Unit {0})) keeps tt);
+  tells = λ keeps. absurd (subst (λ (b : Bool). cond b ⊥ (Unit {0})) keeps tt);
+  bound = λ c left. (let fits : length c ≤ d.current.room = left_within d.current.room d.changes.items d.safe.contents d.current.contents c d.fit d.safe_within d.within left in omega (arith, fits, d.bounded));
 }
+
+-- what it keeps
+pub record Stored : Type 0 where
+  pub current : Extent
+  pub safe : Extent
+  pub changes : List Change
+
+abbrev pub stored : MemoryDisk → Stored
+stored d = record { current = d.current; safe = d.safe; changes = d.changes.items }
+
+-- what was done since the last sync, the first of it first
+abbrev pub changes_of : MemoryDisk → List Change
+changes_of d = d.changes.items
+
+-- what a read gives
+abbrev pub contents : MemoryDisk → List ℕ
+contents d = d.current.contents
+
+-- how its power switch stands
+abbrev pub power_of : MemoryDisk → Power
+power_of d = power_in d.switch
 
 -- what a restart by this pick leaves of a disk in memory
 abbrev pub left_after : Pick → MemoryDisk → List ℕ
@@ -35,3 +63,12 @@ left_after pick d = left_by pick (standing d.current) d.changes.items d.safe.con
 -- how many bytes it can hold
 abbrev pub room : MemoryDisk → ℕ
 room d = d.current.room
+
+-- how many ranges it has kept since the last sync
+abbrev pub noted : MemoryDisk → ℕ
+noted d = vec_len d.changes
+
+-- it keeps one range more, which ends here
+pub record Takes (d : MemoryDisk) (end : ℕ) : Type 0 where
+  pub room : end ≤ room d
+  pub few : noted d < MAX_CHANGES

@@ -17,7 +17,8 @@ pub(crate) enum Change {
 fn write_again(image: &mut Image, now: &Image, at: usize, len: usize, pick: Pick)
     requires room { image.old.room ≡ now.now.room }
     requires fits { at + len ≤ image.old.room }
-    ensures left { image.new.contents ≡ reached at (begun pick at len (standing now.now)) image.old.contents }
+    ensures left { image.new.contents
+        ≡ reached at (begun pick at len (standing now.now)) image.old.contents }
     ensures room { image.new.room ≡ image.old.room }
 {
     if at > image.len() {
@@ -33,7 +34,8 @@ fn write_again(image: &mut Image, now: &Image, at: usize, len: usize, pick: Pick
 
 /// Makes a cut of an image that was safe, where the pick lets it stand.
 fn cut_again(image: &mut Image, len: usize, pick: Pick)
-    ensures left { image.new.contents ≡ if stands pick then take len image.old.contents else image.old.contents }
+    ensures left { image.new.contents
+        ≡ if stands pick then take len image.old.contents else image.old.contents }
     ensures room { image.new.room ≡ image.old.room }
 {
     if matches!(pick, Pick::New | Pick::Ones) && len <= image.len() {
@@ -57,7 +59,8 @@ fn make(image: &mut Image, now: &Image, change: Change, pick: Pick)
 pub(crate) fn replay(image: &mut Image, now: &Image, changes: &[Change], pick: Pick)
     requires room { image.old.room ≡ now.now.room }
     requires fit { All (lies_within image.old.room) changes.now }
-    ensures left { image.new.contents ≡ left_by pick (standing now.now) changes.now image.old.contents }
+    ensures left { image.new.contents
+        ≡ left_by pick (standing now.now) changes.now image.old.contents }
     ensures room { image.new.room ≡ image.old.room }
 {
     for change in changes {

@@ -19,7 +19,11 @@ impl Model for Image {
 
     ghost Value = { Extent };
 
-    ghost view = { λ i. record { contents = take i.len i.buffer.items; room = vec_len i.buffer; behind = drop i.len i.buffer.items } };
+    ghost view = { λ i. record {
+      contents = take i.len i.buffer.items;
+      room = vec_len i.buffer;
+      behind = drop i.len i.buffer.items;
+    } };
 
     ghost invariant = { λ i. i.len ≤ vec_len i.buffer };
 }
@@ -64,6 +68,7 @@ impl Image {
         requires fits { at + length bytes.now ≤ self.old.room }
         ensures written { Written at bytes.now self.old.contents self.new.contents }
         ensures room { self.new.room ≡ self.old.room }
+        ensures within { length self.new.contents ≤ self.new.room }
     {
         put(&mut self.buffer, at, bytes);
         self.len = self.len.max(at + bytes.len());
@@ -73,6 +78,7 @@ impl Image {
         requires { len ≤ length self.old.contents }
         ensures cut { self.new.contents ≡ take len self.old.contents }
         ensures room { self.new.room ≡ self.old.room }
+        ensures within { length self.new.contents ≤ self.new.room }
     {
         self.len = len;
     }
@@ -86,6 +92,7 @@ impl Image {
         requires same { take from self.old.contents ≡ take from other.now.contents }
         ensures contents { self.new.contents ≡ other.now.contents }
         ensures room { self.new.room ≡ self.old.room }
+        ensures within { length self.new.contents ≤ self.new.room }
     {
         follow_on(&mut self.buffer, &other.buffer[..other.len], from);
         self.len = other.len;
@@ -97,8 +104,10 @@ impl Image {
         requires room { self.old.room ≡ other.now.room }
         requires place { at ≤ length self.old.contents }
         requires fits { at + n ≤ self.old.room }
-        ensures written { Written at (take n (drop at (standing other.now))) self.old.contents self.new.contents }
+        ensures written { Written at
+            (take n (drop at (standing other.now))) self.old.contents self.new.contents }
         ensures room { self.new.room ≡ self.old.room }
+        ensures within { length self.new.contents ≤ self.new.room }
     {
         self.write(at, &other.buffer[at..at + n]);
     }
@@ -110,6 +119,7 @@ impl Image {
         requires fits { at + n ≤ self.old.room }
         ensures written { Written at (replicate n 1) self.old.contents self.new.contents }
         ensures room { self.new.room ≡ self.old.room }
+        ensures within { length self.new.contents ≤ self.new.room }
     {
         fill(&mut self.buffer, at, n);
         self.len = self.len.max(at + n);
@@ -118,7 +128,8 @@ impl Image {
 
 fn put(buffer: &mut [u8], at: usize, bytes: &[u8])
     requires { at + length bytes.now ≤ length buffer.old }
-    ensures { buffer.new ≡ take at buffer.old ++ bytes.now ++ drop (at + length bytes.now) buffer.old }
+    ensures { buffer.new ≡ take at buffer.old ++ bytes.now
+        ++ drop (at + length bytes.now) buffer.old }
 {
     buffer[at..at + bytes.len()].copy_from_slice(bytes);
 }

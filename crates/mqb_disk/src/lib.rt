@@ -1,17 +1,16 @@
-//! Disks in memory: one whose power can be cut off, and one that keeps its calls.
+//! Disks: in memory one whose power can be cut off and one that keeps its calls, and one in a file.
 //!
 //! A `MemoryDisk` has the bytes that a read gives, the bytes that were safe at the last sync, and the ranges that were written since. A restart builds
 //! from these what a crash leaves. A call takes no memory.
 #![tactic(auto)]
 
 mod change;
+mod file_disk;
 mod image;
 mod memory_disk;
 mod switch;
 mod trace_disk;
 
+pub use file_disk::FileDisk;
 pub use memory_disk::MemoryDisk;
 pub use trace_disk::{Call, TraceDisk};
-
-#[cfg(test)]
-mod tests;

@@ -1,21 +1,20 @@
-ghost use Rattle.std.specs.Prelude.{◌≡◌, ◌+◌, ◌≤◌, ◌<◌, ◌^◌, [], ◌∷◌, ◌++◌, length, take, IfOk, vec_len, vec_capacity, false, None, true, IsTrue};
+ghost use Rattle.std.specs.Prelude.{◌≡◌, ◌+◌, ◌≤◌, ◌<◌, ◌^◌, ◌↔◌, [], ◌∷◌, ◌++◌, length, take, min, IfOk, vec_len, vec_capacity, false, None, true, IsTrue};
 ghost use Rattle.mqb_devices.specs.Images.{Written, IsCut};
 ghost use Rattle.mqb_devices.specs.Disk.{IsSettled};
+ghost use Rattle.mqb_devices.specs.declared.disk.TheConstants.{MAX_DISK};
 ghost use Rattle.mqb_disk.specs.Picks.{lies_within};
+ghost use Rattle.mqb_disk.specs.declared.memory_disk.TheConstants.{MAX_CHANGES};
 ghost use Rattle.std.specs.List.{All};
 
 use crate::change::{Change, replay};
 use crate::image::Image;
 use crate::switch::{PowerSwitch, Turn};
 use mqb_base::{Failed, Memory};
-use mqb_devices::{Disk, Mode, Pick, Power};
+use mqb_devices::{Disk, MAX_DISK, Mode, Pick, Power};
 use std::alloc::Global;
 
 /// How many ranges a disk in memory keeps between two syncs.
 const MAX_CHANGES: usize = 64;
-
-/// No disk is longer.
-pub(crate) const MAX_LEN: usize = 1 << 62;
 
 /// A disk in memory whose power can be cut off. It begins empty.
 ///
@@ -34,26 +33,32 @@ pub struct MemoryDisk {
     ghost clean_current: { clean ≤ length current.contents },
     ghost clean_safe: { clean ≤ length safe.contents },
     ghost alike: { take clean current.contents ≡ take clean safe.contents },
-    ghost no_more: { 64 ≤ vec_capacity changes },
+    ghost changes_room: { MAX_CHANGES ≤ vec_capacity changes },
     ghost fit: { All (lies_within current.room) changes.items },
+    ghost within: { length current.contents ≤ current.room },
+    ghost safe_within: { length safe.contents ≤ current.room },
+    ghost bounded: { current.room ≤ MAX_DISK },
 }
 
 impl MemoryDisk {
-    ghost use Rattle.mqb_disk.specs.Views.{memory_view, room};
+    ghost use Rattle.mqb_disk.specs.Turns.{switched_on};
+    ghost use Rattle.mqb_disk.specs.Views.{memory_view, stored, power_of, room, noted, Takes};
     ghost use Rattle.mqb_disk.specs.declared.change.Change.TheVariants.{Wrote, Cut};
 
-    /// It has room for `capacity` bytes.
+    /// It has room for `capacity` bytes, and for `MAX_DISK` at most.
     pub fn new(alloc: Global, capacity: usize) -> Result<MemoryDisk, Memory>
         ensures empty { IfOk result (λ disk. (⟦<MemoryDisk as Disk>⟧.view disk).reads []) }
-        ensures room { IfOk result (λ disk. room disk ≡ capacity) }
+        ensures room { IfOk result (λ disk. room disk ≡ min capacity MAX_DISK) }
         ensures settled { IfOk result (λ disk. IsSettled (⟦<MemoryDisk as Disk>⟧.view disk)) }
         ensures faults { IfOk result (λ disk. (⟦<MemoryDisk as Disk>⟧.view disk).faults ≡ 0) }
-        ensures armed { IfOk result (λ disk. ⟦<MemoryDisk as Power>⟧.armed disk ≡ None) }
-        ensures running { IfOk result (λ disk. ⟦<MemoryDisk as Power>⟧.is_stopped disk ≡ false) }
+        ensures calls { IfOk result (λ disk. (⟦<MemoryDisk as Disk>⟧.view disk).calls ≡ 0) }
+        ensures noted { IfOk result (λ disk. noted disk ≡ 0) }
+        ensures power { IfOk result (λ disk. power_of disk ≡ switched_on) }
     {
+        let room = capacity.min(MAX_DISK as usize);
         Ok(MemoryDisk {
-            current: Image::new(alloc, capacity)?,
-            safe: Image::new(alloc, capacity)?,
+            current: Image::new(alloc, room)?,
+            safe: Image::new(alloc, room)?,
             clean: 0,
             changes: Vec::with_capacity(alloc, MAX_CHANGES)?,
             switch: PowerSwitch::new(),
@@ -62,29 +67,31 @@ impl MemoryDisk {
 
     /// Lets the first device call after the next restart fail without effect.
     pub fn arm_restart(&mut self)
-        ensures { self.new ≡ record self.old { switch = record self.old.switch { restart_is_armed = true } } }
+        ensures power { power_of self.new ≡ record (power_of self.old) { restart_is_armed = true } }
+        ensures stored { stored self.new ≡ stored self.old }
+        ensures calls { (memory_view self.new).calls ≡ (memory_view self.old).calls }
+        ensures faults { (memory_view self.new).faults ≡ (memory_view self.old).faults }
+        ensures switch { (memory_view self.new).switch ≡ (memory_view self.old).switch }
     {
         self.switch.restart_is_armed = true;
     }
 
     // Whether one change more is kept, which reaches to `end`.
     fn takes(&self, end: u64) -> bool
-        ensures room { IsTrue result → end ≤ self.now.current.room }
-        ensures bound { IsTrue result → end ≤ 2 ^ 62 }
-        ensures count { IsTrue result → vec_len self.now.changes < 64 }
+        ensures takes { IsTrue result ↔ Takes self.now end }
+        ensures bound { IsTrue result → end ≤ MAX_DISK }
     {
-        self.changes.len() < MAX_CHANGES
-            && end <= MAX_LEN as u64
-            && end <= self.current.room() as u64
+        self.changes.len() < MAX_CHANGES && end <= self.current.room() as u64
     }
 
     // Writes, and notes the range.
     fn put(&mut self, at: usize, bytes: &[u8])
         requires place { at ≤ length self.old.current.contents }
         requires fits { at + length bytes.now ≤ self.old.current.room }
-        requires few { vec_len self.old.changes < 64 }
+        requires few { noted self.old < MAX_CHANGES }
         ensures written { Written at bytes.now self.old.current.contents self.new.current.contents }
-        ensures noted { self.new.changes.items ≡ self.old.changes.items ++ Wrote at (length bytes.now) ∷ [] }
+        ensures noted { self.new.changes.items ≡ self.old.changes.items
+            ++ Wrote at (length bytes.now) ∷ [] }
         ensures safe { self.new.safe ≡ self.old.safe }
         ensures switch { self.new.switch ≡ self.old.switch }
     {
@@ -102,7 +109,7 @@ impl MemoryDisk {
     // Cuts, and notes it.
     fn shorten(&mut self, len: usize)
         requires place { len ≤ length self.old.current.contents }
-        requires few { vec_len self.old.changes < 64 }
+        requires few { noted self.old < MAX_CHANGES }
         ensures cut { IsCut len self.old.current.contents self.new.current.contents }
         ensures noted { self.new.changes.items ≡ self.old.changes.items ++ Cut len ∷ [] }
         ensures safe { self.new.safe ≡ self.old.safe }
@@ -117,24 +124,48 @@ impl MemoryDisk {
 }
 
 impl Disk for MemoryDisk {
-    ghost use Rattle.mqb_disk.specs.Views.{memory_view, memory_lawful};
+    ghost use Rattle.std.specs.Prelude.{◌≢◌, drop, IsOk, OnOk, OnErr};
+    ghost use Rattle.mqb_outside.specs.Faults.{HasCause};
+    ghost use Rattle.mqb_devices.specs.Images.{Each, Same, Follows, Torn, MayBeCut};
+    ghost use Rattle.mqb_devices.specs.Disk.{OnlyReads, Elapses, Counted};
+    ghost use Rattle.mqb_disk.specs.Turns.{turn_of, after_turn};
+    ghost use Rattle.mqb_disk.specs.Views.{memory_view, memory_lawful, stored, changes_of, contents, power_of, room, noted, Takes};
+    ghost use Rattle.mqb_disk.specs.declared.change.Change.TheVariants.{Wrote, Cut};
 
     ghost view = { memory_view };
 
     ghost lawful = { memory_lawful };
 
-    fn len(&mut self) -> Result<u64, Failed> {
-        if self.switch.turn() != Turn::Works {
-            return Err(Failed);
+    fn len(&mut self) -> Result<u64, Failed>
+        ensures power { power_of self.new ≡ after_turn (power_of self.old) }
+        ensures works { IsOk result ↔ (turn_of (power_of self.old) ≡ Turn.Works) }
+        ensures stored { stored self.new ≡ stored self.old }
+        ensures length { IfOk result (λ n. n ≡ length (contents self.old)) }
+        ensures bound { IfOk result (λ n. n ≤ MAX_DISK) }
+        ensures reads { OnlyReads (memory_view self.old) (memory_view self.new) }
+        ensures calls { Counted 1 (memory_view self.old).calls (memory_view self.new).calls }
+        ensures cause { HasCause (memory_view self.old).faults
+            (memory_view self.new).faults result }
+    {
+        if self.switch.turn() == Turn::Works {
+            Ok(self.current.len() as u64)
+        } else {
+            Err(Failed)
         }
-        if self.current.len() > MAX_LEN {
-            self.switch.fault();
-            return Err(Failed);
-        }
-        Ok(self.current.len() as u64)
     }
 
-    fn read_at(&mut self, at: u64, buf: &mut [u8]) -> Result<(), Failed> {
+    fn read_at(&mut self, at: u64, buf: &mut [u8]) -> Result<(), Failed>
+        requires { at + length buf.old ≤ length (contents self.old) }
+        ensures power { power_of self.new ≡ after_turn (power_of self.old) }
+        ensures works { IsOk result ↔ (turn_of (power_of self.old) ≡ Turn.Works) }
+        ensures stored { stored self.new ≡ stored self.old }
+        ensures bytes { OnOk result
+            (buf.new ≡ take (length buf.old) (drop at (contents self.old))) }
+        ensures reads { OnlyReads (memory_view self.old) (memory_view self.new) }
+        ensures calls { Counted 1 (memory_view self.old).calls (memory_view self.new).calls }
+        ensures cause { HasCause (memory_view self.old).faults
+            (memory_view self.new).faults result }
+    {
         let turn = self.switch.turn();
         if turn != Turn::Fails {
             self.current.read(at as usize, buf);
@@ -146,7 +177,42 @@ impl Disk for MemoryDisk {
         }
     }
 
-    fn write_at(&mut self, at: u64, bytes: &[u8]) -> Result<(), Failed> {
+    fn write_at(&mut self, at: u64, bytes: &[u8]) -> Result<(), Failed>
+        requires place { at ≤ length (contents self.old) }
+        requires range { at + length bytes.now < 2 ^ 64 }
+        ensures power { power_of self.new ≡ after_turn (power_of self.old) }
+        ensures works { IsOk result
+            ↔ ((turn_of (power_of self.old) ≡ Turn.Works)
+            × Takes self.old (at + length bytes.now)) }
+
+        // A call at which the power is cut off takes place too.
+        ensures made { turn_of (power_of self.old) ≢ Turn.Fails
+            → Takes self.old (at + length bytes.now)
+            → Written at bytes.now (contents self.old) (contents self.new) }
+        ensures noted { turn_of (power_of self.old) ≢ Turn.Fails
+            → Takes self.old (at + length bytes.now)
+            → noted self.new ≡ noted self.old + 1 }
+        ensures changes { turn_of (power_of self.old) ≢ Turn.Fails
+            → Takes self.old (at + length bytes.now)
+            → changes_of self.new ≡ changes_of self.old ++ Wrote at (length bytes.now) ∷ [] }
+        ensures safe { (stored self.new).safe ≡ (stored self.old).safe }
+        ensures fails { turn_of (power_of self.old) ≡ Turn.Fails
+            → stored self.new ≡ stored self.old }
+        ensures full { (Takes self.old (at + length bytes.now) → ⊥)
+            → stored self.new ≡ stored self.old }
+        ensures room { room self.new ≡ room self.old }
+        ensures written { OnOk result
+            (Follows (Written at bytes.now) (memory_view self.old).reads
+            (memory_view self.new).reads) }
+        ensures bound { OnOk result (at + length bytes.now ≤ MAX_DISK) }
+        ensures leaves { Follows (Torn at (length bytes.now)) (memory_view self.old).leaves
+            (memory_view self.new).leaves }
+        ensures time { Elapses (memory_view self.old) (memory_view self.new) }
+        ensures switch { (memory_view self.new).switch ≡ (memory_view self.old).switch }
+        ensures calls { Counted 1 (memory_view self.old).calls (memory_view self.new).calls }
+        ensures cause { HasCause (memory_view self.old).faults
+            (memory_view self.new).faults result }
+    {
         let turn = self.switch.turn();
         if turn == Turn::Fails {
             return Err(Failed);
@@ -163,7 +229,32 @@ impl Disk for MemoryDisk {
         }
     }
 
-    fn cut(&mut self, len: u64) -> Result<(), Failed> {
+    fn cut(&mut self, len: u64) -> Result<(), Failed>
+        requires { len ≤ length (contents self.old) }
+        ensures power { power_of self.new ≡ after_turn (power_of self.old) }
+        ensures works { IsOk result
+            ↔ ((turn_of (power_of self.old) ≡ Turn.Works) × Takes self.old len) }
+        ensures made { turn_of (power_of self.old) ≢ Turn.Fails → Takes self.old len
+            → IsCut len (contents self.old) (contents self.new) }
+        ensures noted { turn_of (power_of self.old) ≢ Turn.Fails → Takes self.old len
+            → noted self.new ≡ noted self.old + 1 }
+        ensures changes { turn_of (power_of self.old) ≢ Turn.Fails → Takes self.old len
+            → changes_of self.new ≡ changes_of self.old ++ Cut len ∷ [] }
+        ensures safe { (stored self.new).safe ≡ (stored self.old).safe }
+        ensures fails { turn_of (power_of self.old) ≡ Turn.Fails
+            → stored self.new ≡ stored self.old }
+        ensures full { (Takes self.old len → ⊥) → stored self.new ≡ stored self.old }
+        ensures room { room self.new ≡ room self.old }
+        ensures cut { OnOk result
+            (Follows (IsCut len) (memory_view self.old).reads (memory_view self.new).reads) }
+        ensures leaves { Follows (MayBeCut len) (memory_view self.old).leaves
+            (memory_view self.new).leaves }
+        ensures time { Elapses (memory_view self.old) (memory_view self.new) }
+        ensures switch { (memory_view self.new).switch ≡ (memory_view self.old).switch }
+        ensures calls { Counted 1 (memory_view self.old).calls (memory_view self.new).calls }
+        ensures cause { HasCause (memory_view self.old).faults
+            (memory_view self.new).faults result }
+    {
         let turn = self.switch.turn();
         if turn == Turn::Fails {
             return Err(Failed);
@@ -180,7 +271,21 @@ impl Disk for MemoryDisk {
         }
     }
 
-    fn sync(&mut self) -> Result<(), Failed> {
+    fn sync(&mut self) -> Result<(), Failed>
+        ensures power { power_of self.new ≡ after_turn (power_of self.old) }
+        ensures works { IsOk result ↔ (turn_of (power_of self.old) ≡ Turn.Works) }
+        ensures noted { OnOk result (noted self.new ≡ 0) }
+        ensures unsynced { OnErr result (stored self.new ≡ stored self.old) }
+        ensures room { room self.new ≡ room self.old }
+        ensures durable { OnOk result (IsSettled (memory_view self.new)) }
+        ensures reads { Same (memory_view self.old).reads (memory_view self.new).reads }
+        ensures leaves { Each (memory_view self.new).leaves (memory_view self.old).leaves }
+        ensures time { Elapses (memory_view self.old) (memory_view self.new) }
+        ensures switch { (memory_view self.new).switch ≡ (memory_view self.old).switch }
+        ensures calls { Counted 1 (memory_view self.old).calls (memory_view self.new).calls }
+        ensures cause { HasCause (memory_view self.old).faults
+            (memory_view self.new).faults result }
+    {
         if self.switch.turn() != Turn::Works {
             return Err(Failed);
         }
@@ -198,12 +303,27 @@ impl Power for MemoryDisk {
 
     ghost use Rattle.std.specs.Prelude.{refl, Some};
     ghost use Rattle.mqb_devices.specs.Images.{Each};
-    ghost use Rattle.mqb_devices.specs.Disk.{Elapses, Counted};
-    ghost use Rattle.mqb_disk.specs.Views.{memory_view, left_after};
+    ghost use Rattle.mqb_devices.specs.Disk.{Unchanged, Elapses, Counted};
+    ghost use Rattle.mqb_disk.specs.Turns.{after_restart};
+    ghost use Rattle.mqb_disk.specs.Views.{memory_view, stored, power_of, room, noted, left_after};
 
     ghost tells = { λ d. (d.current.contents, refl) };
 
-    fn arm(&mut self, call: u32, mode: Mode) {
+    fn arm(&mut self, call: u32, mode: Mode)
+        ensures power { power_of self.new
+            ≡ record (power_of self.old) { armed = Some (call, mode) } }
+        ensures stored { stored self.new ≡ stored self.old }
+        ensures arms { Counted 1 (memory_view self.old).switch.arms
+            (memory_view self.new).switch.arms }
+        ensures restarts { (memory_view self.new).switch.restarts
+            ≡ (memory_view self.old).switch.restarts }
+        ensures pick { (memory_view self.new).switch.last_pick
+            ≡ (memory_view self.old).switch.last_pick }
+        ensures unchanged { Unchanged (memory_view self.old) (memory_view self.new) }
+        ensures time { Elapses (memory_view self.old) (memory_view self.new) }
+        ensures calls { (memory_view self.new).calls ≡ (memory_view self.old).calls }
+        ensures faults { (memory_view self.new).faults ≡ (memory_view self.old).faults }
+    {
         self.switch.arm(call, mode);
     }
 
@@ -215,13 +335,16 @@ impl Power for MemoryDisk {
         ensures left { (memory_view self.new).reads (left_after pick self.old) }
         ensures settled { IsSettled (memory_view self.new) }
         ensures one_of { Each (memory_view self.new).reads (memory_view self.old).leaves }
-        ensures armed { self.new.switch.armed ≡ None }
-        ensures arms { self.new.switch.arms ≡ self.old.switch.arms }
-        ensures restarts { Counted self.old.switch.restarts self.new.switch.restarts }
-        ensures pick { self.new.switch.last_pick ≡ Some pick }
-        ensures stopped { self.new.switch.stopped ≡ false }
+        ensures power { power_of self.new ≡ after_restart (power_of self.old) }
+        ensures noted { noted self.new ≡ 0 }
+        ensures room { room self.new ≡ room self.old }
+        ensures arms { (memory_view self.new).switch.arms ≡ (memory_view self.old).switch.arms }
+        ensures restarts { Counted 1 (memory_view self.old).switch.restarts
+            (memory_view self.new).switch.restarts }
+        ensures pick { (memory_view self.new).switch.last_pick ≡ Some pick }
+        ensures calls { (memory_view self.new).calls ≡ (memory_view self.old).calls }
         ensures time { Elapses (memory_view self.old) (memory_view self.new) }
-        ensures faults { self.new.switch.faults ≡ self.old.switch.faults }
+        ensures faults { (memory_view self.new).faults ≡ (memory_view self.old).faults }
     {
         self.switch.restart(pick);
         replay(&mut self.safe, &self.current, &self.changes, pick);

@@ -14,6 +14,16 @@ pub(crate) enum Turn {
     Stops,
 }
 
+impl Turn {
+    ghost use Rattle.mqb_disk.specs.Turns.{turn_by};
+
+    fn by_failing(fails: bool) -> Turn
+        ensures { result ≡ turn_by None fails }
+    {
+        if fails { Turn::Fails } else { Turn::Works }
+    }
+}
+
 /// The power switch of a disk, with its count of faults.
 #[derive(Debug, Drop)]
 pub(crate) struct PowerSwitch {
@@ -21,6 +31,7 @@ pub(crate) struct PowerSwitch {
     pub(crate) stopped: bool,
     pub(crate) restart_is_armed: bool,
     pub(crate) fails_next: bool,
+    pub(crate) calls: u64,
     pub(crate) faults: u64,
     pub(crate) arms: u64,
     pub(crate) restarts: u64,
@@ -28,9 +39,12 @@ pub(crate) struct PowerSwitch {
 }
 
 impl PowerSwitch {
+    ghost use Rattle.mqb_disk.specs.Turns.{turn_of, after_turn, after_restart, switched_on};
+    ghost use Rattle.mqb_disk.specs.Switches.{power_in};
+
     pub(crate) fn new() -> PowerSwitch
-        ensures armed { result.armed ≡ None }
-        ensures stopped { result.stopped ≡ false }
+        ensures power { power_in result ≡ switched_on }
+        ensures calls { result.calls ≡ 0 }
         ensures faults { result.faults ≡ 0 }
         ensures arms { result.arms ≡ 0 }
         ensures restarts { result.restarts ≡ 0 }
@@ -41,6 +55,7 @@ impl PowerSwitch {
             stopped: false,
             restart_is_armed: false,
             fails_next: false,
+            calls: 0,
             faults: 0,
             arms: 0,
             restarts: 0,
@@ -50,14 +65,17 @@ impl PowerSwitch {
 
     /// Counts a device call, and says what comes of it. One that fails or stops is counted as a fault.
     pub(crate) fn turn(&mut self) -> Turn
+        ensures turn { result ≡ turn_of (power_in self.old) }
+        ensures power { power_in self.new ≡ after_turn (power_in self.old) }
+        ensures counted { Counted 1 self.old.calls self.new.calls }
         ensures works { result ≡ Turn.Works → self.new.faults ≡ self.old.faults }
         ensures fails { result ≡ Turn.Fails → Rose self.old.faults self.new.faults }
         ensures stops { result ≡ Turn.Stops → Rose self.old.faults self.new.faults }
-        ensures stopped { result ≡ Turn.Stops → self.new.stopped ≡ true }
         ensures arms { self.new.arms ≡ self.old.arms }
         ensures restarts { self.new.restarts ≡ self.old.restarts }
         ensures pick { self.new.last_pick ≡ self.old.last_pick }
     {
+        self.calls = self.calls.saturating_add(1);
         let turn = self.next_turn();
         if turn != Turn::Works {
             self.fault();
@@ -66,8 +84,10 @@ impl PowerSwitch {
     }
 
     fn next_turn(&mut self) -> Turn
+        ensures turn { result ≡ turn_of (power_in self.old) }
+        ensures power { power_in self.new ≡ after_turn (power_in self.old) }
+        ensures calls { self.new.calls ≡ self.old.calls }
         ensures faults { self.new.faults ≡ self.old.faults }
-        ensures stopped { result ≡ Turn.Stops → self.new.stopped ≡ true }
         ensures arms { self.new.arms ≡ self.old.arms }
         ensures restarts { self.new.restarts ≡ self.old.restarts }
         ensures pick { self.new.last_pick ≡ self.old.last_pick }
@@ -75,15 +95,12 @@ impl PowerSwitch {
         if self.stopped {
             return Turn::Fails;
         }
-        if self.fails_next {
-            self.fails_next = false;
-            return Turn::Fails;
-        }
+        let fails = self.fails_next;
+        self.fails_next = false;
         match self.armed {
-            None => Turn::Works,
             Some((call, mode)) if call > 1 => {
                 self.armed = Some((call - 1, mode));
-                Turn::Works
+                Turn::by_failing(fails)
             }
             Some((_, Mode::Fail)) => {
                 self.armed = None;
@@ -94,6 +111,7 @@ impl PowerSwitch {
                 self.stopped = true;
                 Turn::Stops
             }
+            None => Turn::by_failing(fails),
         }
     }
 
@@ -106,7 +124,7 @@ impl PowerSwitch {
 
     pub(crate) fn arm(&mut self, call: u32, mode: Mode)
         ensures armed { self.new.armed ≡ Some (call, mode) }
-        ensures counted { Counted self.old.arms self.new.arms }
+        ensures counted { Counted 1 self.old.arms self.new.arms }
         ensures rest { self.new ≡ record self.old { armed = self.new.armed; arms = self.new.arms } }
     {
         self.armed = Some((call, mode));
@@ -115,13 +133,12 @@ impl PowerSwitch {
 
     /// The power is on again.
     pub(crate) fn restart(&mut self, pick: Pick)
-        ensures armed { self.new.armed ≡ None }
-        ensures stopped { self.new.stopped ≡ false }
-        ensures counted { Counted self.old.restarts self.new.restarts }
+        ensures power { power_in self.new ≡ after_restart (power_in self.old) }
+        ensures counted { Counted 1 self.old.restarts self.new.restarts }
         ensures pick { self.new.last_pick ≡ Some pick }
+        ensures calls { self.new.calls ≡ self.old.calls }
         ensures faults { self.new.faults ≡ self.old.faults }
         ensures arms { self.new.arms ≡ self.old.arms }
-        ensures fails { self.new.fails_next ≡ self.old.restart_is_armed }
     {
         self.armed = None;
         self.stopped = false;

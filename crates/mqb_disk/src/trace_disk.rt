@@ -1,13 +1,13 @@
-ghost use Rattle.std.specs.Prelude.{◌≡◌, ◌+◌, ◌-◌, ◌≤◌, ◌<◌, [], ◌∷◌, ◌++◌, length, IfOk, OnOk, OnErr, IsTrue, vec_len, vec_capacity};
+ghost use Rattle.std.specs.Prelude.{◌≡◌, ◌+◌, ◌-◌, ◌≤◌, ◌<◌, [], ◌∷◌, ◌++◌, length, min, IfOk, OnOk, OnErr, IsTrue, vec_len, vec_capacity};
 ghost use Rattle.mqb_devices.specs.Disk.{IsSettled};
 ghost use Rattle.mqb_outside.specs.Faults.{Rose};
 ghost use Rattle.std.specs.List.{All};
-ghost use Rattle.mqb_disk.specs.History.{fits, held, history};
+ghost use Rattle.mqb_disk.specs.History.{fits, held, history, reaches_within};
+ghost use Rattle.mqb_devices.specs.declared.disk.TheConstants.{MAX_DISK};
 
 use crate::image::Image;
-use crate::memory_disk::MAX_LEN;
 use mqb_base::{Failed, Memory};
-use mqb_devices::Disk;
+use mqb_devices::{Disk, MAX_DISK};
 use std::alloc::Global;
 
 /// A call that changed a disk. The bytes of a write stand among those of all writes, from `from` on.
@@ -27,31 +27,41 @@ pub struct TraceDisk {
     calls: Vec<Call>,
     bytes: Vec<u8>,
     reads: Vec<(u64, u64)>,
+    made: u64,
     faults: u64,
     ghost within: { All (fits (vec_len bytes)) calls.items },
     ghost same: { current.contents ≡ held (history bytes.items calls.items) },
     ghost calls_room: { vec_len calls + left ≤ vec_capacity calls },
     ghost reads_room: { vec_len reads + left ≤ vec_capacity reads },
+    ghost grown: { length current.contents ≤ vec_len bytes },
+    ghost bytes_fit: { vec_len bytes ≤ current.room },
+    ghost bytes_room: { current.room ≤ vec_capacity bytes },
+    ghost bounded: { All (reaches_within current.room) (history bytes.items calls.items) },
+    ghost small: { current.room ≤ MAX_DISK },
 }
 
 impl TraceDisk {
     ghost use Rattle.mqb_disk.specs.History.{Wrote as wrote, WasCut as was_cut};
-    ghost use Rattle.mqb_disk.specs.TraceViews.{history_of, calls_of, written_of, reads_of, room, calls_left};
+    ghost use Rattle.mqb_disk.specs.TraceViews.{history_of, calls_of, written_of, reads_of, room, bytes_left, calls_left};
 
-    /// It keeps `calls` calls and `capacity` written bytes. A call past that fails.
+    /// It keeps `calls` calls and `capacity` written bytes, and at most `MAX_DISK` of these. A call past that fails.
     pub fn new(alloc: Global, capacity: usize, calls: u32) -> Result<TraceDisk, Memory>
         ensures empty { IfOk result (λ disk. (⟦<TraceDisk as Disk>⟧.view disk).reads []) }
-        ensures room { IfOk result (λ disk. room disk ≡ capacity) }
-        ensures calls { IfOk result (λ disk. calls_left disk ≡ calls) }
+        ensures room { IfOk result (λ disk. room disk ≡ min capacity MAX_DISK) }
+        ensures left { IfOk result (λ disk. calls_left disk ≡ calls) }
+        ensures bytes_left { IfOk result (λ disk. bytes_left disk ≡ room disk) }
+        ensures calls { IfOk result (λ disk. (⟦<TraceDisk as Disk>⟧.view disk).calls ≡ 0) }
         ensures settled { IfOk result (λ disk. IsSettled (⟦<TraceDisk as Disk>⟧.view disk)) }
         ensures faults { IfOk result (λ disk. (⟦<TraceDisk as Disk>⟧.view disk).faults ≡ 0) }
     {
+        let room = capacity.min(MAX_DISK as usize);
         Ok(TraceDisk {
-            current: Image::new(alloc, capacity)?,
+            current: Image::new(alloc, room)?,
             left: calls,
             calls: Vec::with_capacity(alloc, calls as usize)?,
-            bytes: Vec::with_capacity(alloc, capacity)?,
+            bytes: Vec::with_capacity(alloc, room)?,
             reads: Vec::with_capacity(alloc, calls as usize)?,
+            made: 0,
             faults: 0,
         })
     }
@@ -81,6 +91,10 @@ impl TraceDisk {
         ensures fault { Rose self.old.faults self.new.faults }
         ensures kept { history_of self.new ≡ history_of self.old }
         ensures listed { reads_of self.new ≡ reads_of self.old }
+        ensures left { calls_left self.new ≡ calls_left self.old }
+        ensures written { written_of self.new ≡ written_of self.old }
+        ensures room { room self.new ≡ room self.old }
+        ensures made { self.new.made ≡ self.old.made }
     {
         self.faults = self.faults.saturating_add(1);
         Failed
@@ -89,10 +103,14 @@ impl TraceDisk {
     // Writes, and keeps the call with its bytes.
     fn put(&mut self, at: usize, bytes: &[u8])
         requires place { at ≤ length self.old.current.contents }
-        requires fits { at + length bytes.now ≤ self.old.current.room }
         requires left { 0 < self.old.left }
-        requires room { vec_len self.old.bytes + length bytes.now ≤ vec_capacity self.old.bytes }
+        requires fits { vec_len self.old.bytes + length bytes.now ≤ self.old.current.room }
         ensures kept { history_of self.new ≡ wrote at bytes.now ∷ history_of self.old }
+        ensures listed { reads_of self.new ≡ reads_of self.old }
+        ensures left { calls_left self.new + 1 ≡ calls_left self.old }
+        ensures written { written_of self.new ≡ written_of self.old ++ bytes.now }
+        ensures room { room self.new ≡ room self.old }
+        ensures made { self.new.made ≡ self.old.made }
         ensures faults { self.new.faults ≡ self.old.faults }
     {
         let call = Call::Wrote {
@@ -113,6 +131,11 @@ impl TraceDisk {
         requires place { len ≤ length self.old.current.contents }
         requires left { 0 < self.old.left }
         ensures kept { history_of self.new ≡ was_cut len ∷ history_of self.old }
+        ensures listed { reads_of self.new ≡ reads_of self.old }
+        ensures left { calls_left self.new + 1 ≡ calls_left self.old }
+        ensures written { written_of self.new ≡ written_of self.old }
+        ensures room { room self.new ≡ room self.old }
+        ensures made { self.new.made ≡ self.old.made }
         ensures faults { self.new.faults ≡ self.old.faults }
     {
         self.current.cut(len);
@@ -122,19 +145,32 @@ impl TraceDisk {
 }
 
 impl Disk for TraceDisk {
-    ghost use Rattle.std.specs.Prelude.{◌^◌, take, drop};
+    ghost use Rattle.std.specs.Prelude.{◌↔◌, ◌^◌, take, drop, IsOk};
     ghost use Rattle.mqb_devices.specs.Images.{Each, Same, Follows, Written, Torn, IsCut, MayBeCut};
-    ghost use Rattle.mqb_devices.specs.Disk.{OnlyReads, Elapses};
+    ghost use Rattle.mqb_devices.specs.Disk.{OnlyReads, Elapses, Counted};
     ghost use Rattle.mqb_outside.specs.Faults.{HasCause};
     ghost use Rattle.mqb_disk.specs.History.{Wrote as wrote, WasCut as was_cut, Synced as was_synced};
-    ghost use Rattle.mqb_disk.specs.TraceViews.{trace_view, trace_lawful, Keeps, Lists};
+    ghost use Rattle.mqb_disk.specs.TraceViews.{trace_view, trace_lawful, history_of, written_of, reads_of, room, bytes_left, calls_left, Keeps, Lists, Uses};
 
     ghost view = { trace_view };
 
     ghost lawful = { trace_lawful };
 
-    fn len(&mut self) -> Result<u64, Failed> {
-        if self.left == 0 || self.current.len() > MAX_LEN {
+    fn len(&mut self) -> Result<u64, Failed>
+        ensures kept { history_of self.new ≡ history_of self.old }
+        ensures listed { reads_of self.new ≡ reads_of self.old }
+        ensures uses { Uses self.old self.new result }
+        ensures written_bytes { written_of self.new ≡ written_of self.old }
+        ensures room { room self.new ≡ room self.old }
+        ensures works { IsOk result ↔ (0 < calls_left self.old) }
+        ensures length { IfOk result (λ n. Each (trace_view self.old).reads (λ c. n ≡ length c)) }
+        ensures bound { IfOk result (λ n. n ≤ MAX_DISK) }
+        ensures reads { OnlyReads (trace_view self.old) (trace_view self.new) }
+        ensures calls { Counted 1 (trace_view self.old).calls (trace_view self.new).calls }
+        ensures cause { HasCause (trace_view self.old).faults (trace_view self.new).faults result }
+    {
+        self.made = self.made.saturating_add(1);
+        if self.left == 0 {
             return Err(self.fail());
         }
         self.left -= 1;
@@ -143,11 +179,19 @@ impl Disk for TraceDisk {
 
     fn read_at(&mut self, at: u64, buf: &mut [u8]) -> Result<(), Failed>
         requires { Each (trace_view self.old).reads (λ c. at + length buf.old ≤ length c) }
+        ensures kept { history_of self.new ≡ history_of self.old }
+        ensures uses { Uses self.old self.new result }
+        ensures written_bytes { written_of self.new ≡ written_of self.old }
+        ensures room { room self.new ≡ room self.old }
+        ensures works { IsOk result ↔ (0 < calls_left self.old) }
         ensures listed { Lists at (length buf.old) self.old self.new result }
-        ensures bytes { OnOk result (Each (trace_view self.old).reads (λ c. buf.new ≡ take (length buf.old) (drop at c))) }
+        ensures bytes { OnOk result
+            (Each (trace_view self.old).reads (λ c. buf.new ≡ take (length buf.old) (drop at c))) }
         ensures reads { OnlyReads (trace_view self.old) (trace_view self.new) }
-        ensures cause { HasCause self.old.faults self.new.faults result }
+        ensures calls { Counted 1 (trace_view self.old).calls (trace_view self.new).calls }
+        ensures cause { HasCause (trace_view self.old).faults (trace_view self.new).faults result }
     {
+        self.made = self.made.saturating_add(1);
         if self.left == 0 {
             return Err(self.fail());
         }
@@ -161,20 +205,27 @@ impl Disk for TraceDisk {
         requires place { Each (trace_view self.old).reads (λ c. at ≤ length c) }
         requires range { at + length bytes.now < 2 ^ 64 }
         ensures kept { Keeps (wrote at bytes.now) self.old self.new result }
-        ensures written { OnOk result (Follows (Written at bytes.now) (trace_view self.old).reads (trace_view self.new).reads) }
-        ensures bound { OnOk result (at + length bytes.now ≤ 2 ^ 62) }
-        ensures leaves { Follows (Torn at (length bytes.now)) (trace_view self.old).leaves (trace_view self.new).leaves }
+        ensures listed { reads_of self.new ≡ reads_of self.old }
+        ensures uses { Uses self.old self.new result }
+        ensures taken { OnOk result (written_of self.new ≡ written_of self.old ++ bytes.now) }
+        ensures not_taken { OnErr result (written_of self.new ≡ written_of self.old) }
+        ensures room { room self.new ≡ room self.old }
+        ensures works { IsOk result
+            ↔ ((0 < calls_left self.old) × (length bytes.now ≤ bytes_left self.old)) }
+        ensures written { OnOk result
+            (Follows (Written at bytes.now) (trace_view self.old).reads
+            (trace_view self.new).reads) }
+        ensures bound { OnOk result (at + length bytes.now ≤ MAX_DISK) }
+        ensures leaves { Follows (Torn at (length bytes.now)) (trace_view self.old).leaves
+            (trace_view self.new).leaves }
         ensures time { Elapses (trace_view self.old) (trace_view self.new) }
         ensures switch { (trace_view self.new).switch ≡ (trace_view self.old).switch }
-        ensures cause { HasCause self.old.faults self.new.faults result }
+        ensures calls { Counted 1 (trace_view self.old).calls (trace_view self.new).calls }
+        ensures cause { HasCause (trace_view self.old).faults (trace_view self.new).faults result }
     {
-        let end = at + bytes.len() as u64;
-        let room = self.bytes.capacity() - self.bytes.len();
-        if self.left == 0
-            || end > MAX_LEN as u64
-            || end > self.current.room() as u64
-            || bytes.len() > room
-        {
+        self.made = self.made.saturating_add(1);
+        let room = self.current.room() - self.bytes.len();
+        if self.left == 0 || bytes.len() > room {
             return Err(self.fail());
         }
         self.put(at as usize, bytes);
@@ -184,13 +235,22 @@ impl Disk for TraceDisk {
     fn cut(&mut self, len: u64) -> Result<(), Failed>
         requires { Each (trace_view self.old).reads (λ c. len ≤ length c) }
         ensures kept { Keeps (was_cut len) self.old self.new result }
-        ensures cut { OnOk result (Follows (IsCut len) (trace_view self.old).reads (trace_view self.new).reads) }
-        ensures leaves { Follows (MayBeCut len) (trace_view self.old).leaves (trace_view self.new).leaves }
+        ensures listed { reads_of self.new ≡ reads_of self.old }
+        ensures uses { Uses self.old self.new result }
+        ensures written_bytes { written_of self.new ≡ written_of self.old }
+        ensures room { room self.new ≡ room self.old }
+        ensures works { IsOk result ↔ (0 < calls_left self.old) }
+        ensures cut { OnOk result
+            (Follows (IsCut len) (trace_view self.old).reads (trace_view self.new).reads) }
+        ensures leaves { Follows (MayBeCut len) (trace_view self.old).leaves
+            (trace_view self.new).leaves }
         ensures time { Elapses (trace_view self.old) (trace_view self.new) }
         ensures switch { (trace_view self.new).switch ≡ (trace_view self.old).switch }
-        ensures cause { HasCause self.old.faults self.new.faults result }
+        ensures calls { Counted 1 (trace_view self.old).calls (trace_view self.new).calls }
+        ensures cause { HasCause (trace_view self.old).faults (trace_view self.new).faults result }
     {
-        if self.left == 0 || len > self.current.room() as u64 {
+        self.made = self.made.saturating_add(1);
+        if self.left == 0 {
             return Err(self.fail());
         }
         self.shorten(len as usize);
@@ -199,13 +259,20 @@ impl Disk for TraceDisk {
 
     fn sync(&mut self) -> Result<(), Failed>
         ensures kept { Keeps was_synced self.old self.new result }
+        ensures listed { reads_of self.new ≡ reads_of self.old }
+        ensures uses { Uses self.old self.new result }
+        ensures written_bytes { written_of self.new ≡ written_of self.old }
+        ensures room { room self.new ≡ room self.old }
+        ensures works { IsOk result ↔ (0 < calls_left self.old) }
         ensures durable { OnOk result (IsSettled (trace_view self.new)) }
         ensures reads { Same (trace_view self.old).reads (trace_view self.new).reads }
         ensures leaves { Each (trace_view self.new).leaves (trace_view self.old).leaves }
         ensures time { Elapses (trace_view self.old) (trace_view self.new) }
         ensures switch { (trace_view self.new).switch ≡ (trace_view self.old).switch }
-        ensures cause { HasCause self.old.faults self.new.faults result }
+        ensures calls { Counted 1 (trace_view self.old).calls (trace_view self.new).calls }
+        ensures cause { HasCause (trace_view self.old).faults (trace_view self.new).faults result }
     {
+        self.made = self.made.saturating_add(1);
         if self.left == 0 {
             return Err(self.fail());
         }

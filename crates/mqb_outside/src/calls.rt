@@ -1,5 +1,6 @@
-ghost use Rattle.std.specs.Prelude.{◌≡◌, false, IsTrue, IfOk};
+ghost use Rattle.std.specs.Prelude.{◌≡◌, false, true, IsTrue, IfOk};
 ghost use Rattle.mqb_outside.specs.Faults.{Rose};
+ghost use Rattle.mqb_outside.specs.Plans.{planned, is_to_fail, called};
 
 use mqb_base::Memory;
 use std::alloc::Global;
@@ -13,9 +14,12 @@ pub(crate) struct Calls {
 }
 
 impl Calls {
+    ghost use Rattle.mqb_outside.specs.Counting.{plan_of};
+
     /// None was made. `failing` are the numbers of those that are to fail, from 1.
     pub(crate) fn new(alloc: Global, failing: &[u32]) -> Result<Calls, Memory>
-        ensures { IfOk result (λ calls. calls.faults ≡ 0) }
+        ensures plan { IfOk result (λ calls. plan_of calls ≡ planned failing.now) }
+        ensures faults { IfOk result (λ calls. calls.faults ≡ 0) }
     {
         Ok(Calls {
             made: 0,
@@ -26,6 +30,8 @@ impl Calls {
 
     /// Counts a call, and says whether it is to fail. One that does is counted as a fault.
     pub(crate) fn next_fails(&mut self) -> bool
+        ensures fails { result ≡ is_to_fail (plan_of self.old) }
+        ensures called { plan_of self.new ≡ called (plan_of self.old) }
         ensures fault { IsTrue result → Rose self.old.faults self.new.faults }
         ensures none { result ≡ false → self.new.faults ≡ self.old.faults }
     {
@@ -41,7 +47,8 @@ impl Calls {
     }
 
     pub(crate) fn fault(&mut self)
-        ensures { Rose self.old.faults self.new.faults }
+        ensures fault { Rose self.old.faults self.new.faults }
+        ensures plan { plan_of self.new ≡ plan_of self.old }
     {
         self.faults = self.faults.saturating_add(1);
     }

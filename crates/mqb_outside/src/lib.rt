@@ -12,6 +12,3 @@ mod source;
 pub use medium::{Medium, MemoryMedium};
 pub use sink::{MemorySink, Sink, StdSink};
 pub use source::{MemorySource, Source, StdSource};
-
-#[cfg(test)]
-mod tests;

@@ -1,5 +1,5 @@
 ghost use Rattle.std.specs.Prelude.{◌≡◌, ◌+◌, ◌-◌, ◌^◌, ◌<◌, ◌≤◌, ℕ, List, [], ◌∷◌, ◌++◌, Some, length, OnOk, OnErr, slice_get};
-ghost use Rattle.mqb_outside.specs.Strings.{bytes_in};
+ghost use Rattle.mqb_outside.specs.Strings.{bytes_in, IsCounted};
 
 use mqb_base::{Bytes, Memory};
 use std::alloc::Global;
@@ -17,12 +17,10 @@ pub trait Medium {
 
     /// How many there are.
     fn count(&self) -> u32
-        requires { length (strings self.now) < 2 ^ 32 }
         ensures { result ≡ length (strings self.now) };
 
     /// The sum of their lengths.
     fn bytes(&self) -> u64
-        requires { bytes_in (strings self.now) < 2 ^ 64 }
         ensures { result ≡ bytes_in (strings self.now) };
 
     /// String `k`, counted from 1.
@@ -30,6 +28,8 @@ pub trait Medium {
         requires there { 1 ≤ k }
         requires last { k ≤ length (strings self.now) }
         ensures { slice_get (strings self.now) (k - 1) ≡ Some result.now };
+
+    ghost counted: { (medium : Self) → IsCounted (strings medium) };
 }
 
 /// A medium in memory.
@@ -39,6 +39,7 @@ pub struct MemoryMedium {
     strings: Vec<Bytes>,
     bytes: u64,
     ghost sum: { bytes ≡ bytes_in strings.items },
+    ghost counted: { IsCounted strings.items },
 }
 
 impl MemoryMedium {
@@ -56,6 +57,8 @@ impl MemoryMedium {
 
 impl Medium for MemoryMedium {
     ghost strings = { λ m. m.strings.items };
+
+    ghost counted = { λ m. m.counted };
 
     fn add(&mut self, bytes: &[u8]) -> Result<(), Memory> {
         let string = Bytes::from_slice(self.alloc, bytes)?;

@@ -1,5 +1,5 @@
 ghost use Rattle.std.specs.Prelude.{◌≡◌, ◌<◌, ◌≤◌, ℕ, List, [], Option, Some, None, length, take, IfOk, OnErr};
-ghost use Rattle.mqb_outside.specs.Told.{Took};
+ghost use Rattle.mqb_outside.specs.Told.{Took, Writes};
 ghost use Rattle.mqb_outside.specs.Faults.{HasCause};
 
 use crate::calls::Calls;
@@ -19,7 +19,8 @@ pub trait Sink {
     fn write(&mut self, bytes: &[u8]) -> Result<usize, Failed>
         ensures within { IfOk result (λ n. n ≤ length bytes.now) }
         ensures some { IfOk result (λ n. 0 < length bytes.now → 0 < n) }
-        ensures took { IfOk result (λ n. Took (taken self.old) (taken self.new) (take n bytes.now)) }
+        ensures took { IfOk result
+            (λ n. Took (taken self.old) (taken self.new) (take n bytes.now)) }
         ensures unchanged { OnErr result (taken self.new ≡ taken self.old) }
         ensures cause { HasCause (write_faults self.old) (write_faults self.new) result };
 }
@@ -32,10 +33,14 @@ pub struct MemorySink {
 }
 
 impl MemorySink {
+    ghost use Rattle.mqb_outside.specs.Plans.{planned};
+    ghost use Rattle.mqb_outside.specs.Forms.{writes_of};
+
     /// It has taken nothing, and fails at the calls that `failing` names, counted from 1, and where memory runs out.
     pub fn new(alloc: Global, failing: &[u32]) -> Result<MemorySink, Memory>
         ensures taken { IfOk result (λ sink. ⟦<MemorySink as Sink>⟧.taken sink ≡ Some []) }
         ensures faults { IfOk result (λ sink. ⟦<MemorySink as Sink>⟧.write_faults sink ≡ 0) }
+        ensures plan { IfOk result (λ sink. writes_of sink ≡ planned failing.now) }
     {
         Ok(MemorySink {
             bytes: Vec::new(alloc),
@@ -52,11 +57,21 @@ impl MemorySink {
 }
 
 impl Sink for MemorySink {
-    ghost taken = { λ s. Some s.bytes.items };
+    ghost use Rattle.std.specs.Prelude.{IsErr, IsTrue};
+    ghost use Rattle.mqb_outside.specs.Plans.{is_to_fail, called};
+    ghost use Rattle.mqb_outside.specs.Forms.{taken_by, write_faults_of, writes_of};
 
-    ghost write_faults = { λ s. s.calls.faults };
+    ghost taken = { taken_by };
 
-    fn write(&mut self, bytes: &[u8]) -> Result<usize, Failed> {
+    ghost write_faults = { write_faults_of };
+
+    fn write(&mut self, bytes: &[u8]) -> Result<usize, Failed>
+        ensures fails { IsTrue (is_to_fail (writes_of self.old)) → IsErr result }
+        ensures called { writes_of self.new ≡ called (writes_of self.old) }
+        ensures writes { Writes (taken_by self.old) (taken_by self.new) bytes.now result }
+        ensures all { IfOk result (λ n. n ≡ length bytes.now) }
+        ensures cause { HasCause (write_faults_of self.old) (write_faults_of self.new) result }
+    {
         if self.calls.next_fails() {
             return Err(Failed);
         }
@@ -76,7 +91,9 @@ pub struct StdSink<W: io::Write + Drop> {
 }
 
 impl<W: io::Write + Drop> StdSink<W> {
-    pub fn new(writer: W) -> StdSink<W> {
+    pub fn new(writer: W) -> StdSink<W>
+        ensures { ⟦<StdSink<W> as Sink>⟧.write_faults result ≡ 0 }
+    {
         StdSink { writer, faults: 0 }
     }
 }

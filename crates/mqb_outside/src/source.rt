@@ -1,4 +1,4 @@
-ghost use Rattle.std.specs.Prelude.{◌≡◌, ◌<◌, ◌≤◌, ℕ, List, [], Option, Some, None, length, take, drop, min, vec_len, IfOk, IfSome, OnErr};
+ghost use Rattle.std.specs.Prelude.{◌≡◌, ◌<◌, ◌≤◌, ℕ, List, [], Option, None, length, take, min, vec_len, IfOk, IfSome, OnErr};
 ghost use Rattle.mqb_outside.specs.Told.{Gave};
 ghost use Rattle.mqb_outside.specs.Faults.{HasCause};
 
@@ -19,7 +19,8 @@ pub trait Source {
     fn read(&mut self, buf: &mut [u8]) -> Result<usize, Failed>
         ensures within { IfOk result (λ n. n ≤ length buf.old) }
         ensures gave { IfOk result (λ n. Gave (held self.old) (held self.new) (take n buf.new)) }
-        ensures ended { IfOk result (λ n. n ≡ 0 → 0 < length buf.old → IfSome (held self.old) (λ rest. rest ≡ [])) }
+        ensures ended { IfOk result (λ n. n ≡ 0 → 0 < length buf.old
+            → IfSome (held self.old) (λ rest. rest ≡ [])) }
         ensures unchanged { OnErr result (held self.new ≡ held self.old) }
         ensures cause { HasCause (read_faults self.old) (read_faults self.new) result };
 }
@@ -34,10 +35,15 @@ pub struct MemorySource {
 }
 
 impl MemorySource {
+    ghost use Rattle.mqb_outside.specs.Plans.{planned};
+    ghost use Rattle.mqb_outside.specs.Forms.{reads_of};
+
     /// It holds a copy of `bytes`, and fails at the calls that `failing` names, counted from 1.
     pub fn new(alloc: Global, bytes: &[u8], failing: &[u32]) -> Result<MemorySource, Memory>
-        ensures held { IfOk result (λ source. ⟦<MemorySource as Source>⟧.held source ≡ Some bytes.now) }
+        ensures held { IfOk result
+            (λ source. ⟦<MemorySource as Source>⟧.held source ≡ Some bytes.now) }
         ensures faults { IfOk result (λ source. ⟦<MemorySource as Source>⟧.read_faults source ≡ 0) }
+        ensures plan { IfOk result (λ source. reads_of source ≡ planned failing.now) }
     {
         Ok(MemorySource {
             bytes: Vec::from_slice(alloc, bytes)?,
@@ -57,12 +63,27 @@ fn copy_front(from: &[u8], to: &mut [u8]) -> usize
 }
 
 impl Source for MemorySource {
-    ghost held = { λ s. Some (drop s.at s.bytes.items) };
+    ghost use Rattle.mqb_outside.specs.Forms.{held_in, read_faults_of, reads_of};
 
-    ghost read_faults = { λ s. s.calls.faults };
+    ghost held = { held_in };
+
+    ghost read_faults = { read_faults_of };
+
+    ghost use Rattle.std.specs.Prelude.{◌↔◌, IsErr, IsTrue};
+    ghost use Rattle.mqb_outside.specs.Plans.{is_to_fail, called};
 
     #[tactic(auto, using(crate::proofs::Pieces::drop_is_take_drop))]
-    fn read(&mut self, buf: &mut [u8]) -> Result<usize, Failed> {
+    fn read(&mut self, buf: &mut [u8]) -> Result<usize, Failed>
+        ensures fails { IsErr result ↔ IsTrue (is_to_fail (reads_of self.old)) }
+        ensures called { reads_of self.new ≡ called (reads_of self.old) }
+        ensures within { IfOk result (λ n. n ≤ length buf.old) }
+        ensures gave { IfOk result
+            (λ n. Gave (held_in self.old) (held_in self.new) (take n buf.new)) }
+        ensures ended { IfOk result (λ n. n ≡ 0 → 0 < length buf.old
+            → IfSome (held_in self.old) (λ rest. rest ≡ [])) }
+        ensures unchanged { OnErr result (held_in self.new ≡ held_in self.old) }
+        ensures cause { HasCause (read_faults_of self.old) (read_faults_of self.new) result }
+    {
         if self.calls.next_fails() {
             return Err(Failed);
         }
@@ -81,7 +102,9 @@ pub struct StdSource<R: io::Read + Drop> {
 }
 
 impl<R: io::Read + Drop> StdSource<R> {
-    pub fn new(reader: R) -> StdSource<R> {
+    pub fn new(reader: R) -> StdSource<R>
+        ensures { ⟦<StdSource<R> as Source>⟧.read_faults result ≡ 0 }
+    {
         StdSource { reader, faults: 0 }
     }
 }

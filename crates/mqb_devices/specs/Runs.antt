@@ -1,6 +1,6 @@
 -- How a run of device calls goes on.
-use Rattle.std.proofs.Common.{◌≡◌, ◌≤◌, inl, inr, ⊎_elim, ℕ, List, ◌∙◌, arith}
-use Rattle.mqb_devices.specs.Images.{Each, Same}
+use Rattle.std.proofs.Common.{◌≡◌, inl, inr, ⊎_elim, ℕ, List, ◌∙◌, arith}
+use Rattle.mqb_devices.specs.Images.{Each}
 use Rattle.mqb_devices.specs.Disk.{View, Unchanged, Elapses, LeavesOnly, OnlyReads, Lawful}
 
 -- before the first call
@@ -10,6 +10,7 @@ started old P law here = record {
   later = omega arith;
   each = λ c left. here c (law.only_now c left);
   before = λ t c le left. inl left;
+  keeping = λ _. old.keeps_calls;
 }
 
 -- one call more, after which a crash leaves what has P
@@ -19,6 +20,7 @@ goes_on old mid new P so_far time here = record {
   later = omega (arith, so_far.later, time.later);
   each = λ c left. ⊎_elim (so_far.each c) (here c) (time.nothing_else old.moment c so_far.later left);
   before = λ t c le left. ⊎_elim (so_far.before t c le) (λ now. inr (here c now)) (time.nothing_else t c (omega (arith, le, so_far.later)) left);
+  keeping = time.keeping ∙ so_far.keeping;
 }
 
 -- one call more that adds no image
@@ -32,6 +34,7 @@ then_on old mid new P first second = record {
   later = omega (arith, first.later, second.later);
   each = λ c left. ⊎_elim (first.each c) (λ has. has) (second.before old.moment c first.later left);
   before = λ t c le left. ⊎_elim (first.before t c le) (λ has. inr has) (second.before t c (omega (arith, le, first.later)) left);
+  keeping = second.keeping ∙ first.keeping;
 }
 
 -- what has P has Q
@@ -41,6 +44,7 @@ weaker old new P Q run has = record {
   later = run.later;
   each = λ c left. has c (run.each c left);
   before = λ t c le left. ⊎_elim (λ was. inl was) (λ p. inr (has c p)) (run.before t c le left);
+  keeping = run.keeping;
 }
 
 pub unchanged_none : (old : View) → Unchanged old old

@@ -1,6 +1,6 @@
 -- What a write leaves where nothing is torn is one of the contents that a torn write may leave.
 use Rattle.std.proofs.Common.{◌≡◌, ℕ, ◌+◌, ◌-◌, ◌≤◌, List, ◌++◌, length, take, drop, sym, ◌∙◌, ap, subst, arith, length-append, length-drop, append_assoc}
-use Rattle.std.proofs.lemmas.List.{length-take, length-take-le, take_at, take-append-le, take_all, drop_all, drop_at, drop-drop, append-nil}
+use Rattle.std.proofs.lemmas.List.{length-take-le, take_at, drop_at, drop-drop}
 use Rattle.mqb_devices.specs.Images.{Written, Torn}
 
 module _ (at n : ℕ) (bytes old : List ℕ) (place : at ≤ length old) (fits : length bytes ≤ n) where

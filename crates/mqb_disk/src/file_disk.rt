@@ -1,0 +1,140 @@
+ghost use Rattle.std.specs.Prelude.{◌≡◌, ◌+◌, ◌^◌, ◌<◌, ◌≤◌, Ok, IfOk, OnOk, length};
+ghost use Rattle.mqb_outside.specs.Faults.{HasCause};
+ghost use Rattle.mqb_devices.specs.Disk.{Counted};
+
+use mqb_base::Failed;
+use mqb_devices::{Disk, MAX_DISK};
+use std::fs::{self, File, OpenOptions};
+use std::io;
+use std::os::unix::fs::FileExt;
+
+/// A disk in a file of the operating system. It tells nothing of its contents.
+#[derive(Drop)]
+pub struct FileDisk {
+    file: File,
+    calls: u64,
+    faults: u64,
+}
+
+impl FileDisk {
+    ghost use Rattle.mqb_disk.specs.FileViews.{file_view};
+
+    /// Opens a file that is there.
+    pub fn open(rt: &HostRuntime, path: &str) -> Result<FileDisk, Failed>
+        ensures calls { IfOk result (λ disk. (file_view disk).calls ≡ 0) }
+        ensures faults { IfOk result (λ disk. (file_view disk).faults ≡ 0) }
+    {
+        match OpenOptions::new().read(true).write(true).open(rt, path) {
+            Ok(file) => Ok(FileDisk::over(file)),
+            Err(_) => Err(Failed),
+        }
+    }
+
+    /// Opens a file, and makes it where it is not there. Its folder is synced, so that a crash does not take its name away.
+    pub fn create(rt: &HostRuntime, path: &str) -> Result<FileDisk, Failed>
+        ensures calls { IfOk result (λ disk. (file_view disk).calls ≡ 0) }
+        ensures faults { IfOk result (λ disk. (file_view disk).faults ≡ 0) }
+    {
+        match make(rt, path) {
+            Ok(file) => Ok(FileDisk::over(file)),
+            Err(_) => Err(Failed),
+        }
+    }
+
+    fn over(file: File) -> FileDisk
+        ensures calls { (file_view result).calls ≡ 0 }
+        ensures faults { (file_view result).faults ≡ 0 }
+    {
+        FileDisk {
+            file,
+            calls: 0,
+            faults: 0,
+        }
+    }
+
+    // Counts a call, and a fault where it failed.
+    fn note<T>(&mut self, done: io::Result<T>) -> Result<T, Failed>
+        ensures calls { Counted 1 self.old.calls self.new.calls }
+        ensures cause { HasCause self.old.faults self.new.faults result }
+        ensures same { IfOk result (λ value. done ≡ Ok value) }
+    {
+        self.calls = self.calls.saturating_add(1);
+        match done {
+            Ok(value) => Ok(value),
+            Err(_) => {
+                self.faults = self.faults.saturating_add(1);
+                Err(Failed)
+            }
+        }
+    }
+}
+
+// Makes a file where none is there, and syncs the folder that names it.
+fn make(rt: &HostRuntime, path: &str) -> io::Result<File> {
+    let file = OpenOptions::new()
+        .read(true)
+        .write(true)
+        .create(true)
+        .open(rt, path)?;
+    let mut folder = fs::canonicalize(rt, path)?;
+    folder.pop();
+    File::open(rt, folder.as_str())?.sync_all()?;
+    Ok(file)
+}
+
+fn too_long() -> io::Error {
+    io::ErrorKind::FileTooLarge.into()
+}
+
+fn measured(file: &File) -> io::Result<u64>
+    ensures { IfOk result (λ n. n ≤ MAX_DISK) }
+{
+    let len = file.metadata()?.len();
+    if len > MAX_DISK {
+        return Err(too_long());
+    }
+    Ok(len)
+}
+
+fn written(file: &File, at: u64, bytes: &[u8]) -> io::Result<()>
+    requires { at + length bytes.now < 2 ^ 64 }
+    ensures { OnOk result (at + length bytes.now ≤ MAX_DISK) }
+{
+    if at + bytes.len() as u64 > MAX_DISK {
+        return Err(too_long());
+    }
+    file.write_all_at(bytes, at)
+}
+
+impl Disk for FileDisk {
+    ghost use Rattle.mqb_disk.specs.FileViews.{file_view, file_lawful};
+
+    ghost view = { file_view };
+
+    ghost lawful = { file_lawful };
+
+    fn len(&mut self) -> Result<u64, Failed> {
+        let done = measured(&self.file);
+        self.note(done)
+    }
+
+    fn read_at(&mut self, at: u64, buf: &mut [u8]) -> Result<(), Failed> {
+        let done = self.file.read_exact_at(buf, at);
+        self.note(done)
+    }
+
+    fn write_at(&mut self, at: u64, bytes: &[u8]) -> Result<(), Failed> {
+        let done = written(&self.file, at, bytes);
+        self.note(done)
+    }
+
+    fn cut(&mut self, len: u64) -> Result<(), Failed> {
+        let done = self.file.set_len(len);
+        self.note(done)
+    }
+
+    fn sync(&mut self) -> Result<(), Failed> {
+        let done = self.file.sync_data();
+        self.note(done)
+    }
+}
