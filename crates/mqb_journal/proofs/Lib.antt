@@ -1,6 +1,7 @@
 pub mod Blocks
 pub mod Outcomes
 pub mod Records
+pub mod Scans
 pub mod Chains
 pub mod Whole
-pub mod Scans
+pub mod Lending

@@ -1,25 +1,33 @@
-use Rattle.std.specs.Prelude.{◌≡◌, ℕ, ◌+◌, ◌≤◌, List, length, false, vec_capacity, Result, Ok, Err}
+use Rattle.std.specs.Prelude.{◌≡◌, ℕ, ◌+◌, List, ◌++◌, length, true, false, Result, Ok, Err}
 use Rattle.std.specs.List.{All}
-use Rattle.mqb_outside.specs.Faults.{Rose}
 use Rattle.mqb_devices.specs.Images.{Each}
-use Rattle.mqb_devices.specs.Disk.{View, IsSettled}
-use Rattle.mqb_journal.specs.Store.{StandsFor, chain}
-use Rattle.mqb_journal.specs.declared.journal.Journal.{Journal}
+use Rattle.mqb_devices.specs.Disk.{View}
+use Rattle.mqb_journal.specs.Store.{IsFront, IsSmall, HasClosedGate, chain}
+use Rattle.mqb_journal.specs.Scan.{BeginsWith, IsClosedAt}
+use Rattle.mqb_journal.specs.States.{JournalState, ScanState}
 use Rattle.mqb_journal.specs.declared.faults.AppendFault.{AppendFault}
 use Rattle.mqb_journal.specs.declared.faults.AppendFault.TheVariants as fault
 
--- a disk is settled and stands for the records that this journal goes on from
-pub record IsAt (d : View) (journal : Journal) (records : List (List ℕ)) : Type 0 where
-  pub settled : IsSettled d
-  pub stands : Each d.reads (StandsFor journal.guid.0 records)
-  pub small : All (λ entry. length entry ≤ 8388608) records
-  pub end : journal.end ≡ 24 + length (chain records)
-  pub lsn : journal.lsn ≡ length records
-  pub up : journal.down ≡ false
+-- a disk stands for the records that this journal goes on from
+pub record GoesOn (d : View) (j : JournalState) (records : List (List ℕ)) : Type 0 where
+  pub front : List ℕ
+  pub is_front : IsFront j.guid.0 front
+  pub stands : Each d.reads (HasClosedGate (front ++ chain records))
+  pub small : All IsSmall records
+  pub end : j.end ≡ length front + length (chain records)
+  pub count : j.count ≡ length records
+  pub up : j.down ≡ false
 
--- the bytes that are reserved for a record with its length and a gate
-abbrev pub room : Journal → ℕ
-room journal = vec_capacity journal.block
+-- a scan of this disk has lent these records
+pub record Lent (d : View) (s : ScanState) (records : List (List ℕ)) : Type 0 where
+  pub front : List ℕ
+  pub is_front : IsFront s.guid.0 front
+  pub begins : Each d.reads (BeginsWith front records s.gate)
+  pub long : Each d.reads (λ c. s.len ≡ length c)
+  pub small : All IsSmall records
+  pub place : s.gate ≡ length front + length (chain records)
+  pub count : s.count ≡ length records
+  pub shut : s.ended ≡ true → Each d.reads (IsClosedAt s.gate)
 
 -- an append that did not begin
 abbrev pub Refused : {T : Type 0} → Result T AppendFault → Type 0
@@ -28,8 +36,3 @@ Refused (Err fault.Down) = Unit {0}
 Refused (Err fault.TooLarge) = Unit {0}
 Refused (Err fault.Memory) = Unit {0}
 Refused (Err fault.DiskFault) = ⊥
-
--- the disk has failed exactly where the append says so
-abbrev pub DiskFaults : {T : Type 0} → ℕ → ℕ → Result T AppendFault → Type 0
-DiskFaults before after (Err fault.DiskFault) = Rose before after
-DiskFaults before after _ = after ≡ before

@@ -1,4 +1,8 @@
 pub mod Store
 pub mod Gates
-pub mod Journals
 pub mod Scan
+pub mod States
+pub mod Causes
+pub mod Journals
+pub mod Carrying
+pub mod Next

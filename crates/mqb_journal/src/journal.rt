@@ -1,53 +1,78 @@
-ghost use Rattle.std.specs.Prelude.{◌≡◌, ◌↔◌, ◌+◌, ◌^◌, ◌<◌, ◌≤◌, ℕ, List, [], ◌∷◌, ◌++◌, length, vec_capacity, true, false, unwrap_or, slice_get, Err, IfOk, OnOk, OnErr};
+ghost use Rattle.std.specs.Prelude.{◌≡◌, ◌≢◌, ◌↔◌, ◌+◌, ◌<◌, ◌≤◌, ℕ, List, [], ◌∷◌, ◌++◌, length, vec_capacity, true, false, Err, IfOk, OnOk, OnErr};
 ghost use Rattle.mqb_fields.specs.Writing.{bytes_of};
 ghost use Rattle.mqb_outside.specs.Faults.{Rose};
 ghost use Rattle.mqb_devices.specs.Images.{Each};
-ghost use Rattle.mqb_devices.specs.Disk.{IsSettled, LeavesOnly, OnlyReads};
+ghost use Rattle.mqb_devices.specs.Disk.{IsSettled, LeavesOnly, OnlyReads, Counted};
+ghost use Rattle.mqb_devices.specs.declared.disk.TheConstants.{MAX_DISK};
+ghost use Rattle.mqb_journal.specs.Store.{IsSmall, IsBeforeOrAfter};
+ghost use Rattle.mqb_journal.specs.States.{appended};
+ghost use Rattle.mqb_journal.specs.Scan.{HasNoHeader};
+ghost use Rattle.mqb_journal.specs.Causes.{FaultsAsSaid, open_failed, append_failed};
 
 use crate::durable::{write_behind, write_durably};
 use crate::faults::{AppendFault, OpenFault};
 use crate::header::empty_store;
-use crate::record::Records;
-use crate::scan::{MAX_RECORD, header_at, next_record};
+use crate::limits::{FIRST_BLOCK, HEADER, MAX_RECORD, MIN_STORE};
+use crate::reading::{header_at, reserve};
+use crate::scan::Scan;
 use mqb_base::{Guid, Memory};
 use mqb_devices::Disk;
 use std::alloc::Global;
+use std::marker::Model;
 
-/// What a record of 128 bytes takes: its length, its bytes and a gate.
-const FIRST_BLOCK: usize = 133;
-
-/// The journal of one store. It is used with the disk on which it was formatted or started, and nobody else writes that.
+/// The journal of one store. It is used with the disk on which it was formatted or begun, and nobody else writes that.
 #[derive(Debug, Drop)]
 pub struct Journal {
     guid: Guid,
     // Where the closed gate stands.
     end: u64,
-    lsn: u64,
+    count: u64,
     down: bool,
     block: Vec<u8>,
-    // The records that were read, until they are dropped.
-    kept: Records,
-    ghost within: { end < 2 ^ 62 },
-    ghost count: { lsn ≤ end },
+}
+
+impl Model for Journal {
+    ghost use Rattle.std.specs.Prelude.{◌<◌, ◌≤◌, vec_capacity};
+    ghost use Rattle.mqb_devices.specs.declared.disk.TheConstants.{MAX_DISK};
+    ghost use Rattle.mqb_journal.specs.States.{JournalState};
+
+    ghost Value = { JournalState };
+
+    ghost view = { λ j. record {
+      guid = j.guid;
+      end = j.end;
+      count = j.count;
+      down = j.down;
+      room = vec_capacity j.block;
+    } };
+
+    ghost invariant = { λ j. (j.end < MAX_DISK) × (j.count ≤ j.end) };
 }
 
 impl Journal {
-    ghost use Rattle.mqb_journal.specs.Store.{StandsFor, IsBeforeOrAfter};
-    ghost use Rattle.mqb_journal.specs.Journals.{IsAt, room, Refused, DiskFaults};
-    ghost use Rattle.mqb_journal.specs.Scan.{IsBadStore, TellsBad, OpenFaults};
+    ghost use Rattle.mqb_journal.specs.Journals.{GoesOn, Lent, Refused};
 
-    /// Makes an empty disk a store without records.
+    /// Makes an empty disk a store without records. The first record of at most 128 bytes then needs no memory.
     pub fn format<D: Disk>(alloc: Global, disk: &mut D, guid: Guid) -> Result<Journal, OpenFault>
-        ensures formatted { IfOk result (λ journal. IsAt (D.view disk.new) journal []) }
+        ensures formatted { IfOk result (λ journal. GoesOn (D.view disk.new) journal []) }
+        ensures settled { OnOk result (IsSettled (D.view disk.new)) }
         ensures guid { IfOk result (λ journal. journal.guid ≡ guid) }
-        ensures room { IfOk result (λ journal. 133 ≤ room journal) }
+        ensures room { IfOk result (λ journal. FIRST_BLOCK ≤ journal.room) }
         ensures empty { OnOk result (Each (D.view disk.old).reads (λ c. c ≡ [])) }
-        ensures not_empty { result ≡ Err OpenFault.NotEmpty → Each (D.view disk.old).reads (λ c. 0 < length c) }
-        ensures not_written { result ≡ Err OpenFault.NotEmpty → OnlyReads (D.view disk.old) (D.view disk.new) }
+        ensures not_empty { result ≡ Err OpenFault.NotEmpty
+            → Each (D.view disk.old).reads (λ c. 0 < length c) }
+        ensures not_written { result ≡ Err OpenFault.NotEmpty
+            → OnlyReads (D.view disk.old) (D.view disk.new) }
+
+        // A disk that is not empty is only read, whatever is answered.
+        ensures only_reads { (c : List ℕ) → (D.view disk.old).reads c → 0 < length c
+            → OnlyReads (D.view disk.old) (D.view disk.new) }
         ensures memory { result ≡ Err OpenFault.Memory → disk.new ≡ disk.old }
-        ensures sound { (at : ℕ) → result ≡ Err (OpenFault.BadStore at) → ⊥ }
+        ensures never { (at : ℕ) → result ≢ Err (OpenFault.BadStore at) }
+        ensures calls { OnOk result (Counted 3 (D.view disk.old).calls (D.view disk.new).calls) }
         ensures switch { (D.view disk.new).switch ≡ (D.view disk.old).switch }
-        ensures cause { result ≡ Err OpenFault.DiskFault → Rose (D.view disk.old).faults (D.view disk.new).faults }
+        ensures cause { FaultsAsSaid open_failed (D.view disk.old).faults
+            (D.view disk.new).faults result }
     {
         let block = Vec::with_capacity(alloc, FIRST_BLOCK).map_err(|_| OpenFault::Memory)?;
         if disk.len()? > 0 {
@@ -56,82 +81,83 @@ impl Journal {
         write_durably(disk, 0, &empty_store(guid))?;
         Ok(Journal {
             guid,
-            end: 24,
-            lsn: 0,
+            end: HEADER,
+            count: 0,
             down: false,
             block,
-            kept: Records::new(alloc),
         })
     }
 
-    /// Reads the store on a disk. The records are kept until they are dropped.
-    pub fn start<D: Disk>(alloc: Global, disk: &mut D) -> Result<Journal, OpenFault>
-        ensures started { IfOk result (λ journal. Each (D.view disk.old).reads (StandsFor journal.guid.0 journal.kept)) }
-        ensures goes_on { IsSettled (D.view disk.old) → IfOk result (λ journal. IsAt (D.view disk.new) journal journal.kept) }
-        ensures bad { (at : ℕ) → result ≡ Err (OpenFault.BadStore at) → Each (D.view disk.old).reads (IsBadStore at) }
-        ensures exact { Each (D.view disk.old).reads (TellsBad result) }
+    /// Begins to read the store on a disk, by its header alone. It reserves one buffer for the longest record.
+    pub fn begin<D: Disk>(alloc: Global, disk: &mut D) -> Result<Scan, OpenFault>
+        ensures begun { IfOk result (λ scan. Lent (D.view disk.new) scan []) }
+        ensures going { IfOk result (λ scan. scan.ended ≡ false) }
+        ensures place { IfOk result (λ scan. scan.place ≡ scan.gate) }
+        ensures within { IfOk result (λ scan. scan.gate < scan.len) }
+        ensures bad { (at : ℕ) → result ≡ Err (OpenFault.BadStore at)
+            → Each (D.view disk.old).reads (HasNoHeader at) }
+        ensures not_bad { OnOk result (Each (D.view disk.old).reads (λ c. HasNoHeader 0 c → ⊥)) }
+        ensures never { result ≢ Err OpenFault.NotEmpty }
+        ensures memory { result ≡ Err OpenFault.Memory → disk.new ≡ disk.old }
         ensures reads { OnlyReads (D.view disk.old) (D.view disk.new) }
-        ensures cause { OpenFaults (D.view disk.old).faults (D.view disk.new).faults result }
-        ensures not_empty { result ≡ Err OpenFault.NotEmpty → ⊥ }
+        ensures cause { FaultsAsSaid open_failed (D.view disk.old).faults
+            (D.view disk.new).faults result }
     {
+        let buffer = reserve(alloc)?;
         let len = disk.len()?;
-        if len < 25 {
+        if len < MIN_STORE {
             return Err(OpenFault::BadStore { at: 0 });
         }
         let Some(guid) = header_at(disk)? else {
             return Err(OpenFault::BadStore { at: 0 });
         };
-        let mut kept = Records::new(alloc);
-        let mut gate = 24;
-        'records: while let Some(record) = next_record(alloc, disk, gate, len)? {
-            gate += 5 + record.len() as u64;
-            kept.push(record)?;
-        }
-        Ok(Journal {
+        Ok(Scan::new(alloc, guid, len, buffer))
+    }
+
+    /// The journal behind so many records, whose closed gate stands at `end`.
+    pub(crate) fn after(alloc: Global, guid: Guid, end: u64, count: u64) -> Journal
+        requires within { end < MAX_DISK }
+        requires count { count ≤ end }
+        ensures { result
+            ≡ record { guid = guid; end = end; count = count; down = false; room = result.room } }
+    {
+        Journal {
             guid,
-            end: gate,
-            lsn: kept.len() as u64,
+            end,
+            count,
             down: false,
             block: Vec::new(alloc),
-            kept,
-        })
-    }
-
-    /// The bytes of record `k`, counted from 0, of those that `start` read.
-    pub fn entry_bytes(&self, k: u64) -> &[u8]
-        requires { k < self.now.lsn }
-        ensures { result.now ≡ unwrap_or (slice_get self.now.kept k) [] }
-    {
-        self.kept.get(k)
-    }
-
-    /// Drops the bytes of the records that `start` read.
-    pub fn forget(&mut self)
-        ensures { self.new ≡ record self.old { kept = [] } }
-    {
-        self.kept.clear();
+        }
     }
 
     /// Adds a record, by four calls of the disk. At `Ok` each crash from then on leaves it.
     pub fn append<D: Disk>(&mut self, disk: &mut D, entry: &[u8]) -> Result<(), AppendFault>
-        requires { self.old.down ≡ false → Each (D.view disk.old).reads (λ c. self.old.end < length c) }
-
-        ensures acknowledged { (records : List (List ℕ)) → IsAt (D.view disk.old) self.old records
-            → OnOk result (IsAt (D.view disk.new) self.new (records ++ entry.now ∷ [])) }
+        requires { self.old.down ≡ false
+            → Each (D.view disk.old).reads (λ c. self.old.end < length c) }
+        ensures done { (records : List (List ℕ)) → GoesOn (D.view disk.old) self.old records
+            → OnOk result (GoesOn (D.view disk.new) self.new (records ++ entry.now ∷ [])) }
+        ensures settled { OnOk result (IsSettled (D.view disk.new)) }
 
         // A crash at any moment of the call leaves the records from before it, with the new one or without.
-        ensures any_moment { (records : List (List ℕ)) → IsAt (D.view disk.old) self.old records
-            → LeavesOnly (D.view disk.old) (D.view disk.new) (IsBeforeOrAfter self.old.guid.0 records entry.now) }
-
+        ensures moments { (records : List (List ℕ)) → GoesOn (D.view disk.old) self.old records
+            → IsSettled (D.view disk.old)
+            → LeavesOnly (D.view disk.old) (D.view disk.new)
+            (IsBeforeOrAfter self.old.guid.0 records entry.now) }
         ensures down { (result ≡ Err AppendFault.Down) ↔ (self.old.down ≡ true) }
-        ensures too_large { (result ≡ Err AppendFault.TooLarge) ↔ ((self.old.down ≡ false) × (8388608 < length entry.now)) }
-        ensures memory { result ≡ Err AppendFault.Memory → room self.old < length entry.now + 5 }
-        ensures refused { Refused result → self.new ≡ record self.old { block = self.new.block } }
-        ensures untouched { Refused result → disk.new ≡ disk.old }
-        ensures failed { result ≡ Err AppendFault.DiskFault → self.new.down ≡ true }
-        ensures cause { DiskFaults (D.view disk.old).faults (D.view disk.new).faults result }
+        ensures too_large { (result ≡ Err AppendFault.TooLarge)
+            ↔ ((self.old.down ≡ false) × (MAX_RECORD < length entry.now)) }
+        ensures ready { length entry.now + 5 ≤ self.old.room → result ≢ Err AppendFault.Memory }
+        ensures appended { OnOk result
+            (self.new ≡ record (appended self.old (length entry.now)) { room = self.new.room }) }
+        ensures refused { Refused result
+            → (disk.new ≡ disk.old) × (self.new ≡ record self.old { room = self.new.room }) }
+        ensures failed { result ≡ Err AppendFault.DiskFault
+            → self.new ≡ record self.old { down = true; room = self.new.room } }
+        ensures room { self.old.room ≤ self.new.room }
+        ensures calls { OnOk result (Counted 4 (D.view disk.old).calls (D.view disk.new).calls) }
         ensures switch { (D.view disk.new).switch ≡ (D.view disk.old).switch }
-        ensures guid { self.new.guid ≡ self.old.guid }
+        ensures cause { FaultsAsSaid append_failed (D.view disk.old).faults
+            (D.view disk.new).faults result }
     {
         if self.down {
             return Err(AppendFault::Down);
@@ -145,15 +171,22 @@ impl Journal {
             return Err(AppendFault::DiskFault);
         };
         self.end += self.block.len() as u64;
-        self.lsn += 1;
+        self.count += 1;
         Ok(())
     }
 
     /// How many records there are.
     pub fn lsn(&self) -> u64
-        ensures { result ≡ self.now.lsn }
+        ensures { result ≡ self.now.count }
     {
-        self.lsn
+        self.count
+    }
+
+    /// Whether an append has failed.
+    pub fn is_down(&self) -> bool
+        ensures { result ≡ self.now.down }
+    {
+        self.down
     }
 
     /// The GUID in the store's header.
@@ -166,8 +199,10 @@ impl Journal {
 
 // Makes a record's block: its length, its bytes, and the closed gate behind it.
 fn frame(block: &mut Vec<u8>, entry: &[u8]) -> Result<(), Memory>
-    requires { length entry.now ≤ 8388608 }
-    ensures framed { OnOk result (block.new.items ≡ bytes_of 4 (length entry.now) ++ entry.now ++ 0 ∷ []) }
+    requires { IsSmall entry.now }
+    ensures framed { OnOk result
+        (block.new.items ≡ bytes_of 4 (length entry.now) ++ entry.now ++ 0 ∷ []) }
+    ensures room { vec_capacity block.old ≤ vec_capacity block.new }
     ensures full { OnErr result (vec_capacity block.old < length entry.now + 5) }
 {
     block.clear();
@@ -176,6 +211,3 @@ fn frame(block: &mut Vec<u8>, entry: &[u8]) -> Result<(), Memory>
     block.push(0)?;
     Ok(())
 }
-
-#[cfg(test)]
-mod tests;

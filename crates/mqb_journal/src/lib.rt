@@ -10,9 +10,15 @@ mod faults;
 mod header;
 mod journal;
 mod laws;
-mod record;
+mod limits;
+mod reading;
 mod scan;
 
-pub use faults::{AppendFault, OpenFault};
+pub use faults::{AppendFault, OpenFault, ScanFault};
 pub use journal::Journal;
-pub use laws::{bad_at_one_place, records_are_not_bad, records_or_bad, stands_for_one_list};
+pub use laws::{
+    bad_at_one_place, journal_goes_on, records_are_not_bad, records_or_bad, scan_goes_on,
+    stands_for_one_list,
+};
+pub use limits::MAX_RECORD;
+pub use scan::Scan;

@@ -1,112 +1,180 @@
-ghost use Rattle.std.specs.Prelude.{◌≡◌, ◌≢◌, ◌+◌, ◌^◌, ◌<◌, ◌≤◌, ℕ, List, ◌∷◌, ◌++◌, length, take, drop, None, Err, IfOk, IfSome};
-ghost use Rattle.mqb_fields.specs.Reading.{number_of};
-ghost use Rattle.mqb_fields.specs.Writing.{bytes_of};
-ghost use Rattle.mqb_outside.specs.Faults.{HasCause};
+ghost use Rattle.std.specs.Prelude.{◌≡◌, ◌<◌, ◌≤◌, ℕ, List, [], ◌∷◌, ◌++◌, length, take, vec_len, true, false, None, Err, IfOk, IfSome, OnOk};
 ghost use Rattle.mqb_devices.specs.Images.{Each};
 ghost use Rattle.mqb_devices.specs.Disk.{OnlyReads};
-ghost use Rattle.mqb_journal.specs.Store.{MAGIC, header};
-ghost use Rattle.mqb_journal.specs.Scan.{IsNext, IsBadAt, OpenFaults};
+ghost use Rattle.mqb_devices.specs.declared.disk.TheConstants.{MAX_DISK};
+ghost use Rattle.mqb_journal.specs.States.{begun, advanced, ended, finished};
+ghost use Rattle.mqb_journal.specs.Scan.{HasNext, IsClosedAt, IsBadAt};
+ghost use Rattle.mqb_journal.specs.Causes.{FaultsAsSaid, scan_failed};
 
-use crate::faults::OpenFault;
-use crate::header::guid_of;
-use crate::record::Record;
-use mqb_base::{Failed, Guid};
+use crate::faults::ScanFault;
+use crate::journal::Journal;
+use crate::limits::{HEADER, MAX_RECORD};
+use crate::reading::read_next;
+use mqb_base::Guid;
 use mqb_devices::Disk;
 use std::alloc::Global;
+use std::marker::Model;
 
-/// The longest record.
-pub(crate) const MAX_RECORD: usize = 8_388_608;
-
-#[tactic(auto, using(crate::proofs::Scans::read_byte))]
-fn byte_at<D: Disk>(disk: &mut D, at: u64) -> Result<u8, Failed>
-    requires { Each (D.view disk.old).reads (λ c. at < length c) }
-    ensures byte { IfOk result (λ byte. Each (D.view disk.old).reads (λ c. drop at c ≡ byte ∷ drop (at + 1) c)) }
-    ensures reads { OnlyReads (D.view disk.old) (D.view disk.new) }
-    ensures cause { HasCause (D.view disk.old).faults (D.view disk.new).faults result }
-{
-    let mut buf = [0];
-    disk.read_at(at, &mut buf)?;
-    Ok(buf[0])
-}
-
-#[tactic(auto, using(std::proofs::lemmas::Nat::le_bytes_4, crate::proofs::Scans::number_is))]
-fn number_of(bytes: [u8; 4]) -> u32
-    ensures spelled { bytes_of 4 result ≡ bytes }
-    ensures number { result ≡ number_of 4 bytes }
-{
-    u32::from_le_bytes(bytes)
-}
-
-#[tactic(auto, using(crate::proofs::Scans::read_split, crate::proofs::Scans::read_number))]
-fn number_at<D: Disk>(disk: &mut D, at: u64) -> Result<u32, Failed>
-    requires { Each (D.view disk.old).reads (λ c. at + 4 ≤ length c) }
-    ensures spelled { IfOk result (λ n. Each (D.view disk.old).reads (λ c. drop at c ≡ bytes_of 4 n ++ drop (at + 4) c)) }
-    ensures number { IfOk result (λ n. Each (D.view disk.old).reads (λ c. n ≡ number_of 4 (drop at c))) }
-    ensures reads { OnlyReads (D.view disk.old) (D.view disk.new) }
-    ensures cause { HasCause (D.view disk.old).faults (D.view disk.new).faults result }
-{
-    let mut buf = [0; 4];
-    disk.read_at(at, &mut buf)?;
-    Ok(number_of(buf))
-}
-
-fn record_at<D: Disk>(alloc: Global, disk: &mut D, at: u64, n: usize) -> Result<Record, OpenFault>
-    requires { Each (D.view disk.old).reads (λ c. at + n ≤ length c) }
-    ensures length { IfOk result (λ entry. length entry ≡ n) }
-    ensures bytes { IfOk result (λ entry. Each (D.view disk.old).reads (λ c. drop at c ≡ entry ++ drop (at + n) c)) }
-    ensures reads { OnlyReads (D.view disk.old) (D.view disk.new) }
-    ensures cause { OpenFaults (D.view disk.old).faults (D.view disk.new).faults result }
-    ensures sound { (place : ℕ) → result ≡ Err (OpenFault.BadStore place) → ⊥ }
-    ensures not_empty { result ≡ Err OpenFault.NotEmpty → ⊥ }
-{
-    let Ok(mut bytes) = Vec::from_elem(alloc, 0, n) else {
-        return Err(OpenFault::Memory);
-    };
-    disk.read_at(at, &mut bytes)?;
-    Ok(Record { bytes })
-}
-
-/// The GUID in a store's header, or None where the disk has no such header.
-#[tactic(auto, using(crate::proofs::Scans::read_split))]
-pub(crate) fn header_at<D: Disk>(disk: &mut D) -> Result<Option<Guid>, Failed>
-    requires { Each (D.view disk.old).reads (λ c. 24 ≤ length c) }
-    ensures header { IfOk result (λ found. IfSome found (λ guid. Each (D.view disk.old).reads (λ c. take 24 c ≡ header guid.0))) }
-    ensures none { IfOk result (λ found. found ≡ None → Each (D.view disk.old).reads (λ c. take 8 c ≢ MAGIC)) }
-    ensures reads { OnlyReads (D.view disk.old) (D.view disk.new) }
-    ensures cause { HasCause (D.view disk.old).faults (D.view disk.new).faults result }
-{
-    let mut bytes = [0; 24];
-    disk.read_at(0, &mut bytes)?;
-    Ok(guid_of(&bytes))
-}
-
-/// The record at this gate, or None where the gate is not open. The disk has `len` bytes.
-pub(crate) fn next_record<D: Disk>(
+/// A store that is read one record at a time. It is used with the disk on which it was begun, and nobody writes that meanwhile.
+#[derive(Debug, Drop)]
+pub struct Scan {
     alloc: Global,
-    disk: &mut D,
-    gate: u64,
+    guid: Guid,
     len: u64,
-) -> Result<Option<Record>, OpenFault>
-    requires place { gate < len }
-    requires bound { len ≤ 2 ^ 62 }
-    requires length { Each (D.view disk.old).reads (λ c. len ≡ length c) }
-    ensures next { IfOk result (λ next. Each (D.view disk.old).reads (IsNext gate next)) }
-    ensures small { IfOk result (λ next. IfSome next (λ entry. length entry ≤ 8388608)) }
-    ensures behind { IfOk result (λ next. IfSome next (λ entry. gate + 5 + length entry < len)) }
-    ensures bad { (at : ℕ) → result ≡ Err (OpenFault.BadStore at) → (at ≡ gate) × Each (D.view disk.old).reads (IsBadAt gate) }
-    ensures reads { OnlyReads (D.view disk.old) (D.view disk.new) }
-    ensures cause { OpenFaults (D.view disk.old).faults (D.view disk.new).faults result }
-    ensures not_empty { result ≡ Err OpenFault.NotEmpty → ⊥ }
-{
-    if byte_at(disk, gate)? != 1 {
-        return Ok(None);
+    // Where the next gate stands.
+    gate: u64,
+    // The gate of the record that was lent last, or the first gate.
+    place: u64,
+    count: u64,
+    ended: bool,
+    // How long the record is that stands at the buffer's front.
+    held: u32,
+    buffer: Vec<u8>,
+}
+
+impl Model for Scan {
+    ghost use Rattle.std.specs.Prelude.{◌≡◌, ◌<◌, ◌≤◌, take, vec_len};
+    ghost use Rattle.mqb_devices.specs.declared.disk.TheConstants.{MAX_DISK};
+    ghost use Rattle.mqb_journal.specs.declared.limits.TheConstants.{MAX_RECORD};
+    ghost use Rattle.mqb_journal.specs.States.{ScanState, IsWithin};
+
+    ghost Value = { ScanState };
+
+    ghost view = { λ s. record {
+      guid = s.guid;
+      len = s.len;
+      gate = s.gate;
+      place = s.place;
+      count = s.count;
+      lent = take s.held s.buffer.items;
+      ended = s.ended;
+    } };
+
+    ghost invariant = { λ s. IsWithin s.len s.gate s.place s.count s.held (vec_len s.buffer) };
+}
+
+impl Scan {
+    ghost use Rattle.std.specs.Borrow.{sem};
+    ghost use Rattle.mqb_journal.specs.Journals.{Lent};
+    ghost use Rattle.mqb_journal.specs.Next.{EndsAs};
+
+    /// Before the first record.
+    pub(crate) fn new(alloc: Global, guid: Guid, len: u64, buffer: Vec<u8>) -> Scan
+        requires bound { len ≤ MAX_DISK }
+        requires long { HEADER < len }
+        requires room { vec_len buffer ≡ MAX_RECORD }
+        ensures { result ≡ begun guid len HEADER [] }
+    {
+        Scan {
+            alloc,
+            guid,
+            len,
+            gate: HEADER,
+            place: HEADER,
+            count: 0,
+            ended: false,
+            held: 0,
+            buffer,
+        }
     }
-    if len - gate < 6 {
-        return Err(OpenFault::BadStore { at: gate });
+
+    /// Reads the next record, and answers whether there is one. `record` lends it.
+    pub fn advance<D: Disk>(&mut self, disk: &mut D) -> Result<bool, ScanFault>
+        requires going { self.old.ended ≡ false }
+        requires long { Each (D.view disk.old).reads (λ c. self.old.len ≡ length c) }
+        ensures more { (records : List (List ℕ)) → Lent (D.view disk.old) self.old records
+            → IfOk result (λ more. more ≡ true
+            → Lent (D.view disk.new) self.new (records ++ self.new.lent ∷ [])) }
+        ensures all { (records : List (List ℕ)) → Lent (D.view disk.old) self.old records
+            → IfOk result (λ more. more ≡ false → Lent (D.view disk.new) self.new records) }
+        ensures next { IfOk result (λ more. more ≡ true
+            → Each (D.view disk.old).reads (HasNext self.old.gate self.new.lent)) }
+        ensures none { IfOk result (λ more. more ≡ false
+            → Each (D.view disk.old).reads (IsClosedAt self.old.gate)) }
+        ensures advanced { IfOk result (λ more. more ≡ true
+            → self.new ≡ advanced self.old self.new.lent) }
+        ensures ended { IfOk result (λ more. more ≡ false → self.new ≡ ended self.old) }
+        ensures within { self.new.gate < self.new.len }
+        ensures bad { (at : ℕ) → result ≡ Err (ScanFault.BadStore at)
+            → (at ≡ self.old.gate) × Each (D.view disk.old).reads (IsBadAt at) }
+        ensures not_bad { OnOk result
+            (Each (D.view disk.old).reads (λ c. IsBadAt self.old.gate c → ⊥)) }
+        ensures reads { OnlyReads (D.view disk.old) (D.view disk.new) }
+        ensures cause { FaultsAsSaid scan_failed (D.view disk.old).faults
+            (D.view disk.new).faults result }
+    {
+        let Some(n) = read_next(disk, self.gate, self.len, &mut self.buffer)? else {
+            self.ended = true;
+            return Ok(false);
+        };
+        self.place = self.gate;
+        self.held = n;
+        self.count += 1;
+        self.gate += 5 + u64::from(n);
+        Ok(true)
     }
-    let n = number_at(disk, gate + 1)? as usize;
-    if n > MAX_RECORD || len - gate < 6 + n as u64 {
-        return Err(OpenFault::BadStore { at: gate });
+
+    /// The next record, lent from the buffer. None exactly at a gate that is not open. After a fault the scan is used no more.
+    pub fn next<D: Disk>(&mut self, disk: &mut D) -> Result<Option<&[u8]>, ScanFault>
+        requires going { self.old.ended ≡ false }
+        requires long { Each (D.view disk.old).reads (λ c. self.old.len ≡ length c) }
+        ensures* rests { sem 𝓛 (EndsAs (D.view disk.old) (D.view disk.new) self.entry result) }
+        ensures next { IfOk result
+            (λ next. IfSome next
+            (λ entry. Each (D.view disk.old).reads (HasNext self.old.gate entry.now))) }
+        ensures none { IfOk result (λ next. next ≡ None
+            → Each (D.view disk.old).reads (IsClosedAt self.old.gate)) }
+        ensures bad { (at : ℕ) → result ≡ Err (ScanFault.BadStore at)
+            → (at ≡ self.old.gate) × Each (D.view disk.old).reads (IsBadAt at) }
+        ensures not_bad { OnOk result
+            (Each (D.view disk.old).reads (λ c. IsBadAt self.old.gate c → ⊥)) }
+        ensures reads { OnlyReads (D.view disk.old) (D.view disk.new) }
+        ensures cause { FaultsAsSaid scan_failed (D.view disk.old).faults
+            (D.view disk.new).faults result }
+    {
+        if self.advance(disk)? {
+            Ok(Some(self.record()))
+        } else {
+            Ok(None)
+        }
     }
-    Ok(Some(record_at(alloc, disk, gate + 5, n)?))
+
+    /// The record that was lent last; nothing before the first.
+    pub fn record(&self) -> &[u8]
+        ensures lent { result.now ≡ self.now.lent }
+        ensures small { length result.now ≤ MAX_RECORD }
+    {
+        &self.buffer[..self.held as usize]
+    }
+
+    /// The gate of the record that was lent last; before the first, the first gate of the chain.
+    pub fn place(&self) -> u64
+        ensures place { result ≡ self.now.place }
+        ensures bound { result ≤ MAX_DISK }
+    {
+        self.place
+    }
+
+    /// The length of the record that was lent last.
+    pub fn held(&self) -> u32
+        ensures length { result ≡ length self.now.lent }
+        ensures small { result ≤ MAX_RECORD }
+    {
+        self.held
+    }
+
+    /// The GUID in the store's header.
+    pub fn guid(&self) -> Guid
+        ensures { result ≡ self.now.guid }
+    {
+        self.guid
+    }
+
+    /// The journal that goes on from the records that were lent.
+    pub fn finish(self) -> Journal
+        requires { self.ended ≡ true }
+        ensures { result ≡ finished self result.room }
+    {
+        Journal::after(self.alloc, self.guid, self.gate, self.count)
+    }
 }

@@ -1,0 +1,56 @@
+-- How a scan goes on.
+use Rattle.std.proofs.Common.{◌≡◌, ℕ, ◌+◌, List, [], ◌∷◌, ◌++◌, length, take, drop, true, false, refl, sym, ◌∙◌, ap, subst, arith, length-append}
+use Rattle.std.proofs.lemmas.List.{take-append-drop, append-nil, take_at}
+use Rattle.std.proofs.lemmas.List.Elements.{All-push, All-nil}
+use Rattle.mqb_base.specs.declared.ids.Guid.{Guid}
+use Rattle.mqb_devices.specs.Images.{Each}
+use Rattle.mqb_devices.specs.Disk.{View, OnlyReads}
+use Rattle.mqb_journal.specs.Store.{IsFront, IsSmall, header, chain}
+use Rattle.mqb_journal.specs.Scan.{IsClosedAt, HasNext}
+use Rattle.mqb_journal.specs.States.{ScanState, begun, ended}
+use Rattle.mqb_journal.specs.Journals.{Lent}
+use Rattle.mqb_journal.specs.declared.limits.TheConstants.{HEADER}
+use Rattle.mqb_journal.proofs.Records.{length-chain-more, chained_more}
+
+pub lent_none : (d e : View) (guid : Guid) (len : ℕ) → OnlyReads d e → Each d.reads (λ c. take 24 c ≡ header guid.0) → Each d.reads (λ c. len ≡ length c) → Lent e (begun guid len HEADER []) []
+lent_none d e guid len reads head long = record {
+  front = header guid.0;
+  is_front = refl;
+  begins = λ c told. sym (take-append-drop 24 c) ∙ ap (λ (l : List ℕ). l ++ drop 24 c) (head c (reads.unchanged.reads.none_new c told) ∙ sym (append-nil (header guid.0)));
+  long = λ c told. long c (reads.unchanged.reads.none_new c told);
+  small = All-nil IsSmall;
+  place = omega arith;
+  count = refl;
+  shut = λ ended. absurd (let no : true ≡ false = sym ended in cc);
+}
+
+pub lent_more : (d e : View) (s t : ScanState) (records : List (List ℕ)) (entry : List ℕ) → Lent d s records → OnlyReads d e → Each d.reads (HasNext s.gate entry) → IsSmall entry
+    → t.guid ≡ s.guid → t.len ≡ s.len → t.gate ≡ s.gate + 5 + length entry → t.count ≡ s.count + 1 → t.ended ≡ false → Lent e t (records ++ entry ∷ [])
+lent_more d e s t records entry lent reads next fits guid len gate count going = record {
+  front = lent.front;
+  is_front = subst (λ (g : Guid). IsFront g.0 lent.front) (sym guid) lent.is_front;
+  begins = λ c told.
+      let was = reads.unchanged.reads.none_new c told in
+      chained_more lent.front records entry _ _ c (lent.begins c was) (next c was).is ∙ ap (λ (k : ℕ). lent.front ++ chain (records ++ entry ∷ []) ++ drop k c) (sym gate);
+  long = λ c told. len ∙ lent.long c (reads.unchanged.reads.none_new c told);
+  small = All-push IsSmall records entry lent.small fits;
+  place = omega (arith, gate, lent.place, length-chain-more records entry);
+  count = omega (arith, count, lent.count, length-append records (entry ∷ []));
+  shut = λ ended. absurd (let no : true ≡ false = sym ended ∙ going in cc);
+}
+
+pub lent_all : (d e : View) (s : ScanState) (records : List (List ℕ)) → Lent d s records → OnlyReads d e → Each d.reads (IsClosedAt s.gate) → Lent e (ended s) records
+lent_all d e s records lent reads shut = record {
+  front = lent.front;
+  is_front = lent.is_front;
+  begins = λ c told. lent.begins c (reads.unchanged.reads.none_new c told);
+  long = λ c told. lent.long c (reads.unchanged.reads.none_new c told);
+  small = lent.small;
+  place = lent.place;
+  count = lent.count;
+  shut = λ ended c told. shut c (reads.unchanged.reads.none_new c told);
+}
+
+-- what stands at the front of a buffer whose contents were written as a whole
+pub front_of_written : (n len : ℕ) (new old : List ℕ) → length new ≡ len → take n (take len (new ++ drop (length new) old)) ≡ take n new
+front_of_written n len new old size = ap (λ (l : List ℕ). take n l) (take_at new (drop (length new) old) len size)

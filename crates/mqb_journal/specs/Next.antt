@@ -1,0 +1,20 @@
+-- What `Scan::next` leaves once the record that it lent is no longer borrowed.
+use Rattle.std.specs.Prelude.{◌≡◌, ◌<◌, ℕ, List, [], ◌∷◌, ◌++◌, Option, None, Result, IfOk, IfSome}
+use Rattle.std.specs.Borrow.{Fml, Bor, MutBor}
+use Rattle.std.specs.Io.BufRead.{Rests}
+use Rattle.mqb_devices.specs.Disk.{View}
+use Rattle.mqb_journal.specs.States.{ScanState, advanced, ended}
+use Rattle.mqb_journal.specs.Journals.{Lent}
+use Rattle.mqb_journal.specs.declared.faults.ScanFault.{ScanFault}
+use Rattle.mqb_journal.specs.contracts.scan.Scan.{the_row}
+
+-- a scan lent the next record, or found that there is none
+pub record HasMoved (d e : View) (old : ScanState) (r : Result (Option (Bor (List ℕ))) ScanFault) (new : ScanState) : Type 0 where
+  pub more : (records : List (List ℕ)) → Lent d old records → IfOk r (λ next. IfSome next (λ entry. Lent e new (records ++ entry.now ∷ [])))
+  pub all : (records : List (List ℕ)) → Lent d old records → IfOk r (λ next. next ≡ None → Lent e new records)
+  pub advanced : IfOk r (λ next. IfSome next (λ entry. new ≡ advanced old entry.now))
+  pub ended : IfOk r (λ next. next ≡ None → new ≡ ended old)
+  pub within : new.gate < new.len
+
+abbrev pub EndsAs : View → View → MutBor ScanState → Result (Option (Bor (List ℕ))) ScanFault → Fml
+EndsAs d e scan r = Rests the_row scan (HasMoved d e scan.now r)
