@@ -2,16 +2,16 @@
 use Rattle.std.proofs.Common.{◌≡◌, ◌<◌, ℕ, ◌^◌, true, cond, eqb, List, [], ◌∷◌, ◌++◌, length, Result, Ok, refl, sym, ap, subst, ◌∙◌, inl, inr, arith, append_assoc}
 use Rattle.mqb_fields.specs.Reading.{◌>>=◌, Reading, rest_of, moved, number_at}
 use Rattle.mqb_fields.specs.Writing.{bytes_of}
-use Rattle.mqb_entries.specs.declared.entry.EntryPlace.{EntryPlace}
-use Rattle.mqb_entries.specs.declared.entry.EntryPlace.TheVariants as place
+use Rattle.mqb_base.specs.declared.queues.EntryPlace.{EntryPlace}
+use Rattle.mqb_base.specs.declared.queues.EntryPlace.TheVariants as place
 use Rattle.mqb_entries.specs.declared.entry.ArrivedPart.{ArrivedPart}
 use Rattle.mqb_entries.specs.declared.entry.ArrivedPart.TheVariants as part
 use Rattle.mqb_entries.specs.Fields.{field, outside, u8_at, u32_at}
 use Rattle.mqb_entries.specs.Spelled.{spelled_packet, IsWord, IsPacket}
 use Rattle.mqb_entries.specs.SpelledEntries.{spelled_place, spelled_part, IsPlace, IsPart}
 use Rattle.mqb_entries.specs.Entries.{queue_in, place_at, heard_at, acknowledged_at, part_at}
-use Rattle.mqb_entries.proofs.Formats.{IsBytes, Took, IsFormat, bind_gives, ok_same, rest_again, both_moved, map_again, field_gives, pair_format, seen, behind}
-use Rattle.mqb_entries.proofs.FieldFormats.{number_format, four_bytes, u8_format, u32_format, packet_format, chosen, Spans, spans, spans_both, took_of, byte_is, outside_apart}
+use Rattle.mqb_entries.specs.Formats.{IsBytes, Took, IsFormat, bind_gives, ok_same, rest_again, both_moved, map_again, field_gives, pair_format, seen, behind}
+use Rattle.mqb_entries.specs.FieldFormats.{number_format, four_bytes, u8_format, u32_format, packet_format, chosen, Spans, spans, spans_both, took_of, byte_is, outside_apart}
 use Rattle.mqb_entries.proofs.EntryFormats.{Fault, pair_seen}
 
 -- what a reader made of what it read

@@ -1,5 +1,5 @@
 -- Each entry is read as it is spelled.
-use Rattle.std.proofs.Common.{◌≡◌, ◌≤◌, ℕ, Bool, true, leb, ◌&&◌, List, ◌++◌, length, Option, Result, Ok, refl, sym, ap, subst, ◌∙◌, arith, append_assoc}
+use Rattle.std.proofs.Common.{◌≡◌, ℕ, Bool, true, leb, ◌&&◌, List, ◌++◌, length, Option, Result, Ok, refl, sym, ap, subst, ◌∙◌, arith, append_assoc}
 use Rattle.std.specs.List.{flat_map, AllByRecursion}
 use Rattle.std.proofs.lemmas.Bool.Decides.{nat_tests}
 use Rattle.mqb_base.specs.declared.ids.Guid.{Guid}
@@ -11,11 +11,13 @@ use Rattle.mqb_entries.specs.declared.entry.QueueView.{QueueView}
 use Rattle.mqb_entries.specs.Fields.{u32_at, address_at, guid_at, name_at, flag_at, public_at}
 use Rattle.mqb_entries.specs.Lists.{many, count_at}
 use Rattle.mqb_entries.specs.Spelled.{spelled_guid, spelled_name, spelled_flag, spelled_public}
-use Rattle.mqb_entries.specs.SpelledEntries.{spelled_identity, spelled_queue, spelled_ops, spelled_marks, spelled_numbers, IsFew, AreOps, AreMarks, AreNumbers, IsIdentity, IsQueue}
-use Rattle.mqb_entries.specs.Entries.{identity_at, queue_at, ops_at, marks_at, numbers_at}
-use Rattle.mqb_entries.proofs.Formats.{IsBytes, Took, IsFormat, bind_gives, bind_assoc, bind_same, rest_again, both_moved, bytes_stay, field_format, map_format, pair_format, test_format, many_format, read_same, seen, behind}
-use Rattle.mqb_entries.proofs.FieldFormats.{number_format, two_bytes, u8_format, u32_format, address_format, guid_format, name_format, flag_format, public_format, Spans, spans, spans_both, took_of}
-use Rattle.mqb_entries.proofs.ListFormats.{op_format, mark_format}
+use Rattle.mqb_entries.specs.SpelledEntries.{spelled_identity, spelled_queue, spelled_ops, spelled_marks, spelled_numbers, IsFew, IsFull, AreOps, AreMarks, AreNumbers, IsIdentity, IsQueue}
+use Rattle.mqb_entries.specs.Entries.{identity_at, queue_at, few_at, numbers_at}
+use Rattle.mqb_entries.specs.Formats.{IsBytes, Took, IsFormat, bind_gives, bind_assoc, bind_same, rest_again, both_moved, bytes_stay, map_format, pair_format, test_format, many_format, read_same, seen, behind}
+use Rattle.mqb_entries.specs.FieldFormats.{u8_format, u16_format, u32_format, address_format, guid_format, name_format, flag_format, public_format, Spans, spans, spans_both, took_of}
+use Rattle.mqb_entries.specs.MemberFormats.{op_format, mark_format}
+use Rattle.mqb_entries.specs.Members.{op_at, mark_at}
+use Rattle.mqb_entries.specs.declared.limits.TheConstants.{MAX_FEW, MAX_ROLL}
 
 abbrev pub Fault : Type 0
 Fault = EntryFault
@@ -127,36 +129,34 @@ listed_format : {X : Type 0} {counter : Reading → Result (ℕ × Reading) Faul
     → IsFormat (λ r. counter r >>= λ count. many member count.0 count.1) (λ xs. tell (length xs) ++ flat_map spell xs) (λ xs. Counts (length xs) × AllByRecursion Fits xs)
 listed_format f g = record { again = λ r xs rest fits e. listed_again f g r xs rest fits.0 fits.1 e; took = listed_took f g }
 
-few_is : (n : ℕ) → IsFew n → (leb 1 n && leb n 64) ≡ true
+few_is : (n : ℕ) → IsFew n → (leb 1 n && leb n MAX_FEW) ≡ true
 few_is n few = grind (arith, nat_tests)
 
-is_few : (n : ℕ) → (leb 1 n && leb n 64) ≡ true → IsFew n
+is_few : (n : ℕ) → (leb 1 n && leb n MAX_FEW) ≡ true → IsFew n
 is_few n e = (grind (arith, nat_tests), grind (arith, nat_tests))
 
-few_format : IsFormat (count_at 1 1 64) (bytes_of 1) IsFew
+few_format : IsFormat (count_at 1 1 MAX_FEW) (bytes_of 1) IsFew
 unfolding count_at
-few_format = fits_same (test_format (λ n. leb 1 n && leb n 64) u8_format) IsFew
+few_format = fits_same (test_format (λ n. leb 1 n && leb n MAX_FEW) u8_format) IsFew
     (λ n few. (omega (arith, few.0, few.1), few_is n few)) (λ n is. is_few n is.1)
 
-most_is : (n : ℕ) → n ≤ 0xFFFF → (leb 0 n && leb n 0xFFFF) ≡ true
-most_is n most = grind (arith, nat_tests)
+full_is : (n : ℕ) → IsFull n → (leb 1 n && leb n MAX_ROLL) ≡ true
+full_is n full = grind (arith, nat_tests)
 
-is_most : (n : ℕ) → (leb 0 n && leb n 0xFFFF) ≡ true → n ≤ 0xFFFF
-is_most n e = grind (arith, nat_tests)
+is_full : (n : ℕ) → (leb 1 n && leb n MAX_ROLL) ≡ true → IsFull n
+is_full n e = (grind (arith, nat_tests), grind (arith, nat_tests))
 
-most_format : IsFormat (count_at 2 0 0xFFFF) (bytes_of 2) (λ n. n ≤ 0xFFFF)
+pub full_format : IsFormat (count_at 4 1 MAX_ROLL) (bytes_of 4) IsFull
 unfolding count_at
-most_format = fits_same (test_format (λ n. leb 0 n && leb n 0xFFFF) (field_format (number_format 2 two_bytes))) (λ n. n ≤ 0xFFFF)
-    (λ n most. (omega (arith, most), most_is n most)) (λ n is. is_most n is.1)
+full_format = fits_same (test_format (λ n. leb 1 n && leb n MAX_ROLL) u32_format) IsFull
+    (λ n full. (omega (arith, full.0, full.1), full_is n full)) (λ n is. is_full n is.1)
 
-pub ops_format : IsFormat ops_at spelled_ops AreOps
-unfolding ops_at
+pub ops_format : IsFormat (few_at op_at) spelled_ops AreOps
 ops_format = listed_format few_format op_format
 
-pub marks_format : IsFormat marks_at spelled_marks AreMarks
-unfolding marks_at
+pub marks_format : IsFormat (few_at mark_at) spelled_marks AreMarks
 marks_format = listed_format few_format mark_format
 
 pub numbers_format : IsFormat numbers_at spelled_numbers AreNumbers
 unfolding numbers_at
-numbers_format = listed_format most_format u32_format
+numbers_format = fits_same (listed_format u16_format u32_format) AreNumbers (λ xs is. (omega (arith, is.0), is.1)) (λ xs is. (omega (arith, is.0), is.1))

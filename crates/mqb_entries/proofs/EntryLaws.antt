@@ -9,22 +9,23 @@ use Rattle.mqb_fields.specs.Writing.{bytes_of}
 use Rattle.mqb_entries.specs.declared.kinds.EntryKind.{EntryKind}
 use Rattle.mqb_entries.specs.declared.kinds.EntryKind.TheVariants as kind
 use Rattle.mqb_entries.specs.declared.members.OpView.{OpView}
-use Rattle.mqb_entries.specs.declared.entry.EntryPlace.{EntryPlace}
+use Rattle.mqb_base.specs.declared.queues.EntryPlace.{EntryPlace}
 use Rattle.mqb_entries.specs.declared.entry.ArrivedPart.{ArrivedPart}
-use Rattle.mqb_entries.specs.declared.entry.ArrivedPart.TheVariants as part
 use Rattle.mqb_entries.specs.declared.entry.Entry.{Entry}
-use Rattle.mqb_entries.specs.declared.entry.Entry.TheVariants.{Identity, Peer, CreateQueue, Commit, Plain, Offered, Arrived, Taken, Purged, Ticked}
+use Rattle.mqb_entries.specs.declared.entry.Entry.TheVariants.{Identity, Peer, CreateQueue, Commit, Plain, Offered, Arrived, Taken, Purged, Ticked, Roll}
 use Rattle.mqb_entries.specs.Fields.{outside, u8_at, u32_at, id_at, packet_at}
-use Rattle.mqb_entries.specs.Lists.{start}
+use Rattle.mqb_entries.specs.Lists.{count_at, start}
+use Rattle.mqb_entries.specs.Members.{op_at, mark_at}
 use Rattle.mqb_entries.specs.Kinds.{kinds, code_of}
 use Rattle.mqb_entries.specs.Spelled.{spelled_id, spelled_packet, IsWord, IsPacket, IsId}
-use Rattle.mqb_entries.specs.SpelledEntries.{spelled_ops, spelled_numbers, spelled_place, spelled_part, kind_of, spelled_fields, spelled, AreOps, AreNumbers, IsPlace, IsPart, IsEntry, Fits, FitsPart}
-use Rattle.mqb_entries.specs.Entries.{identity_at, queue_at, ops_at, marks_at, numbers_at, place_at, part_at, arrived_at, taken_at, fields_at, kind_in, kind_at, entry_of}
-use Rattle.mqb_entries.proofs.Formats.{IsBytes, IsFormat, bind_gives, bind_same, ok_same, rest_again, map_again, pair_format, seen, behind}
-use Rattle.mqb_entries.proofs.FieldFormats.{u8_format, u32_format, id_format, packet_format, chosen, Spans, spans, spans_both, outside_apart}
+use Rattle.mqb_entries.specs.SpelledEntries.{spelled_ops, spelled_numbers, spelled_place, spelled_part, kind_of, spelled_fields, spelled, AreOps, AreNumbers, IsPlace, IsPart, IsEntry, Fits}
+use Rattle.mqb_entries.specs.Entries.{identity_at, queue_at, few_at, numbers_at, place_at, part_at, arrived_at, taken_at, fields_at, kind_in, kind_at, entry_of}
+use Rattle.mqb_entries.specs.Formats.{IsBytes, IsFormat, bind_gives, bind_same, ok_same, rest_again, map_again, pair_format, seen, behind}
+use Rattle.mqb_entries.specs.FieldFormats.{u8_format, u32_format, id_format, packet_format, chosen, Spans, spans, spans_both, outside_apart}
 use Rattle.mqb_entries.proofs.ListFormats.{nothing_left}
-use Rattle.mqb_entries.proofs.EntryFormats.{Fault, pair_seen, text_same, three_joined, identity_format, queue_format, ops_format, marks_format, numbers_format}
+use Rattle.mqb_entries.proofs.EntryFormats.{Fault, pair_seen, text_same, three_joined, identity_format, queue_format, full_format, ops_format, marks_format, numbers_format}
 use Rattle.mqb_entries.proofs.EntryAgain.{IsMade, made, read_one, place_format, part_format}
+use Rattle.mqb_entries.specs.declared.limits.TheConstants.{MAX_ROLL}
 
 abbrev read_entry : Entry → Reading → Result (Entry × Reading) Fault
 read_entry = read_one
@@ -51,7 +52,7 @@ abbrev made_purged : ℕ × EntryPlace → Entry
 made_purged p = Purged p.0 p.1
 
 -- the forms of two and three fields
-commit_format : IsFormat (λ r. u32_at r >>= λ x. ops_at x.1 >>= behind Fault x.0) (λ p. bytes_of 4 p.0 ++ spelled_ops p.1) (λ p. IsWord p.0 × AreOps p.1)
+commit_format : IsFormat (λ r. u32_at r >>= λ x. few_at op_at x.1 >>= behind Fault x.0) (λ p. bytes_of 4 p.0 ++ spelled_ops p.1) (λ p. IsWord p.0 × AreOps p.1)
 commit_format = pair_format u32_format ops_format
 
 plain_format : IsFormat (λ r. u32_at r >>= λ x. packet_at x.1 >>= behind Fault x.0) (λ p. bytes_of 4 p.0 ++ spelled_packet p.1) (λ p. IsWord p.0 × IsPacket p.1)
@@ -90,10 +91,10 @@ fields_again (Identity m) r rest fits e = map_again (identity_at r) Identity m (
 fields_again (Peer m) r rest fits e = map_again (identity_at r) Peer m (Peer m) _ (identity_format.again r m rest fits e) refl
 fields_again (CreateQueue q) r rest fits e = map_again (queue_at r) CreateQueue q (CreateQueue q) _ (queue_format.again r q rest fits e) refl
 fields_again (Commit now ops) r rest fits e =
-    sym (pair_seen (u32_at r) (λ x. ops_at x.1) made_commit) ∙ map_again _ made_commit (now, ops) (Commit now ops) _ (commit_format.again r (now, ops) rest fits e) refl
+    sym (pair_seen (u32_at r) (λ x. few_at op_at x.1) made_commit) ∙ map_again _ made_commit (now, ops) (Commit now ops) _ (commit_format.again r (now, ops) rest fits e) refl
 fields_again (Plain now packet) r rest fits e =
     sym (pair_seen (u32_at r) (λ x. packet_at x.1) made_plain) ∙ map_again _ made_plain (now, packet) (Plain now packet) _ (plain_format.again r (now, packet) rest fits e) refl
-fields_again (Offered marks) r rest fits e = map_again (marks_at r) Offered marks (Offered marks) _ (marks_format.again r marks rest fits e) refl
+fields_again (Offered marks) r rest fits e = map_again (few_at mark_at r) Offered marks (Offered marks) _ (marks_format.again r marks rest fits e) refl
 fields_again (Arrived now released part) r rest fits e =
     sym (arrived_same r) ∙ map_again (arrival_at r) made_arrived (now, (released, part)) (Arrived now released part) _ (arrived_format.again r (now, (released, part)) rest (fits.0, (fits.1, fits.2)) e) refl
 fields_again (Taken now place id) r rest fits e =
@@ -101,6 +102,7 @@ fields_again (Taken now place id) r rest fits e =
 fields_again (Purged now place) r rest fits e =
     sym (pair_seen (u32_at r) (λ x. place_at x.1) made_purged) ∙ map_again _ made_purged (now, place) (Purged now place) _ (purged_format.again r (now, place) rest fits e) refl
 fields_again (Ticked now) r rest fits e = map_again (u32_at r) Ticked now (Ticked now) _ (u32_format.again r now rest fits e) refl
+fields_again (Roll count) r rest fits e = map_again (count_at 4 1 MAX_ROLL r) Roll count (Roll count) _ (full_format.again r count rest fits e) refl
 
 -- fields that were read are those of an entry of the kind
 pub record IsEntryOf (kind : EntryKind) (r : Reading) (x : Entry × Reading) : Type 0 where
@@ -122,7 +124,7 @@ fields_took kind.Identity r x all e = entry_made Identity kind.Identity r x (mad
 fields_took kind.Peer r x all e = entry_made Peer kind.Peer r x (made identity_format Peer r x all e) (λ m. refl) (λ m fits. fits) (λ m. refl)
 fields_took kind.CreateQueue r x all e = entry_made CreateQueue kind.CreateQueue r x (made queue_format CreateQueue r x all e) (λ q. refl) (λ q fits. fits) (λ q. refl)
 fields_took kind.Commit r x all e =
-    let read = pair_seen (u32_at r) (λ y. ops_at y.1) made_commit ∙ e in
+    let read = pair_seen (u32_at r) (λ y. few_at op_at y.1) made_commit ∙ e in
     entry_made made_commit kind.Commit r x (made commit_format made_commit r x all read) (λ p. refl) (λ p fits. fits) (λ p. refl)
 fields_took kind.Plain r x all e =
     let read = pair_seen (u32_at r) (λ y. packet_at y.1) made_plain ∙ e in
@@ -136,6 +138,7 @@ fields_took kind.Purged r x all e =
     let read = pair_seen (u32_at r) (λ y. place_at y.1) made_purged ∙ e in
     entry_made made_purged kind.Purged r x (made purged_format made_purged r x all read) (λ p. refl) (λ p fits. fits) (λ p. refl)
 fields_took kind.Ticked r x all e = entry_made Ticked kind.Ticked r x (made u32_format Ticked r x all e) (λ n. refl) (λ n fits. fits) (λ n. refl)
+fields_took kind.Roll r x all e = entry_made Roll kind.Roll r x (made full_format Roll r x all e) (λ n. refl) (λ n fits. fits) (λ n. refl)
 
 -- kinds
 kind_again : (k : EntryKind) (r : Reading) (rest : List ℕ) → rest_of r ≡ (code_of k ∷ []) ++ rest → kind_at r ≡ Ok (k, moved 1 r)
@@ -150,6 +153,7 @@ kind_again kind.Arrived r rest e = rw (u8_format.again r 7 rest (omega arith) e)
 kind_again kind.Taken r rest e = rw (u8_format.again r 8 rest (omega arith) e) refl
 kind_again kind.Purged r rest e = rw (u8_format.again r 9 rest (omega arith) e) refl
 kind_again kind.Ticked r rest e = rw (u8_format.again r 10 rest (omega arith) e) refl
+kind_again kind.Roll r rest e = rw (u8_format.again r 11 rest (omega arith) e) refl
 
 abbrev one_code : EntryKind → List ℕ
 one_code k = code_of k ∷ []
@@ -165,6 +169,7 @@ code_is kind.Arrived = refl
 code_is kind.Taken = refl
 code_is kind.Purged = refl
 code_is kind.Ticked = refl
+code_is kind.Roll = refl
 
 find_passes : {X : Type 0} (test : X → Bool) (xs : List X) (x : X) → find test xs ≡ Some x → test x ≡ true
 find_passes test [] x e = absurd cc
@@ -227,29 +232,24 @@ entry_took bytes entry all e =
     let told : bytes ≡ spelled x.0 = whole ∙ ap (λ (kind : EntryKind). one_code kind ++ spelled_fields x.0) (sym fields.kind_is) in
     subst (λ (y : Entry). IsEntry y × (bytes ≡ spelled y)) end.1 (fields.fits, told)
 
-pub entries_apart : (a b : Entry) → IsEntry a → IsEntry b → spelled a ≡ spelled b → a ≡ b
-entries_apart a b fits suits e = ok_same Fault a b (sym (entry_again a fits) ∙ ap entry_of e ∙ entry_again b suits)
-
 -- what is read can be put again
-part_fits : (arrived : ArrivedPart) → IsPart arrived → FitsPart arrived
-part_fits part.Nothing is = tt
-part_fits (part.Decided packet) is = is
-part_fits (part.Stored packet) is = is
-part_fits (part.OrderAcknowledged ordinal number) is = tt
-part_fits (part.Final packet) is = is
-
 entry_fits : (entry : Entry) → IsEntry entry → Fits entry
 entry_fits (Identity m) is = tt
 entry_fits (Peer m) is = tt
 entry_fits (CreateQueue q) is = tt
 entry_fits (Commit now ops) is = is.1.0
-entry_fits (Plain now packet) is = is.1
+entry_fits (Plain now packet) is = tt
 entry_fits (Offered marks) is = is.0
-entry_fits (Arrived now released arrived) is = (is.1.0, part_fits arrived is.2)
+entry_fits (Arrived now released arrived) is = tt
 entry_fits (Taken now place id) is = tt
 entry_fits (Purged now place) is = tt
 entry_fits (Ticked now) is = tt
+entry_fits (Roll count) is = is
 
 pub view_fits : (bytes : List ℕ) (view : Result Entry Fault) → IsBytes bytes → view ≡ entry_of bytes → IfOk view Fits
 view_fits bytes (Ok entry) all e = entry_fits entry (entry_took bytes entry all (sym e)).0
 view_fits bytes (Err fault) all e = tt
+
+pub view_spelled : (bytes : List ℕ) (view : Result Entry Fault) → IsBytes bytes → view ≡ entry_of bytes → IfOk view (λ entry. bytes ≡ spelled entry)
+view_spelled bytes (Ok entry) all e = (entry_took bytes entry all (sym e)).1
+view_spelled bytes (Err fault) all e = tt

@@ -1,8 +1,8 @@
-pub mod Passing
-pub mod Formats
-pub mod FieldFormats
-pub mod ListFormats
-pub mod Joined
-pub mod EntryFormats
-pub mod EntryAgain
-pub mod EntryLaws
+mod EntryAgain
+mod EntryFormats
+mod EntryLaws
+mod Joined
+mod Lengths
+mod ListFormats
+mod Passing
+mod Walks

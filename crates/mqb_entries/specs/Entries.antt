@@ -4,20 +4,19 @@ use Rattle.mqb_fields.specs.Reading.{◌>>=◌, Reading, rest_of, number_at}
 use Rattle.mqb_entries.specs.declared.faults.EntryFault.{EntryFault}
 use Rattle.mqb_entries.specs.declared.kinds.EntryKind.{EntryKind}
 use Rattle.mqb_entries.specs.declared.kinds.EntryKind.TheVariants as kind
-use Rattle.mqb_entries.specs.declared.members.Mark.{Mark}
-use Rattle.mqb_entries.specs.declared.members.OpView.{OpView}
 use Rattle.mqb_entries.specs.declared.entry.IdentityView.{IdentityView}
 use Rattle.mqb_entries.specs.declared.entry.QueueView.{QueueView}
-use Rattle.mqb_entries.specs.declared.entry.EntryPlace.{EntryPlace}
-use Rattle.mqb_entries.specs.declared.entry.EntryPlace.TheVariants as place
+use Rattle.mqb_base.specs.declared.queues.EntryPlace.{EntryPlace}
+use Rattle.mqb_base.specs.declared.queues.EntryPlace.TheVariants as place
 use Rattle.mqb_entries.specs.declared.entry.ArrivedPart.{ArrivedPart}
 use Rattle.mqb_entries.specs.declared.entry.ArrivedPart.TheVariants as part
 use Rattle.mqb_entries.specs.declared.entry.Entry.{Entry}
-use Rattle.mqb_entries.specs.declared.entry.Entry.TheVariants.{Identity, Peer, CreateQueue, Commit, Plain, Offered, Arrived, Taken, Purged, Ticked}
-use Rattle.mqb_entries.specs.Fields.{outside, field, u8_at, u32_at, address_at, guid_at, id_at, name_at, packet_at, flag_at, public_at}
+use Rattle.mqb_entries.specs.declared.entry.Entry.TheVariants.{Identity, Peer, CreateQueue, Commit, Plain, Offered, Arrived, Taken, Purged, Ticked, Roll}
+use Rattle.mqb_entries.specs.Fields.{outside, field, u8_at, u16_at, u32_at, address_at, guid_at, id_at, name_at, packet_at, flag_at, public_at}
 use Rattle.mqb_entries.specs.Lists.{many, count_at, start}
 use Rattle.mqb_entries.specs.Members.{op_at, mark_at}
 use Rattle.mqb_entries.specs.Kinds.{kinds, code_of}
+use Rattle.mqb_entries.specs.declared.limits.TheConstants.{MAX_FEW, MAX_ROLL}
 
 unfoldable pub identity_at : Reading → Result (IdentityView × Reading) EntryFault
 identity_at r = do
@@ -36,22 +35,16 @@ queue_at r = do
   journal ← flag_at quota.1
   Ok (record { name = name.0; number = number.0; public = public.0; transactional = transactional.0; quota = quota.0; journal = journal.0 }, journal.1)
 
--- 1 to 64 ops behind their count
-unfoldable pub ops_at : Reading → Result (List OpView × Reading) EntryFault
-ops_at r = do
-  count ← count_at 1 1 64 r
-  many op_at count.0 count.1
+-- a few members behind their count
+abbrev pub few_at : {X : Type 0} → (Reading → Result (X × Reading) EntryFault) → Reading → Result (List X × Reading) EntryFault
+few_at member r = do
+  count ← count_at 1 1 MAX_FEW r
+  many member count.0 count.1
 
--- 1 to 64 marks behind their count
-unfoldable pub marks_at : Reading → Result (List Mark × Reading) EntryFault
-marks_at r = do
-  count ← count_at 1 1 64 r
-  many mark_at count.0 count.1
-
--- up to 65,535 numbers behind their count
+-- numbers behind their count
 unfoldable pub numbers_at : Reading → Result (List ℕ × Reading) EntryFault
 numbers_at r = do
-  count ← count_at 2 0 0xFFFF r
+  count ← u16_at r
   many u32_at count.0 count.1
 
 -- a queue's number in a place that begins at r
@@ -95,7 +88,7 @@ part_at r = do
 abbrev pub commit_at : Reading → Result (Entry × Reading) EntryFault
 commit_at r = do
   now ← u32_at r
-  ops ← ops_at now.1
+  ops ← few_at op_at now.1
   Ok (Commit now.0 ops.0, ops.1)
 
 abbrev pub plain_at : Reading → Result (Entry × Reading) EntryFault
@@ -131,11 +124,12 @@ fields_at kind.Peer r = identity_at r >>= λ peer. Ok (Peer peer.0, peer.1)
 fields_at kind.CreateQueue r = queue_at r >>= λ queue. Ok (CreateQueue queue.0, queue.1)
 fields_at kind.Commit r = commit_at r
 fields_at kind.Plain r = plain_at r
-fields_at kind.Offered r = marks_at r >>= λ marks. Ok (Offered marks.0, marks.1)
+fields_at kind.Offered r = few_at mark_at r >>= λ marks. Ok (Offered marks.0, marks.1)
 fields_at kind.Arrived r = arrived_at r
 fields_at kind.Taken r = taken_at r
 fields_at kind.Purged r = purged_at r
 fields_at kind.Ticked r = u32_at r >>= λ now. Ok (Ticked now.0, now.1)
+fields_at kind.Roll r = count_at 4 1 MAX_ROLL r >>= λ count. Ok (Roll count.0, count.1)
 
 abbrev pub kind_in : Reading → ℕ × Reading → Option EntryKind → Result (EntryKind × Reading) EntryFault
 kind_in r byte (Some kind) = Ok (kind, byte.1)

@@ -1,10 +1,10 @@
 use Rattle.std.specs.Prelude.{ℕ, List, [], ◌∷◌}
 use Rattle.mqb_entries.specs.declared.kinds.EntryKind.{EntryKind}
-use Rattle.mqb_entries.specs.declared.kinds.EntryKind.TheVariants.{Identity, Peer, CreateQueue, Commit, Plain, Offered, Arrived, Taken, Purged, Ticked}
+use Rattle.mqb_entries.specs.declared.kinds.EntryKind.TheVariants.{Identity, Peer, CreateQueue, Commit, Plain, Offered, Arrived, Taken, Purged, Ticked, Roll}
 
 -- the kinds of entries
 abbrev pub kinds : List EntryKind
-kinds = Identity ∷ Peer ∷ CreateQueue ∷ Commit ∷ Plain ∷ Offered ∷ Arrived ∷ Taken ∷ Purged ∷ Ticked ∷ []
+kinds = Identity ∷ Peer ∷ CreateQueue ∷ Commit ∷ Plain ∷ Offered ∷ Arrived ∷ Taken ∷ Purged ∷ Ticked ∷ Roll ∷ []
 
 -- the first byte of an entry of a kind
 abbrev pub code_of : EntryKind → ℕ
@@ -18,3 +18,4 @@ code_of Arrived = 7
 code_of Taken = 8
 code_of Purged = 9
 code_of Ticked = 10
+code_of Roll = 11

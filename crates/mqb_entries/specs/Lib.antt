@@ -5,3 +5,8 @@ pub mod Kinds
 pub mod Entries
 pub mod Spelled
 pub mod SpelledEntries
+pub mod Formats
+pub mod FieldFormats
+pub mod MemberFormats
+pub mod Forms
+pub mod Writing

@@ -58,8 +58,3 @@ IsOp (Take queue id) = IsWord queue × IsId id
 
 abbrev pub IsMark : Mark → Type 0
 IsMark mark = IsWord mark.ordinal × IsWord mark.number
-
--- an op whose length is that of the grammar
-abbrev pub FitsOp : OpView → Type 0
-FitsOp (Send packet) = IsPacket packet
-FitsOp (Take queue id) = Unit {0}

@@ -6,15 +6,16 @@ use Rattle.mqb_entries.specs.declared.members.Mark.{Mark}
 use Rattle.mqb_entries.specs.declared.members.OpView.{OpView}
 use Rattle.mqb_entries.specs.declared.entry.IdentityView.{IdentityView}
 use Rattle.mqb_entries.specs.declared.entry.QueueView.{QueueView}
-use Rattle.mqb_entries.specs.declared.entry.EntryPlace.{EntryPlace}
-use Rattle.mqb_entries.specs.declared.entry.EntryPlace.TheVariants as place
+use Rattle.mqb_base.specs.declared.queues.EntryPlace.{EntryPlace}
+use Rattle.mqb_base.specs.declared.queues.EntryPlace.TheVariants as place
 use Rattle.mqb_entries.specs.declared.entry.ArrivedPart.{ArrivedPart}
 use Rattle.mqb_entries.specs.declared.entry.ArrivedPart.TheVariants as part
 use Rattle.mqb_entries.specs.declared.entry.Entry.{Entry}
-use Rattle.mqb_entries.specs.declared.entry.Entry.TheVariants.{Identity, Peer, CreateQueue, Commit, Plain, Offered, Arrived, Taken, Purged, Ticked}
+use Rattle.mqb_entries.specs.declared.entry.Entry.TheVariants.{Identity, Peer, CreateQueue, Commit, Plain, Offered, Arrived, Taken, Purged, Ticked, Roll}
 use Rattle.mqb_entries.specs.declared.kinds.EntryKind.{EntryKind}
 use Rattle.mqb_entries.specs.declared.kinds.EntryKind.TheVariants as kind
 use Rattle.mqb_entries.specs.Kinds.{code_of}
+use Rattle.mqb_entries.specs.declared.limits.TheConstants.{MAX_FEW, MAX_LISTED, MAX_ROLL}
 use Rattle.mqb_entries.specs.Spelled.{spelled_guid, spelled_id, spelled_name, spelled_packet, spelled_flag, spelled_public, spelled_op, spelled_mark, IsWord, IsName, IsPacket, IsGuid, IsId, IsOp, IsMark}
 
 abbrev pub spelled_identity : IdentityView → List ℕ
@@ -58,6 +59,7 @@ kind_of (Arrived now released part) = kind.Arrived
 kind_of (Taken now place id) = kind.Taken
 kind_of (Purged now place) = kind.Purged
 kind_of (Ticked now) = kind.Ticked
+kind_of (Roll count) = kind.Roll
 
 -- the fields of an entry, behind its kind
 abbrev pub spelled_fields : Entry → List ℕ
@@ -71,14 +73,19 @@ spelled_fields (Arrived now released part) = bytes_of 4 now ++ spelled_numbers r
 spelled_fields (Taken now place id) = bytes_of 4 now ++ spelled_place place ++ spelled_id id
 spelled_fields (Purged now place) = bytes_of 4 now ++ spelled_place place
 spelled_fields (Ticked now) = bytes_of 4 now
+spelled_fields (Roll count) = bytes_of 4 count
 
 -- the bytes of an entry
 abbrev pub spelled : Entry → List ℕ
 spelled entry = code_of (kind_of entry) ∷ spelled_fields entry
 
--- a count of 1 to 64
+-- a count of ops or of marks
 abbrev pub IsFew : ℕ → Type 0
-IsFew count = (1 ≤ count) × (count ≤ 64)
+IsFew count = (1 ≤ count) × (count ≤ MAX_FEW)
+
+-- a count of messages at which a sequence is full
+abbrev pub IsFull : ℕ → Type 0
+IsFull count = (1 ≤ count) × (count ≤ MAX_ROLL)
 
 abbrev pub AreOps : List OpView → Type 0
 AreOps ops = IsFew (length ops) × AllByRecursion IsOp ops
@@ -87,7 +94,7 @@ abbrev pub AreMarks : List Mark → Type 0
 AreMarks marks = IsFew (length marks) × AllByRecursion IsMark marks
 
 abbrev pub AreNumbers : List ℕ → Type 0
-AreNumbers numbers = (length numbers ≤ 0xFFFF) × AllByRecursion IsWord numbers
+AreNumbers numbers = (length numbers ≤ MAX_LISTED) × AllByRecursion IsWord numbers
 
 abbrev pub IsIdentity : IdentityView → Type 0
 IsIdentity m = IsName m.host × IsGuid m.guid × (length m.address ≡ 4)
@@ -124,24 +131,11 @@ IsEntry (Arrived now released part) = IsWord now × AreNumbers released × IsPar
 IsEntry (Taken now place id) = IsWord now × IsPlace place × IsId id
 IsEntry (Purged now place) = IsWord now × IsPlace place
 IsEntry (Ticked now) = IsWord now
+IsEntry (Roll count) = IsFull count
 
--- a part whose length is that of the grammar
-abbrev pub FitsPart : ArrivedPart → Type 0
-FitsPart part.Nothing = Unit {0}
-FitsPart (part.Decided packet) = IsPacket packet
-FitsPart (part.Stored packet) = IsPacket packet
-FitsPart (part.OrderAcknowledged ordinal number) = Unit {0}
-FitsPart (part.Final packet) = IsPacket packet
-
--- an entry whose counts and lengths are those of the grammar
+-- an entry whose counts are those of the grammar: what its types do not say
 abbrev pub Fits : Entry → Type 0
-Fits (Identity identity) = Unit {0}
-Fits (Peer peer) = Unit {0}
-Fits (CreateQueue queue) = Unit {0}
 Fits (Commit now ops) = IsFew (length ops)
-Fits (Plain now packet) = IsPacket packet
 Fits (Offered marks) = IsFew (length marks)
-Fits (Arrived now released part) = (length released ≤ 0xFFFF) × FitsPart part
-Fits (Taken now place id) = Unit {0}
-Fits (Purged now place) = Unit {0}
-Fits (Ticked now) = Unit {0}
+Fits (Roll count) = IsFull count
+Fits _ = Unit {0}

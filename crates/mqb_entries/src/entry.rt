@@ -1,6 +1,6 @@
 use crate::lists::{Marks, Numbers, Ops};
 use crate::slices::{NameSlice, PacketSlice};
-use mqb_base::{Guid, MessageId};
+use mqb_base::{EntryPlace, Guid, MessageId};
 
 /// A manager: its host, its GUID and its IPv4 address.
 #[derive(Debug, Drop)]
@@ -19,16 +19,6 @@ pub struct QueueView<'a> {
     pub transactional: bool,
     pub quota: u32,
     pub journal: bool,
-}
-
-/// A list of messages. A queue and its journal are named by the queue's number.
-#[derive(Clone, Copy, Debug, PartialEq, Eq)]
-pub enum EntryPlace {
-    Queue(u32),
-    JournalOf(u32),
-    Dead,
-    DeadXact,
-    Journal,
 }
 
 /// What arrived, beside the released numbers. A packet is kept as it was heard.
@@ -72,5 +62,8 @@ pub enum Entry<'a> {
     },
     Ticked {
         now: u32,
+    },
+    Roll {
+        count: u32,
     },
 }

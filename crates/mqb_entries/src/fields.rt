@@ -1,23 +1,17 @@
-ghost use Rattle.std.specs.Prelude.{◌≡◌, is_none, not, position};
+ghost use Rattle.std.specs.Prelude.{◌≡◌, ◌^◌, ◌<◌, is_none, length, not, position, IfOk};
 ghost use Rattle.mqb_base.specs.Names.{is_name_byte, name_fault};
 ghost use Rattle.mqb_fields.specs.Reading.{Reads, ReadsAs};
-ghost use Rattle.mqb_entries.specs.Fields.{address_at, counted_part, flag_at, guid_at, guid_part, id_at, id_part, name_at, packet_at, public_at, u16_at, u32_at, u8_at};
+ghost use Rattle.mqb_entries.specs.Fields.{address_at, counted_part, flag_at, guid_at, guid_part, id_at, id_part, name_at, packet_at, public_at, u32_at, u8_at};
 
 use crate::faults::EntryFault;
 use crate::slices::{NameSlice, PacketSlice};
-use mqb_base::{Guid, MessageId};
+use mqb_base::{Guid, MAX_NAME, MessageId, is_name_byte};
 use mqb_fields::{Cursor, Short};
 
 pub(crate) fn u8_field(cursor: &mut Cursor<'_>) -> Result<u8, EntryFault>
     ensures { Reads u8_at cursor.old cursor.new result }
 {
     Ok(cursor.u8()?)
-}
-
-pub(crate) fn u16_field(cursor: &mut Cursor<'_>) -> Result<u16, EntryFault>
-    ensures { Reads u16_at cursor.old cursor.new result }
-{
-    Ok(cursor.u16()?)
 }
 
 pub(crate) fn u32_field(cursor: &mut Cursor<'_>) -> Result<u32, EntryFault>
@@ -69,17 +63,14 @@ fn name_part<'a>(cursor: &mut Cursor<'a>) -> Result<&'a [u8], Short>
     cursor.take(usize::from(len))
 }
 
+#[tactic(auto, using(crate::proofs::Lengths::taken_len))]
 fn packet_part<'a>(cursor: &mut Cursor<'a>) -> Result<&'a [u8], Short>
-    ensures { ReadsAs (λ part. part.now) (counted_part 4) cursor.old cursor.new result }
+    ensures read { ReadsAs (λ part. part.now) (counted_part 4) cursor.old cursor.new result }
+    ensures len { IfOk result (λ part. length part.now < 2 ^ 32) }
 {
     let len = cursor.u32()?;
-    cursor.take(len as usize)
-}
-
-fn is_name_byte(byte: u8) -> bool
-    ensures { result ≡ is_name_byte byte }
-{
-    matches!(byte, 0x21..=0x7E) && !matches!(byte, b'\\' | b';' | b'=' | b',')
+    let part = cursor.take(len as usize)?;
+    Ok(part)
 }
 
 fn first_outside(bytes: &[u8]) -> Option<usize>
@@ -92,10 +83,7 @@ fn first_outside(bytes: &[u8]) -> Option<usize>
 fn is_name(bytes: &[u8]) -> bool
     ensures { result ≡ is_none (name_fault bytes.now) }
 {
-    if bytes.is_empty() || bytes.len() > 64 {
-        return false;
-    }
-    first_outside(bytes).is_none()
+    (1..=MAX_NAME).contains(&bytes.len()) && first_outside(bytes).is_none()
 }
 
 /// A name behind its length.

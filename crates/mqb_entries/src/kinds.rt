@@ -2,7 +2,7 @@ ghost use Rattle.std.specs.Prelude.{◌≡◌, ◌==◌, find};
 ghost use Rattle.mqb_entries.specs.Kinds.{code_of, kinds};
 
 /// What an entry is, by its first byte.
-#[derive(Clone, Copy, Debug, PartialEq, Eq)]
+#[derive(Clone, Copy)]
 pub(crate) enum EntryKind {
     Identity,
     Peer,
@@ -14,9 +14,10 @@ pub(crate) enum EntryKind {
     Taken,
     Purged,
     Ticked,
+    Roll,
 }
 
-const KINDS: [EntryKind; 10] = [
+const KINDS: [EntryKind; 11] = [
     EntryKind::Identity,
     EntryKind::Peer,
     EntryKind::CreateQueue,
@@ -27,6 +28,7 @@ const KINDS: [EntryKind; 10] = [
     EntryKind::Taken,
     EntryKind::Purged,
     EntryKind::Ticked,
+    EntryKind::Roll,
 ];
 
 impl EntryKind {
@@ -44,6 +46,7 @@ impl EntryKind {
             EntryKind::Taken => 8,
             EntryKind::Purged => 9,
             EntryKind::Ticked => 10,
+            EntryKind::Roll => 11,
         }
     }
 

@@ -6,21 +6,21 @@ mod faults;
 mod fields;
 mod kinds;
 mod laws;
-mod lengths;
+mod limits;
 mod lists;
 mod members;
+mod puts;
 mod reading;
 mod slices;
 mod writing;
 
-pub use entry::{ArrivedPart, Entry, EntryPlace, IdentityView, QueueView};
+pub use entry::{ArrivedPart, Entry, IdentityView, QueueView};
 pub use faults::EntryFault;
-pub use laws::{members_are_read, one_spelling, read_is_spelled, spelled_is_read};
-pub use lists::{Marks, Numbers, Ops};
+pub use laws::{read_is_spelled, spelled_is_read};
+pub use limits::{MAX_FEW, MAX_LISTED, MAX_ROLL};
+pub use lists::{Marks, MemberList, Numbers, Ops};
 pub use members::{Mark, OpView};
+pub use mqb_base::EntryPlace;
 pub use reading::entry_view;
 pub use slices::{NameSlice, PacketSlice};
-pub use writing::{put_entry, put_mark, put_number, put_op};
-
-#[cfg(test)]
-mod tests;
+pub use writing::put_entry;

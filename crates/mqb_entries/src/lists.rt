@@ -1,296 +1,200 @@
-ghost use Rattle.std.specs.Prelude.{◌≡◌, [], ◌∷◌, length, IfOk, IfSome, MatchOption};
-ghost use Rattle.std.specs.List.{flat_map};
+ghost use Rattle.std.specs.Prelude.{◌≡◌, ◌+◌, ◌^◌, ◌<◌, ◌≤◌, [], ◌∷◌, ◌++◌, length, IfOk, MatchOption};
+ghost use Rattle.std.specs.Iterator.{YieldsFirst, item_count};
+ghost use Rattle.std.specs.List.{flat_map, AllByRecursion};
 ghost use Rattle.mqb_fields.specs.Reading.{Moves, Reads};
-ghost use Rattle.mqb_fields.specs.Writing.{bytes_of};
-ghost use Rattle.mqb_entries.specs.Fields.{u32_at};
-ghost use Rattle.mqb_entries.specs.Lists.{many, members_of, passed};
-ghost use Rattle.mqb_entries.specs.Members.{mark_at, op_at};
-ghost use Rattle.mqb_entries.specs.Spelled.{spelled_mark, spelled_op};
+ghost use Rattle.mqb_entries.specs.Lists.{many, passed};
+ghost use Rattle.mqb_entries.specs.Writing.{room_of};
+ghost use Rattle.mqb_entries.specs.declared.limits.TheConstants.{MAX_LISTED};
 
 use crate::faults::EntryFault;
-use crate::fields::u32_field;
-use crate::members::{Mark, OpView, mark_member, op_member};
+use crate::members::{Mark, Member, OpView, ReadMember};
+use crate::puts::put;
 use mqb_fields::Cursor;
 use std::marker::Model;
 
-fn pass_ops(cursor: &mut Cursor<'_>, count: u16) -> Result<(), EntryFault>
-    ensures { Moves (passed op_at count) cursor.old cursor.new result }
+/// The ops of a commit.
+pub type Ops<'a> = MemberList<'a, OpView<'a>>;
+
+/// Marks up to which sequences were offered.
+pub type Marks<'a> = MemberList<'a, Mark>;
+
+/// Numbers of messages.
+pub type Numbers<'a> = MemberList<'a, u32>;
+
+/// A list as it stands in a record, or as values that are going to stand in one.
+#[derive(Debug, Drop)]
+enum Form<'a, M> {
+    Spelled { bytes: &'a [u8], count: u16 },
+    Values(&'a [M]),
+}
+
+/// A list of at most `MAX_LISTED` members. Contracts see the list. As an iterator it gives its members; nothing here takes memory.
+#[derive(Debug, Drop)]
+pub struct MemberList<'a, M: Member> {
+    form: Form<'a, M>,
+}
+
+impl<'a, M: Member> Model for MemberList<'a, M> {
+    ghost use Rattle.std.specs.Prelude.{List};
+
+    ghost Value = { List M };
+
+    ghost use Rattle.mqb_entries.specs.Forms.{listed, IsList};
+
+    ghost view = { λ l. listed M.member_at l.form };
+
+    ghost invariant = { λ l. IsList M.member_at M.spelled M.fits l.form };
+}
+
+fn pass_all<'a, M: ReadMember<'a>>(cursor: &mut Cursor<'a>, count: u16) -> Result<(), EntryFault>
+    ensures { Moves (passed M.member_at count) cursor.old cursor.new result }
 {
     for _ in 0..count {
-        op_member(cursor)?;
+        M::read(cursor)?;
     }
     Ok(())
 }
 
-/// The ops of a commit. Contracts see the list of them.
-#[derive(Debug, Drop)]
-pub struct Ops<'a> {
-    bytes: &'a [u8],
-    count: u16,
-}
-
-impl<'a> Model for Ops<'a> {
-    ghost use Rattle.std.specs.Prelude.{List, [], unwrap_or};
-    ghost use Rattle.mqb_entries.specs.declared.members.OpView.{OpView};
-    ghost use Rattle.mqb_entries.specs.Members.{op_at};
-    ghost use Rattle.mqb_entries.specs.Lists.{AreSpelled, members_of};
-    ghost use Rattle.mqb_entries.specs.Spelled.{IsOp, spelled_op};
-
-    ghost Value = { List OpView };
-
-    ghost view = { λ l. unwrap_or (members_of op_at l.count l.bytes.now) [] };
-
-    ghost invariant = { λ l. AreSpelled spelled_op IsOp l.count l.bytes.now (unwrap_or (members_of op_at l.count l.bytes.now) []) };
-}
-
-impl<'a> Ops<'a> {
-    /// The ops that bytes spell, where all of the bytes are so many.
-    #[tactic(auto, unfolding(crate::specs::Lists::members_of))]
-    pub fn new(bytes: &'a [u8], count: u16) -> Option<Ops<'a>>
-        ensures members { result ≡ members_of op_at count bytes.now }
-        ensures count { IfSome result (λ ops. length ops ≡ count) }
-    {
-        let mut cursor = Cursor::new(bytes);
-        let ops = Ops::read(&mut cursor, count).ok()?;
-        if cursor.rest().is_empty() {
-            Some(ops)
-        } else {
-            None
-        }
-    }
-
-    pub(crate) fn read(cursor: &mut Cursor<'a>, count: u16) -> Result<Ops<'a>, EntryFault>
-        ensures read { Reads (many op_at count) cursor.old cursor.new result }
-        ensures count { IfOk result (λ ops. length ops ≡ count) }
-    {
-        let start = cursor.at();
-        let bytes = cursor.rest();
-        pass_ops(cursor, count)?;
-        let end = cursor.at();
-        Ok(Ops {
-            bytes: &bytes[..end - start],
-            count,
-        })
-    }
-
-    pub fn count(&self) -> u16
-        ensures { result ≡ length self.now }
-    {
-        self.count
-    }
-
-    /// The bytes that spell them.
-    pub(crate) fn as_bytes(&self) -> &'a [u8]
-        ensures { result.now ≡ flat_map spelled_op self.now }
-    {
-        self.bytes
-    }
-
-    /// The first one, and the others.
-    pub fn split_first(&self) -> Option<(OpView<'a>, Ops<'a>)>
-        ensures { MatchOption result (self.now ≡ []) (λ split. self.now ≡ split.0 ∷ split.1) }
-    {
-        if self.count == 0 {
-            return None;
-        }
-        let mut cursor = Cursor::new(self.bytes);
-        match op_member(&mut cursor) {
-            Ok(first) => {
-                let others = Ops {
-                    bytes: cursor.rest(),
-                    count: self.count - 1,
-                };
-                Some((first, others))
-            }
-            Err(_) => None,
-        }
-    }
-}
-
-fn pass_marks(cursor: &mut Cursor<'_>, count: u16) -> Result<(), EntryFault>
-    ensures { Moves (passed mark_at count) cursor.old cursor.new result }
+fn len_of(bytes: &[u8]) -> usize
+    ensures len { result ≡ length bytes.now }
+    ensures bound { result < 2 ^ 63 }
 {
-    for _ in 0..count {
-        mark_member(cursor)?;
-    }
-    Ok(())
+    bytes.len()
 }
 
-/// Marks up to which sequences were offered. Contracts see the list of them.
-#[derive(Debug, Drop)]
-pub struct Marks<'a> {
-    bytes: &'a [u8],
-    count: u16,
-}
-
-impl<'a> Model for Marks<'a> {
-    ghost use Rattle.std.specs.Prelude.{List, [], unwrap_or};
-    ghost use Rattle.mqb_entries.specs.declared.members.Mark.{Mark};
-    ghost use Rattle.mqb_entries.specs.Members.{mark_at};
-    ghost use Rattle.mqb_entries.specs.Lists.{AreSpelled, members_of};
-    ghost use Rattle.mqb_entries.specs.Spelled.{IsMark, spelled_mark};
-
-    ghost Value = { List Mark };
-
-    ghost view = { λ l. unwrap_or (members_of mark_at l.count l.bytes.now) [] };
-
-    ghost invariant = { λ l. AreSpelled spelled_mark IsMark l.count l.bytes.now (unwrap_or (members_of mark_at l.count l.bytes.now) []) };
-}
-
-impl<'a> Marks<'a> {
-    /// The marks that bytes spell, where all of the bytes are so many.
-    #[tactic(auto, unfolding(crate::specs::Lists::members_of))]
-    pub fn new(bytes: &'a [u8], count: u16) -> Option<Marks<'a>>
-        ensures members { result ≡ members_of mark_at count bytes.now }
-        ensures count { IfSome result (λ marks. length marks ≡ count) }
-    {
-        let mut cursor = Cursor::new(bytes);
-        let marks = Marks::read(&mut cursor, count).ok()?;
-        if cursor.rest().is_empty() {
-            Some(marks)
-        } else {
-            None
-        }
-    }
-
-    pub(crate) fn read(cursor: &mut Cursor<'a>, count: u16) -> Result<Marks<'a>, EntryFault>
-        ensures read { Reads (many mark_at count) cursor.old cursor.new result }
-        ensures count { IfOk result (λ marks. length marks ≡ count) }
-    {
-        let start = cursor.at();
-        let bytes = cursor.rest();
-        pass_marks(cursor, count)?;
-        let end = cursor.at();
-        Ok(Marks {
-            bytes: &bytes[..end - start],
-            count,
-        })
-    }
-
-    pub fn count(&self) -> u16
-        ensures { result ≡ length self.now }
-    {
-        self.count
-    }
-
-    /// The bytes that spell them.
-    pub(crate) fn as_bytes(&self) -> &'a [u8]
-        ensures { result.now ≡ flat_map spelled_mark self.now }
-    {
-        self.bytes
-    }
-
-    /// The first one, and the others.
-    pub fn split_first(&self) -> Option<(Mark, Marks<'a>)>
-        ensures { MatchOption result (self.now ≡ []) (λ split. self.now ≡ split.0 ∷ split.1) }
-    {
-        if self.count == 0 {
-            return None;
-        }
-        let mut cursor = Cursor::new(self.bytes);
-        match mark_member(&mut cursor) {
-            Ok(first) => {
-                let others = Marks {
-                    bytes: cursor.rest(),
-                    count: self.count - 1,
-                };
-                Some((first, others))
-            }
-            Err(_) => None,
-        }
-    }
-}
-
-fn pass_numbers(cursor: &mut Cursor<'_>, count: u16) -> Result<(), EntryFault>
-    ensures { Moves (passed u32_at count) cursor.old cursor.new result }
+fn len_of_all<M: Member>(members: &[M]) -> usize
+    requires { length members.now ≤ MAX_LISTED }
+    ensures len { result ≡ length (flat_map M.spelled members.now) }
+    ensures bound { result < 2 ^ 49 }
 {
-    for _ in 0..count {
-        u32_field(cursor)?;
+    let mut len = 0;
+    for member in members {
+        len += member.spelled_len();
     }
-    Ok(())
+    len
 }
 
-/// Numbers of messages. Contracts see the list of them.
-#[derive(Debug, Drop)]
-pub struct Numbers<'a> {
-    bytes: &'a [u8],
-    count: u16,
+fn put_all<M: Member>(members: &[M], out: &mut Vec<u8>)
+    requires { length (flat_map M.spelled members.now) ≤ room_of out.old }
+    ensures items { out.new.items ≡ out.old.items ++ flat_map M.spelled members.now }
+    ensures room { room_of out.old ≤ length (flat_map M.spelled members.now) + room_of out.new }
+    ensures fits { AllByRecursion M.fits members.now }
+{
+    for member in members {
+        member.put(out);
+    }
 }
 
-impl<'a> Model for Numbers<'a> {
-    ghost use Rattle.std.specs.Prelude.{ℕ, List, [], unwrap_or};
-    ghost use Rattle.mqb_entries.specs.Fields.{u32_at};
-    ghost use Rattle.mqb_entries.specs.Lists.{AreSpelled, members_of};
-    ghost use Rattle.mqb_fields.specs.Writing.{bytes_of};
-    ghost use Rattle.mqb_entries.specs.Spelled.{IsWord};
-
-    ghost Value = { List ℕ };
-
-    ghost view = { λ l. unwrap_or (members_of u32_at l.count l.bytes.now) [] };
-
-    ghost invariant = { λ l. AreSpelled (bytes_of 4) IsWord l.count l.bytes.now (unwrap_or (members_of u32_at l.count l.bytes.now) []) };
-}
-
-impl<'a> Numbers<'a> {
-    /// The numbers that bytes spell, where all of the bytes are so many.
-    #[tactic(auto, unfolding(crate::specs::Lists::members_of))]
-    pub fn new(bytes: &'a [u8], count: u16) -> Option<Numbers<'a>>
-        ensures members { result ≡ members_of u32_at count bytes.now }
-        ensures count { IfSome result (λ numbers. length numbers ≡ count) }
+impl<'a, M: Member> MemberList<'a, M> {
+    /// The list of these members.
+    pub fn of(members: &'a [M]) -> MemberList<'a, M>
+        requires { length members.now ≤ MAX_LISTED }
+        ensures { result ≡ members.now }
     {
-        let mut cursor = Cursor::new(bytes);
-        let numbers = Numbers::read(&mut cursor, count).ok()?;
-        if cursor.rest().is_empty() {
-            Some(numbers)
-        } else {
-            None
+        MemberList {
+            form: Form::Values(members),
         }
     }
 
-    pub(crate) fn read(cursor: &mut Cursor<'a>, count: u16) -> Result<Numbers<'a>, EntryFault>
-        ensures read { Reads (many u32_at count) cursor.old cursor.new result }
-        ensures count { IfOk result (λ numbers. length numbers ≡ count) }
+    pub fn len(&self) -> u16
+        ensures { result ≡ length self.now }
+    {
+        match self.form {
+            Form::Spelled { count, .. } => count,
+            Form::Values(members) => members.len() as u16,
+        }
+    }
+
+    /// The same list, to be walked.
+    pub fn iter(&self) -> MemberList<'a, M>
+        ensures { result ≡ self.now }
+    {
+        let form = match self.form {
+            Form::Spelled { bytes, count } => Form::Spelled { bytes, count },
+            Form::Values(members) => Form::Values(members),
+        };
+        MemberList { form }
+    }
+
+    /// How many bytes the members are.
+    pub(crate) fn spelled_len(&self) -> usize
+        ensures len { result ≡ length (flat_map M.spelled self.now) }
+        ensures bound { result < 2 ^ 63 }
+    {
+        match self.form {
+            Form::Spelled { bytes, .. } => len_of(bytes),
+            Form::Values(members) => len_of_all(members),
+        }
+    }
+
+    /// Adds the members' bytes, for which there is room.
+    pub(crate) fn put(&self, out: &mut Vec<u8>)
+        requires { length (flat_map M.spelled self.now) ≤ room_of out.old }
+        ensures items { out.new.items ≡ out.old.items ++ flat_map M.spelled self.now }
+        ensures room { room_of out.old ≤ length (flat_map M.spelled self.now) + room_of out.new }
+        ensures fits { AllByRecursion M.fits self.now }
+    {
+        match self.form {
+            Form::Spelled { bytes, .. } => put(out, bytes),
+            Form::Values(members) => put_all(members, out),
+        }
+    }
+}
+
+impl<'a, M: ReadMember<'a>> MemberList<'a, M> {
+    /// So many members.
+    pub(crate) fn read(cursor: &mut Cursor<'a>, count: u16) -> Result<MemberList<'a, M>, EntryFault>
+        ensures { Reads (many M.member_at count) cursor.old cursor.new result }
     {
         let start = cursor.at();
-        let bytes = cursor.rest();
-        pass_numbers(cursor, count)?;
-        let end = cursor.at();
-        Ok(Numbers {
-            bytes: &bytes[..end - start],
-            count,
+        let rest = cursor.rest();
+        pass_all::<M>(cursor, count)?;
+        let bytes = &rest[..cursor.at() - start];
+        Ok(MemberList {
+            form: Form::Spelled { bytes, count },
         })
     }
 
-    pub fn count(&self) -> u16
-        ensures { result ≡ length self.now }
-    {
-        self.count
-    }
-
-    /// The bytes that spell them.
-    pub(crate) fn as_bytes(&self) -> &'a [u8]
-        ensures { result.now ≡ flat_map (bytes_of 4) self.now }
-    {
-        self.bytes
-    }
-
-    /// The first one, and the others.
-    pub fn split_first(&self) -> Option<(u32, Numbers<'a>)>
+    /// The first member, and the others.
+    pub fn split_first(&self) -> Option<(M, MemberList<'a, M>)>
         ensures { MatchOption result (self.now ≡ []) (λ split. self.now ≡ split.0 ∷ split.1) }
     {
-        if self.count == 0 {
-            return None;
-        }
-        let mut cursor = Cursor::new(self.bytes);
-        match u32_field(&mut cursor) {
-            Ok(first) => {
-                let others = Numbers {
-                    bytes: cursor.rest(),
-                    count: self.count - 1,
-                };
-                Some((first, others))
+        match self.form {
+            Form::Spelled { bytes, count } => {
+                if count == 0 {
+                    return None;
+                }
+                let mut cursor = Cursor::new(bytes);
+                match M::read(&mut cursor) {
+                    Ok(first) => {
+                        let form = Form::Spelled {
+                            bytes: cursor.rest(),
+                            count: count - 1,
+                        };
+                        Some((first, MemberList { form }))
+                    }
+                    Err(_) => None,
+                }
             }
-            Err(_) => None,
+            Form::Values(members) => {
+                let (first, others) = members.split_first()?;
+                let form = Form::Values(others);
+                Some((first.again(), MemberList { form }))
+            }
         }
+    }
+}
+
+impl<'a, M: ReadMember<'a>> Iterator for MemberList<'a, M> {
+    type Item = M;
+
+    ghost next_gives = { YieldsFirst (λ members. members) };
+
+    ghost remaining = { item_count (λ members. members) };
+
+    fn next(&mut self) -> Option<M> {
+        let (first, others) = self.split_first()?;
+        *self = others;
+        Some(first)
     }
 }
