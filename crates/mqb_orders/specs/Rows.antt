@@ -1,9 +1,12 @@
-use Rattle.std.specs.Prelude.{◌≡◌, ℕ, ◌<◌, ◌≤◌, ◌⊎◌, nat_lt, max, List, All, Contains, MatchOption, filter, fold, find, Option}
+use Rattle.std.specs.List.{list_any}
+use Rattle.std.specs.Option.{option_map_or}
+use Rattle.std.specs.Prelude.{◌≡◌, ℕ, ◌<◌, ◌≤◌, ◌==◌, ◌&&◌, ◌⊎◌, Bool, false, not, nat_lt, max, List, All, Contains, MatchOption, filter, fold, find, take, slice_get, Option}
 use Rattle.mqb_base.specs.declared.queue_names.QueueName.{QueueName}
 use Rattle.mqb_base.specs.declared.ids.SequenceId.{SequenceId}
+use Rattle.mqb_base.specs.Same.{same_name}
 use Rattle.mqb_orders.specs.declared.kept.Kept.{Kept}
 use Rattle.mqb_orders.specs.declared.rows.OutRow.{OutRow}
-use Rattle.mqb_orders.specs.KeptLists.{numbers}
+use Rattle.mqb_orders.specs.KeptLists.{numbers, released}
 
 -- an outgoing row, without its room
 pub record Row : Type 0 where
@@ -23,8 +26,24 @@ row_of r = record {
   committed = r.committed;
   offered = r.offered;
   acked = r.acked;
-  kept = r.kept.kept;
+  kept = r.kept.items;
 }
+
+-- a row leads to a destination at a peer
+abbrev pub leads_to : ℕ → QueueName → Row → Bool
+leads_to peer destination row = row.peer == peer && same_name row.destination destination
+
+-- a number that is kept was not acknowledged
+abbrev pub has_unacknowledged : Row → Bool
+has_unacknowledged row = list_any (λ k. nat_lt row.acked k.number) row.kept
+
+-- no earlier row than the one at k leads where it leads and has a number that was not acknowledged
+abbrev pub is_open : List Row → ℕ → Bool
+is_open rows k = option_map_or (λ row. not (list_any (λ r. leads_to row.peer row.destination r && has_unacknowledged r) (take k rows))) (slice_get rows k) false
+
+-- a row that is acknowledged up to a number
+abbrev pub acknowledged : ℕ → Row → Row
+acknowledged number row = record row { acked = max row.acked number; kept = released (max row.acked number) row.kept }
 
 -- the greatest of low and the members below n
 abbrev pub greatest_below : ℕ → ℕ → List ℕ → ℕ

@@ -1,4 +1,4 @@
-use Rattle.std.specs.Prelude.{ℕ, ◌≤◌, Bool, not, ◌==◌, ◌&&◌, List, filter, Option, Some, None, is_some, IfSome, if◌then◌else◌}
+use Rattle.std.specs.Prelude.{ℕ, ◌≤◌, Bool, not, ◌==◌, ◌&&◌, List, filter, Option, Some, None, IfSome, if◌then◌else◌}
 use Rattle.std.specs.List.{list_any, filter_map}
 use Rattle.mqb_base.specs.declared.ledger.Stream.{Stream}
 use Rattle.mqb_base.specs.declared.ledger.Line.{Line}
@@ -19,10 +19,6 @@ number_committed s _ = None
 abbrev pub number_expired : Stream → Line → Option ℕ
 number_expired s (Expired stream number id moment) = if same_stream s stream then Some number else None
 number_expired s _ = None
-
--- the Committed lines of a stream
-abbrev pub committed_of : Stream → List Line → List Line
-committed_of s lines = filter (λ line. is_some (number_committed s line)) lines
 
 -- the numbers of a stream that expired at its source
 abbrev pub expired_of : Stream → List Line → List ℕ

@@ -14,6 +14,3 @@ pub use laws::{closed_stays, numbers_rise, window_is_kept};
 pub use mqb_base::Cause;
 pub use phase::Phase;
 pub use session::Session;
-
-#[cfg(test)]
-mod tests;
