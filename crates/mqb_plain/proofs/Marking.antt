@@ -1,17 +1,19 @@
 -- What each change of a list does to its messages and their marks.
 use Rattle.std.proofs.Common.{◌≡◌, ◌≤◌, ◌<◌, ℕ, zero, suc, ◌+◌, ◌-◌, Bool, true, false, cond, not, leb, List, [], ◌∷◌, ◌++◌, length, map, take, drop, Option, Some, None, refl, sym, ap, ◌∙◌, arith, slice_get}
-use Rattle.std.specs.Prelude.{max, remove, filter, count_by, fold, find, All, IsNone, IsSome, unwrap_or, option_map}
-use Rattle.std.specs.List.{prefix_len, AllByRecursion}
-use Rattle.std.proofs.lemmas.Bool.{ltb-false, le-ltb, lt-ltb}
+use Rattle.std.specs.Option.{is_some}
+use Rattle.std.specs.Prelude.{max, insert, remove, filter, count_by, fold, find, All, IsNone, IsSome, unwrap_or, option_map}
+use Rattle.std.specs.List.{filter_map, prefix_len, AllByRecursion}
+use Rattle.std.proofs.lemmas.Bool.{true≢false, ltb-false, le-ltb, lt-ltb}
 use Rattle.std.proofs.lemmas.Bool.Decides.{nat_tests}
 use Rattle.std.proofs.lemmas.List.{length-take}
 use Rattle.std.proofs.lemmas.List.Folds.{length-prefix_len}
 use Rattle.std.proofs.lemmas.List.Sums.{sum_by-cons}
-use Rattle.std.proofs.lemmas.List.Elements.{All-from_recursion}
+use Rattle.std.proofs.lemmas.List.Elements.{All-from_recursion, All-head, All-tail}
 use Rattle.mqb_base.specs.declared.message.Message.{Message}
-use Rattle.mqb_plain.specs.Lists.{Outgoing, messages_of, unsent, first_unsent, marked_next, greatest_mark, unmarked, is_sent_by, RisesFrom, marked, Rising}
+use Rattle.mqb_plain.specs.declared.outgoing.Outgoing.{Outgoing}
+use Rattle.mqb_plain.specs.Lists.{InOrder, marks_of, messages_of, unsent, first_unsent, marked_next, greatest_mark, unmarked, is_sent_by, RisesFrom, marked, Rising}
 
-abbrev sent_as : Message → ℕ → Outgoing
+abbrev pub sent_as : Message → ℕ → Outgoing
 sent_as m k = record { message = m; mark = Some k }
 
 pub messages_marked : (ms : List Message) (ks : List ℕ) → messages_of (marked ms ks) ≡ ms
@@ -67,8 +69,24 @@ removed_marked (m ∷ ms) [] (suc at) within = ap (λ (xs : List Outgoing). unse
 removed_marked (m ∷ ms) (k ∷ ks) zero within = refl
 removed_marked (m ∷ ms) (k ∷ ks) (suc at) within = ap (λ (xs : List Outgoing). sent_as m k ∷ xs) (removed_marked ms ks at (omega (arith, within)))
 
-pub slice_marked : (ms : List Message) (ks : List ℕ) (at : ℕ) → slice_get (messages_of (marked ms ks)) at ≡ slice_get ms at
-slice_marked ms ks at = ap (λ (xs : List Message). slice_get xs at) (messages_marked ms ks)
+-- a message and its mark
+pub item_marked : (ms : List Message) (ks : List ℕ) (at : ℕ)
+    → slice_get (marked ms ks) at ≡ option_map (λ m. record { message = m; mark = slice_get ks at }) (slice_get ms at)
+item_marked [] ks at = refl
+item_marked (m ∷ ms) [] zero = refl
+item_marked (m ∷ ms) [] (suc at) = item_marked ms [] at
+item_marked (m ∷ ms) (k ∷ ks) zero = refl
+item_marked (m ∷ ms) (k ∷ ks) (suc at) = item_marked ms ks at
+
+no_marks : (ms : List Message) → marks_of (marked ms []) ≡ []
+no_marks [] = refl
+no_marks (m ∷ ms) = no_marks ms
+
+pub marks_marked : (ms : List Message) (ks : List ℕ) → length ks ≤ length ms → marks_of (marked ms ks) ≡ ks
+marks_marked [] [] few = refl
+marks_marked [] (k ∷ ks) few = absurd (omega (arith, few))
+marks_marked (m ∷ ms) [] few = no_marks ms
+marks_marked (m ∷ ms) (k ∷ ks) few = ap (λ (xs : List ℕ). k ∷ xs) (marks_marked ms ks (omega (arith, few)))
 
 -- rising numbers
 rising_lower : (a low : ℕ) (ks : List ℕ) → a ≤ low → Rising low ks → Rising a ks
@@ -172,3 +190,57 @@ length_removed (m ∷ ms) (k ∷ ks) (suc at) within few = omega (arith, length_
 
 pub count_is : (n : ℕ) (ks xs : List ℕ) (count : ℕ) → count ≡ length (take (prefix_len (up_to n) xs) xs) → xs ≡ ks → count ≡ prefix_len (up_to n) ks
 count_is n ks xs count counted same = counted ∙ ap (λ (ys : List ℕ). length (take (prefix_len (up_to n) ys) ys)) same ∙ up_to_count n ks
+
+-- A message that is put into a list which stays in order.
+
+-- the marks of a list in order rise
+rising_of : (low : ℕ) (ms : List Message) (ks : List ℕ) → length ks ≤ length ms → RisesFrom low (marked ms ks) → Rising low ks
+rising_of low ms [] few rises = tt
+rising_of low [] (k ∷ ks) few rises = absurd (omega (arith, few))
+rising_of low (m ∷ ms) (k ∷ ks) few rises = (rises.0, rising_of k ms ks (omega (arith, few)) rises.1)
+
+-- a sent message does not stand behind an unsent one
+none_sent_behind : (items : List Outgoing) (at : ℕ) (o : Outgoing) (k : ℕ) → at ≤ length items → o.mark ≡ Some k → All (λ p. IsNone p.mark) (insert items at o) → ⊥
+none_sent_behind items zero o k within is none = true≢false (sym (ap is_some is) ∙ All-head (λ p. IsNone p.mark) o items none)
+none_sent_behind [] (suc at) o k within is none = omega (arith, within)
+none_sent_behind (p ∷ items) (suc at) o k within is none =
+    none_sent_behind items at o k (omega (arith, within)) is (All-tail (λ p. IsNone p.mark) p (insert items at o) none)
+
+-- a sent message goes among the sent ones
+pub record SentIsPut (low : ℕ) (ms : List Message) (ks : List ℕ) (at : ℕ) (m : Message) (k : ℕ) : Type 0 where
+  pub within : at ≤ length ks
+  pub rising : Rising low (insert ks at k)
+  pub list : marked (insert ms at m) (insert ks at k) ≡ insert (marked ms ks) at (sent_as m k)
+
+pub sent_is_put : (low : ℕ) (ms : List Message) (ks : List ℕ) (at : ℕ) (m : Message) (k : ℕ) → at ≤ length ms → length ks ≤ length ms
+    → RisesFrom low (insert (marked ms ks) at (sent_as m k)) → SentIsPut low ms ks at m k
+sent_is_put low ms ks zero m k within few rises = record {
+  within = omega arith;
+  rising = (rises.0, rising_of k ms ks few rises.1);
+  list = refl;
+}
+sent_is_put low [] ks (suc at) m k within few rises = absurd (omega (arith, within))
+sent_is_put low (n ∷ ms) [] (suc at) m k within few rises =
+    absurd (none_sent_behind (marked ms []) at (sent_as m k) k (omega (arith, within, length_marked ms [])) refl rises)
+sent_is_put low (n ∷ ms) (j ∷ ks) (suc at) m k within few rises =
+    let behind = sent_is_put j ms ks at m k (omega (arith, within)) (omega (arith, few)) rises.1 in
+    record {
+      within = omega (arith, behind.within);
+      rising = (rises.0, behind.rising);
+      list = ap (λ (xs : List Outgoing). sent_as n j ∷ xs) behind.list;
+    }
+
+unsent_put : (ms : List Message) (at : ℕ) (m : Message) → at ≤ length ms → marked (insert ms at m) [] ≡ insert (marked ms []) at (unsent m)
+unsent_put ms zero m within = refl
+unsent_put [] (suc at) m within = absurd (omega (arith, within))
+unsent_put (n ∷ ms) (suc at) m within = ap (λ (xs : List Outgoing). unsent n ∷ xs) (unsent_put ms at m (omega (arith, within)))
+
+-- an unsent message goes behind the sent ones
+pub unsent_is_put : (low : ℕ) (ms : List Message) (ks : List ℕ) (at : ℕ) (m : Message) → at ≤ length ms → length ks ≤ length ms
+    → RisesFrom low (insert (marked ms ks) at (unsent m)) → marked (insert ms at m) ks ≡ insert (marked ms ks) at (unsent m)
+unsent_is_put low ms [] at m within few rises = unsent_put ms at m within
+unsent_is_put low [] (k ∷ ks) at m within few rises = absurd (omega (arith, few))
+unsent_is_put low (n ∷ ms) (k ∷ ks) zero m within few rises =
+    absurd (true≢false (All-head (λ p. IsNone p.mark) (sent_as n k) (marked ms ks) rises))
+unsent_is_put low (n ∷ ms) (k ∷ ks) (suc at) m within few rises =
+    ap (λ (xs : List Outgoing). sent_as n k ∷ xs) (unsent_is_put k ms ks at m (omega (arith, within)) (omega (arith, few)) rises.1)

@@ -1,19 +1,15 @@
 -- A list of plain messages for one peer, and which of them were sent in this connection.
-use Rattle.std.specs.Prelude.{ℕ, ◌<◌, ◌≤◌, ◌+◌, Bool, true, false, is_none, nat_le, max, List, [], ◌∷◌, length, map, find, fold, All, IsNone, MatchOption, Option, Some, None, option_map, unwrap_or, if◌then◌else◌}
+use Rattle.std.specs.List.{filter_map}
+use Rattle.std.specs.Prelude.{ℕ, ◌<◌, ◌≤◌, Bool, true, false, is_none, nat_le, max, List, [], ◌∷◌, length, map, find, fold, All, IsNone, MatchOption, Option, Some, None, option_map, unwrap_or, if◌then◌else◌}
 use Rattle.mqb_base.specs.declared.message.Message.{Message}
-
--- a message, and the number of its list that its session header had, where it was sent in this connection
-pub record Outgoing : Type 0 where
-  pub message : Message
-  pub mark : Option ℕ
-
--- the messages of a list in order, and how many more it has room for
-pub record Room : Type 0 where
-  pub items : List Outgoing
-  pub spare : ℕ
+use Rattle.mqb_plain.specs.declared.outgoing.Outgoing.{Outgoing}
 
 abbrev pub messages_of : List Outgoing → List Message
 messages_of items = map (λ o. o.message) items
+
+-- the numbers of the messages that were sent
+abbrev pub marks_of : List Outgoing → List ℕ
+marks_of items = filter_map (λ o. o.mark) items
 
 abbrev pub unsent : Message → Outgoing
 unsent message = record { message = message; mark = None }
@@ -63,10 +59,9 @@ abbrev pub Rising : ℕ → List ℕ → Type 0
 Rising low [] = Unit {0}
 Rising low (k ∷ marks) = (low < k) × Rising k marks
 
--- There is room for each message and its number, and for as many more as are spare.
-pub record IsList (messages : List Message) (marks : List ℕ) (spare message_room mark_room : ℕ) : Type 0 where
+-- There is room for as many numbers as messages.
+pub record IsList (messages : List Message) (marks : List ℕ) (message_room mark_room : ℕ) : Type 0 where
   pub first_sent : length marks ≤ length messages
   pub rising : Rising 0 marks
-  pub few : length messages + spare ≤ 0xFFFFFFFF
-  pub message_fits : length messages + spare ≤ message_room
-  pub mark_fits : length messages + spare ≤ mark_room
+  pub within : length messages ≤ message_room
+  pub mark_fits : message_room ≤ mark_room

@@ -1,17 +1,19 @@
-ghost use Rattle.std.specs.Prelude.{◌≡◌, ◌+◌, ◌<◌, ◌≤◌, [], ◌∷◌, ◌++◌, length, remove, slice_get, filter, count_by, not, take, Some, IsOk, OnOk, OnErr, IfErr, option_map};
-ghost use Rattle.mqb_plain.specs.Lists.{InOrder, is_sent_by, messages_of, unmarked, unsent};
-ghost use Rattle.mqb_plain.specs.Plain.{MaySend, next_unsent, sent, total};
+ghost use Rattle.std.specs.Prelude.{◌≡◌, ◌==◌, ◌+◌, ◌<◌, ◌≤◌, length, insert, slice_get, filter, count_by, not, take, Some, IsOk, IsErr, OnOk, OnErr, IfErr, option_map};
+ghost use Rattle.mqb_base.specs.declared.message.Lane.TheVariants.{Durable, Express};
+ghost use Rattle.mqb_base.specs.declared.roomed.TheConstants.{MAX_MEMBERS};
+ghost use Rattle.mqb_plain.specs.Lists.{InOrder, is_sent_by, marks_of, messages_of, unmarked};
+ghost use Rattle.mqb_plain.specs.Plain.{MaySend, count, inserted, next_unsent, no_plain, no_room, outgoing_in, pushed, room_for, room_to_push, sent, spare, without};
 
-use crate::outgoing::OutList;
-use mqb_base::{Memory, Message, SessionHead};
+use crate::outgoing::{OutList, Outgoing};
+use mqb_base::{Lane, MAX_MEMBERS, Memory, Message, SessionHead};
 use std::alloc::Global;
 use std::marker::Model;
 
-/// The plain messages that wait for one peer, recoverable and express ones, at most 4,294,967,295 together. A message that was sent in this
+/// The plain messages that wait for one peer, recoverable and express ones, at most `MAX_MEMBERS` together. A message that was sent in this
 /// connection bears the number of its list that its session header had. A recoverable one is released when the peer tells that it has stored so
 /// many, an express one is dropped when the peer tells that it has got so many.
 ///
-/// Contracts see each list as its messages with their numbers, and how many more it has room for.
+/// Contracts see both lists as messages with their numbers, and beside them how many each can have without memory.
 #[derive(Debug, Drop)]
 pub struct PlainOut {
     recoverable: OutList,
@@ -19,40 +21,25 @@ pub struct PlainOut {
 }
 
 impl Model for PlainOut {
-    ghost use Rattle.std.specs.Prelude.{◌≤◌};
-    ghost use Rattle.mqb_plain.specs.Plain.{Plain, total};
+    ghost use Rattle.std.specs.Prelude.{◌≤◌, ◌+◌};
+    ghost use Rattle.mqb_base.specs.Rooms.{WithRooms};
+    ghost use Rattle.mqb_base.specs.declared.roomed.TheConstants.{MAX_MEMBERS};
+    ghost use Rattle.mqb_plain.specs.Plain.{PlainLists, PlainRooms};
 
-    ghost Value = { Plain };
+    ghost Value = { WithRooms PlainLists PlainRooms };
 
-    ghost view = { λ p. record { recoverable = p.recoverable; express = p.express } };
+    ghost view = { λ p. record {
+      lists = record { recoverable = p.recoverable.items; express = p.express.items };
+      rooms = record { recoverable = p.recoverable.room; express = p.express.room };
+    } };
 
-    ghost invariant = { λ p. total (record { recoverable = p.recoverable; express = p.express }) ≤ 0xFFFFFFFF };
-}
-
-/// Makes room for one more in a list, where both lists together may have `free` more.
-fn make_room(list: &mut OutList, free: u32) -> Result<(), Memory>
-    requires { length list.old.items + (list.old.spare + free) ≤ 0xFFFFFFFF }
-    ensures items { list.new.items ≡ list.old.items }
-    ensures room { OnOk result (0 < list.new.spare) }
-    ensures bound { list.new.spare ≤ list.old.spare + free }
-    ensures refused { OnErr result (list.new ≡ list.old) }
-    ensures ready { 0 < list.old.spare → IsOk result }
-    ensures unchanged { 0 < list.old.spare → list.new ≡ list.old }
-{
-    if list.spare() > 0 {
-        return Ok(());
-    }
-    if free == 0 {
-        return Err(Memory);
-    }
-    list.reserve(1)
+    ghost invariant = { λ p. p.recoverable.room + p.express.room ≤ MAX_MEMBERS };
 }
 
 impl PlainOut {
     /// Both lists are empty.
     pub fn new(alloc: Global) -> PlainOut
-        ensures recoverable { result.recoverable.items ≡ [] }
-        ensures express { result.express.items ≡ [] }
+        ensures { result ≡ record { lists = no_plain; rooms = no_room } }
     {
         PlainOut {
             recoverable: OutList::new(alloc),
@@ -60,100 +47,134 @@ impl PlainOut {
         }
     }
 
-    /// How many more both lists may have, beside the room that they have.
-    fn free(&self) -> u32
-        ensures { total self.now + result ≡ 0xFFFFFFFF }
+    /// How many messages wait.
+    pub fn len(&self) -> u32
+        ensures len { result ≡ count self.now.lists }
+        ensures within { count self.now.lists ≤ MAX_MEMBERS }
     {
-        let recoverable = self.recoverable.len() + self.recoverable.spare();
-        let express = self.express.len() + self.express.spare();
-        u32::MAX - recoverable - express
+        (self.recoverable.len() + self.express.len()) as u32
+    }
+
+    pub fn is_empty(&self) -> bool
+        ensures { result ≡ (count self.now.lists == 0) }
+    {
+        self.len() == 0
     }
 
     /// The recoverable messages, in order.
     pub fn recoverable(&self) -> &[Message]
-        ensures messages { result.now ≡ messages_of self.now.recoverable.items }
-        ensures in_order { InOrder self.now.recoverable.items }
+        ensures messages { result.now ≡ messages_of self.now.lists.recoverable }
+        ensures in_order { InOrder self.now.lists.recoverable }
     {
         self.recoverable.as_slice()
     }
 
     /// The express messages, in order.
     pub fn express(&self) -> &[Message]
-        ensures messages { result.now ≡ messages_of self.now.express.items }
-        ensures in_order { InOrder self.now.express.items }
+        ensures messages { result.now ≡ messages_of self.now.lists.express }
+        ensures in_order { InOrder self.now.lists.express }
     {
         self.express.as_slice()
     }
 
-    /// Makes room for so many more.
-    pub fn reserve(&mut self, recoverable: u32, express: u32) -> Result<(), Memory>
-        ensures recoverable { self.new.recoverable.items ≡ self.old.recoverable.items }
-        ensures express { self.new.express.items ≡ self.old.express.items }
-        ensures recoverable_room { OnOk result (recoverable ≤ self.new.recoverable.spare) }
-        ensures express_room { OnOk result (express ≤ self.new.express.spare) }
-
-        // Room stays, also where there is too little memory for all of it.
-        ensures recoverable_grows { self.old.recoverable.spare ≤ self.new.recoverable.spare }
-        ensures express_grows { self.old.express.spare ≤ self.new.express.spare }
-
-        // Where there is room already, it stays as it is.
-        ensures ready { recoverable ≤ self.old.recoverable.spare → express ≤ self.old.express.spare → IsOk result }
-        ensures unchanged { recoverable ≤ self.old.recoverable.spare → express ≤ self.old.express.spare → self.new ≡ self.old }
+    /// The numbers of the messages of a lane that were sent in this connection. They are the first ones.
+    pub fn marks(&self, lane: Lane) -> &[u16]
+        ensures { result.now ≡ marks_of (outgoing_in lane self.now.lists) }
     {
-        let more = u64::from(recoverable.saturating_sub(self.recoverable.spare()))
-            + u64::from(express.saturating_sub(self.express.spare()));
-        if more > u64::from(self.free()) {
+        match lane {
+            Lane::Durable => self.recoverable.marks(),
+            Lane::Express => self.express.marks(),
+        }
+    }
+
+    /// Makes room for so many more, and for no more than that where there was less.
+    pub fn reserve(&mut self, recoverable: u32, express: u32) -> Result<(), Memory>
+        ensures ok { OnOk result (self.new ≡ record self.old {
+          rooms = room_for recoverable express self.old.lists self.old.rooms;
+        }) }
+        ensures refused { OnErr result (self.new ≡ self.old) }
+
+        // Where there is room already.
+        ensures ready { recoverable ≤ spare Durable self.old → express ≤ spare Express self.old →
+            IsOk result }
+
+        // The limit.
+        ensures limit { MAX_MEMBERS < count self.old.lists + (recoverable + express) →
+            IsErr result }
+    {
+        let before = self.recoverable.room();
+        let wanted = before.max(self.recoverable.len() + recoverable as usize);
+        let wanted_express = self
+            .express
+            .room()
+            .max(self.express.len() + express as usize);
+        if wanted + wanted_express > MAX_MEMBERS {
             return Err(Memory);
         }
-        self.recoverable.reserve(recoverable)?;
-        self.express.reserve(express)
+        self.recoverable.make_room(recoverable as usize)?;
+        if let Err(memory) = self.express.make_room(express as usize) {
+            self.recoverable.give_back(before);
+            return Err(memory);
+        }
+        Ok(())
+    }
+
+    fn push(&mut self, lane: Lane, message: Message) -> Result<(), (Message, Memory)>
+        ensures lists { OnOk result (self.new.lists ≡ pushed lane message self.old.lists) }
+        ensures rooms { OnOk result (self.new.rooms ≡
+            room_to_push lane self.old.lists self.old.rooms) }
+        ensures refused { OnErr result (self.new ≡ self.old) }
+        ensures handed_back { IfErr result (λ back. back.0 ≡ message) }
+        ensures ready { 0 < spare lane self.old → IsOk result }
+        ensures limit { count self.old.lists ≡ MAX_MEMBERS → IsErr result }
+    {
+        let room = match lane {
+            Lane::Durable => self.reserve(1, 0),
+            Lane::Express => self.reserve(0, 1),
+        };
+        if let Err(memory) = room {
+            return Err((message, memory));
+        }
+        match lane {
+            Lane::Durable => self.recoverable.push(message),
+            Lane::Express => self.express.push(message),
+        }
+        Ok(())
     }
 
     /// Adds a recoverable message at the end, unsent.
     pub fn push_recoverable(&mut self, message: Message) -> Result<(), (Message, Memory)>
-        ensures pushed { OnOk result (self.new.recoverable.items ≡ self.old.recoverable.items ++ unsent message ∷ []) }
-        ensures express { self.new.express ≡ self.old.express }
+        ensures lists { OnOk result (self.new.lists ≡ pushed Durable message self.old.lists) }
+        ensures rooms { OnOk result (self.new.rooms ≡
+            room_to_push Durable self.old.lists self.old.rooms) }
         ensures refused { OnErr result (self.new ≡ self.old) }
         ensures handed_back { IfErr result (λ back. back.0 ≡ message) }
+        ensures ready { 0 < spare Durable self.old → IsOk result }
 
-        // Where there is room, it is taken.
-        ensures ready { 0 < self.old.recoverable.spare → IsOk result }
-        ensures spare { 0 < self.old.recoverable.spare → self.old.recoverable.spare ≡ self.new.recoverable.spare + 1 }
+        // The limit.
+        ensures limit { count self.old.lists ≡ MAX_MEMBERS → IsErr result }
     {
-        let free = self.free();
-        match make_room(&mut self.recoverable, free) {
-            Ok(()) => {
-                self.recoverable.push(message);
-                Ok(())
-            }
-            Err(memory) => Err((message, memory)),
-        }
+        self.push(Lane::Durable, message)
     }
 
     /// Adds an express message at the end, unsent.
     pub fn push_express(&mut self, message: Message) -> Result<(), (Message, Memory)>
-        ensures pushed { OnOk result (self.new.express.items ≡ self.old.express.items ++ unsent message ∷ []) }
-        ensures recoverable { self.new.recoverable ≡ self.old.recoverable }
+        ensures lists { OnOk result (self.new.lists ≡ pushed Express message self.old.lists) }
+        ensures rooms { OnOk result (self.new.rooms ≡
+            room_to_push Express self.old.lists self.old.rooms) }
         ensures refused { OnErr result (self.new ≡ self.old) }
         ensures handed_back { IfErr result (λ back. back.0 ≡ message) }
+        ensures ready { 0 < spare Express self.old → IsOk result }
 
-        // Where there is room, it is taken.
-        ensures ready { 0 < self.old.express.spare → IsOk result }
-        ensures spare { 0 < self.old.express.spare → self.old.express.spare ≡ self.new.express.spare + 1 }
+        // The limit.
+        ensures limit { count self.old.lists ≡ MAX_MEMBERS → IsErr result }
     {
-        let free = self.free();
-        match make_room(&mut self.express, free) {
-            Ok(()) => {
-                self.express.push(message);
-                Ok(())
-            }
-            Err(memory) => Err((message, memory)),
-        }
+        self.push(Lane::Express, message)
     }
 
     /// The next message to send in this connection: recoverable ones go first.
     pub fn unsent(&self) -> Option<&Message>
-        ensures { option_map (λ message. message.now) result ≡ next_unsent self.now }
+        ensures { option_map (λ message. message.now) result ≡ next_unsent self.now.lists }
     {
         match self.recoverable.first_unsent() {
             Some(message) => Some(message),
@@ -163,8 +184,8 @@ impl PlainOut {
 
     /// Marks the message that `unsent` gives with the number that its session header has for its list. That number is above those of the list.
     pub fn mark_sent(&mut self, head: &SessionHead)
-        requires { MaySend self.old head.now }
-        ensures { self.new ≡ sent self.old head.now }
+        requires { MaySend self.old.lists head.now }
+        ensures { self.new ≡ record self.old { lists = sent head.now self.old.lists } }
     {
         if self.recoverable.first_unsent().is_some() {
             self.recoverable.mark_next(head.recoverable);
@@ -175,49 +196,76 @@ impl PlainOut {
 
     /// How many recoverable messages are released where the peer has stored so many in this connection. They are the first of the list.
     pub fn released_by(&self, stored: u16) -> u32
-        ensures count { result ≡ count_by (is_sent_by stored) self.now.recoverable.items }
-        ensures first { filter (is_sent_by stored) self.now.recoverable.items ≡ take result self.now.recoverable.items }
+        ensures count { result ≡ count_by (is_sent_by stored) self.now.lists.recoverable }
+        ensures first { filter (is_sent_by stored) self.now.lists.recoverable ≡
+            take result self.now.lists.recoverable }
     {
-        self.recoverable.sent_by(stored)
+        self.recoverable.sent_by(stored) as u32
     }
 
     /// Drops the express messages that the peer has got, by the count of packets that it got in this connection.
     pub fn drop_express(&mut self, ack: u16)
-        ensures dropped { self.new.express.items ≡ filter (λ o. not (is_sent_by ack o)) self.old.express.items }
-        ensures spare { self.new.express.spare ≡ self.old.express.spare + count_by (is_sent_by ack) self.old.express.items }
-        ensures recoverable { self.new.recoverable ≡ self.old.recoverable }
+        ensures lists { self.new.lists ≡ record self.old.lists {
+          express = filter (λ o. not (is_sent_by ack o)) self.old.lists.express;
+        } }
+        ensures rooms { self.new.rooms ≡ self.old.rooms }
     {
         self.express.drop_sent_by(ack);
     }
 
     /// Makes each message unsent, for a new connection.
     pub fn restart_marks(&mut self)
-        ensures recoverable { self.new.recoverable ≡ record self.old.recoverable { items = unmarked self.old.recoverable.items } }
-        ensures express { self.new.express ≡ record self.old.express { items = unmarked self.old.express.items } }
+        ensures lists { self.new.lists ≡ record {
+          recoverable = unmarked self.old.lists.recoverable;
+          express = unmarked self.old.lists.express;
+        } }
+        ensures rooms { self.new.rooms ≡ self.old.rooms }
     {
         self.recoverable.unmark();
         self.express.unmark();
     }
 
+    /// Takes out the message of a lane at a place, with its mark. The later ones move down, with theirs.
+    pub fn remove(&mut self, lane: Lane, k: u32) -> Outgoing
+        requires { k < length (outgoing_in lane self.old.lists) }
+        ensures removed { slice_get (outgoing_in lane self.old.lists) k ≡ Some result }
+        ensures rest { self.new ≡ record self.old { lists = without lane k self.old.lists } }
+        ensures room { 0 < spare lane self.new }
+    {
+        match lane {
+            Lane::Durable => self.recoverable.remove(k as usize),
+            Lane::Express => self.express.remove(k as usize),
+        }
+    }
+
+    /// Puts a message of a lane before the one at a place, or at the end, with its mark: what `remove` took out goes back.
+    pub fn insert(&mut self, lane: Lane, k: u32, outgoing: Outgoing)
+        requires place { k ≤ length (outgoing_in lane self.old.lists) }
+        requires room { 0 < spare lane self.old }
+        requires in_order { InOrder (insert (outgoing_in lane self.old.lists) k outgoing) }
+        ensures { self.new ≡ record self.old { lists = inserted lane k outgoing self.old.lists } }
+    {
+        match lane {
+            Lane::Durable => self.recoverable.insert(k as usize, outgoing),
+            Lane::Express => self.express.insert(k as usize, outgoing),
+        }
+    }
+
     /// Takes out the recoverable message at a place. The later ones move down, with their marks.
     pub fn remove_recoverable(&mut self, k: u32) -> Message
-        requires { k < length self.old.recoverable.items }
-        ensures removed { slice_get (messages_of self.old.recoverable.items) k ≡ Some result }
-        ensures items { self.new.recoverable.items ≡ remove self.old.recoverable.items k }
-        ensures spare { self.new.recoverable.spare ≡ self.old.recoverable.spare + 1 }
-        ensures express { self.new.express ≡ self.old.express }
+        requires { k < length self.old.lists.recoverable }
+        ensures removed { slice_get (messages_of self.old.lists.recoverable) k ≡ Some result }
+        ensures rest { self.new ≡ record self.old { lists = without Durable k self.old.lists } }
     {
-        self.recoverable.remove(k)
+        self.remove(Lane::Durable, k).message
     }
 
     /// Takes out the express message at a place. The later ones move down, with their marks.
     pub fn remove_express(&mut self, k: u32) -> Message
-        requires { k < length self.old.express.items }
-        ensures removed { slice_get (messages_of self.old.express.items) k ≡ Some result }
-        ensures items { self.new.express.items ≡ remove self.old.express.items k }
-        ensures spare { self.new.express.spare ≡ self.old.express.spare + 1 }
-        ensures recoverable { self.new.recoverable ≡ self.old.recoverable }
+        requires { k < length self.old.lists.express }
+        ensures removed { slice_get (messages_of self.old.lists.express) k ≡ Some result }
+        ensures rest { self.new ≡ record self.old { lists = without Express k self.old.lists } }
     {
-        self.express.remove(k)
+        self.remove(Lane::Express, k).message
     }
 }

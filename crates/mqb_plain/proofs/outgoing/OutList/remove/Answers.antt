@@ -1,43 +1,53 @@
-use Rattle.std.proofs.Common.{◌≡◌, ◌<◌, List, Some, length, refl, sym, ap, subst, ◌∙◌, arith, slice_get}
-use Rattle.std.specs.Prelude.{remove}
+use Rattle.std.proofs.Common.{◌≡◌, ◌<◌, List, Option, Some, ℕ, length, refl, sym, ap, subst, ◌∙◌, arith, slice_get}
+use Rattle.std.specs.Prelude.{remove, option_map}
 use Rattle.std.proofs.lemmas.List.Edits.{length-remove}
+use Rattle.mqb_base.specs.Rooms.{Room}
 use Rattle.mqb_base.specs.declared.message.Message.{Message}
-use Rattle.mqb_plain.specs.Lists.{Room, Rising, messages_of}
-use Rattle.mqb_plain.proofs.Marking.{length_marked, messages_marked, removed_marked, rising_remove, length_removed}
+use Rattle.mqb_plain.specs.declared.outgoing.Outgoing.{Outgoing}
+use Rattle.mqb_plain.proofs.Marking.{length_marked, item_marked, removed_marked, rising_remove, length_removed}
 use Rattle.mqb_plain.proofs.outgoing.OutList.remove.Goals as goal
 
-is_within : (c : goal.After-self-1) → c.args.at < length c.self.inside.messages.items
+is_within : (c : goal.After-remove_mark-mark) → c.args.at < length c.self.inside.messages.items
 is_within c =
-    let there = subst (λ (r : Room). c.args.at < length r.items) (sym c.self.view_is) c.requires in
+    let there = subst (λ (r : Room Outgoing). c.args.at < length r.items) (sym c.self.view_is) c.requires in
     omega (arith, there, length_marked c.self.inside.messages.items c.self.inside.marks.items)
 
-pub remove_message-message-requires : goal.remove_message-message-requires
-remove_message-message-requires c =
-    let there = subst (λ (r : Room). c.args.at < length r.items) (sym c.self.view_is) c.requires in
+pub remove-message-requires : goal.remove-message-requires
+remove-message-requires c =
+    let there = subst (λ (r : Room Outgoing). c.args.at < length r.items) (sym c.self.view_is) c.requires in
     omega (arith, there, length_marked c.self.inside.messages.items c.self.inside.marks.items)
 
 pub invariant_of-self : goal.invariant_of-self
 invariant_of-self c =
     let ms = c.self.inside.messages.items in
     let ks = c.self.inside.marks.items in
-    let at = c.args.at in
-    let messages = ap (λ (xs : List Message). length xs) c.remove_message-message.ensures.rest in
-    let one_less = length-remove ms at (is_within c) in
-    record {
-      first_sent = rw (c.remove_mark.ensures.marks, c.remove_message-message.ensures.rest) (length_removed ms ks at (is_within c) c.self.invariant.first_sent);
-      rising = subst (Rising 0) (sym c.remove_mark.ensures.marks) (rising_remove at 0 ks c.self.invariant.rising);
-      few = omega (arith, messages, one_less, c.self.invariant.few);
-      message_fits = omega (arith, messages, one_less, c.self.invariant.message_fits, c.remove_message-message.ensures.room);
-      mark_fits = omega (arith, messages, one_less, c.self.invariant.mark_fits, c.remove_mark.ensures.room);
-    }
+    rw (c.remove-message.ensures.rest, c.remove_mark-mark.ensures.rest) (record {
+      first_sent = length_removed ms ks c.args.at (is_within c) c.self.invariant.first_sent;
+      rising = rising_remove c.args.at 0 ks c.self.invariant.rising;
+      within = omega (arith, length-remove ms c.args.at (is_within c), c.self.invariant.within);
+      mark_fits = c.self.invariant.mark_fits;
+    })
 
 pub returns-clause-removed : goal.returns-clause-removed
 returns-clause-removed c =
     let ms = c.self.inside.messages.items in
     let ks = c.self.inside.marks.items in
-    subst (λ (r : Room). slice_get (messages_of r.items) c.args.at ≡ Some c.remove_message-message.result) c.self.view_is
-    (ap (λ (xs : List Message). slice_get xs c.args.at) (messages_marked ms ks) ∙ c.remove_message-message.ensures.removed)
+    subst (λ (r : Room Outgoing). slice_get r.items c.args.at ≡ Some (record { message = c.remove-message.result; mark = c.remove_mark-mark.result })) c.self.view_is
+    (item_marked ms ks c.args.at
+    ∙ (ap (option_map (λ (m : Message). record { message = m; mark = slice_get ks c.args.at })) c.remove-message.ensures.removed
+    ∙ ap (λ (k : Option ℕ). Some (record { message = c.remove-message.result; mark = k })) (sym c.remove_mark-mark.ensures.removed)))
 
 pub returns-clause-rest : goal.returns-clause-rest
 returns-clause-rest c =
-    rw (← c.self.view_is, c.remove_message-message.ensures.rest, c.remove_mark.ensures.marks, removed_marked c.self.inside.messages.items c.self.inside.marks.items c.args.at (is_within c)) refl
+    rw (
+      ← c.self.view_is,
+      c.remove-message.ensures.rest,
+      c.remove_mark-mark.ensures.rest,
+      removed_marked c.self.inside.messages.items c.self.inside.marks.items c.args.at (is_within c),
+    ) refl
+
+pub returns-clause-room : goal.returns-clause-room
+returns-clause-room c =
+    let ms = c.self.inside.messages.items in
+    rw (c.remove-message.ensures.rest, c.remove_mark-mark.ensures.rest)
+    (omega (arith, length_marked (remove ms c.args.at) (remove c.self.inside.marks.items c.args.at), length-remove ms c.args.at (is_within c), is_within c, c.self.invariant.within))
