@@ -1,4 +1,4 @@
-use Rattle.std.specs.Prelude.{ℕ, ◌&&◌, [], false, codes, Option, Some, None, if◌then◌else◌}
+use Rattle.std.specs.Prelude.{ℕ, ◌&&◌, [], Option, Some, None, if◌then◌else◌}
 use Rattle.std.specs.Option.{option_map}
 use Rattle.mqb_base.specs.declared.ids.Guid.{Guid}
 use Rattle.mqb_base.specs.declared.ids.Identity.{Identity}
@@ -7,15 +7,11 @@ use Rattle.mqb_base.specs.declared.class.Class.{Class}
 use Rattle.mqb_base.specs.declared.message.Message.{Message}
 use Rattle.mqb_base.specs.declared.message.Delivery.{Delivery}
 use Rattle.mqb_base.specs.declared.message.Delivery.TheVariants.{Express, Recoverable}
-use Rattle.mqb_base.specs.declared.names.Name.{Name}
-use Rattle.mqb_base.specs.declared.queue_names.Host.TheVariants.{Os}
 use Rattle.mqb_base.specs.declared.queue_names.QueueName.{QueueName}
-use Rattle.mqb_base.specs.declared.queue_names.QueueName.TheVariants.{Direct}
+use Rattle.mqb_base.specs.declared.times.TheConstants.{UNLIMITED}
+use Rattle.mqb_fate.specs.declared.notices.TheConstants.{NOTICE_PRIORITY}
 use Rattle.mqb_fate.specs.Asking.{is_ordinary, asks_for, final_is_due}
-
--- the queue of the order layer at a host
-abbrev pub order_layer : Name → QueueName
-order_layer host = Direct (Os host) (codes "order_queue$") false
+use Rattle.mqb_fate.specs.Orders.{order_layer}
 
 -- What a notice about a message says: which message it was and which class it met. It is sent now, is not limited in time and asks for nothing.
 abbrev pub notice_about : Message → Class → Delivery → QueueName → MessageId → ℕ → Message
@@ -23,10 +19,10 @@ notice_about m class delivery destination id now = record {
   id = id;
   class = class;
   delivery = delivery;
-  priority = 3;
+  priority = NOTICE_PRIORITY;
   sent = now;
-  reach = 0xFFFFFFFF;
-  life = 0xFFFFFFFF;
+  reach = UNLIMITED;
+  life = UNLIMITED;
   destination = destination;
   admin = None;
   response = None;

@@ -1,10 +1,10 @@
 ghost use Rattle.std.specs.Prelude.{◌≡◌};
-ghost use Rattle.mqb_fate.specs.Asking.{is_ordinary, is_transactional, matching_bit, asks_for, keeps_dead, final_is_due, goes_dead};
+ghost use Rattle.mqb_fate.specs.Asking.{is_ordinary, is_transactional, matching_bit, asks_for, final_is_due, goes_dead};
 
-use mqb_base::{Class, Delivery, Guid, Message, Place};
-
-/// The bit of `Message::journal` by which dead letters are kept.
-const DEAD_LETTER: u8 = 1;
+use mqb_base::{
+    Class, Delivery, Guid, Message, NEGATIVE_ARRIVAL, NEGATIVE_RECEIVE, POSITIVE_ARRIVAL,
+    POSITIVE_RECEIVE, Place, has_bit,
+};
 
 pub(crate) fn is_ordinary(message: &Message) -> bool
     ensures { result ≡ is_ordinary message.now }
@@ -22,12 +22,16 @@ fn is_transactional(delivery: Delivery) -> bool
 fn matching_bit(class: Class) -> Option<u8>
     ensures { result ≡ matching_bit class.0 }
 {
-    match class.0 {
-        0x0002 => Some(1),
-        0x4000 => Some(2),
-        0x8000..=0xBFFF => Some(4),
-        0xC000..=0xFFFF => Some(8),
-        _ => None,
+    if class == Class::REACHED_QUEUE {
+        Some(POSITIVE_ARRIVAL)
+    } else if class == Class::RECEIVED {
+        Some(POSITIVE_RECEIVE)
+    } else if class.is_arrival_refusal() {
+        Some(NEGATIVE_ARRIVAL)
+    } else if class.is_negative() {
+        Some(NEGATIVE_RECEIVE)
+    } else {
+        None
     }
 }
 
@@ -35,15 +39,9 @@ pub(crate) fn asks_for(message: &Message, class: Class) -> bool
     ensures { result ≡ asks_for message.now class }
 {
     match matching_bit(class) {
-        Some(bit) => message.ack & bit != 0,
+        Some(bit) => has_bit(message.ack, bit),
         None => false,
     }
-}
-
-fn keeps_dead(message: &Message) -> bool
-    ensures { result ≡ keeps_dead message.now }
-{
-    message.journal & DEAD_LETTER != 0
 }
 
 /// Whether a final acknowledgement is due to the source of a message that meets a class.
@@ -53,7 +51,7 @@ pub(crate) fn final_is_due(message: &Message, class: Class, own: Guid) -> bool
     is_ordinary(message)
         && is_transactional(message.delivery)
         && message.id.qm != own
-        && keeps_dead(message)
+        && message.keeps_dead()
         && class != Class::REACHED_QUEUE
 }
 
@@ -61,7 +59,7 @@ pub(crate) fn final_is_due(message: &Message, class: Class, own: Guid) -> bool
 pub fn goes_dead(message: &Message, class: Class, own: Guid) -> Option<Place>
     ensures { result ≡ goes_dead message.now class own }
 {
-    if !is_ordinary(message) || !class.is_negative() || !keeps_dead(message) {
+    if !is_ordinary(message) || !class.is_negative() || !message.keeps_dead() {
         return None;
     }
     if final_is_due(message, class, own) {

@@ -1,29 +1,15 @@
 ghost use Rattle.std.specs.Prelude.{◌≡◌, None, Ok, IfOk};
-ghost use Rattle.mqb_fate.specs.Notices.{order_layer, notice_about, admin_delivery, admin_notice, final_notice};
+ghost use Rattle.mqb_fate.specs.Notices.{notice_about, admin_delivery, admin_notice, final_notice};
 
 use crate::asking::{asks_for, final_is_due, is_ordinary};
+use crate::orders::order_layer;
 use mqb_base::{
-    Bytes, Class, Delivery, Guid, Host, Identity, Memory, Message, MessageId, Name, QueueName,
-    UNLIMITED, Units,
+    Bytes, Class, Delivery, Guid, Identity, Memory, Message, MessageId, QueueName, UNLIMITED, Units,
 };
 use std::alloc::Global;
 
-/// The queue name of the order layer.
-const ORDER_QUEUE: &[u8] = b"order_queue$";
-
 /// The priority of every notice.
-const PRIORITY: u8 = 3;
-
-/// The queue of the order layer at a host.
-fn order_layer(alloc: Global, host: &Name) -> Result<QueueName, Memory>
-    ensures { IfOk result (λ name. name ≡ order_layer host.now) }
-{
-    Ok(QueueName::Direct {
-        host: Host::Os(host.clone()?),
-        queue: Name::new(alloc, ORDER_QUEUE).map_err(|_| Memory)?,
-        journal: false,
-    })
-}
+pub const NOTICE_PRIORITY: u8 = 3;
 
 /// A notice about a message that met a class.
 fn notice_about(
@@ -35,13 +21,14 @@ fn notice_about(
     id: MessageId,
     now: u32,
 ) -> Result<Message, Memory>
-    ensures { IfOk result (λ notice. notice ≡ notice_about cause.now class delivery destination id now) }
+    ensures { IfOk result (λ notice. notice ≡
+        notice_about cause.now class delivery destination id now) }
 {
     Ok(Message {
         id,
         class,
         delivery,
-        priority: PRIORITY,
+        priority: NOTICE_PRIORITY,
         sent: now,
         reach: UNLIMITED,
         life: UNLIMITED,
@@ -105,10 +92,12 @@ pub fn final_for(
     now: u32,
 ) -> Result<Option<Message>, Memory>
     requires { peer.now.guid ≡ message.now.id.qm }
-    ensures made { IfOk result (λ notice. notice ≡ final_notice message.now class own.now.guid peer.now number now) }
+    ensures made { IfOk result (λ notice. notice ≡
+        final_notice message.now class own.now.guid peer.now number now) }
 
     // Where none is made, no memory is taken.
-    ensures none { final_notice message.now class own.now.guid peer.now number now ≡ None → result ≡ Ok None }
+    ensures none { final_notice message.now class own.now.guid peer.now number now ≡ None →
+        result ≡ Ok None }
 {
     if !final_is_due(message, class, own.guid) {
         return Ok(None);
