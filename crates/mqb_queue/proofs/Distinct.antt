@@ -1,14 +1,13 @@
 -- A queue with a new name joins a list.
-use Rattle.std.proofs.Common.{◌≡◌, ℕ, ◌<◌, ◌≤◌, Bool, true, false, cond, ltb, List, [], ◌∷◌, ◌++◌, length, get_or, map, Some, None, ◌⊎◌, inl, inr, refl, sym, ap, ◌∙◌, subst, arith}
+use Rattle.std.proofs.Common.{◌≡◌, ℕ, ◌<◌, ◌≤◌, Bool, true, false, cond, ltb, List, [], ◌∷◌, ◌++◌, length, get_or, map, take, Some, None, ◌⊎◌, inl, inr, refl, sym, ap, ◌∙◌, subst, arith}
 use Rattle.std.specs.List.{AllPairs, position, position_or_len, slice_get}
 use Rattle.std.proofs.lemmas.Bool.{ltb-false}
-use Rattle.std.proofs.lemmas.List.{map-append, get_or-map, length-map}
+use Rattle.std.proofs.lemmas.List.{map-append, get_or-map, length-map, length-take, get_or-take, take-map}
 use Rattle.std.proofs.lemmas.List.Quantifiers.{all_pairs_push}
 use Rattle.std.proofs.lemmas.List.Sums.{fails_before_first}
 use Rattle.std.proofs.lemmas.Option.{slice_get_cases, none-some}
 use Rattle.mqb_base.specs.Same.{same_ignoring_case}
-use Rattle.mqb_queue.specs.declared.queue.Queue.{Queue}
-use Rattle.mqb_queue.specs.Places.{NamesDiffer, found}
+use Rattle.mqb_queue.specs.Places.{Queue, NamesDiffer, found}
 
 past_the_end : (p : Queue → Bool) (queues : List Queue) → position p queues ≡ None → length queues ≤ position_or_len p queues
 past_the_end p queues none = at (ltb (position_or_len p queues) (length queues)) (λ f. ltb-false (position_or_len p queues) (length queues) f) none
@@ -45,3 +44,16 @@ new_differs queues q none differ =
     let name_of : Queue → List ℕ = λ r. r.plan.name in
     subst (λ ns. AllPairs (λ a b. same_ignoring_case a b ≡ false) ns) (sym (map-append name_of queues (q ∷ [])))
     (all_pairs_push (λ a b. same_ignoring_case a b ≡ false) (map name_of queues) q.plan.name differ (none_has queues q.plan.name none))
+
+-- Fewer names still differ.
+pub fewer_differ : (n : ℕ) (queues : List Queue) → NamesDiffer queues → NamesDiffer (take n queues)
+fewer_differ n queues differ =
+    let name_of : Queue → List ℕ = λ r. r.plan.name in
+    subst (λ ns. AllPairs (λ a b. same_ignoring_case a b ≡ false) ns) (take-map name_of n queues) (first_differ (map name_of queues) differ)
+  where
+    first_differ : (names : List (List ℕ)) → AllPairs (λ a b. same_ignoring_case a b ≡ false) names → AllPairs (λ a b. same_ignoring_case a b ≡ false) (take n names)
+    first_differ names pairs i j d before within =
+        let inside : j < n = omega (arith, within, length-take n names) in
+        let there : j < length names = omega (arith, within, length-take n names) in
+        subst (λ (a : List ℕ). same_ignoring_case a (get_or (take n names) j d) ≡ false) (sym (get_or-take n names i d (omega (arith, before, inside))))
+        (subst (λ (b : List ℕ). same_ignoring_case (get_or names i d) b ≡ false) (sym (get_or-take n names j d inside)) (pairs i j d before there))

@@ -1,5 +1,10 @@
-pub mod Lent
-pub mod Firsts
+pub mod Positions
+pub mod Tops
+pub mod Lanes
+pub mod Lens
+pub mod Changed
 pub mod Distinct
 pub mod Splits
-pub mod Changes
+pub mod Names
+pub mod Others
+pub mod Renamed

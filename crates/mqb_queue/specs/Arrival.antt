@@ -1,40 +1,34 @@
-use Rattle.std.specs.Prelude.{ℕ, Bool, not, ◌==◌, ◌&&◌, nat_le, length, Option, Some, None, if◌then◌else◌}
+-- Why a message that arrives is refused.
+use Rattle.std.specs.Prelude.{ℕ, Bool, not, ◌==◌, ◌&&◌, nat_le, List, length, slice_get, Option, Some, None, option_map, option_and_then, if◌then◌else◌}
+use Rattle.std.specs.Option.{option_map_or}
 use Rattle.mqb_base.specs.declared.class.Class.{Class}
-use Rattle.mqb_queue.specs.declared.queue.Queue.{Queue}
+use Rattle.mqb_base.specs.declared.class.TheConstants.Class.{BAD_DESTINATION, REACH_TIMEOUT, QUOTA_EXCEEDED, QUEUE_NOT_TRANSACTIONAL, MESSAGE_NOT_TRANSACTIONAL}
+use Rattle.mqb_base.specs.declared.queues.QueuePlan.{QueuePlan}
 use Rattle.mqb_queue.specs.Lists.{Lists, count}
+use Rattle.mqb_queue.specs.Places.{Queue}
 
--- the classes of a refusal at arrival
-abbrev pub bad_destination : Class
-bad_destination = record { 0 = 0x8000 }
+-- the length that an arrival meets: where it is recorded, the durable messages alone, so that the record decides the same whenever it is read
+abbrev pub length_met : Bool → Lists → ℕ
+length_met recorded l = if recorded then length l.durable else count l
 
-abbrev pub reach_timeout : Class
-reach_timeout = record { 0 = 0x8002 }
-
-abbrev pub quota_exceeded : Class
-quota_exceeded = record { 0 = 0x8003 }
-
-abbrev pub queue_not_transactional : Class
-queue_not_transactional = record { 0 = 0x8009 }
-
-abbrev pub message_not_transactional : Class
-message_not_transactional = record { 0 = 0x800A }
-
--- the length that an arrival meets: where it is recorded, the durable messages alone
-abbrev pub length_met : Lists → Bool → ℕ
-length_met l recorded = if recorded then length l.durable else count l
-
--- why a queue refuses an arrival: it is not of the message's kind, or it is full
-abbrev pub queue_refusal : Queue → Bool → Bool → Option Class
-queue_refusal q transactional recorded = if transactional && not q.plan.transactional then Some queue_not_transactional
-    else if not transactional && q.plan.transactional then Some message_not_transactional
-    else if nat_le q.plan.quota (length_met q.lists recorded) then Some quota_exceeded
+-- why a queue of this plan and length refuses an arrival: it is not of the message's kind, or it is full
+abbrev pub queue_refusal : QueuePlan → ℕ → Bool → Option Class
+queue_refusal plan messages transactional = if transactional && not plan.transactional then Some QUEUE_NOT_TRANSACTIONAL
+    else if not transactional && plan.transactional then Some MESSAGE_NOT_TRANSACTIONAL
+    else if nat_le plan.quota messages then Some QUOTA_EXCEEDED
     else None
 
 -- why the queue that a name leads to refuses it, or that there is none
-abbrev pub destination_refusal : Option Queue → Bool → Bool → Option Class
-destination_refusal None transactional recorded = Some bad_destination
-destination_refusal (Some q) transactional recorded = queue_refusal q transactional recorded
+abbrev pub destination_refusal : Option QueuePlan → ℕ → Bool → Option Class
+destination_refusal None messages transactional = Some BAD_DESTINATION
+destination_refusal (Some plan) messages transactional = queue_refusal plan messages transactional
 
 -- why an arrival is refused, the first reason: no time is left to reach the queue, or the destination refuses it
-abbrev pub arrival_refusal : Option Queue → Bool → Bool → ℕ → Option Class
-arrival_refusal queue transactional recorded remaining = if remaining == 0 then Some reach_timeout else destination_refusal queue transactional recorded
+abbrev pub arrival_refusal : Option QueuePlan → ℕ → Bool → ℕ → Option Class
+arrival_refusal plan messages transactional remaining = if remaining == 0 then Some REACH_TIMEOUT else destination_refusal plan messages transactional
+
+-- why an arrival is refused at the queue at a place in the list, or at none
+abbrev pub refusal_at : List Queue → Option ℕ → Bool → Bool → ℕ → Option Class
+refusal_at queues k transactional recorded remaining =
+    let queue = option_and_then (slice_get queues) k in
+    arrival_refusal (option_map (λ q. q.plan) queue) (option_map_or (λ q. length_met recorded q.lists) queue 0) transactional remaining

@@ -1,32 +1,39 @@
-ghost use Rattle.std.specs.Prelude.{◌≡◌};
-ghost use Rattle.mqb_queue.specs.Arrival.{queue_refusal, length_met};
+ghost use Rattle.std.specs.Prelude.{◌≡◌, option_copied};
+ghost use Rattle.mqb_queue.specs.Arrival.{arrival_refusal, queue_refusal};
 
-use crate::lists::Lists;
-use crate::queue::Queue;
-use mqb_base::Class;
+use mqb_base::{Class, QueuePlan};
 
-fn length_met(lists: &Lists, recorded: bool) -> u32
-    ensures { result ≡ length_met lists.now recorded }
+/// Why a queue of this plan and length refuses an arrival.
+pub fn queue_refusal(plan: &QueuePlan, length: u32, transactional: bool) -> Option<Class>
+    ensures { result ≡ queue_refusal plan.now length transactional }
 {
-    if recorded {
-        lists.durable().len() as u32
-    } else {
-        lists.count()
-    }
-}
-
-/// Why a queue refuses an arrival.
-pub(crate) fn queue_refusal(queue: &Queue, transactional: bool, recorded: bool) -> Option<Class>
-    ensures { result ≡ queue_refusal queue.now transactional recorded }
-{
-    if transactional && !queue.plan.transactional {
+    if transactional && !plan.transactional {
         return Some(Class::QUEUE_NOT_TRANSACTIONAL);
     }
-    if !transactional && queue.plan.transactional {
+    if !transactional && plan.transactional {
         return Some(Class::MESSAGE_NOT_TRANSACTIONAL);
     }
-    if length_met(&queue.lists, recorded) >= queue.plan.quota {
+    if length >= plan.quota {
         return Some(Class::QUOTA_EXCEEDED);
     }
     None
+}
+
+/// Why an arrival is refused at the queue of this plan and length, or at none. `remaining` is the time in seconds that it has left to reach the
+/// queue.
+pub fn arrival_refusal(
+    plan: Option<&QueuePlan>,
+    length: u32,
+    transactional: bool,
+    remaining: u32,
+) -> Option<Class>
+    ensures { result ≡ arrival_refusal (option_copied plan.entry) length transactional remaining }
+{
+    if remaining == 0 {
+        return Some(Class::REACH_TIMEOUT);
+    }
+    match plan {
+        Some(plan) => queue_refusal(plan, length, transactional),
+        None => Some(Class::BAD_DESTINATION),
+    }
 }

@@ -1,259 +1,207 @@
-ghost use Rattle.std.specs.Prelude.{◌≡◌, ◌<◌, ◌≤◌, ◌-◌, [], ◌∷◌, ◌++◌, length, slice_get, Some, None, IsSome, IfSome, IsSomeAnd, OnOk, OnErr, IfErr, IsOk, option_copied, option_and_then};
+ghost use Rattle.std.specs.Prelude.{◌≡◌, ◌+◌, ◌-◌, ◌<◌, ◌≤◌, ◌∷◌, [], ◌++◌, length, max, slice_get, Some, None, IsSome, IfSome, IsSomeAnd, OnOk, OnErr, IfErr, IsOk, IsErr, option_copied};
 ghost use Rattle.std.specs.Borrow.{sem};
 ghost use Rattle.std.specs.Option.{option_map};
-ghost use Rattle.mqb_queue.specs.Arrival.{arrival_refusal};
-ghost use Rattle.mqb_queue.specs.First.{FirstAt};
-ghost use Rattle.mqb_queue.specs.Lists.{count, put, put_express, without, without_express, with_room};
-ghost use Rattle.mqb_queue.specs.Places.{NamesDiffer, found, lists_at, changed, nothing, with_queue, with_queue_room};
+ghost use Rattle.mqb_base.specs.declared.roomed.TheConstants.{MAX_MEMBERS};
 ghost use Rattle.mqb_queue.specs.Lending.{LendsLists};
+ghost use Rattle.mqb_queue.specs.Places.{NamesDiffer, found, lists_at, new_queue, no_rooms, nothing, numbered, place_named, rooms_at, with_queue, with_queue_room, without_last};
+ghost use Rattle.mqb_queue.specs.Seen.{queue_of};
 
-use crate::arrival::queue_refusal;
-use crate::first::first;
 use crate::lists::Lists;
-use crate::queue::{Queue, found};
-use mqb_base::{Class, Memory, Message, Name, Place, QueuePlan};
+use crate::new_queue::NewQueue;
+use crate::queue::{Queue, found, numbered};
+use mqb_base::{EntryPlace, MAX_MEMBERS, Memory, Name, Place, QueuePlan, Roomed};
 use std::alloc::Global;
 use std::marker::Model;
 
-/// The queues of a manager, at most 4,294,967,295, and the lists that every manager has.
+/// The queues of a manager, at most `MAX_MEMBERS`, and the lists that every manager has. Contracts see the lists of all places, and beside them
+/// their rooms.
 #[derive(Debug, Drop)]
 pub struct Queues {
-    queues: Vec<Queue>,
-    spare: u32,
+    queues: Roomed<Queue>,
     dead: Lists,
     dead_xact: Lists,
     journal: Lists,
+    alloc: Global,
 }
 
 impl Model for Queues {
-    ghost use Rattle.std.specs.Prelude.{◌≤◌, ◌+◌, vec_len, vec_capacity};
-    ghost use Rattle.mqb_queue.specs.Places.{Places, NamesDiffer};
+    ghost use Rattle.std.specs.Prelude.{◌≤◌, map};
+    ghost use Rattle.mqb_base.specs.Rooms.{WithRooms};
+    ghost use Rattle.mqb_base.specs.declared.roomed.TheConstants.{MAX_MEMBERS};
+    ghost use Rattle.mqb_queue.specs.Places.{Places, PlaceRooms, NamesDiffer};
+    ghost use Rattle.mqb_queue.specs.Seen.{queue_of, seen};
 
-    ghost Value = { Places };
+    ghost Value = { WithRooms Places PlaceRooms };
 
-    ghost view = { λ q. record { queues = q.queues.items; spare_queues = q.spare; dead = q.dead; dead_xact = q.dead_xact; journal = q.journal } };
+    ghost view = { λ q. seen q.queues q.dead q.dead_xact q.journal };
 
-    ghost invariant = { λ q. (vec_len q.queues + q.spare ≤ vec_capacity q.queues) × (vec_len q.queues + q.spare ≤ 0xFFFFFFFF) × NamesDiffer q.queues.items };
+    ghost invariant = { λ q. (q.queues.room ≤ MAX_MEMBERS) × NamesDiffer (map queue_of q.queues.items) };
 }
 
 impl Queues {
     /// No queues, and places without messages.
     pub fn new(alloc: Global) -> Queues
-        ensures { result ≡ nothing }
+        ensures { result ≡ record { lists = nothing; rooms = no_rooms } }
     {
         Queues {
-            queues: Vec::new(alloc),
-            spare: 0,
+            queues: Roomed::new(alloc),
             dead: Lists::new(alloc),
             dead_xact: Lists::new(alloc),
             journal: Lists::new(alloc),
+            alloc,
         }
     }
 
     /// How many queues there are.
     pub fn count(&self) -> u32
-        ensures count { result ≡ length self.now.queues }
-        ensures distinct { NamesDiffer self.now.queues }
+        ensures count { result ≡ length self.now.lists.queues }
+        ensures distinct { NamesDiffer self.now.lists.queues }
     {
         self.queues.len() as u32
     }
 
-    /// The plan of the queue with this number, from 0.
+    /// The plan of the queue at a place in the list, from 0.
     pub fn plan(&self, k: u32) -> &QueuePlan
-        requires { k < length self.now.queues }
-        ensures { option_map (λ q. q.plan) (slice_get self.now.queues k) ≡ Some result.now }
+        requires { k < length self.now.lists.queues }
+        ensures { option_map (λ q. q.plan) (slice_get self.now.lists.queues k) ≡ Some result.now }
     {
-        &self.queues[k as usize].plan
+        &self.queue(k).plan
     }
 
-    /// The number of the queue with this name, the case of letters left aside.
-    pub fn find(&self, name: &Name) -> Option<u32>
-        ensures { result ≡ found self.now.queues name.now }
+    pub(crate) fn queue(&self, k: u32) -> &Queue
+        requires { k < length self.now.lists.queues }
+        ensures { slice_get self.now.lists.queues k ≡ Some (queue_of result.now) }
     {
-        let k = found(&self.queues, name)?;
+        &self.queues.as_slice()[k as usize]
+    }
+
+    /// The plan of the queue of a number, from 1, where there is one.
+    pub fn plan_numbered(&self, number: u32) -> Option<&QueuePlan>
+        ensures { option_copied result ≡ option_map (λ q. q.plan) (numbered self.now.lists.queues
+            number) }
+    {
+        Some(&numbered(self.queues.as_slice(), number)?.plan)
+    }
+
+    /// The place in the list, from 0, of the queue with this name, the case of letters left aside.
+    pub fn find(&self, name: &Name) -> Option<u32>
+        ensures found { result ≡ found self.now.lists.queues name.now }
+        ensures within { IfSome result (λ k. k < length self.now.lists.queues) }
+        ensures few { length self.now.lists.queues ≤ MAX_MEMBERS }
+    {
+        let k = found(self.queues.as_slice(), name)?;
         Some(k as u32)
     }
 
-    /// Why an arrival is refused at the queue with this number, or at none. `recorded` says that the message is not express, and `remaining`
-    /// is the time in seconds that it has left to reach the queue.
-    pub fn admit(
-        &self,
-        queue: Option<u32>,
-        transactional: bool,
-        recorded: bool,
-        remaining: u32,
-    ) -> Option<Class>
-        requires { IfSome queue (λ k. k < length self.now.queues) }
-        ensures { result ≡ arrival_refusal (option_and_then (λ k. slice_get self.now.queues k) queue) transactional recorded remaining }
+    /// A place as the store names it, where it is there.
+    pub fn place(&self, place: &Place) -> Option<EntryPlace>
+        ensures { result ≡ place_named self.now.lists.queues place.now }
     {
-        if remaining == 0 {
-            return Some(Class::REACH_TIMEOUT);
-        }
-        match queue {
-            Some(k) => queue_refusal(&self.queues[k as usize], transactional, recorded),
-            None => Some(Class::BAD_DESTINATION),
+        match place {
+            Place::Queue(name) => Some(EntryPlace::Queue(self.find(name)? + 1)),
+            Place::JournalOf(name) => Some(EntryPlace::JournalOf(self.find(name)? + 1)),
+            Place::Dead => Some(EntryPlace::Dead),
+            Place::DeadXact => Some(EntryPlace::DeadXact),
+            Place::Journal => Some(EntryPlace::Journal),
         }
     }
 
-    /// The message of a place that is taken first, where the place is there and has one that is not due.
-    pub fn first(&self, place: &Place, now: u32) -> Option<&Message>
-        ensures { FirstAt (lists_at self.now place.now) place.now now (option_copied result) }
+    pub(crate) fn lists(&self, at: EntryPlace) -> Option<&Lists>
+        ensures lists { option_map (λ l. l.lists) (option_copied result) ≡
+            lists_at self.now.lists at }
+        ensures rooms { option_map (λ l. l.rooms) (option_copied result) ≡
+            rooms_at self.now.rooms at }
     {
-        first(place, self.lists(place)?, now)
-    }
-
-    /// How many messages a place has.
-    pub fn len(&self, place: &Place) -> Option<u32>
-        ensures { result ≡ option_map count (lists_at self.now place.now) }
-    {
-        Some(self.lists(place)?.count())
-    }
-
-    /// The durable messages of a place, the oldest first.
-    pub fn durable(&self, place: &Place) -> Option<&[Message]>
-        ensures { option_copied result ≡ option_map (λ l. l.durable) (lists_at self.now place.now) }
-    {
-        Some(self.lists(place)?.durable())
-    }
-
-    /// The express messages of a place, the oldest first.
-    pub fn express(&self, place: &Place) -> Option<&[Message]>
-        ensures { option_copied result ≡ option_map (λ l. l.express) (lists_at self.now place.now) }
-    {
-        Some(self.lists(place)?.express())
-    }
-
-    /// Adds a durable message at the end of a place.
-    pub fn put(&mut self, place: &Place, message: Message) -> Result<(), (Message, Memory)>
-        requires there { IsSome (lists_at self.old place.now) }
-        ensures ok { OnOk result (self.new ≡ changed self.old place.now (λ l. put l message)) }
-        ensures ready { IfSome (lists_at self.old place.now) (λ l. 0 < l.spare_durable → IsOk result) }
-        ensures err { OnErr result (self.new ≡ self.old) }
-        ensures handed_back { IfErr result (λ back. back.0 ≡ message) }
-    {
-        self.lists_mut(place).put(message)
-    }
-
-    /// Adds an express message at the end of a place.
-    pub fn put_express(&mut self, place: &Place, message: Message) -> Result<(), (Message, Memory)>
-        requires there { IsSome (lists_at self.old place.now) }
-        ensures ok { OnOk result (self.new ≡ changed self.old place.now (λ l. put_express l message)) }
-        ensures ready { IfSome (lists_at self.old place.now) (λ l. 0 < l.spare_express → IsOk result) }
-        ensures err { OnErr result (self.new ≡ self.old) }
-        ensures handed_back { IfErr result (λ back. back.0 ≡ message) }
-    {
-        self.lists_mut(place).put_express(message)
-    }
-
-    /// Takes out the k-th durable message of a place, from 0.
-    pub fn remove(&mut self, place: &Place, k: u32) -> Message
-        requires { IsSomeAnd (lists_at self.old place.now) (λ l. k < length l.durable) }
-        ensures removed { option_and_then (λ l. slice_get l.durable k) (lists_at self.old place.now) ≡ Some result }
-        ensures rest { self.new ≡ changed self.old place.now (λ l. without l k) }
-    {
-        self.lists_mut(place).remove(k)
-    }
-
-    /// Takes out the k-th express message of a place, from 0.
-    pub fn remove_express(&mut self, place: &Place, k: u32) -> Message
-        requires { IsSomeAnd (lists_at self.old place.now) (λ l. k < length l.express) }
-        ensures removed { option_and_then (λ l. slice_get l.express k) (lists_at self.old place.now) ≡ Some result }
-        ensures rest { self.new ≡ changed self.old place.now (λ l. without_express l k) }
-    {
-        self.lists_mut(place).remove_express(k)
-    }
-
-    /// Makes room in a place for so many more messages of each kind.
-    pub fn reserve(&mut self, place: &Place, durable: u32, express: u32) -> Result<(), Memory>
-        requires there { IsSome (lists_at self.old place.now) }
-        ensures ok { OnOk result (self.new ≡ changed self.old place.now (λ l. with_room l durable express)) }
-        ensures ready { IfSome (lists_at self.old place.now) (λ l. durable ≤ l.spare_durable → express ≤ l.spare_express → IsOk result) }
-        ensures err { OnErr result (self.new ≡ self.old) }
-    {
-        self.lists_mut(place).reserve(durable, express)
-    }
-
-    /// Makes room for a queue with this name.
-    pub fn reserve_queue(&mut self, _name: &Name) -> Result<(), Memory>
-        ensures ok { OnOk result (self.new ≡ with_queue_room self.old) }
-        ensures ready { 0 < self.old.spare_queues → IsOk result }
-        ensures err { OnErr result (self.new ≡ self.old) }
-    {
-        if self.spare == 0 {
-            if self.queues.len() >= u32::MAX as usize {
-                return Err(Memory);
-            }
-            self.queues.reserve(1)?;
-            self.spare = 1;
+        match at {
+            EntryPlace::Queue(number) => Some(&numbered(self.queues.as_slice(), number)?.lists),
+            EntryPlace::JournalOf(number) => Some(
+                &numbered(self.queues.as_slice(), number)?.journal,
+            ),
+            EntryPlace::Dead => Some(&self.dead),
+            EntryPlace::DeadXact => Some(&self.dead_xact),
+            EntryPlace::Journal => Some(&self.journal),
         }
-        Ok(())
+    }
+
+    pub(crate) fn lists_mut(&mut self, at: EntryPlace) -> &mut Lists
+        requires { IsSome (lists_at self.old.lists at) }
+        ensures lists { lists_at self.old.lists at ≡ Some result.now.lists }
+        ensures rooms { rooms_at self.old.rooms at ≡ Some result.now.rooms }
+        ensures* back { sem 𝓛 (LendsLists self.entry at result) }
+    {
+        match at {
+            EntryPlace::Queue(number) => &mut self.queues.get_mut(number as usize - 1).lists,
+            EntryPlace::JournalOf(number) => &mut self.queues.get_mut(number as usize - 1).journal,
+            EntryPlace::Dead => &mut self.dead,
+            EntryPlace::DeadXact => &mut self.dead_xact,
+            EntryPlace::Journal => &mut self.journal,
+        }
+    }
+
+    /// Makes room for a queue of this name. Where there is one of the name, none is needed.
+    pub fn reserve_queue(&mut self, name: &Name) -> Result<(), Memory>
+        ensures ok { OnOk result (self.new ≡ record self.old {
+          rooms = with_queue_room self.old name.now;
+        }) }
+        ensures refused { OnErr result (self.new ≡ self.old) }
+        ensures ready { length self.old.lists.queues < self.old.rooms.more_queues → IsOk result }
+
+        // The limit.
+        ensures limit { found self.old.lists.queues name.now ≡ None →
+            length self.old.lists.queues ≡ MAX_MEMBERS → IsErr result }
+    {
+        if self.find(name).is_some() {
+            return Ok(());
+        }
+        if self.queues.len() >= MAX_MEMBERS {
+            return Err(Memory);
+        }
+        self.queues.make_room(1)
     }
 
     /// Adds a queue without messages at the end.
     pub fn add_queue(&mut self, plan: QueuePlan) -> Result<(), (QueuePlan, Memory)>
-        requires { found self.old.queues plan.name ≡ None }
-        ensures ok { OnOk result (self.new ≡ with_queue self.old plan) }
-        ensures ready { 0 < self.old.spare_queues → IsOk result }
-        ensures err { OnErr result (self.new ≡ self.old) }
+        requires { found self.old.lists.queues plan.name ≡ None }
+        ensures lists { OnOk result (self.new.lists ≡ with_queue plan self.old.lists) }
+        ensures room { OnOk result (self.new.rooms.more_queues ≡
+            max self.old.rooms.more_queues (length self.old.lists.queues + 1)) }
+        ensures refused { OnErr result (self.new ≡ self.old) }
         ensures handed_back { IfErr result (λ back. back.0 ≡ plan) }
+        ensures ready { length self.old.lists.queues < self.old.rooms.more_queues → IsOk result }
+
+        // The limit.
+        ensures limit { length self.old.lists.queues ≡ MAX_MEMBERS → IsErr result }
     {
         if let Err(memory) = self.reserve_queue(&plan.name) {
             return Err((plan, memory));
         }
-        let alloc = *self.queues.allocator();
-        self.push_reserved(Queue {
-            plan,
-            lists: Lists::new(alloc),
-            journal: Lists::new(alloc),
-        });
+        self.push_queue(NewQueue::new(self.alloc, plan));
         Ok(())
     }
 
-    /// Adds a queue at the end, where there is room.
-    fn push_reserved(&mut self, queue: Queue)
-        requires room { 0 < self.old.spare_queues }
-        requires named { found self.old.queues queue.plan.name ≡ None }
-        ensures { self.new ≡ record self.old { queues = self.old.queues ++ queue ∷ []; spare_queues = self.old.spare_queues - 1 } }
+    /// Adds a queue without messages at the end, where there is room.
+    pub fn push_queue(&mut self, queue: NewQueue)
+        requires named { found self.old.lists.queues queue.plan.name ≡ None }
+        requires room { length self.old.lists.queues < self.old.rooms.more_queues }
+        ensures lists { self.new.lists ≡ with_queue queue.plan self.old.lists }
+        ensures rooms { self.new.rooms ≡ record self.old.rooms {
+          queues = self.old.rooms.queues ++ queue.rooms ∷ [];
+        } }
     {
-        self.queues.push_reserved(queue);
-        self.spare -= 1;
+        self.queues.push(queue.into_queue());
     }
 
-    fn lists(&self, place: &Place) -> Option<&Lists>
-        ensures { option_copied result ≡ lists_at self.now place.now }
+    /// Takes out the last queue, which has no messages: what `push_queue` added goes back.
+    pub fn pop_queue(&mut self) -> NewQueue
+        requires { IsSomeAnd (slice_get self.old.lists.queues (length self.old.lists.queues - 1))
+            (λ q. q ≡ new_queue q.plan) }
+        ensures plan { slice_get self.old.lists.queues (length self.old.lists.queues - 1) ≡
+            Some (new_queue result.plan) }
+        ensures rooms { slice_get self.old.rooms.queues (length self.old.rooms.queues - 1) ≡
+            Some result.rooms }
+        ensures rest { self.new ≡ without_last self.old }
+        ensures room { length self.new.lists.queues < self.new.rooms.more_queues }
     {
-        match place {
-            Place::Queue(name) => {
-                let k = found(&self.queues, name)?;
-                Some(&self.queues[k].lists)
-            }
-            Place::JournalOf(name) => {
-                let k = found(&self.queues, name)?;
-                Some(&self.queues[k].journal)
-            }
-            Place::Dead => Some(&self.dead),
-            Place::DeadXact => Some(&self.dead_xact),
-            Place::Journal => Some(&self.journal),
-        }
-    }
-
-    fn lists_mut(&mut self, place: &Place) -> &mut Lists
-        requires { IsSome (lists_at self.old place.now) }
-        ensures value { lists_at self.old place.now ≡ Some result.now }
-        ensures* back { sem 𝓛 (LendsLists self.entry place.now result) }
-    {
-        match place {
-            Place::Queue(name) => {
-                let k = found(&self.queues, name).unwrap();
-                &mut self.queues[k].lists
-            }
-            Place::JournalOf(name) => {
-                let k = found(&self.queues, name).unwrap();
-                &mut self.queues[k].journal
-            }
-            Place::Dead => &mut self.dead,
-            Place::DeadXact => &mut self.dead_xact,
-            Place::Journal => &mut self.journal,
-        }
+        NewQueue::from_queue(self.queues.pop())
     }
 }

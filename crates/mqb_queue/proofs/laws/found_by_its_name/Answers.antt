@@ -1,4 +1,4 @@
-use Rattle.mqb_queue.proofs.Changes.{found_by_its_name}
+use Rattle.mqb_queue.proofs.Names.{found_by_its_name}
 use Rattle.mqb_queue.proofs.laws.found_by_its_name.Goals as goal
 
 pub returns : goal.returns

@@ -1,4 +1,4 @@
-use Rattle.mqb_queue.proofs.Changes.{plans_stay}
+use Rattle.mqb_queue.proofs.Others.{plans_stay}
 use Rattle.mqb_queue.proofs.laws.plans_stay.Goals as goal
 
 pub returns : goal.returns

@@ -1,5 +1,0 @@
-use Rattle.mqb_queue.proofs.Lent.{restored_on_err}
-use Rattle.mqb_queue.proofs.queues.Queues.put_express.Goals as goal
-
-pub returns-clause-err : goal.returns-clause-err
-returns-clause-err c = restored_on_err c.put_express.result c.args.self.now c.args.place.now c.lists_mut.result.now c.put_express.new.self c.lists_mut.ensures.value c.put_express.ensures.err
