@@ -1,0 +1,5 @@
+use Rattle.mqb_model.proofs.Telling as law
+use Rattle.mqb_model.proofs.laws.records_are_read.Goals as goal
+
+pub returns : goal.returns
+returns c = law.records_are_read

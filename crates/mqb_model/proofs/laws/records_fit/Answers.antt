@@ -1,0 +1,5 @@
+use Rattle.mqb_model.proofs.Fitting as law
+use Rattle.mqb_model.proofs.laws.records_fit.Goals as goal
+
+pub returns : goal.returns
+returns c = law.records_fit

@@ -1,0 +1,5 @@
+use Rattle.mqb_model.proofs.Standing as law
+use Rattle.mqb_model.proofs.laws.resent_is_valid.Goals as goal
+
+pub returns : goal.returns
+returns c = law.resent_is_valid

@@ -1,0 +1,9 @@
+pub mod Lists
+pub mod Loops
+pub mod state
+pub mod rules
+pub mod records
+pub mod managers
+pub mod calls
+pub mod runs
+pub mod laws

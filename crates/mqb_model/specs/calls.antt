@@ -1,0 +1,12 @@
+pub mod AddPeer
+pub mod CreateQueue
+pub mod SetRoll
+pub mod Messages
+pub mod Commit
+pub mod Send
+pub mod Take
+pub mod Purge
+pub mod Tick
+pub mod Link
+pub mod hear
+pub mod pump

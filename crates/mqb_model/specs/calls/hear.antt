@@ -1,0 +1,4 @@
+pub mod Session
+pub mod Streams
+pub mod Plain
+pub mod Hear

@@ -1,0 +1,91 @@
+-- A record that a call makes fits, and has a spelling.
+use Rattle.std.specs.Prelude.{◌≡◌, All, Bool, IfSome, List, None, true, ℕ}
+use Rattle.mqb_base.specs.Drafts.{draft_fault}
+use Rattle.mqb_base.specs.declared.draft.Op.{Op}
+use Rattle.mqb_base.specs.declared.draft.Op.TheVariants as asked
+use Rattle.mqb_base.specs.declared.draft.Parts.{Parts}
+use Rattle.mqb_base.specs.declared.ids.Identity.{Identity}
+use Rattle.mqb_base.specs.declared.queues.Place.{Place}
+use Rattle.mqb_base.specs.declared.queues.QueuePlan.{QueuePlan}
+use Rattle.mqb_names.specs.Values.{IsName, IsQueueName}
+use Rattle.mqb_model.specs.calls.AddPeer.{add_peer}
+use Rattle.mqb_model.specs.calls.Commit.{commit}
+use Rattle.mqb_model.specs.calls.CreateQueue.{create_queue}
+use Rattle.mqb_model.specs.calls.Purge.{purge}
+use Rattle.mqb_model.specs.calls.Send.{send}
+use Rattle.mqb_model.specs.calls.SetRoll.{set_roll}
+use Rattle.mqb_model.specs.calls.Take.{take_message}
+use Rattle.mqb_model.specs.calls.Tick.{tick}
+use Rattle.mqb_model.specs.laws.Keeping.{IsRead}
+use Rattle.mqb_model.specs.managers.Manager.{Manager}
+use Rattle.mqb_model.specs.managers.Outcomes.{Outcome}
+use Rattle.mqb_model.specs.records.Applying.{fits, is_roll}
+use Rattle.mqb_model.specs.records.Counting.{IsSpellable}
+
+-- the record of a call fits, where there is one
+abbrev pub IsFitting : {A : Type 0} → Manager → Outcome A → Type 0
+IsFitting m outcome = IfSome outcome.entry (λ r. fits m.state r ≡ true)
+
+-- The records of these calls do.
+pub record SomeRecordsFit (m : Manager) : Type 0 where
+  pub peers : (peer : Identity) → IsFitting m (add_peer m peer)
+  pub queues : (given : QueuePlan) → IsFitting m (create_queue m given)
+  pub rolls : (count : ℕ) → is_roll count ≡ true → IsFitting m (set_roll m count)
+  pub sends : (p : Parts) (recoverable : Bool) (now : ℕ) → IsFitting m (send m p recoverable now)
+  pub takes : (p : Place) (now : ℕ) → IsFitting m (take_message m p now)
+  pub purges : (p : Place) (now : ℕ) → IsFitting m (purge m p now)
+  pub ticks : (now : ℕ) → IsFitting m (tick m now)
+
+-- of every manager
+abbrev pub RecordsFit : Type 0
+RecordsFit = (m : Manager) → SomeRecordsFit m
+
+-- the record of a call has a spelling, where there is one
+abbrev pub IsSpelled : {A : Type 0} → Outcome A → Type 0
+IsSpelled outcome = IfSome outcome.entry IsSpellable
+
+-- The records of these calls have.
+pub record SomeRecordsAreSpelled (m : Manager) : Type 0 where
+  pub peers : (peer : Identity) → IsSpelled (add_peer m peer)
+  pub queues : (given : QueuePlan) → IsSpelled (create_queue m given)
+  pub rolls : (count : ℕ) → is_roll count ≡ true → IsSpelled (set_roll m count)
+  pub commits : (ops : List Op) (now : ℕ) → IsSpelled (commit m ops now)
+  pub sends : (p : Parts) (recoverable : Bool) (now : ℕ) → IsSpelled (send m p recoverable now)
+  pub takes : (p : Place) (now : ℕ) → IsSpelled (take_message m p now)
+  pub purges : (p : Place) (now : ℕ) → IsSpelled (purge m p now)
+  pub ticks : (now : ℕ) → IsSpelled (tick m now)
+
+-- of every manager
+abbrev pub RecordsAreSpelled : Type 0
+RecordsAreSpelled = (m : Manager) → SomeRecordsAreSpelled m
+
+-- what a sender chooses makes a message, and its names are names
+pub record IsDrafted (p : Parts) : Type 0 where
+  pub sound : draft_fault p ≡ None
+  pub destination : IsQueueName p.destination
+  pub admin : IfSome p.admin IsQueueName
+  pub response : IfSome p.response IsQueueName
+
+-- so does an op of a transaction
+abbrev pub IsDraftedOp : Op → Type 0
+IsDraftedOp (asked.Send p) = IsDrafted p
+IsDraftedOp (asked.Take name) = Unit {0}
+
+-- the record of a call is as one that was read, where there is one
+abbrev pub IsAsRead : {A : Type 0} → Outcome A → Type 0
+IsAsRead outcome = IfSome outcome.entry IsRead
+
+-- The records of these calls are.
+pub record SomeRecordsAreRead (m : Manager) : Type 0 where
+  pub peers : (peer : Identity) → IsName peer.host → IsAsRead (add_peer m peer)
+  pub queues : (given : QueuePlan) → IsAsRead (create_queue m given)
+  pub rolls : (count : ℕ) → IsAsRead (set_roll m count)
+  pub commits : (ops : List Op) (now : ℕ) → All IsDraftedOp ops → IsAsRead (commit m ops now)
+  pub sends : (p : Parts) (recoverable : Bool) (now : ℕ) → IsDrafted p → IsAsRead (send m p recoverable now)
+  pub takes : (p : Place) (now : ℕ) → IsAsRead (take_message m p now)
+  pub purges : (p : Place) (now : ℕ) → IsAsRead (purge m p now)
+  pub ticks : (now : ℕ) → IsAsRead (tick m now)
+
+-- of every manager
+abbrev pub RecordsAreRead : Type 0
+RecordsAreRead = (m : Manager) → SomeRecordsAreRead m

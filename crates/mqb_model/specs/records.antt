@@ -1,0 +1,15 @@
+pub mod Record
+pub mod Reading
+pub mod Packets
+pub mod Peer
+pub mod Commit
+pub mod Plain
+pub mod Offered
+pub mod Releases
+pub mod Decisions
+pub mod Finals
+pub mod Arrived
+pub mod Applying
+pub mod Folding
+pub mod Stepwise
+pub mod Counting

@@ -1,0 +1,9 @@
+pub mod Numbers
+pub mod Arrivals
+pub mod Notices
+pub mod Effects
+pub mod Takes
+pub mod Purges
+pub mod Timeouts
+pub mod Sequences
+pub mod Sends
