@@ -1,0 +1,17 @@
+pub mod Network
+pub mod Choices
+pub mod Events
+pub mod Replies
+pub mod Changes
+pub mod Courses
+pub mod Answers
+pub mod Delivering
+pub mod Sending
+pub mod Connecting
+pub mod Restarting
+pub mod Step
+pub mod Runs
+pub mod Doubts
+pub mod Laws
+pub mod Scripts
+pub mod Worked
