@@ -1,147 +1,295 @@
--- What the events of a script name keeps its bounds, and there are no more events than lines.
-use Rattle.std.proofs.Common.{◌≡◌, ℕ, ◌+◌, ◌≤◌, Bool, true, false, ◌==◌, ◌&&◌, nat_le, if◌then◌else◌, List, [], ◌∷◌, length, codes, Option, Some, None, Result, Ok, Err, refl, arith}
-use Rattle.std.specs.Option.{IfSome, option_map, option_and_then}
+-- What the events of a script keep, and that there are no more events than lines.
+use Rattle.std.proofs.Common.{◌≡◌, ℕ, ◌+◌, ◌≤◌, Bool, true, false, ◌==◌, ◌&&◌, nat_le, if◌then◌else◌, List, [], ◌∷◌, drop, length, codes, Result, Ok, Err, refl, arith}
 use Rattle.std.specs.Result.{IfOk}
-use Rattle.std.specs.List.{AllByRecursion}
+use Rattle.std.specs.List.{AllByRecursion, list_all}
 use Rattle.std.proofs.lemmas.Result.{IfOk-at_ok}
 use Rattle.std.proofs.lemmas.Bool.Decides.{nat_tests}
 use Rattle.mqb_base.specs.Same.{same_bytes}
+use Rattle.mqb_base.specs.declared.draft.Op.{Op}
+use Rattle.mqb_base.specs.declared.draft.Parts.{Parts}
+use Rattle.mqb_fields.specs.Reading.{◌>>=◌}
+use Rattle.mqb_script.specs.declared.faults.LineKind.{LineKind}
+use Rattle.mqb_script.specs.declared.faults.ScriptFault.{ScriptFault}
+use Rattle.mqb_script.specs.declared.forms.Form.{Form}
+use Rattle.mqb_script.specs.declared.forms.Form.TheVariants.{Queue, Commit, Send, Take, Purge, Tick, Connect, Disconnect, Pump, Deliver, Drop, Flow, Resend, Arm, Restart, Roll}
 use Rattle.mqb_script.specs.declared.events.Event.{Event}
-use Rattle.mqb_script.specs.declared.events.Event.TheVariants.{Queue, Commit, Connect, Pump, Deliver, Drop, Flow, Resend}
+use Rattle.mqb_script.specs.Faults.{only_if}
+use Rattle.mqb_script.specs.Words.{lines_of, words_of, fields_of, value_of, is_decimal, is_within, number_in}
 use Rattle.mqb_script.specs.Managers.{manager_of}
-use Rattle.mqb_script.specs.Words.{lines_of, words_of, value_of, is_decimal, number_in}
-use Rattle.mqb_script.specs.Grammar.{MAX, where_, moment_of, packet_of, window_of, sends_of, is_built_queue, plan_of, queue_of, commit_of, connect_of, pump_of, deliver_of, drop_of, disconnect_of, flow_of, resend_of, event_of, is_skipped, with_event, script_from, script_of}
-use Rattle.mqb_script.specs.Sizes.{IsSized}
+use Rattle.mqb_script.specs.Values.{MOST, MOST_WINDOW, MOST_CALL, MOST_ROLL, packet_of, window_of, call_of, roll_of, mode_of, pick_of, place_of, name_of, moment_of}
+use Rattle.mqb_script.specs.Sends.{names_from, terms_from, body_of, message_of, parts_from, send_from, send_of, take_from, sending, is_take, op_from, op_of, ops_of}
+use Rattle.mqb_script.specs.Forms.{form_of, has_count}
+use Rattle.mqb_script.specs.Grammar.{at_of, plan_of, queue_from, commit_from, how_of, sent_with, send_event, take_event, purge_from, tick_from, connect_from, disconnect_from, pump_from, deliver_from, drop_from, flow_from, resend_from, arm_from, restart_from, roll_from, event_from}
+use Rattle.mqb_script.specs.Lines.{is_skipped, is_printable, is_some_word, are_counted, event_of_words, event_of}
+use Rattle.mqb_script.specs.Script.{numbered, script_from, script_of}
 use Rattle.mqb_script.specs.Reading.{begun, line_count}
-use Rattle.mqb_script.proofs.Splitting.{both}
+use Rattle.mqb_script.specs.Formed.{IsPlain, IsFormedOp, IsFormed}
+use Rattle.mqb_script.proofs.Tests.{both}
 
--- What holds of a value, where there is one.
+-- What holds of a value that is read.
 
-where_keeps : {T : Type 0} (P : T → Type 0) (test : Bool) (o : Option T) → IfSome o P → IfSome (where_ test o) P
-where_keeps P true o h = h
-where_keeps P false o h = tt
+then_gives : {S T E : Type 0} (P : T → Type 0) (f : S → Result T E) (r : Result S E) → ((x : S) → r ≡ Ok x → IfOk (f x) P) → IfOk (r >>= f) P
+then_gives P f (Ok x) step = step x refl
+then_gives P f (Err e) step = tt
 
-where_tested : {T : Type 0} (P : T → Type 0) (test : Bool) (x : T) → (test ≡ true → P x) → IfSome (where_ test (Some x)) P
-where_tested P true x h = h refl
-where_tested P false x h = tt
+choice_gives : {T E : Type 0} (P : T → Type 0) (test : Bool) (a b : Result T E) → (test ≡ true → IfOk a P) → IfOk b P
+    → IfOk (if test then a else b) P
+choice_gives P true a b h k = h refl
+choice_gives P false a b h k = k
 
-map_keeps : {S T : Type 0} (Q : S → Type 0) (P : T → Type 0) (f : S → T) (o : Option S) → ((x : S) → Q x → P (f x)) → IfSome o Q
-    → IfSome (option_map f o) P
-map_keeps Q P f (Some x) step h = step x h
-map_keeps Q P f None step h = tt
+only_gives : {T : Type 0} (P : T → Type 0) (test : Bool) (r : Result T LineKind) → IfOk r P → IfOk (only_if test r) P
+only_gives P true r h = h
+only_gives P false r h = tt
 
-map_gives : {S T : Type 0} (P : T → Type 0) (f : S → T) (o : Option S) → ((x : S) → P (f x)) → IfSome (option_map f o) P
-map_gives P f (Some x) step = step x
-map_gives P f None step = tt
+numbered_gives : {T : Type 0} (P : T → Type 0) (n : ℕ) (r : Result T LineKind) → IfOk r P → IfOk (numbered n r) P
+numbered_gives P n (Ok x) h = h
+numbered_gives P n (Err kind) h = tt
 
-then_keeps : {S T : Type 0} (Q : S → Type 0) (P : T → Type 0) (f : S → Option T) (o : Option S) → ((x : S) → Q x → IfSome (f x) P) → IfSome o Q
-    → IfSome (option_and_then f o) P
-then_keeps Q P f (Some x) step h = step x h
-then_keeps Q P f None step h = tt
+-- Numbers.
 
-then_gives : {S T : Type 0} (P : T → Type 0) (f : S → Option T) (o : Option S) → ((x : S) → IfSome (f x) P) → IfSome (option_and_then f o) P
-then_gives P f (Some x) step = step x
-then_gives P f None step = tt
+pub record IsWithin (least greatest n : ℕ) : Type 0 where
+  pub low : least ≤ n
+  pub high : n ≤ greatest
 
-choice_keeps : {T : Type 0} (P : T → Type 0) (test : Bool) (a b : Option T) → IfSome a P → IfSome b P → IfSome (if test then a else b) P
-choice_keeps P true a b h k = h
-choice_keeps P false a b h k = k
+within : (least greatest v : ℕ) → is_within least greatest v ≡ true → IsWithin least greatest v
+within least greatest v h =
+    let k = both (nat_le least v) (nat_le v greatest) h in
+    let low : nat_le least v ≡ true = k.0 in
+    let high : nat_le v greatest ≡ true = k.1 in
+    record { low = grind (arith, nat_tests); high = grind (arith, nat_tests) }
 
--- The sizes of what a line names.
+number_tested : (least greatest v n : ℕ) (a b : Bool) → is_within least greatest v ≡ b → only_if (a && b) (Ok v) ≡ Ok n → IsWithin least greatest n
+number_tested least greatest v n true true e h = let is : v ≡ n = cc in rw is at (within least greatest v e)
+number_tested least greatest v n true false e h = cc
+number_tested least greatest v n false b e h = cc
 
-at_most : (a b : ℕ) → nat_le a b ≡ true → a ≤ b
-at_most a b h = grind (arith, nat_tests)
+pub number_bounds : (least greatest n : ℕ) (word : List ℕ) → number_in least greatest word ≡ Ok n → IsWithin least greatest n
+unfolding number_in
+number_bounds least greatest n word h =
+    number_tested least greatest (value_of word) n (is_decimal word) (is_within least greatest (value_of word)) refl h
 
-number_from : (least greatest : ℕ) (word : List ℕ) → IfSome (number_in least greatest word) (λ n. least ≤ n)
-number_from least greatest word =
-    where_tested (λ n. least ≤ n) (is_decimal word && (nat_le least (value_of word) && nat_le (value_of word) greatest)) (value_of word)
-    (λ is. at_most least (value_of word) (both _ _ (both _ _ is).1).0)
+-- Sends and other steps.
 
-sized_queue : (words : List (List ℕ)) → IfSome (queue_of words) IsSized
-sized_queue (manager ∷ name ∷ kind ∷ quota ∷ journal ∷ []) =
-    where_keeps IsSized (is_built_queue kind journal) _
-    (then_gives IsSized _ (manager_of manager) (λ which. map_gives IsSized (λ plan. Queue which plan) (plan_of name quota) (λ plan. tt)))
-sized_queue _ = tt
+abbrev IsSent : ℕ → Parts → Type 0
+IsSent priority parts = (parts.priority ≡ priority) × IsPlain parts
 
-sized_commit : (words : List (List ℕ)) → IfSome (commit_of words) IsSized
-sized_commit (manager ∷ now ∷ op ∷ ops) =
-    then_gives IsSized _ (manager_of manager)
-    (λ which. then_gives IsSized _ (moment_of now)
-    (λ moment. map_gives IsSized (λ sends. Commit which moment sends) (sends_of which (op ∷ ops)) (λ sends. tt)))
-sized_commit _ = tt
+message_sent : (priority : ℕ) (destination reach life flags admin response text : List ℕ)
+    → IfOk (message_of priority destination reach life flags admin response text) (IsSent priority)
+unfolding message_of
+message_sent priority destination reach life flags admin response text =
+    then_gives (IsSent priority) _ (names_from destination admin response)
+    (λ names _. then_gives (IsSent priority) _ (terms_from reach life flags)
+    (λ terms _. then_gives (IsSent priority) _ (body_of text)
+    (λ body _. (refl, record { label = refl; extension = refl; body_type = refl; tag = refl; correlation = refl }))))
 
-sized_connect : (words : List (List ℕ)) → IfSome (connect_of words) IsSized
-sized_connect (manager ∷ now ∷ alpha ∷ beta ∷ []) =
-    then_gives IsSized _ (manager_of manager)
-    (λ which. then_gives IsSized _ (moment_of now)
-    (λ moment. then_gives IsSized _ (window_of alpha)
-    (λ first. map_gives IsSized (λ second. Connect which moment first second) (window_of beta) (λ second. tt))))
-sized_connect _ = tt
+parts_sent : (priority : ℕ) (fields : List (List ℕ)) → IfOk (parts_from priority fields) (IsSent priority)
+unfolding parts_from
+parts_sent priority (destination ∷ reach ∷ life ∷ flags ∷ admin ∷ response ∷ text ∷ []) =
+    message_sent priority destination reach life flags admin response text
+parts_sent priority _ = tt
 
-sized_pump : (words : List (List ℕ)) → IfSome (pump_of words) IsSized
-sized_pump (manager ∷ now ∷ []) =
-    then_gives IsSized _ (manager_of manager) (λ which. map_gives IsSized (λ moment. Pump which moment) (moment_of now) (λ moment. tt))
-sized_pump _ = tt
+send_sent : (priority : ℕ) (fields : List (List ℕ)) → IfOk (send_from priority fields) (IsSent priority)
+unfolding send_from
+send_sent priority [] = tt
+send_sent priority (word ∷ fields) =
+    only_gives (IsSent priority) (same_bytes word (codes "send")) (parts_from priority fields) (parts_sent priority fields)
 
-sized_deliver : (words : List (List ℕ)) → IfSome (deliver_of words) IsSized
-sized_deliver (packet ∷ now ∷ []) =
-    then_keeps (λ k. 1 ≤ k) IsSized _ (packet_of packet)
-    (λ k some. map_gives IsSized (λ moment. Deliver k moment) (moment_of now) (λ moment. some)) (number_from 1 MAX packet)
-sized_deliver _ = tt
+word_sent : (priority : ℕ) (word : List ℕ) → IfOk (send_of priority word) (IsSent priority)
+unfolding send_of
+word_sent priority word = send_sent priority (fields_of word)
 
-sized_drop : (words : List (List ℕ)) → IfSome (drop_of words) IsSized
-sized_drop (packet ∷ []) = map_keeps (λ k. 1 ≤ k) IsSized (λ k. Drop k) (packet_of packet) (λ k some. some) (number_from 1 MAX packet)
-sized_drop _ = tt
+take_formed : (fields : List (List ℕ)) → IfOk (take_from fields) IsFormedOp
+unfolding take_from
+take_formed (name ∷ []) = then_gives IsFormedOp _ (name_of name) (λ queue _. tt)
+take_formed _ = tt
 
-sized_disconnect : (words : List (List ℕ)) → IfSome (disconnect_of words) IsSized
-sized_disconnect [] = tt
-sized_disconnect _ = tt
+sending_formed : (fields : List (List ℕ)) → IfOk (sending fields) IsFormedOp
+sending_formed fields =
+    then_gives IsFormedOp _ (send_from 0 fields) (λ parts is. IfOk-at_ok (IsSent 0) is (send_sent 0 fields))
 
-sized_flow : (words : List (List ℕ)) → IfSome (flow_of words) IsSized
-sized_flow (manager ∷ now ∷ []) =
-    then_gives IsSized _ (manager_of manager) (λ which. map_gives IsSized (λ moment. Flow which moment) (moment_of now) (λ moment. tt))
-sized_flow _ = tt
+op_formed : (word : List ℕ) → IfOk (op_of word) IsFormedOp
+unfolding op_of op_from
+op_formed word =
+    let fields : List (List ℕ) = fields_of word in
+    choice_gives IsFormedOp (is_take fields) (take_from (drop 1 fields)) (sending fields) (λ _. take_formed (drop 1 fields)) (sending_formed fields)
 
-sized_resend : (words : List (List ℕ)) → IfSome (resend_of words) IsSized
-sized_resend (manager ∷ []) = map_gives IsSized (λ which. Resend which) (manager_of manager) (λ which. tt)
-sized_resend _ = tt
+abbrev AreFormed : ℕ → List Op → Type 0
+AreFormed n ops = (length ops ≡ n) × AllByRecursion IsFormedOp ops
 
-sized_event : (words : List (List ℕ)) → IfSome (event_of words) IsSized
-sized_event [] = tt
-sized_event (word ∷ words) =
-    choice_keeps IsSized (same_bytes word (codes "queue")) _ _ (sized_queue words)
-    (choice_keeps IsSized (same_bytes word (codes "commit")) _ _ (sized_commit words)
-    (choice_keeps IsSized (same_bytes word (codes "connect")) _ _ (sized_connect words)
-    (choice_keeps IsSized (same_bytes word (codes "pump")) _ _ (sized_pump words)
-    (choice_keeps IsSized (same_bytes word (codes "deliver")) _ _ (sized_deliver words)
-    (choice_keeps IsSized (same_bytes word (codes "drop")) _ _ (sized_drop words)
-    (choice_keeps IsSized (same_bytes word (codes "disconnect")) _ _ (sized_disconnect words)
-    (choice_keeps IsSized (same_bytes word (codes "flow")) _ _ (sized_flow words)
-    (choice_keeps IsSized (same_bytes word (codes "resend")) _ _ (sized_resend words) tt))))))))
+ops_formed : (words : List (List ℕ)) → IfOk (ops_of words) (AreFormed (length words))
+unfolding ops_of
+ops_formed [] = (refl, tt)
+ops_formed (word ∷ words) =
+    then_gives (AreFormed (length (word ∷ words))) _ (op_of word)
+    (λ op one. then_gives (AreFormed (length (word ∷ words))) _ (ops_of words)
+    (λ ops more.
+    let rest = IfOk-at_ok (AreFormed (length words)) more (ops_formed words) in
+    let count : length ops ≡ length words = rest.0 in
+    (omega arith, (IfOk-at_ok IsFormedOp one (op_formed word), rest.1))))
+
+-- The forms of lines.
+
+queue_formed : (words : List (List ℕ)) → IfOk (queue_from words) IsFormed
+unfolding queue_from
+queue_formed (manager ∷ name ∷ kind ∷ quota ∷ journal ∷ guid) =
+    then_gives IsFormed _ (manager_of manager) (λ which _. then_gives IsFormed _ (plan_of name kind quota journal guid) (λ plan _. tt))
+queue_formed _ = tt
+
+commit_formed : (words : List (List ℕ)) → 3 ≤ length words → IfOk (commit_from words) IsFormed
+unfolding commit_from
+commit_formed [] some = tt
+commit_formed (manager ∷ []) some = tt
+commit_formed (manager ∷ now ∷ ops) some =
+    then_gives IsFormed _ (at_of manager now)
+    (λ at _. then_gives IsFormed _ (ops_of ops)
+    (λ steps is.
+    let formed = IfOk-at_ok (AreFormed (length ops)) is (ops_formed ops) in
+    let count : length steps ≡ length ops = formed.0 in
+    (omega arith, formed.1)))
+
+sent_formed : (manager now kind priority send : List ℕ) → IfOk (sent_with manager now kind priority send) IsFormed
+unfolding sent_with
+sent_formed manager now kind priority send =
+    then_gives IsFormed _ (at_of manager now)
+    (λ at _. then_gives IsFormed _ (how_of kind priority)
+    (λ how _. then_gives IsFormed _ (send_of how.1 send) (λ parts is. (IfOk-at_ok (IsSent how.1) is (word_sent how.1 send)).1)))
+
+send_formed : (words : List (List ℕ)) → IfOk (send_event words) IsFormed
+unfolding send_event
+send_formed (manager ∷ now ∷ kind ∷ priority ∷ send ∷ []) = sent_formed manager now kind priority send
+send_formed _ = tt
+
+take_event_formed : (words : List (List ℕ)) → IfOk (take_event words) IsFormed
+unfolding take_event
+take_event_formed (manager ∷ now ∷ place ∷ []) =
+    then_gives IsFormed _ (at_of manager now) (λ at _. then_gives IsFormed _ (place_of place) (λ from _. tt))
+take_event_formed _ = tt
+
+purge_formed : (words : List (List ℕ)) → IfOk (purge_from words) IsFormed
+unfolding purge_from
+purge_formed (manager ∷ now ∷ place ∷ []) =
+    then_gives IsFormed _ (at_of manager now) (λ at _. then_gives IsFormed _ (place_of place) (λ from _. tt))
+purge_formed _ = tt
+
+connect_formed : (words : List (List ℕ)) → IfOk (connect_from words) IsFormed
+unfolding connect_from
+connect_formed (manager ∷ now ∷ alpha ∷ beta ∷ []) =
+    then_gives IsFormed _ (at_of manager now)
+    (λ at _. then_gives IsFormed _ (window_of alpha)
+    (λ first one. then_gives IsFormed _ (window_of beta)
+    (λ second two. ((number_bounds 1 MOST_WINDOW first alpha one).low, (number_bounds 1 MOST_WINDOW second beta two).low))))
+connect_formed _ = tt
+
+disconnect_formed : (words : List (List ℕ)) → IfOk (disconnect_from words) IsFormed
+unfolding disconnect_from
+disconnect_formed [] = tt
+disconnect_formed _ = tt
+
+deliver_formed : (words : List (List ℕ)) → IfOk (deliver_from words) IsFormed
+unfolding deliver_from
+deliver_formed (packet ∷ now ∷ []) =
+    then_gives IsFormed _ (packet_of packet)
+    (λ number is. then_gives IsFormed _ (moment_of now) (λ moment _. (number_bounds 1 MOST number packet is).low))
+deliver_formed _ = tt
+
+drop_formed : (words : List (List ℕ)) → IfOk (drop_from words) IsFormed
+unfolding drop_from
+drop_formed (packet ∷ []) = then_gives IsFormed _ (packet_of packet) (λ number is. (number_bounds 1 MOST number packet is).low)
+drop_formed _ = tt
+
+resend_formed : (words : List (List ℕ)) → IfOk (resend_from words) IsFormed
+unfolding resend_from
+resend_formed (manager ∷ []) = then_gives IsFormed _ (manager_of manager) (λ which _. tt)
+resend_formed _ = tt
+
+arm_formed : (words : List (List ℕ)) → IfOk (arm_from words) IsFormed
+unfolding arm_from
+arm_formed (manager ∷ call ∷ mode ∷ []) =
+    then_gives IsFormed _ (manager_of manager)
+    (λ which _. then_gives IsFormed _ (call_of call)
+    (λ number is. then_gives IsFormed _ (mode_of mode)
+    (λ how _. let bounds = number_bounds 1 MOST_CALL number call is in (bounds.low, bounds.high))))
+arm_formed _ = tt
+
+restart_formed : (words : List (List ℕ)) → IfOk (restart_from words) IsFormed
+unfolding restart_from
+restart_formed (manager ∷ pick ∷ []) =
+    then_gives IsFormed _ (manager_of manager) (λ which _. then_gives IsFormed _ (pick_of pick) (λ image _. tt))
+restart_formed _ = tt
+
+roll_formed : (words : List (List ℕ)) → IfOk (roll_from words) IsFormed
+unfolding roll_from
+roll_formed (manager ∷ count ∷ []) =
+    then_gives IsFormed _ (manager_of manager)
+    (λ which _. then_gives IsFormed _ (roll_of count)
+    (λ most is. let bounds = number_bounds 1 MOST_ROLL most count is in (bounds.low, bounds.high)))
+roll_formed _ = tt
+
+tick_formed : (words : List (List ℕ)) → IfOk (tick_from words) IsFormed
+unfolding tick_from
+tick_formed (manager ∷ now ∷ []) = then_gives IsFormed _ (at_of manager now) (λ at _. tt)
+tick_formed _ = tt
+
+pump_formed : (words : List (List ℕ)) → IfOk (pump_from words) IsFormed
+unfolding pump_from
+pump_formed (manager ∷ now ∷ []) = then_gives IsFormed _ (at_of manager now) (λ at _. tt)
+pump_formed _ = tt
+
+flow_formed : (words : List (List ℕ)) → IfOk (flow_from words) IsFormed
+unfolding flow_from
+flow_formed (manager ∷ now ∷ []) = then_gives IsFormed _ (at_of manager now) (λ at _. tt)
+flow_formed _ = tt
+
+three_or_more : (n : ℕ) → nat_le 3 n ≡ true → 3 ≤ n
+three_or_more n h = grind (arith, nat_tests)
+
+event_formed : (which : Form) (words : List (List ℕ)) → has_count which (length words) ≡ true → IfOk (event_from which words) IsFormed
+unfolding event_from
+event_formed Queue words counted = queue_formed words
+event_formed Commit words counted = commit_formed words (three_or_more (length words) counted)
+event_formed Send words counted = send_formed words
+event_formed Take words counted = take_event_formed words
+event_formed Purge words counted = purge_formed words
+event_formed Tick words counted = tick_formed words
+event_formed Connect words counted = connect_formed words
+event_formed Disconnect words counted = disconnect_formed words
+event_formed Pump words counted = pump_formed words
+event_formed Deliver words counted = deliver_formed words
+event_formed Drop words counted = drop_formed words
+event_formed Flow words counted = flow_formed words
+event_formed Resend words counted = resend_formed words
+event_formed Arm words counted = arm_formed words
+event_formed Restart words counted = restart_formed words
+event_formed Roll words counted = roll_formed words
+
+has_its_count : (which : Form) (words : List (List ℕ)) → are_counted which words ≡ true → has_count which (length words) ≡ true
+unfolding are_counted
+has_its_count which words h = (both (list_all is_some_word words) (has_count which (length words)) h).1
+
+words_formed : (words : List (List ℕ)) → IfOk (event_of_words words) IsFormed
+unfolding event_of_words
+words_formed [] = tt
+words_formed (word ∷ words) =
+    then_gives IsFormed _ (form_of word)
+    (λ which _. choice_gives IsFormed (are_counted which words) _ _ (λ counted. event_formed which words (has_its_count which words counted)) tt)
+
+line_formed : (line : List ℕ) → IfOk (event_of line) IsFormed
+unfolding event_of
+line_formed line = choice_gives IsFormed (list_all is_printable line) _ _ (λ _. words_formed (words_of line)) tt
 
 -- The events of lines.
 
-abbrev AllSized : List (ℕ × Event) → Type 0
-AllSized events = AllByRecursion (λ e. IsSized e.1) events
+abbrev AllFormed : List (ℕ × Event) → Type 0
+AllFormed events = AllByRecursion (λ e. IsFormed e.1) events
 
-sized_with : (n : ℕ) (event : Option Event) (rest : Result (List (ℕ × Event)) ℕ) → IfSome event IsSized → IfOk rest AllSized
-    → IfOk (with_event n event rest) AllSized
-sized_with n None rest h k = tt
-sized_with n (Some event) (Ok events) h k = (h, k)
-sized_with n (Some event) (Err first) h k = tt
-
-sized_line : (skipped : Bool) (n : ℕ) (event : Option Event) (rest : Result (List (ℕ × Event)) ℕ) → IfSome event IsSized → IfOk rest AllSized
-    → IfOk (if skipped then rest else with_event n event rest) AllSized
-sized_line true n event rest h k = k
-sized_line false n event rest h k = sized_with n event rest h k
-
-sized_lines : (n : ℕ) (lines : List (List ℕ)) → IfOk (script_from n lines) AllSized
-sized_lines n [] = tt
-sized_lines n (line ∷ lines) =
-    sized_line (is_skipped line) n (event_of (words_of line)) (script_from (n + 1) lines) (sized_event (words_of line)) (sized_lines (n + 1) lines)
-
-pub sized_script : (text : List ℕ) (events : List (ℕ × Event)) → script_of text ≡ Ok events → AllByRecursion (λ e. IsSized e.1) events
-sized_script text events is = IfOk-at_ok AllSized is (sized_lines 1 (lines_of text))
+lines_formed : (n : ℕ) (lines : List (List ℕ)) → IfOk (script_from n lines) AllFormed
+lines_formed n [] = tt
+lines_formed n (line ∷ lines) =
+    choice_gives AllFormed (is_skipped line) (script_from (n + 1) lines) _ (λ _. lines_formed (n + 1) lines)
+    (then_gives AllFormed _ (numbered n (event_of line))
+    (λ event one. then_gives AllFormed _ (script_from (n + 1) lines)
+    (λ events more.
+    (IfOk-at_ok IsFormed one (numbered_gives IsFormed n (event_of line) (line_formed line)), IfOk-at_ok AllFormed more (lines_formed (n + 1) lines)))))
 
 -- Their number.
 
@@ -157,30 +305,38 @@ few_with_bytes ([] ∷ []) = omega arith
 few_with_bytes ([] ∷ line ∷ lines) = let more : with_bytes (line ∷ lines) ≤ begun (line ∷ lines) = few_with_bytes (line ∷ lines) in omega arith
 few_with_bytes ((b ∷ bs) ∷ lines) = let more : with_bytes lines ≤ begun lines = few_with_bytes lines in omega arith
 
-few_with : (n k : ℕ) (event : Option Event) (rest : Result (List (ℕ × Event)) ℕ) → IfOk rest (λ events. length events ≤ k)
-    → IfOk (with_event n event rest) (λ events. length events ≤ k + 1)
-few_with n k None rest h = tt
-few_with n k (Some event) (Ok events) h = omega arith
-few_with n k (Some event) (Err first) h = tt
+abbrev AreFew : ℕ → List (ℕ × Event) → Type 0
+AreFew n events = length events ≤ n
 
-one_more : (k : ℕ) (rest : Result (List (ℕ × Event)) ℕ) → IfOk rest (λ events. length events ≤ k) → IfOk rest (λ events. length events ≤ k + 1)
-one_more k (Ok events) h = omega arith
-one_more k (Err first) h = tt
+one_more : {E : Type 0} (n : ℕ) (r : Result (List (ℕ × Event)) E) → IfOk r (AreFew n) → IfOk r (AreFew (n + 1))
+one_more n (Ok events) h = omega arith
+one_more n (Err first) h = tt
 
-few_line : (skipped : Bool) (n k : ℕ) (event : Option Event) (rest : Result (List (ℕ × Event)) ℕ) → IfOk rest (λ events. length events ≤ k)
-    → IfOk (if skipped then rest else with_event n event rest) (λ events. length events ≤ k + 1)
-few_line true n k event rest h = one_more k rest h
-few_line false n k event rest h = few_with n k event rest h
-
-few_from : (n : ℕ) (lines : List (List ℕ)) → IfOk (script_from n lines) (λ events. length events ≤ with_bytes lines)
+few_from : (n : ℕ) (lines : List (List ℕ)) → IfOk (script_from n lines) (AreFew (with_bytes lines))
 few_from n [] = omega arith
 few_from n ([] ∷ lines) = few_from (n + 1) lines
 few_from n ((b ∷ line) ∷ lines) =
-    few_line (b == 0x23) n (with_bytes lines) (event_of (words_of (b ∷ line))) (script_from (n + 1) lines) (few_from (n + 1) lines)
+    choice_gives (AreFew (with_bytes lines + 1)) (b == 0x23) (script_from (n + 1) lines) _
+    (λ _. one_more (with_bytes lines) (script_from (n + 1) lines) (few_from (n + 1) lines))
+    (then_gives (AreFew (with_bytes lines + 1)) _ (numbered n (event_of (b ∷ line)))
+    (λ event _. then_gives (AreFew (with_bytes lines + 1)) _ (script_from (n + 1) lines)
+    (λ events more.
+    let few : length events ≤ with_bytes lines = IfOk-at_ok (AreFew (with_bytes lines)) more (few_from (n + 1) lines) in omega arith)))
 
-pub few_events : (text : List ℕ) (events : List (ℕ × Event)) → script_of text ≡ Ok events → length events ≤ line_count text
+few_events : (text : List ℕ) (events : List (ℕ × Event)) → script_of text ≡ Ok events → length events ≤ line_count text
 few_events text events is =
     let lines : with_bytes (lines_of text) ≤ begun (lines_of text) = few_with_bytes (lines_of text) in
-    let few : length events ≤ with_bytes (lines_of text) =
-    IfOk-at_ok (λ es. length es ≤ with_bytes (lines_of text)) is (few_from 1 (lines_of text)) in
+    let few : length events ≤ with_bytes (lines_of text) = IfOk-at_ok (AreFew (with_bytes (lines_of text))) is (few_from 1 (lines_of text)) in
     omega arith
+
+-- What a call that reads a script answers keeps this.
+
+pub answer_formed : (text : List ℕ) (r : Result (List (ℕ × Event)) ScriptFault) → IfOk r (λ script. script_of text ≡ Ok script)
+    → IfOk r (λ script. AllByRecursion (λ e. IsFormed e.1) script)
+answer_formed text (Ok script) is = IfOk-at_ok AllFormed is (lines_formed 1 (lines_of text))
+answer_formed text (Err fault) is = tt
+
+pub answer_few : (text : List ℕ) (most : ℕ) (r : Result (List (ℕ × Event)) ScriptFault) → line_count text ≤ most
+    → IfOk r (λ script. script_of text ≡ Ok script) → IfOk r (λ script. length script ≤ most)
+answer_few text most (Ok script) short is = let few : length script ≤ line_count text = few_events text script is in omega arith
+answer_few text most (Err fault) short is = tt

@@ -1,5 +1,5 @@
 -- A number's text is read back as the number.
-use Rattle.std.proofs.Common.{◌≡◌, ℕ, ◌+◌, ◌-◌, ◌*◌, ◌/◌, ◌%◌, ◌^◌, ◌<◌, ◌≤◌, true, List, [], ◌∷◌, ◌++◌, length, get_or, Some, ap, arith}
+use Rattle.std.proofs.Common.{◌≡◌, ℕ, ◌+◌, ◌-◌, ◌*◌, ◌/◌, ◌%◌, ◌^◌, ◌<◌, ◌≤◌, true, List, [], ◌∷◌, ◌++◌, length, get_or, Ok, ap, arith}
 use Rattle.std.specs.List.{list_all}
 use Rattle.std.specs.Fmt.{decimal}
 use Rattle.std.proofs.lemmas.Fmt.{decimal_by_steps, decimal_digit, decimal_nonempty, first_decimal}
@@ -7,7 +7,7 @@ use Rattle.std.proofs.lemmas.List.Folds.{list_all-append}
 use Rattle.std.proofs.lemmas.List.Sums.{fold-append}
 use Rattle.std.proofs.lemmas.Bool.Decides.{nat_tests}
 use Rattle.mqb_script.specs.Words.{is_digit, value_of, is_decimal, number_in}
-use Rattle.mqb_script.specs.Grammar.{MAX}
+use Rattle.mqb_script.specs.Values.{MOST}
 
 -- digits, and the number that they spell
 pub record Spells (n : ℕ) (digits : List ℕ) : Type 0 where
@@ -38,13 +38,14 @@ is_decimal_of n small =
 
 -- a word that spells a number in the range
 in_range : (least greatest n : ℕ) (word : List ℕ) → is_decimal word ≡ true → value_of word ≡ n → least ≤ n → n ≤ greatest
-    → number_in least greatest word ≡ Some n
+    → number_in least greatest word ≡ Ok n
+unfolding number_in
 in_range least greatest n word form value low high = rw (form, value) (grind (arith, nat_tests))
 
-pub number_up_to : (least greatest n : ℕ) → least ≤ n → n ≤ greatest → greatest ≤ MAX → number_in least greatest (decimal n) ≡ Some n
+pub number_up_to : (least greatest n : ℕ) → least ≤ n → n ≤ greatest → greatest ≤ MOST → number_in least greatest (decimal n) ≡ Ok n
 number_up_to least greatest n low high most =
     let small : n < 2 ^ 64 = omega arith in
     in_range least greatest n (decimal n) (is_decimal_of n small) (decimal_spells n small).value low high
 
-pub number_back : (least n : ℕ) → least ≤ n → n ≤ MAX → number_in least MAX (decimal n) ≡ Some n
-number_back least n low high = number_up_to least MAX n low high (omega arith)
+pub number_back : (least n : ℕ) → least ≤ n → n ≤ MOST → number_in least MOST (decimal n) ≡ Ok n
+number_back least n low high = number_up_to least MOST n low high (omega arith)

@@ -1,6 +1,14 @@
+pub mod Tests
 pub mod Counts
+pub mod Hyphens
+pub mod FlagLetters
 pub mod Steps
-pub mod Decimals
-pub mod Splitting
-pub mod Spelled
+pub mod Faulty
+pub mod Gathered
 pub mod Bounds
+pub mod Splitting
+pub mod Decimals
+pub mod Fields
+pub mod WordsBack
+pub mod StepsBack
+pub mod Spelled

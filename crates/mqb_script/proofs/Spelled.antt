@@ -1,333 +1,306 @@
 -- The line of an event is read back as the event.
-use Rattle.std.proofs.Common.{◌≡◌, ℕ, ◌^◌, ◌<◌, ◌≤◌, Bool, true, false, ◌==◌, ◌||◌, not, nat_lt, if◌then◌else◌, cond, List, [], ◌∷◌, ◌++◌, length, map, replicate, get_or, codes, Some, None, is_none, Result, refl, ap, ◌∙◌, arith, append-nil}
-use Rattle.std.specs.List.{list_all, AllByRecursion, position_or_len, join_with_byte}
-use Rattle.std.specs.Option.{option_map, option_and_then}
-use Rattle.std.specs.Result.{result_ok}
+use Rattle.std.proofs.Common.{◌≡◌, ℕ, ◌≤◌, Bool, true, false, ◌==◌, List, [], ◌∷◌, length, drop, map, codes, Option, Some, None, Result, Ok, refl, ap, ◌∙◌, arith}
+use Rattle.std.specs.List.{AllByRecursion, join_with_byte}
+use Rattle.std.specs.Option.{IfSome}
 use Rattle.std.specs.Fmt.{decimal}
-use Rattle.std.proofs.lemmas.List.Sums.{fails_before_first, list_all-from_AllPass}
 use Rattle.std.proofs.lemmas.Bool.Decides.{nat_tests}
-use Rattle.mqb_base.specs.declared.names.NameError.TheVariants.{Length, Byte}
-use Rattle.mqb_base.specs.declared.queue_names.QueueName.{QueueName}
+use Rattle.mqb_base.specs.declared.ids.Guid.{Guid}
+use Rattle.mqb_base.specs.declared.queues.QueuePlan.{QueuePlan}
+use Rattle.mqb_base.specs.declared.queues.Place.{Place}
 use Rattle.mqb_base.specs.declared.draft.Op.{Op}
-use Rattle.mqb_base.specs.declared.draft.Op.TheVariants.{Send}
-use Rattle.mqb_base.specs.Names.{name_fault, is_name_byte}
-use Rattle.mqb_names.specs.declared.faults.PartFault.{PartFault}
-use Rattle.mqb_names.specs.Printed.{path}
-use Rattle.mqb_names.proofs.PrintedAgain.{printed_again}
-use Rattle.mqb_script.specs.declared.events.Which.{Which}
-use Rattle.mqb_script.specs.declared.events.Which.TheVariants.{Alpha, Beta}
+use Rattle.mqb_base.specs.Same.{same_bytes}
+use Rattle.mqb_devices.specs.declared.power.Mode.{Mode}
+use Rattle.mqb_devices.specs.declared.power.Pick.{Pick}
+use Rattle.mqb_names.specs.Values.{AreBytes, IsName}
+use Rattle.mqb_script.specs.declared.faults.LineKind.{LineKind}
+use Rattle.mqb_script.specs.declared.managers.Which.{Which}
+use Rattle.mqb_script.specs.declared.sends.Names.{Names}
+use Rattle.mqb_script.specs.declared.sends.Terms.{Terms}
+use Rattle.mqb_script.specs.declared.forms.Form.{Form}
+use Rattle.mqb_script.specs.declared.forms.Form.TheVariants as form
 use Rattle.mqb_script.specs.declared.events.Event.{Event}
-use Rattle.mqb_script.specs.declared.events.Event.TheVariants.{Queue, Commit, Connect, Pump, Deliver, Drop, Flow, Resend}
-use Rattle.mqb_script.specs.Managers.{host_of, other, manager_of}
-use Rattle.mqb_script.specs.Words.{words_of, fields_of, is_digit, number_in}
-use Rattle.mqb_script.specs.Grammar.{MAX, MOST_WINDOW, where_, name_of, moment_of, packet_of, window_of, is_queue_at, destination_of, is_body_byte, is_starred, MOST_COUNTED, body_of, parts_of, send_of, sends_of, event_of}
-use Rattle.mqb_script.specs.Texts.{destination_text}
-use Rattle.mqb_script.specs.Spelling.{queue_of_other, send_to, sending, is_plain, IsSpelled, IsBuilt, send_text, op_text, sending_words, line_of, counted_line}
-use Rattle.mqb_script.specs.Spelling.IsBuilt.{queue, commit, connect, pump, deliver, drop, disconnect, flow, resend}
-use Rattle.mqb_script.proofs.Decimals.{decimal_spells, number_up_to, number_back}
-use Rattle.mqb_script.proofs.Splitting.{both, lacks, all_lack, split_join, lacks-append, lacks-join, lacks_where}
+use Rattle.mqb_script.specs.declared.events.Event.TheVariants.{Queue, Commit, Send, Take, Purge, Tick, Connect, Disconnect, Pump, Deliver, Drop, Flow, Resend, Arm, Restart, Roll}
+use Rattle.mqb_script.specs.Managers.{host_of}
+use Rattle.mqb_script.specs.Words.{number_in}
+use Rattle.mqb_script.specs.Values.{MOST, MOST_WINDOW, MOST_CALL, MOST_ROLL, choice_of}
+use Rattle.mqb_script.specs.Sends.{parts_of}
+use Rattle.mqb_script.specs.Forms.{word_of, has_count}
+use Rattle.mqb_script.specs.Grammar.{plan_of, queue_from, commit_from, how_of, sent_with, send_event, take_event, purge_from, tick_from, connect_from, disconnect_from, pump_from, deliver_from, drop_from, flow_from, resend_from, arm_from, restart_from, roll_from, event_from}
+use Rattle.mqb_script.specs.Lines.{is_skipped, event_of}
+use Rattle.mqb_script.specs.Spelling.{choice_text, mode_text, pick_text, place_text, public_words, op_text, words_from, line_of, IsTold, IsSpelledOp, IsPlaceName, IsSpelled}
+use Rattle.mqb_script.proofs.Decimals.{number_up_to, number_back}
+use Rattle.mqb_script.proofs.WordsBack.{are_words, at_back, choice_word, host_word, line_back, manager_back, mode_back, mode_word, name_back, name_word, number_word, pick_back, pick_word, place_back, place_word, public_back, public_words_are}
+use Rattle.mqb_script.proofs.StepsBack.{ops_back, ops_words, send_back, told_text, told_word, told_word_is}
 
--- Names.
+-- The forms of lines.
 
-not_false : (b : Bool) → not b ≡ false → b ≡ true
-not_false true h = refl
-not_false false h = cc
+queue_words : (which : Which) (plan : QueuePlan) → IsName plan.name → plan.quota ≤ MOST
+    → are_words (host_of which ∷ plan.name ∷ choice_text (codes "tx") (codes "plain") plan.transactional ∷ decimal plan.quota
+    ∷ choice_text (codes "journal") (codes "none") plan.journal ∷ public_words plan.public) ≡ true
+queue_words which plan name quota =
+    rw (
+      host_word which,
+      name_word plan.name name,
+      choice_word (codes "tx") (codes "plain") plan.transactional refl refl,
+      number_word plan.quota quota,
+      choice_word (codes "journal") (codes "none") plan.journal refl refl,
+      public_words_are plan.public,
+    ) refl
 
-all_pass : (p : ℕ → Bool) (xs : List ℕ) → length xs ≤ position_or_len (λ b. not (p b)) xs → list_all p xs ≡ true
-all_pass p xs h =
-    list_all-from_AllPass p xs (λ k d within. not_false (p (get_or xs k d)) (fails_before_first (λ b. not (p b)) xs k d (omega arith)))
+queue_count : (a b c d e : List ℕ) (public : Option Guid) → has_count form.Queue (length (a ∷ b ∷ c ∷ d ∷ e ∷ public_words public)) ≡ true
+queue_count a b c d e None = refl
+queue_count a b c d e (Some guid) = refl
 
-none_outside : (bad below : Bool) (at : ℕ) → (if bad then Some Length else option_map (λ n. Byte n) (cond below (Some at) None)) ≡ None
-    → below ≡ false
-none_outside true below at h = cc
-none_outside false true at h = cc
-none_outside false false at h = refl
+choice_back : (first second : List ℕ) (choice : Bool) → same_bytes first first ≡ true → same_bytes second first ≡ false → same_bytes second second ≡ true
+    → choice_of first second (choice_text first second choice) ≡ Ok choice
+unfolding choice_of
+choice_back first second true a b c = rw a refl
+choice_back first second false a b c = rw (b, c) refl
 
-not_below : (a b : ℕ) → nat_lt a b ≡ false → b ≤ a
-not_below a b h = grind (arith, nat_tests)
+plan_back : (plan : QueuePlan) → IsName plan.name → plan.quota ≤ MOST → IfSome plan.public (λ guid. AreBytes 16 guid.0)
+    → plan_of plan.name (choice_text (codes "tx") (codes "plain") plan.transactional) (decimal plan.quota)
+    (choice_text (codes "journal") (codes "none") plan.journal) (public_words plan.public) ≡ Ok plan
+unfolding plan_of
+plan_back plan name quota guid =
+    rw (
+      name_back plan.name name,
+      public_back plan.public guid,
+      choice_back (codes "tx") (codes "plain") plan.transactional refl refl refl,
+      number_back 0 plan.quota (omega arith) quota,
+      choice_back (codes "journal") (codes "none") plan.journal refl refl refl,
+    ) refl
 
-name_bytes : (name : List ℕ) → name_fault name ≡ None → list_all is_name_byte name ≡ true
-name_bytes name h =
-    let at : ℕ = position_or_len (λ b. not (is_name_byte b)) name in
-    all_pass is_name_byte name (not_below at (length name)
-    (none_outside (length name == 0 || nat_lt 64 (length name)) (nat_lt at (length name)) at h))
+queue_back : (which : Which) (plan : QueuePlan) → IsName plan.name → plan.quota ≤ MOST → IfSome plan.public (λ guid. AreBytes 16 guid.0)
+    → queue_from (host_of which ∷ plan.name ∷ choice_text (codes "tx") (codes "plain") plan.transactional ∷ decimal plan.quota
+    ∷ choice_text (codes "journal") (codes "none") plan.journal ∷ public_words plan.public) ≡ Ok (Queue which plan)
+unfolding queue_from
+queue_back which plan name quota guid = rw (manager_back which, plan_back plan name quota guid) refl
 
-name_without_space : (b : ℕ) → is_name_byte b ≡ true → (b == 32) ≡ false
-name_without_space b h = grind (arith, nat_tests)
+commit_words : (which : Which) (now : ℕ) (ops : List Op) → now ≤ MOST → AllByRecursion IsSpelledOp ops
+    → are_words (host_of which ∷ decimal now ∷ map op_text ops) ≡ true
+commit_words which now ops most all = rw (host_word which, number_word now most, ops_words ops all) refl
 
-name_without_comma : (b : ℕ) → is_name_byte b ≡ true → (b == 44) ≡ false
-name_without_comma b h = grind (arith, nat_tests)
+commit_count : (a b : List ℕ) (ops : List Op) → 1 ≤ length ops → has_count form.Commit (length (a ∷ b ∷ map op_text ops)) ≡ true
+commit_count a b [] some = absurd (omega arith)
+commit_count a b (step ∷ ops) some = grind (arith, nat_tests)
 
-name_back : (name : List ℕ) → name_fault name ≡ None → name_of name ≡ Some name
-name_back name h = ap (λ fault. if is_none fault then Some name else None) h
+commit_back : (which : Which) (now : ℕ) (ops : List Op) → now ≤ MOST → AllByRecursion IsSpelledOp ops
+    → commit_from (host_of which ∷ decimal now ∷ map op_text ops) ≡ Ok (Commit which now ops)
+unfolding commit_from
+commit_back which now ops most all = rw (at_back which now most, ops_back ops all) refl
 
--- Numbers.
+sent_words : (which : Which) (now : ℕ) (recoverable : Bool) (priority : ℕ) (names : Names) (terms : Terms) (body : List ℕ) → now ≤ MOST
+    → priority ≤ 7 → IsTold names terms body
+    → are_words (host_of which ∷ decimal now ∷ choice_text (codes "recoverable") (codes "express") recoverable ∷ decimal priority
+    ∷ told_word names terms body ∷ []) ≡ true
+sent_words which now recoverable priority names terms body most seven told =
+    rw (
+      host_word which,
+      number_word now most,
+      choice_word (codes "recoverable") (codes "express") recoverable refl refl,
+      number_word priority (omega arith),
+      told_word_is names terms body told,
+    ) refl
 
-digit_without_space : (b : ℕ) → is_digit b ≡ true → (b == 32) ≡ false
-digit_without_space b h = grind (arith, nat_tests)
+how_back : (recoverable : Bool) (priority : ℕ) → priority ≤ 7
+    → how_of (choice_text (codes "recoverable") (codes "express") recoverable) (decimal priority) ≡ Ok (recoverable, priority)
+unfolding how_of
+how_back recoverable priority seven =
+    rw (choice_back (codes "recoverable") (codes "express") recoverable refl refl refl, number_up_to 0 7 priority (omega arith) seven (omega arith)) refl
 
-number_lacks : (n : ℕ) → n ≤ MAX → lacks 32 (decimal n) ≡ true
-number_lacks n small = let fits : n < 2 ^ 64 = omega arith in lacks_where 32 is_digit digit_without_space (decimal n) (decimal_spells n fits).digit
+sent_back : (which : Which) (now : ℕ) (recoverable : Bool) (priority : ℕ) (names : Names) (terms : Terms) (body : List ℕ) → now ≤ MOST
+    → priority ≤ 7 → IsTold names terms body
+    → send_event (host_of which ∷ decimal now ∷ choice_text (codes "recoverable") (codes "express") recoverable ∷ decimal priority
+    ∷ told_word names terms body ∷ []) ≡ Ok (Send which now recoverable (parts_of priority names terms body))
+unfolding send_event sent_with
+sent_back which now recoverable priority names terms body most seven told =
+    rw (at_back which now most, how_back recoverable priority seven, send_back priority names terms body told) refl
 
--- A send.
+placed_words : (which : Which) (now : ℕ) (from : Place) → now ≤ MOST → IsPlaceName from
+    → are_words (host_of which ∷ decimal now ∷ place_text from ∷ []) ≡ true
+placed_words which now from most is = rw (host_word which, number_word now most, place_word from is) refl
 
-body_without_space : (b : ℕ) → is_body_byte b ≡ true → (b == 32) ≡ false
-body_without_space b h = grind (arith, nat_tests)
+take_back : (which : Which) (now : ℕ) (from : Place) → now ≤ MOST → IsPlaceName from
+    → take_event (host_of which ∷ decimal now ∷ place_text from ∷ []) ≡ Ok (Take which now from)
+unfolding take_event
+take_back which now from most is = rw (at_back which now most, place_back from is) refl
 
-body_without_comma : (b : ℕ) → is_body_byte b ≡ true → (b == 44) ≡ false
-body_without_comma b h = grind (arith, nat_tests)
+purge_back : (which : Which) (now : ℕ) (from : Place) → now ≤ MOST → IsPlaceName from
+    → purge_from (host_of which ∷ decimal now ∷ place_text from ∷ []) ≡ Ok (Purge which now from)
+unfolding purge_from
+purge_back which now from most is = rw (at_back which now most, place_back from is) refl
 
--- a text that can stand in a send, and what it stands for
-record StandsFor (text body : List ℕ) : Type 0 where
-  bytes : list_all is_body_byte text ≡ true
-  read : body_of text ≡ Some body
+at_words : (which : Which) (now : ℕ) → now ≤ MOST → are_words (host_of which ∷ decimal now ∷ []) ≡ true
+at_words which now most = rw (host_word which, number_word now most) refl
 
-is_unstarred : (b : Bool) → not b ≡ true → b ≡ false
-is_unstarred true h = cc
-is_unstarred false h = refl
+tick_back : (which : Which) (now : ℕ) → now ≤ MOST → tick_from (host_of which ∷ decimal now ∷ []) ≡ Ok (Tick which now)
+unfolding tick_from
+tick_back which now most = rw (at_back which now most) refl
 
-plain_stands : (body : List ℕ) → is_plain body ≡ true → StandsFor body body
-plain_stands body h =
-    let k = both (list_all is_body_byte body) (not (is_starred body)) h in
-    record { bytes = k.0; read = rw (is_unstarred (is_starred body) k.1, k.0) refl }
+pump_back : (which : Which) (now : ℕ) → now ≤ MOST → pump_from (host_of which ∷ decimal now ∷ []) ≡ Ok (Pump which now)
+unfolding pump_from
+pump_back which now most = rw (at_back which now most) refl
 
-digit_is_body_byte : (b : ℕ) → is_digit b ≡ true → is_body_byte b ≡ true
-digit_is_body_byte b h = grind (arith, nat_tests)
+flow_back : (which : Which) (now : ℕ) → now ≤ MOST → flow_from (host_of which ∷ decimal now ∷ []) ≡ Ok (Flow which now)
+unfolding flow_from
+flow_back which now most = rw (at_back which now most) refl
 
-digits_are_body_bytes : (digits : List ℕ) → list_all is_digit digits ≡ true → list_all is_body_byte digits ≡ true
-digits_are_body_bytes [] h = refl
-digits_are_body_bytes (b ∷ digits) h =
-    let k = both (is_digit b) (list_all is_digit digits) h in rw (digit_is_body_byte b k.0, digits_are_body_bytes digits k.1) refl
+connect_words : (which : Which) (now alpha beta : ℕ) → now ≤ MOST → alpha ≤ MOST_WINDOW → beta ≤ MOST_WINDOW
+    → are_words (host_of which ∷ decimal now ∷ decimal alpha ∷ decimal beta ∷ []) ≡ true
+connect_words which now alpha beta most a b =
+    rw (host_word which, number_word now most, number_word alpha (omega arith), number_word beta (omega arith)) refl
 
-counted_stands : (n : ℕ) → n ≤ MOST_COUNTED → StandsFor (codes "*" ++ decimal n) (replicate n 0x78)
-counted_stands n most =
-    let fits : n < 2 ^ 64 = omega arith in record {
-      bytes = digits_are_body_bytes (decimal n) (decimal_spells n fits).digit;
-      read = ap (option_map (λ count. replicate count 0x78)) (number_up_to 0 MOST_COUNTED n (omega arith) most (omega arith));
-    }
-
--- what stands before the queue's name in a destination
-abbrev front : Which → List ℕ
-front which = codes "DIRECT=OS:" ++ host_of (other which) ++ path
-
-printed_destination : (which : Which) (name : List ℕ) → destination_text (queue_of_other which name) ≡ front which ++ name
-printed_destination Alpha name = ap (λ rest. front Alpha ++ rest) (append-nil name)
-printed_destination Beta name = ap (λ rest. front Beta ++ rest) (append-nil name)
-
-front_without_space : (which : Which) → lacks 32 (front which) ≡ true
-front_without_space Alpha = refl
-front_without_space Beta = refl
-
-front_without_comma : (which : Which) → lacks 44 (front which) ≡ true
-front_without_comma Alpha = refl
-front_without_comma Beta = refl
-
-destination_lacks : (c : ℕ) (which : Which) (name : List ℕ) → lacks c (front which) ≡ true → lacks c name ≡ true
-    → lacks c (destination_text (queue_of_other which name)) ≡ true
-destination_lacks c which name a b = ap (lacks c) (printed_destination which name) ∙ lacks-append c (front which) name a b
-
-host_is_name : (which : Which) → name_fault (host_of which) ≡ None
-host_is_name Alpha = refl
-host_is_name Beta = refl
-
-is_queue_of_other : (which : Which) (name : List ℕ) → is_queue_at (host_of (other which)) (queue_of_other which name) ≡ true
-is_queue_of_other Alpha name = refl
-is_queue_of_other Beta name = refl
-
-destination_back : (which : Which) (name : List ℕ) → name_fault name ≡ None
-    → destination_of which (destination_text (queue_of_other which name)) ≡ Some (queue_of_other which name)
-destination_back which name h =
-    ap (λ (read : Result QueueName PartFault). option_and_then (λ to. where_ (is_queue_at (host_of (other which)) to) (Some to)) (result_ok read))
-    (printed_again (queue_of_other which name) (host_is_name (other which), h))
-    ∙ ap (λ test. where_ test (Some (queue_of_other which name))) (is_queue_of_other which name)
-
--- the fields behind the word that begins a send
-abbrev more_fields : List ℕ → List ℕ → List (List ℕ)
-more_fields destination text = destination ∷ codes "-" ∷ codes "-" ∷ codes "-" ∷ codes "-" ∷ codes "-" ∷ text ∷ []
-
-fields_lack : (c : ℕ) (destination text : List ℕ) → lacks c (codes "send") ≡ true → lacks c (codes "-") ≡ true → lacks c destination ≡ true
-    → lacks c text ≡ true
-    → all_lack c (codes "send" ∷ more_fields destination text) ≡ true
-fields_lack c destination text send dash d b = rw (send, dash, d, b) refl
-
-send_fields_back : (which : Which) (destination text body : List ℕ) (to : QueueName) → destination_of which destination ≡ Some to
-    → body_of text ≡ Some body
-    → send_of which (codes "send" ∷ more_fields destination text) ≡ Some (Send (parts_of to body))
-send_fields_back which destination text body to d b = rw (d, b) refl
-
-send_back : (which : Which) (name text body : List ℕ) → name_fault name ≡ None → StandsFor text body
-    → send_of which (fields_of (send_text (queue_of_other which name) text)) ≡ Some (Send (parts_of (queue_of_other which name) body))
-send_back which name text body n stands =
-    let comma : lacks 44 name ≡ true = lacks_where 44 is_name_byte name_without_comma name (name_bytes name n) in
-    let comma_text : lacks 44 text ≡ true = lacks_where 44 is_body_byte body_without_comma text stands.bytes in
-    let to : List ℕ = destination_text (queue_of_other which name) in
-    ap (send_of which) (split_join 44 (codes "send") (more_fields to text)
-    (fields_lack 44 to text refl refl (destination_lacks 44 which name (front_without_comma which) comma) comma_text))
-    ∙ send_fields_back which to text body (queue_of_other which name) (destination_back which name n) stands.read
-
-send_lacks : (which : Which) (name text : List ℕ) → name_fault name ≡ None → list_all is_body_byte text ≡ true
-    → lacks 32 (send_text (queue_of_other which name) text) ≡ true
-send_lacks which name text n bytes =
-    let space : lacks 32 name ≡ true = lacks_where 32 is_name_byte name_without_space name (name_bytes name n) in
-    let space_text : lacks 32 text ≡ true = lacks_where 32 is_body_byte body_without_space text bytes in
-    let to : List ℕ = destination_text (queue_of_other which name) in
-    lacks-join 32 44 refl (codes "send") (more_fields to text)
-    (fields_lack 32 to text refl refl (destination_lacks 32 which name (front_without_space which) space) space_text)
-
--- Sends in a row.
-
-lack_more : (c : ℕ) (part : List ℕ) (parts : List (List ℕ)) → lacks c part ≡ true → all_lack c parts ≡ true → all_lack c (part ∷ parts) ≡ true
-lack_more c part parts a b = rw (a, b) refl
-
-sends_more : (which : Which) (word : List ℕ) (words : List (List ℕ)) (send : Op) (sends : List Op) → send_of which (fields_of word) ≡ Some send
-    → sends_of which words ≡ Some sends
-    → sends_of which (word ∷ words) ≡ Some (send ∷ sends)
-sends_more which word words send sends a b = rw (a, b) refl
-
-abbrev sends_to : Which → List (List ℕ × List ℕ) → List Op
-sends_to which sends = map (λ send. send_to which send.0 send.1) sends
-
-sends_lack : (which : Which) (sends : List (List ℕ × List ℕ)) → AllByRecursion IsSpelled sends
-    → all_lack 32 (map op_text (sends_to which sends)) ≡ true
-sends_lack which [] h = refl
-sends_lack which ((name, body) ∷ sends) h =
-    lack_more 32 (send_text (queue_of_other which name) body) (map op_text (sends_to which sends))
-    (send_lacks which name body h.0.0 (plain_stands body h.0.1).bytes) (sends_lack which sends h.1)
-
-sends_back : (which : Which) (sends : List (List ℕ × List ℕ)) → AllByRecursion IsSpelled sends
-    → sends_of which (map op_text (sends_to which sends)) ≡ Some (sends_to which sends)
-sends_back which [] h = refl
-sends_back which ((name, body) ∷ sends) h =
-    sends_more which (send_text (queue_of_other which name) body) (map op_text (sends_to which sends)) (send_to which name body)
-    (sends_to which sends) (send_back which name body body h.0.0 (plain_stands body h.0.1)) (sends_back which sends h.1)
-
--- The lines.
-
-host_lacks : (which : Which) → lacks 32 (host_of which) ≡ true
-host_lacks Alpha = refl
-host_lacks Beta = refl
-
-manager_back : (which : Which) → manager_of (host_of which) ≡ Some which
-manager_back Alpha = refl
-manager_back Beta = refl
-
-queue_words : (host name quota : List ℕ) → lacks 32 host ≡ true → lacks 32 name ≡ true → lacks 32 quota ≡ true
-    → all_lack 32 (codes "queue" ∷ host ∷ name ∷ codes "tx" ∷ quota ∷ codes "none" ∷ []) ≡ true
-queue_words host name quota h n q = rw (h, n, q) refl
-
-queue_back : (host name word : List ℕ) (which : Which) (quota : ℕ) → manager_of host ≡ Some which → name_of name ≡ Some name
-    → number_in 0 MAX word ≡ Some quota
-    → event_of (codes "queue" ∷ host ∷ name ∷ codes "tx" ∷ word ∷ codes "none" ∷ [])
-    ≡ Some (Queue which (record { name = name; public = None; transactional = true; quota = quota; journal = false }))
-queue_back host name word which quota h n q = rw (h, n, q) refl
-
-commit_words : (host now : List ℕ) (texts : List (List ℕ)) → lacks 32 host ≡ true → lacks 32 now ≡ true → all_lack 32 texts ≡ true
-    → all_lack 32 (codes "commit" ∷ host ∷ now ∷ texts) ≡ true
-commit_words host now texts h n t = rw (h, n, t) refl
-
-commit_back : (host word text : List ℕ) (texts : List (List ℕ)) (which : Which) (now : ℕ) (sends : List Op) → manager_of host ≡ Some which
-    → moment_of word ≡ Some now → sends_of which (text ∷ texts) ≡ Some sends
-    → event_of (codes "commit" ∷ host ∷ word ∷ text ∷ texts) ≡ Some (Commit which now sends)
-commit_back host word text texts which now sends h n s = rw (h, n, s) refl
-
-connect_words : (host now alpha beta : List ℕ) → lacks 32 host ≡ true → lacks 32 now ≡ true → lacks 32 alpha ≡ true → lacks 32 beta ≡ true
-    → all_lack 32 (codes "connect" ∷ host ∷ now ∷ alpha ∷ beta ∷ []) ≡ true
-connect_words host now alpha beta h n a b = rw (h, n, a, b) refl
-
-connect_back : (host word alpha beta : List ℕ) (which : Which) (now first second : ℕ) → manager_of host ≡ Some which → moment_of word ≡ Some now
-    → window_of alpha ≡ Some first → window_of beta ≡ Some second
-    → event_of (codes "connect" ∷ host ∷ word ∷ alpha ∷ beta ∷ []) ≡ Some (Connect which now first second)
-connect_back host word alpha beta which now first second h n a b = rw (h, n, a, b) refl
-
-window_lacks : (n : ℕ) → n ≤ MOST_WINDOW → lacks 32 (decimal n) ≡ true
-window_lacks n most = number_lacks n (omega arith)
-
-window_back : (n : ℕ) → 1 ≤ n → n ≤ MOST_WINDOW → window_of (decimal n) ≡ Some n
+window_back : (n : ℕ) → 1 ≤ n → n ≤ MOST_WINDOW → number_in 1 MOST_WINDOW (decimal n) ≡ Ok n
 window_back n some most = number_up_to 1 MOST_WINDOW n some most (omega arith)
 
-pump_words : (host now : List ℕ) → lacks 32 host ≡ true → lacks 32 now ≡ true → all_lack 32 (codes "pump" ∷ host ∷ now ∷ []) ≡ true
-pump_words host now h n = rw (h, n) refl
+connect_back : (which : Which) (now alpha beta : ℕ) → now ≤ MOST → 1 ≤ alpha → alpha ≤ MOST_WINDOW → 1 ≤ beta → beta ≤ MOST_WINDOW
+    → connect_from (host_of which ∷ decimal now ∷ decimal alpha ∷ decimal beta ∷ []) ≡ Ok (Connect which now alpha beta)
+unfolding connect_from
+connect_back which now alpha beta most a a_most b b_most =
+    rw (at_back which now most, window_back alpha a a_most, window_back beta b b_most) refl
 
-pump_back : (host word : List ℕ) (which : Which) (now : ℕ) → manager_of host ≡ Some which → moment_of word ≡ Some now
-    → event_of (codes "pump" ∷ host ∷ word ∷ []) ≡ Some (Pump which now)
-pump_back host word which now h n = rw (h, n) refl
+disconnect_back : disconnect_from [] ≡ Ok Disconnect
+unfolding disconnect_from
+disconnect_back = refl
 
-deliver_words : (packet now : List ℕ) → lacks 32 packet ≡ true → lacks 32 now ≡ true → all_lack 32 (codes "deliver" ∷ packet ∷ now ∷ []) ≡ true
-deliver_words packet now p n = rw (p, n) refl
+deliver_words : (packet now : ℕ) → packet ≤ MOST → now ≤ MOST → are_words (decimal packet ∷ decimal now ∷ []) ≡ true
+deliver_words packet now p most = rw (number_word packet p, number_word now most) refl
 
-deliver_back : (number word : List ℕ) (packet now : ℕ) → packet_of number ≡ Some packet → moment_of word ≡ Some now
-    → event_of (codes "deliver" ∷ number ∷ word ∷ []) ≡ Some (Deliver packet now)
-deliver_back number word packet now p n = rw (p, n) refl
+deliver_back : (packet now : ℕ) → 1 ≤ packet → packet ≤ MOST → now ≤ MOST → deliver_from (decimal packet ∷ decimal now ∷ []) ≡ Ok (Deliver packet now)
+unfolding deliver_from
+deliver_back packet now some p most = rw (number_back 1 packet some p, number_back 0 now (omega arith) most) refl
 
-drop_words : (packet : List ℕ) → lacks 32 packet ≡ true → all_lack 32 (codes "drop" ∷ packet ∷ []) ≡ true
-drop_words packet p = rw p refl
+drop_words : (packet : ℕ) → packet ≤ MOST → are_words (decimal packet ∷ []) ≡ true
+drop_words packet p = rw (number_word packet p) refl
 
-drop_back : (number : List ℕ) (packet : ℕ) → packet_of number ≡ Some packet → event_of (codes "drop" ∷ number ∷ []) ≡ Some (Drop packet)
-drop_back number packet p = rw p refl
+drop_back : (packet : ℕ) → 1 ≤ packet → packet ≤ MOST → drop_from (decimal packet ∷ []) ≡ Ok (Drop packet)
+unfolding drop_from
+drop_back packet some p = rw (number_back 1 packet some p) refl
 
-flow_words : (host now : List ℕ) → lacks 32 host ≡ true → lacks 32 now ≡ true → all_lack 32 (codes "flow" ∷ host ∷ now ∷ []) ≡ true
-flow_words host now h n = rw (h, n) refl
+resend_words : (which : Which) → are_words (host_of which ∷ []) ≡ true
+resend_words which = rw (host_word which) refl
 
-flow_back : (host word : List ℕ) (which : Which) (now : ℕ) → manager_of host ≡ Some which → moment_of word ≡ Some now
-    → event_of (codes "flow" ∷ host ∷ word ∷ []) ≡ Some (Flow which now)
-flow_back host word which now h n = rw (h, n) refl
+resend_back : (which : Which) → resend_from (host_of which ∷ []) ≡ Ok (Resend which)
+unfolding resend_from
+resend_back which = rw (manager_back which) refl
 
-resend_words : (host : List ℕ) → lacks 32 host ≡ true → all_lack 32 (codes "resend" ∷ host ∷ []) ≡ true
-resend_words host h = rw h refl
+arm_words : (which : Which) (call : ℕ) (mode : Mode) → call ≤ MOST_CALL → are_words (host_of which ∷ decimal call ∷ mode_text mode ∷ []) ≡ true
+arm_words which call mode most = rw (host_word which, number_word call (omega arith), mode_word mode) refl
 
-resend_back : (host : List ℕ) (which : Which) → manager_of host ≡ Some which → event_of (codes "resend" ∷ host ∷ []) ≡ Some (Resend which)
-resend_back host which h = rw h refl
+arm_back : (which : Which) (call : ℕ) (mode : Mode) → 1 ≤ call → call ≤ MOST_CALL
+    → arm_from (host_of which ∷ decimal call ∷ mode_text mode ∷ []) ≡ Ok (Arm which call mode)
+unfolding arm_from
+arm_back which call mode some most =
+    rw (manager_back which, number_up_to 1 MOST_CALL call some most (omega arith), mode_back mode) refl
 
-sending_back : (which : Which) (now : ℕ) (text : List ℕ) (texts : List (List ℕ)) (sends : List Op) → now ≤ MAX → all_lack 32 (text ∷ texts) ≡ true
-    → sends_of which (text ∷ texts) ≡ Some sends
-    → event_of (words_of (join_with_byte 32 (sending_words which now (text ∷ texts)))) ≡ Some (Commit which now sends)
-sending_back which now text texts sends m l s =
-    ap event_of (split_join 32 (codes "commit") (host_of which ∷ decimal now ∷ text ∷ texts)
-    (commit_words (host_of which) (decimal now) (text ∷ texts) (host_lacks which) (number_lacks now m) l))
-    ∙ commit_back (host_of which) (decimal now) text texts which now sends (manager_back which) (number_back 0 now (omega arith) m) s
+restart_words : (which : Which) (pick : Pick) → are_words (host_of which ∷ pick_text pick ∷ []) ≡ true
+restart_words which pick = rw (host_word which, pick_word pick) refl
 
-pub counted_read_back : (which : Which) (now n : ℕ) (name : List ℕ) → now ≤ MAX → name_fault name ≡ None → n ≤ MOST_COUNTED
-    → event_of (words_of (counted_line which now name n)) ≡ Some (sending which now name (replicate n 0x78))
-counted_read_back which now n name m fault most =
-    let stands : StandsFor (codes "*" ++ decimal n) (replicate n 0x78) = counted_stands n most in
-    let text : List ℕ = send_text (queue_of_other which name) (codes "*" ++ decimal n) in
-    sending_back which now text [] (send_to which name (replicate n 0x78) ∷ []) m
-    (lack_more 32 text [] (send_lacks which name (codes "*" ++ decimal n) fault stands.bytes) refl)
-    (sends_more which text [] (send_to which name (replicate n 0x78)) []
-    (send_back which name (codes "*" ++ decimal n) (replicate n 0x78) fault stands) refl)
+restart_back : (which : Which) (pick : Pick) → restart_from (host_of which ∷ pick_text pick ∷ []) ≡ Ok (Restart which pick)
+unfolding restart_from
+restart_back which pick = rw (manager_back which, pick_back pick) refl
 
-pub read_back : {event : Event} → IsBuilt event → event_of (words_of (line_of event)) ≡ Some event
-read_back (queue which name quota n q) =
-    let space : lacks 32 name ≡ true = lacks_where 32 is_name_byte name_without_space name (name_bytes name n) in
-    ap event_of (split_join 32 (codes "queue") (host_of which ∷ name ∷ codes "tx" ∷ decimal quota ∷ codes "none" ∷ [])
-    (queue_words (host_of which) name (decimal quota) (host_lacks which) space (number_lacks quota q)))
-    ∙ queue_back (host_of which) name (decimal quota) which quota (manager_back which) (name_back name n) (number_back 0 quota (omega arith) q)
-read_back (commit which now [] m some spelled) = absurd (omega arith)
-read_back (commit which now ((name, body) ∷ sends) m some spelled) =
-    sending_back which now (send_text (queue_of_other which name) body) (map op_text (sends_to which sends)) (sends_to which ((name, body) ∷ sends)) m
-    (sends_lack which ((name, body) ∷ sends) spelled) (sends_back which ((name, body) ∷ sends) spelled)
-read_back (connect which now alpha beta m a a_most b b_most) =
-    ap event_of (split_join 32 (codes "connect") (host_of which ∷ decimal now ∷ decimal alpha ∷ decimal beta ∷ [])
-    (connect_words (host_of which) (decimal now) (decimal alpha) (decimal beta) (host_lacks which) (number_lacks now m) (window_lacks alpha a_most)
-    (window_lacks beta b_most)))
-    ∙ connect_back (host_of which) (decimal now) (decimal alpha) (decimal beta) which now alpha beta (manager_back which)
-    (number_back 0 now (omega arith) m) (window_back alpha a a_most) (window_back beta b b_most)
-read_back (pump which now m) =
-    ap event_of (split_join 32 (codes "pump") (host_of which ∷ decimal now ∷ [])
-    (pump_words (host_of which) (decimal now) (host_lacks which) (number_lacks now m)))
-    ∙ pump_back (host_of which) (decimal now) which now (manager_back which) (number_back 0 now (omega arith) m)
-read_back (deliver packet now some most m) =
-    ap event_of (split_join 32 (codes "deliver") (decimal packet ∷ decimal now ∷ [])
-    (deliver_words (decimal packet) (decimal now) (number_lacks packet most) (number_lacks now m)))
-    ∙ deliver_back (decimal packet) (decimal now) packet now (number_back 1 packet some most) (number_back 0 now (omega arith) m)
-read_back (drop packet some most) =
-    ap event_of (split_join 32 (codes "drop") (decimal packet ∷ []) (drop_words (decimal packet) (number_lacks packet most)))
-    ∙ drop_back (decimal packet) packet (number_back 1 packet some most)
-read_back disconnect = refl
-read_back (flow which now m) =
-    ap event_of (split_join 32 (codes "flow") (host_of which ∷ decimal now ∷ [])
-    (flow_words (host_of which) (decimal now) (host_lacks which) (number_lacks now m)))
-    ∙ flow_back (host_of which) (decimal now) which now (manager_back which) (number_back 0 now (omega arith) m)
-read_back (resend which) =
-    ap event_of (split_join 32 (codes "resend") (host_of which ∷ []) (resend_words (host_of which) (host_lacks which)))
-    ∙ resend_back (host_of which) which (manager_back which)
+roll_words : (which : Which) (count : ℕ) → count ≤ MOST_ROLL → are_words (host_of which ∷ decimal count ∷ []) ≡ true
+roll_words which count most = rw (host_word which, number_word count (omega arith)) refl
+
+roll_back : (which : Which) (count : ℕ) → 1 ≤ count → count ≤ MOST_ROLL → roll_from (host_of which ∷ decimal count ∷ []) ≡ Ok (Roll which count)
+unfolding roll_from
+roll_back which count some most = rw (manager_back which, number_up_to 1 MOST_ROLL count some most (omega arith)) refl
+
+-- Every event that a line can tell.
+
+pub read_back : {event : Event} → IsSpelled event → event_of (line_of event) ≡ Ok event
+unfolding event_from
+read_back (IsSpelled.queue which plan name quota guid) =
+    line_back form.Queue (host_of which ∷ plan.name ∷ choice_text (codes "tx") (codes "plain") plan.transactional ∷ decimal plan.quota
+    ∷ choice_text (codes "journal") (codes "none") plan.journal ∷ public_words plan.public) (Queue which plan)
+    (queue_words which plan name quota) (queue_count (host_of which) plan.name (choice_text (codes "tx") (codes "plain") plan.transactional) (decimal plan.quota)
+    (choice_text (codes "journal") (codes "none") plan.journal) plan.public) (queue_back which plan name quota guid)
+read_back (IsSpelled.commit which now ops most some all) =
+    line_back form.Commit (host_of which ∷ decimal now ∷ map op_text ops) (Commit which now ops) (commit_words which now ops most all)
+    (commit_count (host_of which) (decimal now) ops some) (commit_back which now ops most all)
+read_back (IsSpelled.send which now recoverable priority names terms body most seven told) =
+    ap (λ text. event_of (join_with_byte 32 (word_of form.Send ∷ host_of which ∷ decimal now
+    ∷ choice_text (codes "recoverable") (codes "express") recoverable ∷ decimal priority ∷ text ∷ []))) (told_text priority names terms body)
+    ∙ line_back form.Send (host_of which ∷ decimal now ∷ choice_text (codes "recoverable") (codes "express") recoverable ∷ decimal priority
+    ∷ told_word names terms body ∷ []) (Send which now recoverable (parts_of priority names terms body))
+    (sent_words which now recoverable priority names terms body most seven told) refl
+    (sent_back which now recoverable priority names terms body most seven told)
+read_back (IsSpelled.take which now from most is) =
+    line_back form.Take (host_of which ∷ decimal now ∷ place_text from ∷ []) (Take which now from) (placed_words which now from most is) refl
+    (take_back which now from most is)
+read_back (IsSpelled.purge which now from most is) =
+    line_back form.Purge (host_of which ∷ decimal now ∷ place_text from ∷ []) (Purge which now from) (placed_words which now from most is) refl
+    (purge_back which now from most is)
+read_back (IsSpelled.tick which now most) =
+    line_back form.Tick (host_of which ∷ decimal now ∷ []) (Tick which now) (at_words which now most) refl (tick_back which now most)
+read_back (IsSpelled.connect which now alpha beta most a a_most b b_most) =
+    line_back form.Connect (host_of which ∷ decimal now ∷ decimal alpha ∷ decimal beta ∷ []) (Connect which now alpha beta)
+    (connect_words which now alpha beta most a_most b_most) refl (connect_back which now alpha beta most a a_most b b_most)
+read_back IsSpelled.disconnect = line_back form.Disconnect [] Disconnect refl refl disconnect_back
+read_back (IsSpelled.pump which now most) =
+    line_back form.Pump (host_of which ∷ decimal now ∷ []) (Pump which now) (at_words which now most) refl (pump_back which now most)
+read_back (IsSpelled.deliver packet now some p most) =
+    line_back form.Deliver (decimal packet ∷ decimal now ∷ []) (Deliver packet now) (deliver_words packet now p most) refl
+    (deliver_back packet now some p most)
+read_back (IsSpelled.drop packet some p) =
+    line_back form.Drop (decimal packet ∷ []) (Drop packet) (drop_words packet p) refl (drop_back packet some p)
+read_back (IsSpelled.flow which now most) =
+    line_back form.Flow (host_of which ∷ decimal now ∷ []) (Flow which now) (at_words which now most) refl (flow_back which now most)
+read_back (IsSpelled.resend which) =
+    line_back form.Resend (host_of which ∷ []) (Resend which) (resend_words which) refl (resend_back which)
+read_back (IsSpelled.arm which call mode some most) =
+    line_back form.Arm (host_of which ∷ decimal call ∷ mode_text mode ∷ []) (Arm which call mode) (arm_words which call mode most) refl
+    (arm_back which call mode some most)
+read_back (IsSpelled.restart which pick) =
+    line_back form.Restart (host_of which ∷ pick_text pick ∷ []) (Restart which pick) (restart_words which pick) refl (restart_back which pick)
+read_back (IsSpelled.roll which count some most) =
+    line_back form.Roll (host_of which ∷ decimal count ∷ []) (Roll which count) (roll_words which count most) refl (roll_back which count some most)
+
+-- the first word begins with a letter
+kept_line : (b : ℕ) (word : List ℕ) (words : List (List ℕ)) → (b == 0x23) ≡ false → is_skipped (join_with_byte 32 ((b ∷ word) ∷ words)) ≡ false
+kept_line b word [] h = h
+kept_line b word (next ∷ words) h = h
+
+form_kept : (f : Form) (words : List (List ℕ)) → is_skipped (join_with_byte 32 (word_of f ∷ words)) ≡ false
+form_kept form.Queue words = kept_line 113 (codes "ueue") words refl
+form_kept form.Commit words = kept_line 99 (codes "ommit") words refl
+form_kept form.Send words = kept_line 115 (codes "end") words refl
+form_kept form.Take words = kept_line 116 (codes "ake") words refl
+form_kept form.Purge words = kept_line 112 (codes "urge") words refl
+form_kept form.Tick words = kept_line 116 (codes "ick") words refl
+form_kept form.Connect words = kept_line 99 (codes "onnect") words refl
+form_kept form.Disconnect words = kept_line 100 (codes "isconnect") words refl
+form_kept form.Pump words = kept_line 112 (codes "ump") words refl
+form_kept form.Deliver words = kept_line 100 (codes "eliver") words refl
+form_kept form.Drop words = kept_line 100 (codes "rop") words refl
+form_kept form.Flow words = kept_line 102 (codes "low") words refl
+form_kept form.Resend words = kept_line 114 (codes "esend") words refl
+form_kept form.Arm words = kept_line 97 (codes "rm") words refl
+form_kept form.Restart words = kept_line 114 (codes "estart") words refl
+form_kept form.Roll words = kept_line 114 (codes "oll") words refl
+
+pub line_kept : (event : Event) → is_skipped (line_of event) ≡ false
+line_kept (Queue which plan) = form_kept form.Queue (drop 1 (words_from (Queue which plan)))
+line_kept (Commit which now ops) = form_kept form.Commit (drop 1 (words_from (Commit which now ops)))
+line_kept (Send which now recoverable parts) = form_kept form.Send (drop 1 (words_from (Send which now recoverable parts)))
+line_kept (Take which now from) = form_kept form.Take (drop 1 (words_from (Take which now from)))
+line_kept (Purge which now from) = form_kept form.Purge (drop 1 (words_from (Purge which now from)))
+line_kept (Tick which now) = form_kept form.Tick (drop 1 (words_from (Tick which now)))
+line_kept (Connect which now alpha beta) = form_kept form.Connect (drop 1 (words_from (Connect which now alpha beta)))
+line_kept Disconnect = form_kept form.Disconnect (drop 1 (words_from Disconnect))
+line_kept (Pump which now) = form_kept form.Pump (drop 1 (words_from (Pump which now)))
+line_kept (Deliver packet now) = form_kept form.Deliver (drop 1 (words_from (Deliver packet now)))
+line_kept (Drop packet) = form_kept form.Drop (drop 1 (words_from (Drop packet)))
+line_kept (Flow which now) = form_kept form.Flow (drop 1 (words_from (Flow which now)))
+line_kept (Resend which) = form_kept form.Resend (drop 1 (words_from (Resend which)))
+line_kept (Arm which call mode) = form_kept form.Arm (drop 1 (words_from (Arm which call mode)))
+line_kept (Restart which pick) = form_kept form.Restart (drop 1 (words_from (Restart which pick)))
+line_kept (Roll which count) = form_kept form.Roll (drop 1 (words_from (Roll which count)))
+
+same_event : (a b : Event) (r s : Result Event LineKind) → r ≡ Ok a → s ≡ Ok b → r ≡ s → a ≡ b
+same_event a b r s is_a is_b same = cc
+
+pub one_event : (a b : Event) → IsSpelled a → IsSpelled b → line_of a ≡ line_of b → a ≡ b
+one_event a b is_a is_b same =
+    same_event a b (event_of (line_of a)) (event_of (line_of b)) (read_back is_a) (read_back is_b) (ap event_of same)

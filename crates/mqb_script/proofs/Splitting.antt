@@ -3,16 +3,13 @@ use Rattle.std.proofs.Common.{◌≡◌, ℕ, Bool, true, false, ◌==◌, ◌&&
 use Rattle.std.specs.List.{list_all, slice_split, join_with_byte}
 use Rattle.std.proofs.lemmas.List.Folds.{list_all-append}
 use Rattle.std.proofs.lemmas.Bool.Decides.{nat_tests}
+use Rattle.mqb_script.proofs.Tests.{both}
 
 abbrev pub lacks : ℕ → List ℕ → Bool
 lacks c part = list_all (λ b. not (b == c)) part
 
 abbrev pub all_lack : ℕ → List (List ℕ) → Bool
 all_lack c parts = list_all (lacks c) parts
-
-pub both : (a b : Bool) → (a && b) ≡ true → (a ≡ true) × (b ≡ true)
-both true b h = (refl, h)
-both false b h = cc
 
 differs_and : (a b : Bool) → (not a && b) ≡ true → (a ≡ false) × (b ≡ true)
 differs_and true b h = cc

@@ -1,12 +1,12 @@
-use Rattle.std.specs.Prelude.{◌≡◌, ℕ, ◌+◌, ◌<◌, ◌≤◌, Bool, List, [], ◌∷◌, ◌++◌, length, Option, Result, Ok, Err, IfSome, MatchBool}
+use Rattle.std.specs.Prelude.{◌≡◌, ℕ, ◌+◌, ◌<◌, ◌≤◌, List, [], ◌∷◌, ◌++◌, length, Option, Result, Ok, Err, IfSome}
 use Rattle.mqb_outside.specs.Told.{Gave}
 use Rattle.mqb_outside.specs.Faults.{Rose}
+use Rattle.mqb_script.specs.declared.faults.LineKind.{LineKind}
+use Rattle.mqb_script.specs.declared.faults.ScriptFault.{ScriptFault}
+use Rattle.mqb_script.specs.declared.faults.ScriptFault.TheVariants as fault
 use Rattle.mqb_script.specs.declared.events.Event.{Event}
-use Rattle.mqb_script.specs.declared.reading.LineKind.TheVariants.{Unbuilt}
-use Rattle.mqb_script.specs.declared.reading.ScriptFault.{ScriptFault}
-use Rattle.mqb_script.specs.declared.reading.ScriptFault.TheVariants as fault
 use Rattle.mqb_script.specs.Words.{lines_of}
-use Rattle.mqb_script.specs.Grammar.{script_from, script_of}
+use Rattle.mqb_script.specs.Script.{script_from, script_of}
 
 -- the greatest length of a script
 abbrev pub LONGEST : ℕ
@@ -29,7 +29,7 @@ line_count text = begun (lines_of text)
 -- the answer to the bytes that were taken, once they were taken to the end of the input or until there were too many
 abbrev pub Answers : List ℕ → Result (List (ℕ × Event)) ScriptFault → Type 0
 Answers text (Ok events) = (length text ≤ LONGEST) × (line_count text ≤ MOST_LINES) × (script_of text ≡ Ok events)
-Answers text (Err (fault.Line number Unbuilt)) = (length text ≤ LONGEST) × (line_count text ≤ MOST_LINES) × (script_of text ≡ Err number)
+Answers text (Err (fault.Line number kind)) = (length text ≤ LONGEST) × (line_count text ≤ MOST_LINES) × (script_of text ≡ Err (number, kind))
 Answers text (Err fault.TooLong) = LONGEST < length text
 Answers text (Err fault.TooManyLines) = (length text ≤ LONGEST) × (MOST_LINES < line_count text)
 Answers text (Err fault.ReadFault) = length text ≤ LONGEST
@@ -43,7 +43,7 @@ AtEnd after (Err fault.TooManyLines) = IfSome after (λ rest. rest ≡ [])
 AtEnd after (Err _) = Unit {0}
 
 -- A script was read from a source that held before and holds after.
-pub record Reads (before after : Option (List ℕ)) (r : Result (List (ℕ × Event)) ScriptFault) : Type 0 where
+pub record ReadsScript (before after : Option (List ℕ)) (r : Result (List (ℕ × Event)) ScriptFault) : Type 0 where
   -- what was taken
   pub text : List ℕ
   pub gave : Gave before after text
@@ -65,13 +65,17 @@ pub record IsWhole (before after : Option (List ℕ)) (text : List ℕ) : Type 0
   pub gave : Gave before after text
   pub ended : IfSome after (λ rest. rest ≡ [])
 
+-- a fault that is no want of memory is that of a line, and the definition's
+abbrev pub IsScriptFault : {T : Type 0} → Result T (ℕ × LineKind) → ScriptFault → Type 0
+IsScriptFault read (fault.Line number kind) = read ≡ Err (number, kind)
+IsScriptFault read fault.Memory = Unit {0}
+IsScriptFault read _ = ⊥
+
 -- what was read in front of more
-abbrev pub in_front : List (ℕ × Event) → Result (List (ℕ × Event)) ℕ → Result (List (ℕ × Event)) ℕ
+abbrev pub in_front : List (ℕ × Event) → Result (List (ℕ × Event)) (ℕ × LineKind) → Result (List (ℕ × Event)) (ℕ × LineKind)
 in_front events (Ok more) = Ok (events ++ more)
 in_front events (Err first) = Err first
 
--- Line n was read behind the events of the lines before it; `good` says whether it is a line of a script.
-abbrev pub ReadsLine : ℕ → List ℕ → List (ℕ × Event) → List (ℕ × Event) → Bool → Type 0
-ReadsLine n line before after good = (rest : List (List ℕ)) →
-    MatchBool good (in_front before (script_from n (line ∷ rest)) ≡ in_front after (script_from (n + 1) rest))
-    (script_from n (line ∷ rest) ≡ Err n)
+-- Line n was read behind the events of the lines before it.
+abbrev pub ReadsLine : ℕ → List ℕ → List (ℕ × Event) → List (ℕ × Event) → Type 0
+ReadsLine n line before after = (rest : List (List ℕ)) → in_front before (script_from n (line ∷ rest)) ≡ in_front after (script_from (n + 1) rest)

@@ -1,37 +1,7 @@
-ghost use Rattle.std.specs.Prelude.{◌≡◌};
-ghost use Rattle.mqb_script.specs.Managers.{host_of, other};
-
-use crate::lists::Ops;
-use mqb_base::QueuePlan;
-
-/// One of the two managers of a replay.
-#[derive(Clone, Copy, Debug, PartialEq, Eq)]
-pub enum Which {
-    Alpha,
-    Beta,
-}
-
-impl Which {
-    /// The manager's host, which is also its word in a script.
-    pub fn host(self) -> &'static [u8]
-        ensures { result.now ≡ host_of self }
-    {
-        match self {
-            Which::Alpha => b"alpha",
-            Which::Beta => b"beta",
-        }
-    }
-
-    /// The one of the two that this one is not, and that it sends to.
-    pub fn other(self) -> Which
-        ensures { result ≡ other self }
-    {
-        match self {
-            Which::Alpha => Which::Beta,
-            Which::Beta => Which::Alpha,
-        }
-    }
-}
+use crate::managers::Which;
+use crate::ops::Ops;
+use mqb_base::{Draft, Place, QueuePlan};
+use mqb_devices::{Mode, Pick};
 
 /// A line of a script. Moments are seconds since 1970, packets are numbered from 1.
 #[derive(Debug, Drop)]
@@ -47,6 +17,30 @@ pub enum Event {
         now: u32,
         ops: Ops,
     },
+    /// `send M NOW express|recoverable PRIORITY SEND`, the priority in the draft
+    Send {
+        manager: Which,
+        now: u32,
+        recoverable: bool,
+        draft: Draft,
+    },
+    /// `take M NOW PLACE`
+    Take {
+        manager: Which,
+        now: u32,
+        place: Place,
+    },
+    /// `purge M NOW PLACE`
+    Purge {
+        manager: Which,
+        now: u32,
+        place: Place,
+    },
+    /// `tick M NOW`
+    Tick {
+        manager: Which,
+        now: u32,
+    },
     /// `connect M NOW WALPHA WBETA`, each window from 1 to 65535
     Connect {
         manager: Which,
@@ -54,6 +48,8 @@ pub enum Event {
         alpha_window: u16,
         beta_window: u16,
     },
+    /// `disconnect`
+    Disconnect,
     /// `pump M NOW`
     Pump {
         manager: Which,
@@ -68,8 +64,6 @@ pub enum Event {
     Drop {
         packet: u32,
     },
-    /// `disconnect`
-    Disconnect,
     /// `flow M NOW`
     Flow {
         manager: Which,
@@ -78,5 +72,21 @@ pub enum Event {
     /// `resend M`
     Resend {
         manager: Which,
+    },
+    /// `arm M CALL stop|fail`, the call from 1 to 1000
+    Arm {
+        manager: Which,
+        call: u32,
+        mode: Mode,
+    },
+    /// `restart M old|new|half|ones`
+    Restart {
+        manager: Which,
+        pick: Pick,
+    },
+    /// `roll M COUNT`, the count from 1 to 65535
+    Roll {
+        manager: Which,
+        count: u32,
     },
 }

@@ -1,32 +1,24 @@
-//! The script of a replay: its lines as events, and the texts of the replies.
-//!
-//! `read_script` reads a script whole, or names the first line that is none. `print_reply` writes what a line of the transcript says. The line
-//! forms that are built are those of the definition `event_of`, and an event's line is read back as that event (`lines_are_read_back`).
+//! The script of a replay: its lines as events, or the first line that fails and what is wrong with it.
+//! Of the definitions, `Grammar` has the forms of lines, `Lines` what is wrong with a line, and `Script` which texts are scripts. `read_script`
+//! reads a script whole, and `lines_are_read_back` says that the line of an event is read back as that event.
 #![tactic(auto)]
 
-mod arrivals;
 mod events;
-mod identifiers;
-mod ledger_lines;
+mod faults;
+mod flags;
+mod forms;
+mod laws;
 mod lines;
-mod lists;
-mod printing;
+mod managers;
+mod ops;
 mod reading;
-mod replies;
 mod sends;
-mod spelling;
-#[cfg(test)]
-mod tests;
-#[cfg(test)]
-mod text_tests;
-mod texts;
+mod values;
 mod words;
 
-pub use arrivals::{Arrival, Arrivals};
-pub use events::{Event, Which};
-pub use identifiers::{print_destination, print_id, print_manager};
-pub use lists::{Lines, Numbers, Ops};
-pub use printing::print_reply;
-pub use reading::{LineKind, Script, ScriptFault, read_script};
-pub use replies::Reply;
-pub use spelling::lines_are_read_back;
+pub use events::Event;
+pub use faults::{LineKind, ScriptFault};
+pub use laws::{lines_are_read_back, one_event_a_line};
+pub use managers::Which;
+pub use ops::Ops;
+pub use reading::{Script, read_script};

@@ -1,119 +1,188 @@
-ghost use Rattle.std.specs.Prelude.{◌≡◌, map, IfOk};
+ghost use Rattle.std.specs.Prelude.{◌≡◌, ◌≤◌, map, IfOk};
+ghost use Rattle.std.specs.List.{list_all};
+ghost use Rattle.mqb_script.specs.Faults.{Reads};
 ghost use Rattle.mqb_script.specs.Words.{words_of};
-ghost use Rattle.mqb_script.specs.Managers.{manager_of};
-ghost use Rattle.mqb_script.specs.Grammar.{moment_of, packet_of, window_of, is_built_queue, plan_of, queue_of, commit_of, connect_of, pump_of, deliver_of, drop_of, disconnect_of, flow_of, resend_of, event_of, is_skipped};
+ghost use Rattle.mqb_script.specs.Grammar.{at_of, public_of, plan_of, queue_from, commit_from, how_of, sent_with, send_event, take_event, purge_from, tick_from, connect_from, disconnect_from, pump_from, deliver_from, drop_from, flow_from, resend_from, arm_from, restart_from, roll_from, event_from};
+ghost use Rattle.mqb_script.specs.Lines.{is_skipped, is_printable, is_some_word, are_counted, event_of_words, event_of};
 
-use crate::events::{Event, Which};
-use crate::sends::{name_of, sends_of};
-use crate::words::{is_word, number_in, parts};
-use mqb_base::{Memory, QueuePlan};
+use crate::events::Event;
+use crate::faults::{LineFault, LineKind};
+use crate::forms::{Form, form_of};
+use crate::managers::{Which, manager_of};
+use crate::sends::{ops_of, send_of};
+use crate::values::{
+    call_of, choice_of, guid_of, mode_of, moment_of, name_of, packet_of, pick_of, place_of,
+    priority_of, quota_of, roll_of, window_of,
+};
+use crate::words::parts;
+use mqb_base::{Guid, QueuePlan};
 use std::alloc::Global;
 
-fn manager_of(word: &[u8]) -> Option<Which>
-    ensures { result ≡ manager_of word.now }
+#[tactic(auto, unfolding(crate::specs::Grammar::at_of))]
+fn at_of(manager: &[u8], now: &[u8]) -> Result<(Which, u32), LineKind>
+    ensures { result ≡ at_of manager.now now.now }
 {
-    if is_word(word, Which::Alpha.host()) {
-        Some(Which::Alpha)
-    } else if is_word(word, Which::Beta.host()) {
-        Some(Which::Beta)
-    } else {
-        None
+    Ok((manager_of(manager)?, moment_of(now)?))
+}
+
+#[tactic(auto, unfolding(crate::specs::Grammar::public_of))]
+fn public_of(words: &[&[u8]]) -> Result<Option<Guid>, LineKind>
+    ensures { result ≡ public_of (map (λ word. word.now) words.now) }
+{
+    match words {
+        [] => Ok(None),
+        [word] => Ok(Some(guid_of(word)?)),
+        _ => Err(LineKind::Value),
     }
 }
 
-fn moment_of(word: &[u8]) -> Option<u32>
-    ensures { result ≡ moment_of word.now }
+#[tactic(auto, unfolding(crate::specs::Grammar::plan_of))]
+fn plan_of(
+    alloc: Global,
+    name: &[u8],
+    kind: &[u8],
+    quota: &[u8],
+    journal: &[u8],
+    guid: &[&[u8]],
+) -> Result<QueuePlan, LineFault>
+    ensures { Reads (plan_of name.now kind.now quota.now journal.now
+        (map (λ word. word.now) guid.now)) result }
 {
-    number_in(0, u32::MAX, word)
-}
-
-fn packet_of(word: &[u8]) -> Option<u32>
-    ensures { result ≡ packet_of word.now }
-{
-    number_in(1, u32::MAX, word)
-}
-
-fn window_of(word: &[u8]) -> Option<u16>
-    ensures { result ≡ window_of word.now }
-{
-    let window = number_in(1, u32::from(u16::MAX), word)?;
-    Some(window as u16)
-}
-
-fn is_built_queue(kind: &[u8], journal: &[u8]) -> bool
-    ensures { result ≡ is_built_queue kind.now journal.now }
-{
-    is_word(kind, b"tx") && is_word(journal, b"none")
-}
-
-fn plan_of(alloc: Global, name: &[u8], quota: &[u8]) -> Result<Option<QueuePlan>, Memory>
-    ensures { IfOk result (λ plan. plan ≡ plan_of name.now quota.now) }
-{
-    let Some(name) = name_of(alloc, name)? else {
-        return Ok(None);
-    };
-    let Some(quota) = number_in(0, u32::MAX, quota) else {
-        return Ok(None);
-    };
-    Ok(Some(QueuePlan {
+    let name = name_of(alloc, name)?;
+    let public = public_of(guid)?;
+    let transactional = choice_of(b"tx", b"plain", kind)?;
+    let quota = quota_of(quota)?;
+    let journal = choice_of(b"journal", b"none", journal)?;
+    Ok(QueuePlan {
         name,
-        public: None,
-        transactional: true,
+        public,
+        transactional,
         quota,
-        journal: false,
-    }))
+        journal,
+    })
 }
 
-fn queue_of(alloc: Global, words: &[&[u8]]) -> Result<Option<Event>, Memory>
-    ensures { IfOk result (λ event. event ≡ queue_of (map (λ word. word.now) words.now)) }
+#[tactic(auto, unfolding(crate::specs::Grammar::queue_from))]
+fn queue_from(alloc: Global, words: &[&[u8]]) -> Result<Event, LineFault>
+    ensures { Reads (queue_from (map (λ word. word.now) words.now)) result }
 {
-    let [manager, name, kind, quota, journal] = words else {
-        return Ok(None);
-    };
-    if !is_built_queue(kind, journal) {
-        return Ok(None);
-    }
-    let Some(manager) = manager_of(manager) else {
-        return Ok(None);
-    };
-    let Some(plan) = plan_of(alloc, name, quota)? else {
-        return Ok(None);
-    };
-    Ok(Some(Event::Queue { manager, plan }))
-}
-
-fn commit_of(alloc: Global, words: &[&[u8]]) -> Result<Option<Event>, Memory>
-    ensures { IfOk result (λ event. event ≡ commit_of (map (λ word. word.now) words.now)) }
-{
-    let [manager, now, ops @ ..] = words else {
-        return Ok(None);
-    };
-    if ops.is_empty() {
-        return Ok(None);
-    }
-    let Some(manager) = manager_of(manager) else {
-        return Ok(None);
-    };
-    let Some(now) = moment_of(now) else {
-        return Ok(None);
-    };
-    let Some(ops) = sends_of(alloc, manager, ops)? else {
-        return Ok(None);
-    };
-    Ok(Some(Event::Commit { manager, now, ops }))
-}
-
-fn connect_of(words: &[&[u8]]) -> Option<Event>
-    ensures { result ≡ connect_of (map (λ word. word.now) words.now) }
-{
-    let [manager, now, alpha, beta] = words else {
-        return None;
+    let [manager, name, kind, quota, journal, guid @ ..] = words else {
+        return Err(LineFault::VALUE);
     };
     let manager = manager_of(manager)?;
-    let now = moment_of(now)?;
+    let plan = plan_of(alloc, name, kind, quota, journal, guid)?;
+    Ok(Event::Queue { manager, plan })
+}
+
+#[tactic(auto, unfolding(crate::specs::Grammar::commit_from))]
+fn commit_from(alloc: Global, words: &[&[u8]]) -> Result<Event, LineFault>
+    ensures { Reads (commit_from (map (λ word. word.now) words.now)) result }
+{
+    let [manager, now, ops @ ..] = words else {
+        return Err(LineFault::VALUE);
+    };
+    let (manager, now) = at_of(manager, now)?;
+    let ops = ops_of(alloc, ops)?;
+    Ok(Event::Commit { manager, now, ops })
+}
+
+#[tactic(auto, unfolding(crate::specs::Grammar::how_of))]
+fn how_of(kind: &[u8], priority: &[u8]) -> Result<(bool, u8), LineKind>
+    ensures how { result ≡ how_of kind.now priority.now }
+    ensures most { IfOk result (λ how. how.1 ≤ 7) }
+{
+    Ok((
+        choice_of(b"recoverable", b"express", kind)?,
+        priority_of(priority)?,
+    ))
+}
+
+#[tactic(auto, unfolding(crate::specs::Grammar::sent_with))]
+fn sent_with(
+    alloc: Global,
+    manager: &[u8],
+    now: &[u8],
+    kind: &[u8],
+    priority: &[u8],
+    send: &[u8],
+) -> Result<Event, LineFault>
+    ensures { Reads (sent_with manager.now now.now kind.now priority.now send.now) result }
+{
+    let (manager, now) = at_of(manager, now)?;
+    let (recoverable, priority) = how_of(kind, priority)?;
+    let draft = send_of(alloc, priority, send)?;
+    Ok(Event::Send {
+        manager,
+        now,
+        recoverable,
+        draft,
+    })
+}
+
+#[tactic(auto, unfolding(crate::specs::Grammar::send_event))]
+fn send_event(alloc: Global, words: &[&[u8]]) -> Result<Event, LineFault>
+    ensures { Reads (send_event (map (λ word. word.now) words.now)) result }
+{
+    let [manager, now, kind, priority, send] = words else {
+        return Err(LineFault::VALUE);
+    };
+    sent_with(alloc, manager, now, kind, priority, send)
+}
+
+#[tactic(auto, unfolding(crate::specs::Grammar::take_event))]
+fn take_event(alloc: Global, words: &[&[u8]]) -> Result<Event, LineFault>
+    ensures { Reads (take_event (map (λ word. word.now) words.now)) result }
+{
+    let [manager, now, place] = words else {
+        return Err(LineFault::VALUE);
+    };
+    let (manager, now) = at_of(manager, now)?;
+    let place = place_of(alloc, place)?;
+    Ok(Event::Take {
+        manager,
+        now,
+        place,
+    })
+}
+
+#[tactic(auto, unfolding(crate::specs::Grammar::purge_from))]
+fn purge_from(alloc: Global, words: &[&[u8]]) -> Result<Event, LineFault>
+    ensures { Reads (purge_from (map (λ word. word.now) words.now)) result }
+{
+    let [manager, now, place] = words else {
+        return Err(LineFault::VALUE);
+    };
+    let (manager, now) = at_of(manager, now)?;
+    let place = place_of(alloc, place)?;
+    Ok(Event::Purge {
+        manager,
+        now,
+        place,
+    })
+}
+
+#[tactic(auto, unfolding(crate::specs::Grammar::tick_from))]
+fn tick_from(words: &[&[u8]]) -> Result<Event, LineKind>
+    ensures { result ≡ tick_from (map (λ word. word.now) words.now) }
+{
+    let [manager, now] = words else {
+        return Err(LineKind::Value);
+    };
+    let (manager, now) = at_of(manager, now)?;
+    Ok(Event::Tick { manager, now })
+}
+
+#[tactic(auto, unfolding(crate::specs::Grammar::connect_from))]
+fn connect_from(words: &[&[u8]]) -> Result<Event, LineKind>
+    ensures { result ≡ connect_from (map (λ word. word.now) words.now) }
+{
+    let [manager, now, alpha, beta] = words else {
+        return Err(LineKind::Value);
+    };
+    let (manager, now) = at_of(manager, now)?;
     let alpha_window = window_of(alpha)?;
     let beta_window = window_of(beta)?;
-    Some(Event::Connect {
+    Ok(Event::Connect {
         manager,
         now,
         alpha_window,
@@ -121,106 +190,186 @@ fn connect_of(words: &[&[u8]]) -> Option<Event>
     })
 }
 
-fn pump_of(words: &[&[u8]]) -> Option<Event>
-    ensures { result ≡ pump_of (map (λ word. word.now) words.now) }
-{
-    let [manager, now] = words else {
-        return None;
-    };
-    let manager = manager_of(manager)?;
-    let now = moment_of(now)?;
-    Some(Event::Pump { manager, now })
-}
-
-fn deliver_of(words: &[&[u8]]) -> Option<Event>
-    ensures { result ≡ deliver_of (map (λ word. word.now) words.now) }
-{
-    let [packet, now] = words else {
-        return None;
-    };
-    let packet = packet_of(packet)?;
-    let now = moment_of(now)?;
-    Some(Event::Deliver { packet, now })
-}
-
-fn drop_of(words: &[&[u8]]) -> Option<Event>
-    ensures { result ≡ drop_of (map (λ word. word.now) words.now) }
-{
-    let [packet] = words else {
-        return None;
-    };
-    let packet = packet_of(packet)?;
-    Some(Event::Drop { packet })
-}
-
-fn disconnect_of(words: &[&[u8]]) -> Option<Event>
-    ensures { result ≡ disconnect_of (map (λ word. word.now) words.now) }
+#[tactic(auto, unfolding(crate::specs::Grammar::disconnect_from))]
+fn disconnect_from(words: &[&[u8]]) -> Result<Event, LineKind>
+    ensures { result ≡ disconnect_from (map (λ word. word.now) words.now) }
 {
     let [] = words else {
-        return None;
+        return Err(LineKind::Value);
     };
-    Some(Event::Disconnect)
+    Ok(Event::Disconnect)
 }
 
-fn flow_of(words: &[&[u8]]) -> Option<Event>
-    ensures { result ≡ flow_of (map (λ word. word.now) words.now) }
+#[tactic(auto, unfolding(crate::specs::Grammar::pump_from))]
+fn pump_from(words: &[&[u8]]) -> Result<Event, LineKind>
+    ensures { result ≡ pump_from (map (λ word. word.now) words.now) }
 {
     let [manager, now] = words else {
-        return None;
+        return Err(LineKind::Value);
     };
-    let manager = manager_of(manager)?;
-    let now = moment_of(now)?;
-    Some(Event::Flow { manager, now })
+    let (manager, now) = at_of(manager, now)?;
+    Ok(Event::Pump { manager, now })
 }
 
-fn resend_of(words: &[&[u8]]) -> Option<Event>
-    ensures { result ≡ resend_of (map (λ word. word.now) words.now) }
+#[tactic(auto, unfolding(crate::specs::Grammar::deliver_from))]
+fn deliver_from(words: &[&[u8]]) -> Result<Event, LineKind>
+    ensures { result ≡ deliver_from (map (λ word. word.now) words.now) }
+{
+    let [packet, now] = words else {
+        return Err(LineKind::Value);
+    };
+    let packet = packet_of(packet)?;
+    let now = moment_of(now)?;
+    Ok(Event::Deliver { packet, now })
+}
+
+#[tactic(auto, unfolding(crate::specs::Grammar::drop_from))]
+fn drop_from(words: &[&[u8]]) -> Result<Event, LineKind>
+    ensures { result ≡ drop_from (map (λ word. word.now) words.now) }
+{
+    let [packet] = words else {
+        return Err(LineKind::Value);
+    };
+    let packet = packet_of(packet)?;
+    Ok(Event::Drop { packet })
+}
+
+#[tactic(auto, unfolding(crate::specs::Grammar::flow_from))]
+fn flow_from(words: &[&[u8]]) -> Result<Event, LineKind>
+    ensures { result ≡ flow_from (map (λ word. word.now) words.now) }
+{
+    let [manager, now] = words else {
+        return Err(LineKind::Value);
+    };
+    let (manager, now) = at_of(manager, now)?;
+    Ok(Event::Flow { manager, now })
+}
+
+#[tactic(auto, unfolding(crate::specs::Grammar::resend_from))]
+fn resend_from(words: &[&[u8]]) -> Result<Event, LineKind>
+    ensures { result ≡ resend_from (map (λ word. word.now) words.now) }
 {
     let [manager] = words else {
-        return None;
+        return Err(LineKind::Value);
     };
     let manager = manager_of(manager)?;
-    Some(Event::Resend { manager })
+    Ok(Event::Resend { manager })
 }
 
-fn event_of(alloc: Global, words: &[&[u8]]) -> Result<Option<Event>, Memory>
-    ensures { IfOk result (λ event. event ≡ event_of (map (λ word. word.now) words.now)) }
+#[tactic(auto, unfolding(crate::specs::Grammar::arm_from))]
+fn arm_from(words: &[&[u8]]) -> Result<Event, LineKind>
+    ensures { result ≡ arm_from (map (λ word. word.now) words.now) }
 {
-    let [word, words @ ..] = words else {
-        return Ok(None);
+    let [manager, call, mode] = words else {
+        return Err(LineKind::Value);
     };
-    if is_word(word, b"queue") {
-        queue_of(alloc, words)
-    } else if is_word(word, b"commit") {
-        commit_of(alloc, words)
-    } else if is_word(word, b"connect") {
-        Ok(connect_of(words))
-    } else if is_word(word, b"pump") {
-        Ok(pump_of(words))
-    } else if is_word(word, b"deliver") {
-        Ok(deliver_of(words))
-    } else if is_word(word, b"drop") {
-        Ok(drop_of(words))
-    } else if is_word(word, b"disconnect") {
-        Ok(disconnect_of(words))
-    } else if is_word(word, b"flow") {
-        Ok(flow_of(words))
-    } else if is_word(word, b"resend") {
-        Ok(resend_of(words))
-    } else {
-        Ok(None)
+    let manager = manager_of(manager)?;
+    let call = call_of(call)?;
+    let mode = mode_of(mode)?;
+    Ok(Event::Arm {
+        manager,
+        call,
+        mode,
+    })
+}
+
+#[tactic(auto, unfolding(crate::specs::Grammar::restart_from))]
+fn restart_from(words: &[&[u8]]) -> Result<Event, LineKind>
+    ensures { result ≡ restart_from (map (λ word. word.now) words.now) }
+{
+    let [manager, pick] = words else {
+        return Err(LineKind::Value);
+    };
+    let manager = manager_of(manager)?;
+    let pick = pick_of(pick)?;
+    Ok(Event::Restart { manager, pick })
+}
+
+#[tactic(auto, unfolding(crate::specs::Grammar::roll_from))]
+fn roll_from(words: &[&[u8]]) -> Result<Event, LineKind>
+    ensures { result ≡ roll_from (map (λ word. word.now) words.now) }
+{
+    let [manager, count] = words else {
+        return Err(LineKind::Value);
+    };
+    let manager = manager_of(manager)?;
+    let count = roll_of(count)?;
+    Ok(Event::Roll { manager, count })
+}
+
+#[tactic(auto, unfolding(crate::specs::Grammar::event_from))]
+fn event_from(alloc: Global, form: Form, words: &[&[u8]]) -> Result<Event, LineFault>
+    ensures { Reads (event_from form (map (λ word. word.now) words.now)) result }
+{
+    match form {
+        Form::Queue => queue_from(alloc, words),
+        Form::Commit => commit_from(alloc, words),
+        Form::Send => send_event(alloc, words),
+        Form::Take => take_event(alloc, words),
+        Form::Purge => purge_from(alloc, words),
+        Form::Tick => Ok(tick_from(words)?),
+        Form::Connect => Ok(connect_from(words)?),
+        Form::Disconnect => Ok(disconnect_from(words)?),
+        Form::Pump => Ok(pump_from(words)?),
+        Form::Deliver => Ok(deliver_from(words)?),
+        Form::Drop => Ok(drop_from(words)?),
+        Form::Flow => Ok(flow_from(words)?),
+        Form::Resend => Ok(resend_from(words)?),
+        Form::Arm => Ok(arm_from(words)?),
+        Form::Restart => Ok(restart_from(words)?),
+        Form::Roll => Ok(roll_from(words)?),
     }
 }
 
-/// The event of a line, where it is one.
-pub(crate) fn event_of_line(alloc: Global, line: &[u8]) -> Result<Option<Event>, Memory>
-    ensures { IfOk result (λ event. event ≡ event_of (words_of line.now)) }
+fn are_some_words(words: &[&[u8]]) -> bool
+    ensures { result ≡ list_all is_some_word (map (λ word. word.now) words.now) }
 {
-    let words = parts(alloc, line, b' ')?;
-    event_of(alloc, words.as_slice())
+    for word in words {
+        if word.is_empty() {
+            return false;
+        }
+    }
+    true
 }
 
-/// Whether a line is empty or a comment.
+#[tactic(auto, using(crate::proofs::Counts::counting), unfolding(crate::specs::Lines::are_counted))]
+fn are_counted(form: Form, words: &[&[u8]]) -> bool
+    ensures { result ≡ are_counted form (map (λ word. word.now) words.now) }
+{
+    are_some_words(words) && form.has_count(words.len())
+}
+
+#[tactic(auto, unfolding(crate::specs::Lines::event_of_words))]
+fn event_of_words(alloc: Global, words: &[&[u8]]) -> Result<Event, LineFault>
+    ensures { Reads (event_of_words (map (λ word. word.now) words.now)) result }
+{
+    let [word, words @ ..] = words else {
+        return Err(LineFault::Faulty(LineKind::Word));
+    };
+    let form = form_of(word)?;
+    if !are_counted(form, words) {
+        return Err(LineFault::Faulty(LineKind::Count));
+    }
+    event_from(alloc, form, words)
+}
+
+fn are_printable(line: &[u8]) -> bool
+    ensures { result ≡ list_all is_printable line.now }
+{
+    line.iter().all(|byte| matches!(*byte, 0x20..=0x7E))
+}
+
+#[tactic(auto, unfolding(crate::specs::Lines::event_of))]
+pub(crate) fn event_of(alloc: Global, line: &[u8]) -> Result<Event, LineFault>
+    ensures { Reads (event_of line.now) result }
+{
+    if !are_printable(line) {
+        return Err(LineFault::Faulty(LineKind::Byte));
+    }
+    let words = parts(alloc, line, b' ')?;
+    event_of_words(alloc, words.as_slice())
+}
+
 pub(crate) fn is_skipped(line: &[u8]) -> bool
     ensures { result ≡ is_skipped line.now }
 {

@@ -1,17 +1,17 @@
-ghost use Rattle.std.specs.Prelude.{◌≡◌, ◌==◌, ◌≤◌, length, Err, IfOk, IfErr, OnOk};
+ghost use Rattle.std.specs.Prelude.{◌≡◌, ◌==◌, ◌≤◌, false, length, Ok, Err, IfOk, IfErr, OnOk};
 ghost use Rattle.std.specs.List.{AllByRecursion, count_by};
-ghost use Rattle.mqb_script.specs.Grammar.{script_of};
-ghost use Rattle.mqb_script.specs.Reading.{LONGEST, MOST_LINES, line_count, Reads, ReadCause, ReadsLine, IsWhole};
-ghost use Rattle.mqb_script.specs.Sizes.{IsSized};
+ghost use Rattle.mqb_script.specs.Lines.{is_skipped, event_of};
+ghost use Rattle.mqb_script.specs.Script.{numbered, script_of};
+ghost use Rattle.mqb_script.specs.Reading.{LONGEST, MOST_LINES, line_count, ReadsScript, ReadCause, ReadsLine, IsScriptFault, IsWhole};
+ghost use Rattle.mqb_script.specs.Formed.{IsFormed};
 
 use crate::events::Event;
-use crate::lines::{event_of_line, is_skipped};
+use crate::faults::ScriptFault;
+use crate::lines::{event_of, is_skipped};
 use crate::words::parts;
-use mqb_base::Memory;
 use mqb_outside::Source;
 use std::alloc::Global;
 use std::marker::Model;
-use thiserror::Error;
 
 /// The events of a script, each with the number of its line. Contracts see the list of pairs.
 #[derive(Debug, Drop)]
@@ -28,6 +28,14 @@ impl Model for Script {
     ghost view = { λ s. s.events.items };
 }
 
+#[tactic(auto, using(crate::proofs::Faulty::at_line_fault))]
+fn event_at(alloc: Global, number: u32, line: &[u8]) -> Result<Event, ScriptFault>
+    ensures event { IfOk result (λ event. numbered number (event_of line.now) ≡ Ok event) }
+    ensures fault { IfErr result (IsScriptFault (numbered number (event_of line.now))) }
+{
+    event_of(alloc, line).map_err(|fault| fault.at(number))
+}
+
 impl Script {
     pub fn events(&self) -> &[(u32, Event)]
         ensures { result.now ≡ self.now }
@@ -35,54 +43,36 @@ impl Script {
         self.events.as_slice()
     }
 
-    /// Adds the event of a line, where it is not one that is skipped. Answers whether it is a line of a script.
-    fn read_line(&mut self, alloc: Global, number: u32, line: &[u8]) -> Result<bool, Memory>
-        ensures { IfOk result (λ good. ReadsLine number line.now self.old self.new good) }
+    /// Adds the event of a line, where it is not one that is skipped.
+    fn read_line(&mut self, alloc: Global, number: u32, line: &[u8]) -> Result<(), ScriptFault>
+        ensures line { OnOk result (ReadsLine number line.now self.old self.new) }
+        ensures kept { IfErr result (λ _. is_skipped line.now ≡ false) }
+        ensures fault { IfErr result (IsScriptFault (numbered number (event_of line.now))) }
     {
         if is_skipped(line) {
-            return Ok(true);
+            return Ok(());
         }
-        let Some(event) = event_of_line(alloc, line)? else {
-            return Ok(false);
-        };
-        self.events.push((number, event))?;
-        Ok(true)
+        let event = event_at(alloc, number, line)?;
+        self.events
+            .push((number, event))
+            .map_err(|_| ScriptFault::Memory)
     }
 }
 
-/// What is wrong with a line.
-#[derive(Clone, Copy, Debug, PartialEq, Eq, Error)]
-pub enum LineKind {
-    /// Its form is not built yet.
-    #[error("not built")]
-    Unbuilt,
-}
+/// The greatest length of a script in bytes.
+const MAX_LENGTH: usize = 16_777_216;
 
-/// Why there is no script.
-#[derive(Clone, Copy, Debug, PartialEq, Eq, Error)]
-pub enum ScriptFault {
-    #[error("line {number}: {kind}")]
-    Line { number: u32, kind: LineKind },
-    #[error("over 16,777,216 bytes")]
-    TooLong,
-    #[error("over 200,000 lines")]
-    TooManyLines,
-    #[error("the input failed")]
-    ReadFault,
-    #[error("out of memory")]
-    Memory,
-}
-
-const LONGEST: usize = 16_777_216;
-
-const MOST_LINES: usize = 200_000;
+/// The greatest count of its lines.
+const MAX_LINES: usize = 200_000;
 
 /// Takes all bytes of a source, up to the longest script.
 fn read_all<S: Source>(alloc: Global, source: &mut S) -> Result<Vec<u8>, ScriptFault>
-    ensures whole { IfOk result (λ text. IsWhole (S.held source.old) (S.held source.new) text.items) }
-    ensures fault { IfErr result (λ fault. Reads (S.held source.old) (S.held source.new) (Err fault)) }
+    ensures whole { IfOk result (λ t. IsWhole (S.held source.old) (S.held source.new) t.items) }
+    ensures fault { IfErr result (λ fault. ReadsScript (S.held source.old) (S.held source.new)
+        (Err fault)) }
     ensures quiet { OnOk result (S.read_faults source.new ≡ S.read_faults source.old) }
-    ensures cause { IfErr result (λ fault. ReadCause (S.read_faults source.old) (S.read_faults source.new) (Err fault)) }
+    ensures cause { IfErr result (λ fault. ReadCause (S.read_faults source.old)
+        (S.read_faults source.new) (Err fault)) }
 {
     let mut text = Vec::new(alloc);
     let mut buffer = [0; 4096];
@@ -93,7 +83,7 @@ fn read_all<S: Source>(alloc: Global, source: &mut S) -> Result<Vec<u8>, ScriptF
         if count == 0 {
             return Ok(text);
         }
-        if text.len() + count > LONGEST {
+        if text.len() + count > MAX_LENGTH {
             return Err(ScriptFault::TooLong);
         }
         if text.extend_from_slice(&buffer[..count]).is_err() {
@@ -118,10 +108,11 @@ fn line_count(text: &[u8]) -> usize
     line_feeds(front) + 1
 }
 
-/// The script that a text is, or the number of the first line that is none.
-fn script_of(alloc: Global, text: &[u8]) -> Result<Result<Script, u32>, Memory>
+/// The script that a text is, or the first of its lines that fails.
+fn script_of(alloc: Global, text: &[u8]) -> Result<Script, ScriptFault>
     requires { length text.now ≤ LONGEST }
-    ensures { IfOk result (λ script. script ≡ script_of text.now) }
+    ensures script { IfOk result (λ script. script_of text.now ≡ Ok script) }
+    ensures fault { IfErr result (IsScriptFault (script_of text.now)) }
 {
     let mut script = Script {
         events: Vec::new(alloc),
@@ -130,30 +121,21 @@ fn script_of(alloc: Global, text: &[u8]) -> Result<Result<Script, u32>, Memory>
     let lines = parts(alloc, text, b'\n')?;
     for line in &lines {
         number += 1;
-        if !script.read_line(alloc, number, line)? {
-            return Ok(Err(number));
-        }
+        script.read_line(alloc, number, line)?;
     }
-    Ok(Ok(script))
+    Ok(script)
 }
 
-/// Reads a script whole. A line that is none is looked for only once the input was read to its end.
+/// Reads a script whole. Its lines are looked at only once the input was read to its end, and they are counted first.
 pub fn read_script<S: Source>(alloc: Global, source: &mut S) -> Result<Script, ScriptFault>
-    ensures reads { Reads (S.held source.old) (S.held source.new) result }
-    ensures sized { IfOk result (λ script. AllByRecursion (λ e. IsSized e.1) script) }
+    ensures reads { ReadsScript (S.held source.old) (S.held source.new) result }
+    ensures formed { IfOk result (λ script. AllByRecursion (λ e. IsFormed e.1) script) }
     ensures few { IfOk result (λ script. length script ≤ MOST_LINES) }
     ensures cause { ReadCause (S.read_faults source.old) (S.read_faults source.new) result }
 {
     let text = read_all(alloc, source)?;
-    if line_count(text.as_slice()) > MOST_LINES {
+    if line_count(text.as_slice()) > MAX_LINES {
         return Err(ScriptFault::TooManyLines);
     }
-    match script_of(alloc, text.as_slice()) {
-        Ok(Ok(script)) => Ok(script),
-        Ok(Err(number)) => Err(ScriptFault::Line {
-            number,
-            kind: LineKind::Unbuilt,
-        }),
-        Err(Memory) => Err(ScriptFault::Memory),
-    }
+    script_of(alloc, text.as_slice())
 }

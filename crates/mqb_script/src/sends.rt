@@ -1,120 +1,158 @@
-ghost use Rattle.std.specs.Prelude.{◌≡◌, true, map, IfOk, IfSome};
+ghost use Rattle.std.specs.Prelude.{◌≡◌, ◌<◌, ◌≤◌, true, None, map, IfOk};
 ghost use Rattle.std.specs.List.{list_all};
-ghost use Rattle.std.specs.Option.{option_map};
-ghost use Rattle.mqb_base.specs.QueueNames.{names_queue};
-ghost use Rattle.mqb_script.specs.Words.{fields_of};
-ghost use Rattle.mqb_script.specs.Grammar.{name_of, is_queue_at, destination_of, is_body_byte, counted_body, body_of, no_id, parts_of, is_dash, plain_text, send_of, sends_of};
+ghost use Rattle.mqb_base.specs.Drafts.{draft_fault};
+ghost use Rattle.mqb_base.specs.QueueNames.{names_queue, absent_or_queue};
+ghost use Rattle.mqb_script.specs.Faults.{Reads};
+ghost use Rattle.mqb_script.specs.Sends.{destination_of, optional_of, seconds_of, is_body_byte, counted_body, body_of, AreQueues, names_from, terms_from, parts_of, message_of, parts_from, send_from, send_of, take_from, op_from, op_of, ops_of};
 
-use crate::events::Which;
-use crate::lists::Ops;
+use crate::faults::{LineFault, LineKind};
+use crate::flags::flags_of;
+use crate::ops::Ops;
+use crate::values::name_of;
 use crate::words::{is_word, number_in, parts};
-use mqb_base::{
-    Bytes, Draft, Guid, Host, Memory, MessageId, Name, NameError, Op, Parts, QueueName, UNLIMITED,
-    Units,
-};
+use mqb_base::{Bytes, Draft, Guid, Memory, MessageId, Op, Parts, QueueName, UNLIMITED, Units};
 use mqb_names::{NameFault, read_name};
 use std::alloc::Global;
 
-/// A word as a name.
-pub(crate) fn name_of(alloc: Global, word: &[u8]) -> Result<Option<Name>, Memory>
-    ensures { IfOk result (λ name. name ≡ name_of word.now) }
-{
-    match Name::new(alloc, word) {
-        Ok(name) => Ok(Some(name)),
-        Err(NameError::Memory) => Err(Memory),
-        Err(_) => Ok(None),
-    }
-}
-
-fn is_queue_at(host: &[u8], name: &QueueName) -> bool
-    ensures { result ≡ is_queue_at host.now name.now }
-{
-    match name {
-        QueueName::Direct {
-            host: Host::Os(name),
-            journal,
-            ..
-        } => is_word(name.as_slice(), host) && !*journal,
-        _ => false,
-    }
-}
-
-fn destination_of(alloc: Global, which: Which, word: &[u8]) -> Result<Option<QueueName>, Memory>
-    ensures value { IfOk result (λ destination. destination ≡ destination_of which word.now) }
-    ensures queue { IfOk result (λ destination. IfSome destination (λ name. names_queue name ≡ true)) }
+/// The queue that a word names, which is no journal and no machine's queue.
+#[tactic(auto, unfolding(crate::specs::Sends::destination_of))]
+fn destination_of(alloc: Global, word: &[u8]) -> Result<QueueName, LineFault>
+    ensures read { Reads (destination_of word.now) result }
+    ensures queue { IfOk result (λ name. names_queue name ≡ true) }
 {
     let name = match read_name(alloc, word) {
         Ok(name) => name,
-        Err(NameFault::Bad { .. }) => return Ok(None),
-        Err(NameFault::Memory) => return Err(Memory),
+        Err(NameFault::Bad { .. }) => return Err(LineFault::VALUE),
+        Err(NameFault::Memory) => return Err(LineFault::Memory),
     };
-    if !is_queue_at(which.other().host(), &name) {
-        return Ok(None);
+    if !name.names_queue() {
+        return Err(LineFault::VALUE);
     }
-    Ok(Some(name))
+    Ok(name)
 }
 
-fn is_body_byte(byte: u8) -> bool
-    ensures { result ≡ is_body_byte byte }
+#[tactic(auto, unfolding(crate::specs::Sends::optional_of))]
+fn optional_of(alloc: Global, word: &[u8]) -> Result<Option<QueueName>, LineFault>
+    ensures read { Reads (optional_of word.now) result }
+    ensures queue { IfOk result (λ name. absent_or_queue name ≡ true) }
 {
-    matches!(byte, 0x21..=0x7E) && byte != b','
+    if is_word(word, b"-") {
+        return Ok(None);
+    }
+    Ok(Some(destination_of(alloc, word)?))
+}
+
+#[tactic(auto, unfolding(crate::specs::Sends::seconds_of))]
+fn seconds_of(word: &[u8]) -> Result<u32, LineKind>
+    ensures { result ≡ seconds_of word.now }
+{
+    if is_word(word, b"-") {
+        return Ok(UNLIMITED);
+    }
+    number_in(0, UNLIMITED - 1, word)
 }
 
 fn are_body_bytes(word: &[u8]) -> bool
     ensures { result ≡ list_all is_body_byte word.now }
 {
-    word.iter().all(|byte| is_body_byte(*byte))
+    word.iter()
+        .all(|byte| matches!(*byte, 0x21..=0x7E) && *byte != b',')
 }
 
-/// The greatest number behind a star.
-const MOST_COUNTED: u32 = 4_194_304;
+const MAX_COUNTED: u32 = 4_194_304;
 
-fn counted_body(alloc: Global, number: &[u8]) -> Result<Option<Bytes>, Memory>
-    ensures { IfOk result (λ body. body ≡ counted_body number.now) }
+fn counted_body(alloc: Global, number: &[u8]) -> Result<Bytes, LineFault>
+    ensures { Reads (counted_body number.now) result }
 {
-    let Some(count) = number_in(0, MOST_COUNTED, number) else {
-        return Ok(None);
-    };
+    let count = number_in(0, MAX_COUNTED, number)?;
     let bytes = vec![in alloc; b'x'; count as usize]?;
-    Ok(Some(Bytes::from_slice(alloc, &bytes)?))
+    Ok(Bytes::from_slice(alloc, &bytes)?)
 }
 
-fn body_of(alloc: Global, text: &[u8]) -> Result<Option<Bytes>, Memory>
-    ensures { IfOk result (λ body. body ≡ body_of text.now) }
+#[tactic(auto, unfolding(crate::specs::Sends::body_of))]
+fn body_of(alloc: Global, text: &[u8]) -> Result<Bytes, LineFault>
+    ensures { Reads (body_of text.now) result }
 {
     if let Some(number) = text.strip_prefix(b"*") {
         return counted_body(alloc, number);
     }
     if !are_body_bytes(text) {
-        return Ok(None);
+        return Err(LineFault::VALUE);
     }
-    Ok(Some(Bytes::from_slice(alloc, text)?))
+    Ok(Bytes::from_slice(alloc, text)?)
 }
 
-fn no_id() -> MessageId
-    ensures { result ≡ no_id }
+/// The queues that a send names: where its message goes, where it is told of, and where it is answered.
+#[derive(Drop)]
+pub struct Names {
+    pub destination: QueueName,
+    pub admin: Option<QueueName>,
+    pub response: Option<QueueName>,
+}
+
+/// The times of a send in seconds, and its flags: the bits of a journal, and four times those of an acknowledgement.
+#[derive(Clone, Copy)]
+pub struct Terms {
+    pub reach: u32,
+    pub life: u32,
+    pub flags: u8,
+}
+
+#[tactic(auto, unfolding(crate::specs::Sends::names_from))]
+fn names_from(
+    alloc: Global,
+    destination: &[u8],
+    admin: &[u8],
+    response: &[u8],
+) -> Result<Names, LineFault>
+    ensures read { Reads (names_from destination.now admin.now response.now) result }
+    ensures queues { IfOk result AreQueues }
 {
-    MessageId {
-        qm: Guid([0; 16]),
-        number: 0,
-    }
+    let destination = destination_of(alloc, destination)?;
+    let admin = optional_of(alloc, admin)?;
+    let response = optional_of(alloc, response)?;
+    Ok(Names {
+        destination,
+        admin,
+        response,
+    })
 }
 
-fn parts_of(alloc: Global, destination: QueueName, body: Bytes) -> Result<Parts, Memory>
-    ensures { IfOk result (λ parts. parts ≡ parts_of destination body) }
+#[tactic(auto, unfolding(crate::specs::Sends::terms_from))]
+fn terms_from(reach: &[u8], life: &[u8], flags: &[u8]) -> Result<Terms, LineKind>
+    ensures terms { result ≡ terms_from reach.now life.now flags.now }
+    ensures few { IfOk result (λ terms. terms.flags < 64) }
+{
+    let reach = seconds_of(reach)?;
+    let life = seconds_of(life)?;
+    let flags = flags_of(flags)?;
+    Ok(Terms { reach, life, flags })
+}
+
+fn parts_of(
+    alloc: Global,
+    priority: u8,
+    names: Names,
+    terms: Terms,
+    body: Bytes,
+) -> Result<Parts, Memory>
+    ensures { IfOk result (λ parts. parts ≡ parts_of priority names terms body) }
 {
     let label = Units::from_slice(alloc, &[])?;
     let extension = Bytes::from_slice(alloc, &[])?;
     Ok(Parts {
-        destination,
-        priority: 0,
-        reach: UNLIMITED,
-        life: UNLIMITED,
-        admin: None,
-        response: None,
-        ack: 0,
-        journal: 0,
-        correlation: no_id(),
+        destination: names.destination,
+        priority,
+        reach: terms.reach,
+        life: terms.life,
+        admin: names.admin,
+        response: names.response,
+        ack: terms.flags / 4,
+        journal: terms.flags % 4,
+        correlation: MessageId {
+            qm: Guid([0; 16]),
+            number: 0,
+        },
         body_type: 0,
         tag: 0,
         label,
@@ -123,72 +161,125 @@ fn parts_of(alloc: Global, destination: QueueName, body: Bytes) -> Result<Parts,
     })
 }
 
-fn draft_of(alloc: Global, destination: QueueName, body: Bytes) -> Result<Draft, Memory>
-    requires { names_queue destination ≡ true }
-    ensures { IfOk result (λ draft. draft ≡ parts_of destination body) }
+fn draft_of(
+    alloc: Global,
+    priority: u8,
+    names: Names,
+    terms: Terms,
+    body: Bytes,
+) -> Result<Draft, Memory>
+    requires priority { priority ≤ 7 }
+    requires queues { AreQueues names }
+    requires few { terms.flags < 64 }
+    ensures { IfOk result (λ draft. draft ≡ parts_of priority names terms body) }
 {
-    let parts = parts_of(alloc, destination, body)?;
+    let parts = parts_of(alloc, priority, names, terms, body)?;
     Ok(Draft::build(parts).unwrap())
 }
 
-fn is_dash(word: &[u8]) -> bool
-    ensures { result ≡ is_dash word.now }
-{
-    is_word(word, b"-")
+/// The fields of a send.
+#[derive(Clone, Copy)]
+struct Fields<'w> {
+    destination: &'w [u8],
+    reach: &'w [u8],
+    life: &'w [u8],
+    flags: &'w [u8],
+    admin: &'w [u8],
+    response: &'w [u8],
+    text: &'w [u8],
 }
 
-fn plain_text<'t>(fields: &[&'t [u8]]) -> Option<&'t [u8]>
-    ensures { option_map (λ text. text.now) result ≡ plain_text (map (λ field. field.now) fields.now) }
+#[tactic(auto, unfolding(crate::specs::Sends::message_of))]
+fn message_of(alloc: Global, priority: u8, fields: &Fields<'_>) -> Result<Draft, LineFault>
+    requires { priority ≤ 7 }
+    ensures { let f = fields.now in
+        Reads (message_of priority f.destination.now f.reach.now f.life.now f.flags.now f.admin.now f.response.now f.text.now) result }
 {
-    match fields {
-        [reach, life, flags, admin, response, text]
-            if is_dash(reach)
-                && is_dash(life)
-                && is_dash(flags)
-                && is_dash(admin)
-                && is_dash(response) => { Some(text) }
-        _ => None,
+    let names = names_from(alloc, fields.destination, fields.admin, fields.response)?;
+    let terms = terms_from(fields.reach, fields.life, fields.flags)?;
+    let body = body_of(alloc, fields.text)?;
+    Ok(draft_of(alloc, priority, names, terms, body)?)
+}
+
+#[tactic(auto, unfolding(crate::specs::Sends::parts_from))]
+fn draft_from(alloc: Global, priority: u8, fields: &[&[u8]]) -> Result<Draft, LineFault>
+    requires { priority ≤ 7 }
+    ensures { Reads (parts_from priority (map (λ field. field.now) fields.now)) result }
+{
+    let [destination, reach, life, flags, admin, response, text] = fields else {
+        return Err(LineFault::VALUE);
+    };
+    let fields = Fields {
+        destination,
+        reach,
+        life,
+        flags,
+        admin,
+        response,
+        text,
+    };
+    message_of(alloc, priority, &fields)
+}
+
+/// The message of this priority that a send describes, from the fields of its word.
+#[tactic(auto, unfolding(crate::specs::Sends::send_from))]
+fn send_from(alloc: Global, priority: u8, fields: &[&[u8]]) -> Result<Draft, LineFault>
+    requires { priority ≤ 7 }
+    ensures { Reads (send_from priority (map (λ field. field.now) fields.now)) result }
+{
+    let [word, fields @ ..] = fields else {
+        return Err(LineFault::VALUE);
+    };
+    if !is_word(word, b"send") {
+        return Err(LineFault::VALUE);
     }
+    draft_from(alloc, priority, fields)
 }
 
-fn send_of(alloc: Global, which: Which, fields: &[&[u8]]) -> Result<Option<Op>, Memory>
-    ensures { IfOk result (λ op. op ≡ send_of which (map (λ field. field.now) fields.now)) }
-{
-    let [send, destination, rest @ ..] = fields else {
-        return Ok(None);
-    };
-    if !is_word(send, b"send") {
-        return Ok(None);
-    }
-    let Some(text) = plain_text(rest) else {
-        return Ok(None);
-    };
-    let Some(destination) = destination_of(alloc, which, destination)? else {
-        return Ok(None);
-    };
-    let Some(body) = body_of(alloc, text)? else {
-        return Ok(None);
-    };
-    Ok(Some(Op::Send(draft_of(alloc, destination, body)?)))
-}
-
-fn send_of_word(alloc: Global, which: Which, word: &[u8]) -> Result<Option<Op>, Memory>
-    ensures { IfOk result (λ op. op ≡ send_of which (fields_of word.now)) }
+#[tactic(auto, unfolding(crate::specs::Sends::send_of))]
+pub(crate) fn send_of(alloc: Global, priority: u8, word: &[u8]) -> Result<Draft, LineFault>
+    requires { priority ≤ 7 }
+    ensures { Reads (send_of priority word.now) result }
 {
     let fields = parts(alloc, word, b',')?;
-    send_of(alloc, which, fields.as_slice())
+    send_from(alloc, priority, fields.as_slice())
 }
 
-/// The words as sends of this manager, in order, where each word is one.
-pub(crate) fn sends_of(alloc: Global, which: Which, words: &[&[u8]]) -> Result<Option<Ops>, Memory>
-    ensures { IfOk result (λ ops. ops ≡ sends_of which (map (λ word. word.now) words.now)) }
+#[tactic(auto, unfolding(crate::specs::Sends::take_from))]
+fn take_from(alloc: Global, fields: &[&[u8]]) -> Result<Op, LineFault>
+    ensures { Reads (take_from (map (λ field. field.now) fields.now)) result }
+{
+    let [name] = fields else {
+        return Err(LineFault::VALUE);
+    };
+    Ok(Op::Take(name_of(alloc, name)?))
+}
+
+#[tactic(auto, unfolding(crate::specs::Sends::op_from))]
+fn op_from(alloc: Global, fields: &[&[u8]]) -> Result<Op, LineFault>
+    ensures { Reads (op_from (map (λ field. field.now) fields.now)) result }
+{
+    match fields {
+        [word, rest @ ..] if is_word(word, b"take") => take_from(alloc, rest),
+        _ => Ok(Op::Send(send_from(alloc, 0, fields)?)),
+    }
+}
+
+#[tactic(auto, unfolding(crate::specs::Sends::op_of))]
+fn op_of(alloc: Global, word: &[u8]) -> Result<Op, LineFault>
+    ensures { Reads (op_of word.now) result }
+{
+    let fields = parts(alloc, word, b',')?;
+    op_from(alloc, fields.as_slice())
+}
+
+pub(crate) fn ops_of(alloc: Global, words: &[&[u8]]) -> Result<Ops, LineFault>
+    ensures { Reads (ops_of (map (λ word. word.now) words.now)) result }
 {
     let mut ops = Ops::new(alloc);
     for word in words {
-        let Some(send) = send_of_word(alloc, which, word)? else {
-            return Ok(None);
-        };
-        ops.push(send)?;
+        let op = op_of(alloc, word)?;
+        ops.push(op)?;
     }
-    Ok(Some(ops))
+    Ok(ops)
 }

@@ -1,18 +1,17 @@
-ghost use Rattle.std.specs.Prelude.{◌≡◌, ◌==◌, ◌^◌, min, map, IfOk};
+ghost use Rattle.std.specs.Prelude.{◌≡◌, ◌==◌, ◌≤◌, ◌^◌, min, map, IfOk};
 ghost use Rattle.std.specs.List.{slice_split, list_all};
 ghost use Rattle.mqb_base.specs.Same.{same_bytes};
 ghost use Rattle.mqb_script.specs.Words.{is_decimal, is_digit, value_of, number_in};
 
+use crate::faults::LineKind;
 use std::alloc::{AllocError, Global};
 
-/// The parts of a text between the bytes `by`.
 pub(crate) fn parts(alloc: Global, text: &[u8], by: u8) -> Result<Vec<&[u8]>, AllocError>
-    ensures { IfOk result (λ parts. map (λ part. part.now) parts.items ≡ slice_split (λ b. b == by) text.now) }
+    ensures { IfOk result (λ p. map (λ w. w.now) p.items ≡ slice_split (λ b. b == by) text.now) }
 {
     text.split(|byte| *byte == by).collect(alloc)
 }
 
-/// Whether a word is this one.
 pub(crate) fn is_word(word: &[u8], this: &[u8]) -> bool
     ensures { result ≡ same_bytes word.now this.now }
 {
@@ -45,15 +44,18 @@ fn capped_value(digits: &[u8]) -> u64
 }
 
 /// The number from `least` to `greatest` that a word spells in decimal, without leading zeros.
-pub(crate) fn number_in(least: u32, greatest: u32, word: &[u8]) -> Option<u32>
-    ensures { result ≡ number_in least greatest word.now }
+#[tactic(auto, unfolding(crate::specs::Words::number_in))]
+pub(crate) fn number_in(least: u32, greatest: u32, word: &[u8]) -> Result<u32, LineKind>
+    ensures number { result ≡ number_in least greatest word.now }
+    ensures least { IfOk result (λ n. least ≤ n) }
+    ensures greatest { IfOk result (λ n. n ≤ greatest) }
 {
     if !is_decimal(word) {
-        return None;
+        return Err(LineKind::Value);
     }
     let value = capped_value(word);
     if value < u64::from(least) || value > u64::from(greatest) {
-        return None;
+        return Err(LineKind::Value);
     }
-    Some(value as u32)
+    Ok(value as u32)
 }

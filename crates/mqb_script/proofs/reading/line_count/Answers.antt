@@ -1,5 +1,5 @@
 use Rattle.std.proofs.Common.{◌+◌, ap, sym, ◌∙◌}
-use Rattle.mqb_script.proofs.Steps.{begun_lines}
+use Rattle.mqb_script.proofs.Gathered.{begun_lines}
 use Rattle.mqb_script.proofs.reading.line_count.Goals as goal
 
 pub returns : goal.returns

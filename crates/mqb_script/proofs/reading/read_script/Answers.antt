@@ -1,16 +1,14 @@
-use Rattle.std.proofs.Common.{◌≡◌, ◌≤◌, length, Ok, rules, arith}
-use Rattle.mqb_script.specs.Grammar.{script_of}
+use Rattle.std.proofs.Common.{◌≡◌, ◌≤◌, ◌∙◌, sym}
 use Rattle.mqb_script.specs.Reading.{MOST_LINES, line_count}
-use Rattle.mqb_script.proofs.Bounds.{sized_script, few_events}
+use Rattle.mqb_script.proofs.Bounds.{answer_formed, answer_few}
 use Rattle.mqb_script.proofs.reading.read_script.Goals as goal
 
-pub returns-in-Ok-Ok-clause-sized : goal.returns-in-Ok-Ok-clause-sized
-returns-in-Ok-Ok-clause-sized g c =
-    let read : script_of c.as_slice.result.now ≡ Ok c.in-Ok-Ok.script = search rules in sized_script c.as_slice.result.now c.in-Ok-Ok.script read
+pub returns-clause-formed : goal.returns-clause-formed
+returns-clause-formed g c = answer_formed c.as_slice-2.result.now c.script_of.result c.script_of.ensures.script
 
-pub returns-in-Ok-Ok-clause-few : goal.returns-in-Ok-Ok-clause-few
-returns-in-Ok-Ok-clause-few g c =
-    let read : script_of c.as_slice.result.now ≡ Ok c.in-Ok-Ok.script = search rules in
-    let few : length c.in-Ok-Ok.script ≤ line_count c.as_slice.result.now = few_events c.as_slice.result.now c.in-Ok-Ok.script read in
-    let most : line_count c.as_slice.result.now ≤ MOST_LINES = search rules in
-    omega arith
+pub returns-clause-few : goal.returns-clause-few
+returns-clause-few g c =
+    let same : c.as_slice-2.result.now ≡ c.as_slice.result.now = c.as_slice-2.ensures.value ∙ sym c.as_slice.ensures.value in
+    let count : c.line_count.result ≡ line_count c.as_slice.result.now = c.line_count.ensures in
+    let short : line_count c.as_slice-2.result.now ≤ MOST_LINES = rw (same, ← count) c.if-line_count-gt-MAX_LINES.false in
+    answer_few c.as_slice-2.result.now MOST_LINES c.script_of.result short c.script_of.ensures.script

@@ -1,7 +1,7 @@
-use Rattle.std.proofs.Common.{◌≡◌, ◌≤◌, ap, ◌+◌, length, map, rules, arith}
+use Rattle.std.proofs.Common.{◌≡◌, ◌≤◌, ap, ◌+◌, length, map, arith}
 use Rattle.std.proofs.lemmas.List.{length-map}
 use Rattle.mqb_script.specs.Words.{lines_of}
-use Rattle.mqb_script.proofs.Steps.{few_lines, stops}
+use Rattle.mqb_script.proofs.Gathered.{few_lines}
 use Rattle.mqb_script.proofs.reading.script_of.Goals as goal
 
 pub overflow_add-number : goal.overflow_add-number
@@ -10,6 +10,3 @@ overflow_add-number c =
     let same : map (λ line. line.now) c.in_ok-lines.lines.items ≡ lines_of c.args.text.now = c.in_ok-lines.ensures in
     let count : length c.in_ok-lines.lines.items ≡ length (lines_of c.args.text.now) = simp length-map at (ap length same) in
     omega arith
-
-pub returns-then-not-branch : goal.returns-then-not-branch
-returns-then-not-branch c = stops _ _ _ _ _ _ _ _ c.loop-line.invariant.read c.loop-line-test.true c.in_ok-read_line.ensures (search rules)

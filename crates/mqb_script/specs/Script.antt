@@ -1,0 +1,21 @@
+-- The events of a script.
+use Rattle.std.specs.Prelude.{ℕ, ◌+◌, List, [], ◌∷◌, Result, Ok, Err, if◌then◌else◌}
+use Rattle.mqb_fields.specs.Reading.{◌>>=◌}
+use Rattle.mqb_script.specs.declared.faults.LineKind.{LineKind}
+use Rattle.mqb_script.specs.declared.events.Event.{Event}
+use Rattle.mqb_script.specs.Words.{lines_of}
+use Rattle.mqb_script.specs.Lines.{is_skipped, event_of}
+
+-- the event of line n, or the line and what is wrong with it
+abbrev pub numbered : {T : Type 0} → ℕ → Result T LineKind → Result T (ℕ × LineKind)
+numbered n (Ok event) = Ok event
+numbered n (Err kind) = Err (n, kind)
+
+-- the events of lines, numbered from n, or the first line that fails and what is wrong with it
+abbrev pub script_from : ℕ → List (List ℕ) → Result (List (ℕ × Event)) (ℕ × LineKind)
+script_from n [] = Ok []
+script_from n (line ∷ lines) = if is_skipped line then script_from (n + 1) lines
+    else (numbered n (event_of line) >>= λ event. script_from (n + 1) lines >>= λ events. Ok ((n, event) ∷ events))
+
+abbrev pub script_of : List ℕ → Result (List (ℕ × Event)) (ℕ × LineKind)
+script_of text = script_from 1 (lines_of text)
