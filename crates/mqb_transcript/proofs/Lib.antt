@@ -1,0 +1,4 @@
+pub mod Wrote
+pub mod ToldApart
+pub mod Colons
+pub mod FlowApart
