@@ -1,0 +1,71 @@
+//! Messages that differ in a few fields.
+use mqb_base::{
+    Bytes, Class, Delivery, Guid, Memory, Message, MessageId, QueueName, UNLIMITED, Units,
+};
+use std::alloc::Global;
+
+pub(crate) const ALPHA: Guid = Guid([1; 16]);
+
+pub(crate) const BETA: Guid = Guid([2; 16]);
+
+/// A queue of alpha.
+pub(crate) const REPLIES: QueueName = QueueName::Public {
+    guid: ALPHA,
+    journal: false,
+};
+
+/// What samples differ in.
+#[derive(Clone, Copy, Debug)]
+pub(crate) struct Sample {
+    pub(crate) number: u32,
+    pub(crate) class: Class,
+    pub(crate) delivery: Delivery,
+    pub(crate) priority: u8,
+    pub(crate) life: u32,
+    pub(crate) ack: u8,
+    pub(crate) journal: u8,
+}
+
+/// A recoverable message that asks for nothing.
+pub(crate) const SAMPLE: Sample = Sample {
+    number: 7,
+    class: Class::NORMAL,
+    delivery: Delivery::Recoverable,
+    priority: 3,
+    life: UNLIMITED,
+    ack: 0,
+    journal: 0,
+};
+
+/// A message of alpha, sent at 1000, whose body is `one`.
+pub(crate) fn message(alloc: Global, sample: &Sample) -> Result<Message, Memory> {
+    let label = Units::from_slice(alloc, &[0x6F])?;
+    let extension = Bytes::from_slice(alloc, b"")?;
+    let body = Bytes::from_slice(alloc, b"one")?;
+    Ok(Message {
+        id: MessageId {
+            qm: ALPHA,
+            number: sample.number,
+        },
+        class: sample.class,
+        delivery: sample.delivery,
+        priority: sample.priority,
+        sent: 1000,
+        reach: 10,
+        life: sample.life,
+        destination: REPLIES,
+        admin: Some(REPLIES),
+        response: Some(REPLIES),
+        ack: sample.ack,
+        journal: sample.journal,
+        correlation: MessageId {
+            qm: BETA,
+            number: 0,
+        },
+        body_type: 1,
+        tag: 1,
+        label,
+        extension,
+        body,
+    })
+}
