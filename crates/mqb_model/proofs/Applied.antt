@@ -1,9 +1,9 @@
 -- A valid state stays valid by each record that was read and fits.
-use Rattle.std.specs.Prelude.{◌≡◌, IfSome, None, Option, Some, true}
-use Rattle.mqb_model.specs.laws.Keeping.{AppliedIsValid, IsRead, KeptIsValid}
+use Rattle.std.specs.Prelude.{IfSome, None, Option, Some}
+use Rattle.mqb_model.specs.laws.Keeping.{AppliedIsValid, KeptIsValid}
+use Rattle.mqb_model.specs.managers.Valid.{IsWritable}
 use Rattle.mqb_model.specs.managers.Manager.{doubt_of}
 use Rattle.mqb_model.specs.managers.Outcomes.{recorded}
-use Rattle.mqb_model.specs.records.Applying.{fits}
 use Rattle.mqb_model.specs.records.Record as entry
 use Rattle.mqb_model.specs.records.Record.{Record}
 use Rattle.mqb_model.specs.state.State.{State}
@@ -30,9 +30,9 @@ applied_is_valid s (entry.Purged now at) v told f = purged_is_valid s now at v
 applied_is_valid s (entry.Ticked now) v told f = ticked_is_valid s now v
 applied_is_valid s (entry.Roll count) v told f = rolled_is_valid s count v f
 
-recorded_valid : (s : State) (o : Option Record) → IsValidState s → IfSome o IsRead → IfSome o (λ r. fits s r ≡ true) → IsValidState (recorded s o)
-recorded_valid s None v told f = v
-recorded_valid s (Some r) v told f = applied_is_valid s r v told f
+recorded_valid : (s : State) (o : Option Record) → IsValidState s → IfSome o (IsWritable s) → IsValidState (recorded s o)
+recorded_valid s None v w = v
+recorded_valid s (Some r) v w = applied_is_valid s r v w.read w.fits
 
 pub kept_is_valid : KeptIsValid
-kept_is_valid m v told = restarted_is_valid (recorded m.state (doubt_of m.condition)) (recorded_valid m.state (doubt_of m.condition) v.state told v.doubt)
+kept_is_valid m v = restarted_is_valid (recorded m.state (doubt_of m.condition)) (recorded_valid m.state (doubt_of m.condition) v.state v.doubt)

@@ -24,7 +24,8 @@ use Rattle.mqb_orders.specs.declared.rows.InRow.{InRow}
 use Rattle.mqb_packet.specs.declared.packet.UserPacket.{UserPacket}
 use Rattle.mqb_plain.specs.Lists.{messages_of}
 use Rattle.mqb_model.specs.Lists.{with_changed, with_first_changed}
-use Rattle.mqb_model.specs.laws.Keeping.{ArrivedIsValid, IsRecordedPart}
+use Rattle.mqb_model.specs.laws.Keeping.{ArrivedIsValid}
+use Rattle.mqb_model.specs.records.Carrying.{IsRecordedPart}
 use Rattle.mqb_model.specs.records.Arrived.{part_fits, part_made, raises_ack}
 use Rattle.mqb_model.specs.records.Decisions.{decided_fits, decided_row, message_decided, with_decided}
 use Rattle.mqb_model.specs.records.Finals.{dead_for, final_stored, finished_at, finished_by, finished_row, index_finished, is_final, is_offered_as, kept_named, with_finished}

@@ -21,7 +21,7 @@ use Rattle.mqb_model.specs.laws.Fitting.{IsFitting}
 use Rattle.mqb_model.specs.laws.Keeping.{CallsKeepValid}
 use Rattle.mqb_model.specs.managers.Manager.{Condition, Down, Manager, Up, doubt_of, is_down, linked_peer}
 use Rattle.mqb_model.specs.managers.Outcomes.{Outcome, recording, succeeded, unless}
-use Rattle.mqb_model.specs.managers.Valid.{BearMarks, IsLinkedWell, IsSessionOf, IsUnsent, IsValidManager, MarksRise, MayBear, express_placed, express_waiting}
+use Rattle.mqb_model.specs.managers.Valid.{BearMarks, IsLinkedWell, IsSessionOf, IsUnsent, IsValidManager, IsWritable, MarksRise, MayBear, express_placed, express_waiting}
 use Rattle.mqb_model.specs.records.Applying.{fits, is_roll}
 use Rattle.mqb_model.specs.records.Peer.{next_queue, with_new_queue, with_peer}
 use Rattle.mqb_model.specs.records.Record as entry
@@ -60,7 +60,7 @@ fits_where m (Some fault) r answer e f = absurd (let none : ⊥ = cc in none)
 -- The count.
 
 roll_linked : (s : State) (count : ℕ) (c : Condition) (o : Option one_end.State) → IsLinkedWell s c o → IsLinkedWell (record s { roll = count }) c o
-roll_linked s count Up (Some session) h = record { kept = h.kept; own = h.own; peer = h.peer; marks = h.marks }
+roll_linked s count Up (Some session) h = record { kept = h.kept; own = h.own; peer = h.peer; first = h.first; marks = h.marks }
 roll_linked s count Up None h = h
 roll_linked s count (Down doubt) o h = h
 
@@ -78,7 +78,7 @@ rolled m count f up v = record {
   session = roll_linked m.state count m.condition m.rest.session v.session;
   cursors = ap length (stays 0 (length m.state.outs) m.rest.cursors v.cursors) ∙ v.cursors;
   owes = ap length (stays false (length m.state.ins) m.rest.owes v.owes) ∙ v.owes;
-  doubt = no_doubt m.condition (λ r. fits (record m.state { roll = count }) r ≡ true) up;
+  doubt = no_doubt m.condition (IsWritable (record m.state { roll = count })) up;
 }
 
 -- A queue.
@@ -89,7 +89,7 @@ express_stay [] plan = refl
 express_stay (q ∷ qs) plan = ap (λ ms. (q.lists.express ++ q.journal.express) ++ ms) (express_stay qs plan)
 
 queue_linked : (s : State) (plan : QueuePlan) (c : Condition) (o : Option one_end.State) → IsLinkedWell s c o → IsLinkedWell (with_new_queue s plan) c o
-queue_linked s plan Up (Some session) h = record { kept = h.kept; own = h.own; peer = h.peer; marks = h.marks }
+queue_linked s plan Up (Some session) h = record { kept = h.kept; own = h.own; peer = h.peer; first = h.first; marks = h.marks }
 queue_linked s plan Up None h = h
 queue_linked s plan (Down doubt) o h = h
 
@@ -108,7 +108,7 @@ made m number plan f up v = record {
   session = queue_linked m.state plan m.condition m.rest.session v.session;
   cursors = ap length (stays 0 (length m.state.outs) m.rest.cursors v.cursors) ∙ v.cursors;
   owes = ap length (stays false (length m.state.ins) m.rest.owes v.owes) ∙ v.owes;
-  doubt = no_doubt m.condition (λ r. fits (with_new_queue m.state plan) r ≡ true) up;
+  doubt = no_doubt m.condition (IsWritable (with_new_queue m.state plan)) up;
 }
   where
     placed : express_placed (with_new_queue m.state plan) ≡ express_placed m.state
@@ -176,6 +176,7 @@ peer_linked s peer Up (Some session) counted h = at session.peer refl h.peer
     at None e known = record {
       kept = h.kept;
       own = h.own;
+      first = h.first;
       peer = subst (λ o. IfSome o (λ guid. IsSome (peer_known (with_peer s peer) guid))) (sym e) tt;
       marks = bear session (linked_peer (with_peer s peer) session) 0 (s.plain ++ no_plain ∷ [])
           (unsent (unsent_before session (linked_peer s session) 0 s.plain (subst (λ n. 0 + length s.plain ≤ n) (sym far) (omega (arith, counted))) h.marks));
@@ -193,6 +194,7 @@ peer_linked s peer Up (Some session) counted h = at session.peer refl h.peer
     at (Some guid) e known = record {
       kept = h.kept;
       own = h.own;
+      first = h.first;
       peer = subst (λ o. IfSome o (λ guid. IsSome (peer_known (with_peer s peer) guid))) (sym e) (subst (λ o. IsSome o) (sym there) known);
       marks = subst (λ k. BearMarks session k 0 (s.plain ++ no_plain ∷ [])) (sym same) (bear_push session (linked_peer s session) 0 s.plain h.marks);
     }
@@ -224,7 +226,7 @@ added m peer named f up v = record {
   session = peer_linked m.state peer m.condition m.rest.session v.state.plain_lists v.session;
   cursors = ap length (stays 0 (length m.state.outs) m.rest.cursors v.cursors) ∙ v.cursors;
   owes = ap length (stays false (length m.state.ins) m.rest.owes v.owes) ∙ v.owes;
-  doubt = no_doubt m.condition (λ r. fits (with_peer m.state peer) r ≡ true) up;
+  doubt = no_doubt m.condition (IsWritable (with_peer m.state peer)) up;
 }
   where
     waiting : express_waiting (with_peer m.state peer) ≡ express_waiting m.state

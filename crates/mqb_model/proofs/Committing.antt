@@ -15,7 +15,8 @@ use Rattle.mqb_packet.specs.declared.packet.Headers.TheVariants as headers
 use Rattle.mqb_model.specs.declared.limits.TheConstants.{MAX_NUMBER}
 use Rattle.mqb_model.specs.declared.target.Target.{Target}
 use Rattle.mqb_model.specs.declared.target.Target.TheVariants.{AtPeer, Here, Nowhere}
-use Rattle.mqb_model.specs.laws.Keeping.{CommitIsValid, IsRecorded}
+use Rattle.mqb_model.specs.laws.Keeping.{CommitIsValid}
+use Rattle.mqb_model.specs.records.Carrying.{IsRecorded}
 use Rattle.mqb_model.specs.records.Commit.{join_fits, joins_fit, op_taken, send_made, sends_fit, sends_numbered, sends_of, takes_fit, takes_made}
 use Rattle.mqb_model.specs.records.Packets.{in_transaction, is_own_packet, is_sendable, is_too_large}
 use Rattle.mqb_model.specs.records.Record.{RecordOp, Send, Take}

@@ -78,12 +78,14 @@ session_begins s (role.Initiator k) window session e unsent = at (slice_get s.pe
     at (Some peer) there e = subst (IsSessionOf s) (some_is (new_initiator s.identity.guid peer.guid window) session e) (record {
       kept = record { acked = omega arith; sent = omega arith; recoverable_acked = omega arith; recoverable_sent = omega arith; stored = omega arith; got = omega arith };
       own = refl;
+      first = λ set_up. refl;
       peer = position_there (λ p. same_guid p.guid peer.guid) s.peers k peer there (same_itself peer.guid.0);
       marks = bear (new_initiator s.identity.guid peer.guid window) (linked_peer s (new_initiator s.identity.guid peer.guid window)) 0 s.plain (recursion_from_All IsUnsent s.plain unsent);
     })
 session_begins s role.Acceptor window session e unsent = subst (IsSessionOf s) (some_is (new_acceptor s.identity.guid window) session e) (record {
   kept = record { acked = omega arith; sent = omega arith; recoverable_acked = omega arith; recoverable_sent = omega arith; stored = omega arith; got = omega arith };
   own = refl;
+  first = λ set_up. refl;
   peer = tt;
   marks = bear (new_acceptor s.identity.guid window) (linked_peer s (new_acceptor s.identity.guid window)) 0 s.plain (recursion_from_All IsUnsent s.plain unsent);
 })

@@ -21,7 +21,7 @@ use Rattle.mqb_model.specs.laws.Validity.{RefusedIsSame, ResentIsValid, RolledIs
 use Rattle.mqb_model.specs.managers.Beside as beside
 use Rattle.mqb_model.specs.managers.Beside.{all_unmarked, beside_done}
 use Rattle.mqb_model.specs.managers.Manager.{Condition, Down, Manager, Rest, Up, doubt_of, linked_peer, rest_for}
-use Rattle.mqb_model.specs.managers.Valid.{IsExpressValid, IsLinkedWell, IsUnsent, IsValidManager, MarksRise, express_waiting}
+use Rattle.mqb_model.specs.managers.Valid.{IsExpressValid, IsLinkedWell, IsUnsent, IsValidManager, IsWritable, MarksRise, express_waiting}
 use Rattle.mqb_model.specs.records.Applying.{fits}
 use Rattle.mqb_model.specs.records.Record.{Record}
 use Rattle.mqb_model.specs.state.Durable.{durable, durable_places, durable_plain}
@@ -129,11 +129,12 @@ durable_again (p ∷ ps) = ap (λ os. recoverable_alone os ∷ map durable_plain
 stands_for : (s : State) → durable (unmarked_state s) ≡ durable s
 stands_for s = ap (λ ps. record s { plain = ps; places = durable_places s.places; next_express = FIRST_EXPRESS }) (durable_again s.plain)
 
-still_fits : (s : State) → IsValidState s → (doubt : Option Record) → IfSome doubt (λ r. fits s r ≡ true)
-    → IfSome doubt (λ r. fits (unmarked_state s) r ≡ true)
-still_fits s v None f = tt
-still_fits s v (Some r) f = sym (durable_is_fitted (unmarked_state s) r (unmarked_valid s v))
-    ∙ ap (λ left. fits left r) (stands_for s) ∙ durable_is_fitted s r v ∙ f
+still_fits : (s : State) → IsValidState s → (doubt : Option Record) → IfSome doubt (IsWritable s) → IfSome doubt (IsWritable (unmarked_state s))
+still_fits s v None w = tt
+still_fits s v (Some r) w = record {
+  fits = sym (durable_is_fitted (unmarked_state s) r (unmarked_valid s v)) ∙ ap (λ left. fits left r) (stands_for s) ∙ durable_is_fitted s r v ∙ w.fits;
+  read = w.read;
+}
 
 linked_well : (s : State) (c : Condition) → IsLinkedWell (unmarked_state s) c None
 linked_well s Up = none_sent s.plain

@@ -44,7 +44,7 @@ use Rattle.mqb_model.specs.declared.limits.TheConstants.{MAX_NUMBER, MAX_RECORD}
 use Rattle.mqb_model.specs.declared.target.Target.{Target}
 use Rattle.mqb_model.specs.declared.target.Target.TheVariants.{AtPeer, Here, Nowhere}
 use Rattle.mqb_model.specs.laws.Fitting.{IsAsRead, IsDrafted, IsDraftedOp, RecordsAreRead}
-use Rattle.mqb_model.specs.laws.Keeping.{IsRead, IsRecorded}
+use Rattle.mqb_model.specs.records.Carrying.{IsRead, IsRecorded}
 use Rattle.mqb_model.specs.managers.Beside as beside
 use Rattle.mqb_model.specs.managers.Manager.{Manager, is_down}
 use Rattle.mqb_model.specs.managers.Outcomes.{Outcome, answering, changing, recording, unless}

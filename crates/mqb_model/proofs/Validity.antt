@@ -14,9 +14,8 @@ use Rattle.mqb_queue.specs.Places.{Queue}
 use Rattle.mqb_model.specs.laws.Validity.{FailedIsValid, LostIsValid, NewIsValid, RestartedIsValid, UnreadIsValid}
 use Rattle.mqb_model.specs.Lists.{grown}
 use Rattle.mqb_model.specs.managers.Manager.{doubt_of}
-use Rattle.mqb_model.specs.records.Applying.{fits}
 use Rattle.mqb_model.specs.records.Record.{Record}
-use Rattle.mqb_model.specs.managers.Valid.{IsExpressValid, IsUnsent, MarksRise, express_placed, express_waiting}
+use Rattle.mqb_model.specs.managers.Valid.{IsExpressValid, IsUnsent, IsWritable, MarksRise, express_placed, express_waiting}
 use Rattle.mqb_model.specs.state.Durable.{durable, durable_plain, durable_queue}
 use Rattle.mqb_model.specs.state.State.{State, empty}
 use Rattle.mqb_model.specs.state.Places.{is_express}
@@ -103,9 +102,9 @@ unread_is_valid m v = record {
   doubt = at (doubt_of m.condition) v.doubt;
 }
   where
-    at : (o : Option Record) → IfSome o (λ r. fits m.state r ≡ true) → IfSome o (λ r. fits (durable m.state) r ≡ true)
+    at : (o : Option Record) → IfSome o (IsWritable m.state) → IfSome o (IsWritable (durable m.state))
     at None f = tt
-    at (Some r) f = durable_is_fitted m.state r v.state ∙ f
+    at (Some r) w = record { fits = durable_is_fitted m.state r v.state ∙ w.fits; read = w.read }
 
 empty_is_valid : (identity : Identity) → IsValidState (empty identity)
 empty_is_valid identity = record {

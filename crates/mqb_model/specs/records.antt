@@ -13,3 +13,4 @@ pub mod Applying
 pub mod Folding
 pub mod Stepwise
 pub mod Counting
+pub mod Carrying

@@ -40,7 +40,7 @@ pub fn durable_is_valid()
     ensures { DurableIsValid }
 {}
 
-/// A valid manager that goes down under a record that fits, or under none, is valid.
+/// A valid manager that goes down under a record that may have been written, or under none, is valid.
 pub fn failed_is_valid()
     ensures { FailedIsValid }
 {}

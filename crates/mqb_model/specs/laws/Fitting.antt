@@ -16,10 +16,10 @@ use Rattle.mqb_model.specs.calls.Send.{send}
 use Rattle.mqb_model.specs.calls.SetRoll.{set_roll}
 use Rattle.mqb_model.specs.calls.Take.{take_message}
 use Rattle.mqb_model.specs.calls.Tick.{tick}
-use Rattle.mqb_model.specs.laws.Keeping.{IsRead}
 use Rattle.mqb_model.specs.managers.Manager.{Manager}
 use Rattle.mqb_model.specs.managers.Outcomes.{Outcome}
 use Rattle.mqb_model.specs.records.Applying.{fits, is_roll}
+use Rattle.mqb_model.specs.records.Carrying.{IsRead}
 use Rattle.mqb_model.specs.records.Counting.{IsSpellable}
 
 -- the record of a call fits, where there is one

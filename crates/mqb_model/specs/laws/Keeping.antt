@@ -1,29 +1,28 @@
 -- A valid state stays valid by a record that fits.
-use Rattle.std.specs.Prelude.{◌≡◌, All, IfSome, List, true, ℕ}
+use Rattle.std.specs.Prelude.{◌≡◌, All, List, true, ℕ}
 use Rattle.mqb_base.specs.declared.ids.Identity.{Identity}
 use Rattle.mqb_base.specs.declared.ids.MessageId.{MessageId}
-use Rattle.mqb_base.specs.declared.message.Message.{Message}
 use Rattle.mqb_base.specs.declared.queues.EntryPlace.{EntryPlace}
 use Rattle.mqb_base.specs.declared.queues.QueuePlan.{QueuePlan}
 use Rattle.mqb_entries.specs.declared.members.Mark.{Mark}
 use Rattle.mqb_names.specs.Values.{IsName}
-use Rattle.mqb_packet.specs.declared.packet.Headers.TheVariants as headers
 use Rattle.mqb_packet.specs.declared.packet.UserPacket.{UserPacket}
 use Rattle.mqb_model.specs.calls.AddPeer.{add_peer}
 use Rattle.mqb_model.specs.calls.CreateQueue.{create_queue}
 use Rattle.mqb_model.specs.calls.Link.{link}
 use Rattle.mqb_model.specs.calls.SetRoll.{set_roll}
 use Rattle.mqb_model.specs.declared.answers.Role.{Role}
-use Rattle.mqb_model.specs.managers.Manager.{Manager, doubt_of}
+use Rattle.mqb_model.specs.managers.Manager.{Manager}
 use Rattle.mqb_model.specs.managers.Outcomes.{succeeded}
 use Rattle.mqb_model.specs.managers.Restarts.{restarted}
 use Rattle.mqb_model.specs.managers.Valid.{IsValidManager}
 use Rattle.mqb_model.specs.records.Applying.{apply, fits, is_roll}
+use Rattle.mqb_model.specs.records.Carrying.{IsRead, IsRecorded, IsRecordedPart}
 use Rattle.mqb_model.specs.records.Record as entry
 use Rattle.mqb_model.specs.records.Commit.{sends_of}
 use Rattle.mqb_model.specs.records.Record.{Part, Record, RecordOp}
 use Rattle.mqb_model.specs.state.State.{State}
-use Rattle.mqb_model.specs.state.Valid.{IsCarried, IsValidState}
+use Rattle.mqb_model.specs.state.Valid.{IsValidState}
 
 -- It does where a peer joins, whose host is a name.
 abbrev pub AddedPeerIsValid : Type 0
@@ -44,10 +43,6 @@ OfferedIsValid = (s : State) (marks : List Mark) → IsValidState s → fits s (
 abbrev pub LinkedIsValid : Type 0
 LinkedIsValid = (m : Manager) (end : Role) (window : ℕ) → IsValidManager m → IsValidManager (succeeded m (link m end window))
 
--- a message as a record that was read tells of it: it can be carried in a packet without further headers
-abbrev pub IsRecorded : Message → Type 0
-IsRecorded m = IsCarried headers.Bare m
-
 -- It does where a message is taken.
 abbrev pub TakenIsValid : Type 0
 TakenIsValid = (s : State) (now : ℕ) (at : EntryPlace) (id : MessageId) → IsValidState s → IsValidState (apply s (entry.Taken now at id))
@@ -65,12 +60,6 @@ abbrev pub SentIsValid : Type 0
 SentIsValid = (s : State) (now : ℕ) (p : UserPacket) → IsValidState s → IsRecorded p.message → fits s (entry.Plain now p) ≡ true
     → IsValidState (apply s (entry.Plain now p))
 
--- the messages of a part are
-abbrev pub IsRecordedPart : Part → Type 0
-IsRecordedPart (entry.Decided p) = IsRecorded p.message
-IsRecordedPart (entry.Stored p) = IsRecorded p.message
-IsRecordedPart _ = Unit {0}
-
 -- It does where messages are released and something arrives.
 abbrev pub ArrivedIsValid : Type 0
 ArrivedIsValid = (s : State) (now : ℕ) (numbers : List ℕ) (part : Part) → IsValidState s → IsRecordedPart part
@@ -81,21 +70,13 @@ abbrev pub CommitIsValid : Type 0
 CommitIsValid = (s : State) (now : ℕ) (ops : List RecordOp) → IsValidState s → All IsRecorded (sends_of ops) → fits s (entry.Commit now ops) ≡ true
     → IsValidState (apply s (entry.Commit now ops))
 
--- What a record that was read tells of: the host of a peer is a name, and its messages can be carried.
-abbrev pub IsRead : Record → Type 0
-IsRead (entry.Peer peer) = IsName peer.host
-IsRead (entry.Commit now ops) = All IsRecorded (sends_of ops)
-IsRead (entry.Plain now p) = IsRecorded p.message
-IsRead (entry.Arrived now numbers part) = IsRecordedPart part
-IsRead _ = Unit {0}
-
 -- A valid state stays valid by each record that was read and fits.
 abbrev pub AppliedIsValid : Type 0
 AppliedIsValid = (s : State) (r : Record) → IsValidState s → IsRead r → fits s r ≡ true → IsValidState (apply s r)
 
 -- A valid manager is valid again over a store that has the record in doubt.
 abbrev pub KeptIsValid : Type 0
-KeptIsValid = (m : Manager) → IsValidManager m → IfSome (doubt_of m.condition) IsRead → IsValidManager (restarted m true)
+KeptIsValid = (m : Manager) → IsValidManager m → IsValidManager (restarted m true)
 
 -- A manager stays valid by these calls, whether they go well or are refused.
 pub record SomeCallsKeepValid (m : Manager) : Type 0 where

@@ -5,7 +5,7 @@ use Rattle.mqb_model.specs.calls.Link.{resend, unlink}
 use Rattle.mqb_model.specs.managers.Manager.{Manager, new_manager, unlinked}
 use Rattle.mqb_model.specs.managers.Outcomes.{answering, failed_under, succeeded}
 use Rattle.mqb_model.specs.managers.Restarts.{restarted, unread}
-use Rattle.mqb_model.specs.managers.Valid.{IsValidManager}
+use Rattle.mqb_model.specs.managers.Valid.{IsValidManager, IsWritable}
 use Rattle.mqb_model.specs.records.Applying.{apply, fits}
 use Rattle.mqb_model.specs.records.Record as entry
 use Rattle.mqb_model.specs.records.Record.{Record}
@@ -21,9 +21,9 @@ NewIsValid = (identity : Identity) → IsValidManager (new_manager identity)
 abbrev pub DurableIsValid : Type 0
 DurableIsValid = (s : State) → IsValidState s → IsValidState (durable s)
 
--- A valid manager that goes down under a record that fits, or under none, is valid.
+-- A valid manager that goes down under a record that fits and was read, or under none, is valid.
 abbrev pub FailedIsValid : Type 0
-FailedIsValid = (m : Manager) (r : Option Record) → IsValidManager m → IfSome r (λ r. fits m.state r ≡ true)
+FailedIsValid = (m : Manager) (r : Option Record) → IsValidManager m → IfSome r (IsWritable m.state)
     → IsValidManager (failed_under m r)
 
 -- A manager that is started again over a store is valid where the state is that the store stands for.

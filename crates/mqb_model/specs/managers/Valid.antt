@@ -4,11 +4,14 @@ use Rattle.mqb_base.specs.declared.message.Message.{Message}
 use Rattle.mqb_packet.specs.declared.packet.Headers.TheVariants as headers
 use Rattle.mqb_plain.specs.Lists.{InOrder, messages_of}
 use Rattle.mqb_plain.specs.Plain.{PlainLists}
+use Rattle.mqb_session.specs.Calls.{IsSettingUp}
 use Rattle.mqb_session.specs.State.{IsKept}
 use Rattle.mqb_session.specs.State as one_end
 use Rattle.mqb_model.specs.declared.limits.TheConstants.{FIRST_EXPRESS, MAX_EXPRESS}
 use Rattle.mqb_model.specs.managers.Manager.{Condition, Down, Manager, Up, doubt_of, linked_peer}
 use Rattle.mqb_model.specs.records.Applying.{fits}
+use Rattle.mqb_model.specs.records.Carrying.{IsRead}
+use Rattle.mqb_model.specs.records.Record.{Record}
 use Rattle.mqb_model.specs.state.Places.{is_express}
 use Rattle.mqb_model.specs.state.Resolving.{peer_known}
 use Rattle.mqb_model.specs.state.State.{State}
@@ -61,6 +64,8 @@ pub record IsSessionOf (s : State) (session : one_end.State) : Type 0 where
   pub kept : IsKept session
   pub own : session.own ≡ s.identity.guid
   pub peer : IfSome session.peer (λ guid. IsSome (peer_known s guid))
+  -- before it is ready nothing is sent
+  pub first : IsSettingUp session.phase → session.sent ≡ 0
   pub marks : BearMarks session (linked_peer s session) 0 s.plain
 
 -- a manager that is up and not linked has sent nothing; one that is down is not linked
@@ -68,6 +73,11 @@ abbrev pub IsLinkedWell : State → Condition → Option one_end.State → Type 
 IsLinkedWell s Up (Some session) = IsSessionOf s session
 IsLinkedWell s Up None = All IsUnsent s.plain
 IsLinkedWell s (Down doubt) session = IsNone session
+
+-- a record that may have been written: it fits the state, and can be read
+pub record IsWritable (s : State) (r : Record) : Type 0 where
+  pub fits : fits s r ≡ true
+  pub read : IsRead r
 
 -- A valid manager, point by point.
 pub record IsValidManager (m : Manager) : Type 0 where
@@ -78,5 +88,5 @@ pub record IsValidManager (m : Manager) : Type 0 where
   -- a number and a mark for each row
   pub cursors : length m.rest.cursors ≡ length m.state.outs
   pub owes : length m.rest.owes ≡ length m.state.ins
-  -- what is in doubt fits
-  pub doubt : IfSome (doubt_of m.condition) (λ r. fits m.state r ≡ true)
+  -- what is in doubt may have been written
+  pub doubt : IfSome (doubt_of m.condition) (IsWritable m.state)
