@@ -192,7 +192,7 @@ refusal_here s p e = at (p.remaining == 0) e
     at true e = absurd (let none : ⊥ = cc in none)
     at false e = target_here s (resolved s p.message.destination) p.message.delivery e
 
-storing_here : (s : State) (p : UserPacket) → storing_refusal s p ≡ None → IsHere (resolved s p.message.destination)
+pub storing_here : (s : State) (p : UserPacket) → storing_refusal s p ≡ None → IsHere (resolved s p.message.destination)
 storing_here s p e = at (is_for_order_layer s p.message.destination) e
   where
     at : (b : Bool) → cond b (Some BAD_DESTINATION) (refusal_of s p) ≡ None → IsHere (resolved s p.message.destination)

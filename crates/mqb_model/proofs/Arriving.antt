@@ -229,7 +229,7 @@ decided_differ s m tx v = at (in_index s m) refl
     at (Some k) e = let found = position-Some passes s.ins k new e in replaced k _ (slice_get-get_or s.ins k new found.0) found.1
 
 -- where names lead does not depend on incoming rows
-resolved_stays : (s : State) (rows : List InRow) (name : QueueName) → resolved (record s { ins = rows }) name ≡ resolved s name
+pub resolved_stays : (s : State) (rows : List InRow) (name : QueueName) → resolved (record s { ins = rows }) name ≡ resolved s name
 resolved_stays s rows (Public guid true) = refl
 resolved_stays s rows (Public guid false) = refl
 resolved_stays s rows (Private qm number true) = refl

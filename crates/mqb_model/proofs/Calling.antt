@@ -14,11 +14,10 @@ use Rattle.mqb_plain.specs.Lists.{messages_of}
 use Rattle.mqb_plain.specs.Plain.{PlainLists, no_plain}
 use Rattle.mqb_queue.specs.Places.{Queue, new_queue}
 use Rattle.mqb_session.specs.State as one_end
-use Rattle.mqb_model.specs.calls.AddPeer.{add_peer_refusal}
-use Rattle.mqb_model.specs.calls.CreateQueue.{create_refusal}
-use Rattle.mqb_model.specs.calls.SetRoll.{store_refusal}
+use Rattle.mqb_model.specs.calls.AddPeer.{add_peer, add_peer_refusal}
+use Rattle.mqb_model.specs.calls.CreateQueue.{create_queue, create_refusal}
+use Rattle.mqb_model.specs.calls.SetRoll.{set_roll, store_refusal}
 use Rattle.mqb_model.specs.laws.Fitting.{IsFitting}
-use Rattle.mqb_model.specs.laws.Keeping.{CallsKeepValid}
 use Rattle.mqb_model.specs.managers.Manager.{Condition, Down, Manager, Up, doubt_of, is_down, linked_peer}
 use Rattle.mqb_model.specs.managers.Outcomes.{Outcome, recording, succeeded, unless}
 use Rattle.mqb_model.specs.managers.Valid.{BearMarks, IsLinkedWell, IsSessionOf, IsUnsent, IsValidManager, IsWritable, MarksRise, MayBear, express_placed, express_waiting}
@@ -31,7 +30,7 @@ use Rattle.mqb_model.specs.state.Resolving.{peer_known}
 use Rattle.mqb_model.specs.state.State.{State}
 use Rattle.mqb_model.specs.state.Valid.{IsCarried}
 use Rattle.mqb_model.proofs.Adding.{added_peer_is_valid, made_queue_is_valid}
-use Rattle.mqb_model.proofs.Fitting.{records_fit}
+use Rattle.mqb_model.proofs.Fitting.{some_fit}
 use Rattle.mqb_model.proofs.Linking.{bear, may_bear}
 use Rattle.mqb_model.proofs.Standing.{refused_is_same, rolled_is_valid, stays}
 
@@ -42,12 +41,12 @@ unless_valid m (Some fault) outcome v h = subst IsValidManager (sym (refused_is_
 unless_valid m None outcome v h = h refl
 
 -- a manager that is up has no record in doubt
-no_doubt : (c : Condition) (P : Record → Type 0) → (elim c [ Up ↦ false | Down doubt ↦ true ]) ≡ false → IfSome (doubt_of c) P
+pub no_doubt : (c : Condition) (P : Record → Type 0) → (elim c [ Up ↦ false | Down doubt ↦ true ]) ≡ false → IfSome (doubt_of c) P
 no_doubt Up P e = tt
 no_doubt (Down doubt) P e = absurd (let none : ⊥ = cc in none)
 
 -- a call that is not refused is of a manager that is up
-up_where : {E : Type 0} (down : Bool) (why : E) (o : Option E) → cond down (Some why) o ≡ None → down ≡ false
+pub up_where : {E : Type 0} (down : Bool) (why : E) (o : Option E) → cond down (Some why) o ≡ None → down ≡ false
 up_where true why o e = absurd (let none : ⊥ = cc in none)
 up_where false why o e = refl
 
@@ -232,11 +231,17 @@ added m peer named f up v = record {
     waiting : express_waiting (with_peer m.state peer) ≡ express_waiting m.state
     waiting = waiting_stay m.state.plain
 
-pub calls_keep_valid : CallsKeepValid
-calls_keep_valid m v = record {
+-- A valid manager stays valid by these calls.
+pub record SomeKeepValid (m : Manager) : Type 0 where
+  pub peers : (peer : Identity) → IsName peer.host → IsValidManager (succeeded m (add_peer m peer))
+  pub queues : (plan : QueuePlan) → IsValidManager (succeeded m (create_queue m plan))
+  pub rolls : (count : ℕ) → is_roll count ≡ true → IsValidManager (succeeded m (set_roll m count))
+
+pub some_keep_valid : (m : Manager) → IsValidManager m → SomeKeepValid m
+some_keep_valid m v = record {
   peers = λ peer named. unless_valid m (add_peer_refusal m peer) (recording m (entry.Peer peer) (Ok (length m.state.peers))) v
-      (λ e. added m peer named (fits_where m (add_peer_refusal m peer) (entry.Peer peer) (Ok (length m.state.peers)) e ((records_fit m).peers peer)) (up_where (is_down m) _ _ e) v);
+      (λ e. added m peer named (fits_where m (add_peer_refusal m peer) (entry.Peer peer) (Ok (length m.state.peers)) e ((some_fit m).peers peer)) (up_where (is_down m) _ _ e) v);
   queues = λ plan. unless_valid m (create_refusal m plan) (recording m (entry.CreateQueue (next_queue m.state) plan) (Ok (next_queue m.state))) v
-      (λ e. made m (next_queue m.state) plan (fits_where m (create_refusal m plan) (entry.CreateQueue (next_queue m.state) plan) (Ok (next_queue m.state)) e ((records_fit m).queues plan)) (up_where (is_down m) _ _ e) v);
+      (λ e. made m (next_queue m.state) plan (fits_where m (create_refusal m plan) (entry.CreateQueue (next_queue m.state) plan) (Ok (next_queue m.state)) e ((some_fit m).queues plan)) (up_where (is_down m) _ _ e) v);
   rolls = λ count f. unless_valid m (store_refusal m) (recording m (entry.Roll count) (Ok tt)) v (λ e. rolled m count f (up_where (is_down m) _ _ e) v);
 }

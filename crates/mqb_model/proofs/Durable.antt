@@ -18,7 +18,7 @@ use Rattle.mqb_model.specs.records.Peer.{is_taken_by}
 use Rattle.mqb_model.specs.state.Durable.{durable, durable_plain, durable_queue}
 use Rattle.mqb_model.specs.state.Places.{is_express}
 use Rattle.mqb_model.specs.state.State.{State}
-use Rattle.mqb_model.specs.state.Valid.{AreNew, IsCarried, IsOwn, kept_messages, placed_messages, recoverable_messages, taken_among}
+use Rattle.mqb_model.specs.state.Valid.{AreNew, IsCarried, IsOwn, IsValidState, kept_messages, placed_messages, recoverable_messages, taken_among}
 
 -- a test of members that were mapped
 any_mapped : {X Y : Type 0} (test : Y → Bool) (f : X → Y) (xs : List X) → list_any test (map f xs) ≡ list_any (λ x. test (f x)) xs
@@ -72,6 +72,42 @@ durable_is_valid s v = record {
   roll = v.roll;
   own = subst (λ ms. All (IsOwn s.identity.guid s.next_number) (kept_messages s ++ ms)) (sym plain) v.own;
   ids_differ = subst (λ ms. AllPairs (λ a b. same_id a.id b.id ≡ false) (kept_messages s ++ ms)) (sym plain) v.ids_differ;
+}
+  where
+    plain : recoverable_messages (durable s) ≡ recoverable_messages s
+    plain = recoverable_stay s.plain
+
+-- A state is valid where what its store stands for is.
+
+new_before : (before qs : List Queue) → AreNew taken_among (map durable_queue before) (map durable_queue qs) → AreNew taken_among before qs
+new_before before [] h = tt
+new_before before (q ∷ qs) h = (
+  sym (taken_mapped before q) ∙ h.0,
+  new_before (before ++ q ∷ []) qs (subst (λ b. AreNew taken_among b (map durable_queue qs)) (sym (map-append durable_queue before (q ∷ []))) h.1),
+)
+
+pub stands_for_valid : (s : State) → IsValidState (durable s) → IsValidState s
+stands_for_valid s v = record {
+  few_peers = v.few_peers;
+  few_queues = subst (λ n. n ≤ MAX_QUEUES) (length-map s.places.queues durable_queue) v.few_queues;
+  peers_differ = v.peers_differ;
+  queues_differ = new_before [] s.places.queues v.queues_differ;
+  plain_lists = sym (length-map s.plain durable_plain) ∙ v.plain_lists;
+  hosts = v.hosts;
+  ordinals_rise = v.ordinals_rise;
+  ordinals_given = v.ordinals_given;
+  rows = v.rows;
+  sources_differ = v.sources_differ;
+  kept = v.kept;
+  plain = subst (λ ms. All (IsCarried headers.Session) ms) plain v.plain;
+  placed = subst (λ ms. All (IsCarried headers.Bare) ms) (placed_stay s) v.placed;
+  recoverable = subst (λ ms. All (λ m. is_recoverable m.delivery ≡ true) ms) plain v.recoverable;
+  durable = subst (λ ms. All (λ m. is_express m.delivery ≡ false) ms) (placed_stay s) v.durable;
+  next_number = v.next_number;
+  next_ordinal = v.next_ordinal;
+  roll = v.roll;
+  own = subst (λ ms. All (IsOwn s.identity.guid s.next_number) (kept_messages s ++ ms)) plain v.own;
+  ids_differ = subst (λ ms. AllPairs (λ a b. same_id a.id b.id ≡ false) (kept_messages s ++ ms)) plain v.ids_differ;
 }
   where
     plain : recoverable_messages (durable s) ≡ recoverable_messages s

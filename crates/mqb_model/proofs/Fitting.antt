@@ -9,6 +9,7 @@ use Rattle.mqb_base.specs.declared.ids.Identity.{Identity}
 use Rattle.mqb_base.specs.declared.message.Message.{Message}
 use Rattle.mqb_packet.specs.declared.packet.Headers.TheVariants as headers
 use Rattle.mqb_base.specs.declared.queues.EntryPlace.{EntryPlace}
+use Rattle.mqb_base.specs.declared.queues.Place.{Place}
 use Rattle.mqb_base.specs.declared.queues.QueuePlan.{QueuePlan}
 use Rattle.mqb_queue.specs.Lists.{Lists}
 use Rattle.mqb_queue.specs.Places.{lists_at, place_named}
@@ -16,10 +17,10 @@ use Rattle.mqb_model.specs.calls.AddPeer.{add_peer}
 use Rattle.mqb_model.specs.calls.CreateQueue.{create_queue}
 use Rattle.mqb_model.specs.calls.Messages.{plain_message}
 use Rattle.mqb_model.specs.calls.Send.{plain_entry, send, send_refusal, target_fault}
-use Rattle.mqb_model.specs.calls.Purge.{purge_at, purge_refusal, purging}
-use Rattle.mqb_model.specs.calls.Take.{take_at, take_refusal}
-use Rattle.mqb_model.specs.calls.SetRoll.{store_refusal}
-use Rattle.mqb_model.specs.calls.Tick.{ticking}
+use Rattle.mqb_model.specs.calls.Purge.{purge, purge_at, purge_refusal, purging}
+use Rattle.mqb_model.specs.calls.Take.{take_at, take_message, take_refusal}
+use Rattle.mqb_model.specs.calls.SetRoll.{set_roll, store_refusal}
+use Rattle.mqb_model.specs.calls.Tick.{tick, ticking}
 use Rattle.mqb_model.specs.declared.faults.AddPeerFault.TheVariants as peer_fault
 use Rattle.mqb_model.specs.declared.faults.CreateFault.TheVariants as create_fault
 use Rattle.mqb_model.specs.declared.faults.PurgeFault.TheVariants as purge_fault
@@ -34,10 +35,10 @@ use Rattle.mqb_model.specs.records.Packets.{is_too_large, packet_to}
 use Rattle.mqb_model.specs.records.Plain.{plain_fits}
 use Rattle.mqb_model.specs.state.Resolving.{guid_at, is_found, resolved}
 use Rattle.mqb_model.specs.state.State.{State}
-use Rattle.mqb_model.specs.laws.Fitting.{IsFitting, RecordsFit}
+use Rattle.mqb_model.specs.laws.Fitting.{IsFitting}
 use Rattle.mqb_model.specs.managers.Manager.{Manager, is_down}
 use Rattle.mqb_model.specs.managers.Outcomes.{Outcome, answering, changing, recording, unless}
-use Rattle.mqb_model.specs.records.Applying.{fits}
+use Rattle.mqb_model.specs.records.Applying.{fits, is_roll}
 use Rattle.mqb_model.specs.records.Peer.{next_queue, peer_there, queue_there}
 use Rattle.mqb_model.specs.records.Record as entry
 use Rattle.mqb_model.specs.rules.Timeouts.{durable_due}
@@ -160,8 +161,18 @@ place_taken : (m : Manager) (now : ℕ) (o : Option EntryPlace) → IsFitting m 
 place_taken m now None = tt
 place_taken m now (Some at) = taking_fits m now at
 
-pub records_fit : RecordsFit
-records_fit m = record {
+-- The records of these calls of any manager fit.
+pub record SomeFit (m : Manager) : Type 0 where
+  pub peers : (peer : Identity) → IsFitting m (add_peer m peer)
+  pub queues : (given : QueuePlan) → IsFitting m (create_queue m given)
+  pub rolls : (count : ℕ) → is_roll count ≡ true → IsFitting m (set_roll m count)
+  pub sends : (p : Parts) (recoverable : Bool) (now : ℕ) → IsFitting m (send m p recoverable now)
+  pub takes : (p : Place) (now : ℕ) → IsFitting m (take_message m p now)
+  pub purges : (p : Place) (now : ℕ) → IsFitting m (purge m p now)
+  pub ticks : (now : ℕ) → IsFitting m (tick m now)
+
+pub some_fit : (m : Manager) → SomeFit m
+some_fit m = record {
   peers = peer_goes m;
   queues = queue_goes m;
   rolls = λ count h. unless_fits m (store_refusal m) (recording m (entry.Roll count) (Ok tt)) h;

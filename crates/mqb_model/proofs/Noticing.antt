@@ -48,7 +48,7 @@ small : (size limit : ℕ) → size ≤ limit → nat_lt limit size ≡ false
 small size limit h = grind (arith, nat_tests)
 
 -- a notice can be carried in a session
-notice_small : (m : Message) (class : Class) (kind : Delivery) (to : QueueName) (id : MessageId) (now : ℕ) → IsQueueName to
+pub notice_small : (m : Message) (class : Class) (kind : Delivery) (to : QueueName) (id : MessageId) (now : ℕ) → IsQueueName to
     → is_too_large headers.Session (notice_about m class kind to id now) ≡ false
 notice_small m class kind to id now h = let most = wire_most to h in
     let names : length (user_names (notice_about m class kind to id now)) ≡ length (wire to) = ap length (append_nothing (wire to ++ []) ∙ append_nothing (wire to)) in

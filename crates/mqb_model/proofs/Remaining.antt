@@ -211,7 +211,7 @@ with_lists_are p place.Dead l h d = record { queues = h.queues; dead = d; dead_x
 with_lists_are p place.DeadXact l h d = record { queues = h.queues; dead = h.dead; dead_xact = d; journal = h.journal }
 with_lists_are p place.Journal l h d = record { queues = h.queues; dead = h.dead; dead_xact = h.dead_xact; journal = d }
 
-numbered_get : {X : Type 0} (xs : List X) (n : ℕ) (x : X) → numbered xs n ≡ Some x → slice_get xs (n - 1) ≡ Some x
+pub numbered_get : {X : Type 0} (xs : List X) (n : ℕ) (x : X) → numbered xs n ≡ Some x → slice_get xs (n - 1) ≡ Some x
 numbered_get xs n x e = at (n == 0) e
   where
     at : (b : Bool) → cond b None (slice_get xs (n - 1)) ≡ Some x → slice_get xs (n - 1) ≡ Some x
@@ -226,7 +226,7 @@ plans_stay qs n change keeps = at (numbered qs n) refl
     at None e = refl
     at (Some q) e = set_same plan_of qs (n - 1) q (change q) (numbered_get qs n q e) (keeps q)
 
-with_lists_plans : (p : Places) (at : EntryPlace) (l : Lists) → map plan_of (with_lists p at l).queues ≡ map plan_of p.queues
+pub with_lists_plans : (p : Places) (at : EntryPlace) (l : Lists) → map plan_of (with_lists p at l).queues ≡ map plan_of p.queues
 with_lists_plans p (place.Queue n) l = plans_stay p.queues n (λ q. record q { lists = l }) (λ q. refl)
 with_lists_plans p (place.JournalOf n) l = plans_stay p.queues n (λ q. record q { journal = l }) (λ q. refl)
 with_lists_plans p place.Dead l = refl

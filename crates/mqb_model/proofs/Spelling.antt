@@ -45,6 +45,8 @@ use Rattle.mqb_model.specs.rules.Sequences.{may_join, sequence_for}
 use Rattle.mqb_model.specs.rules.Takes.{message_at}
 use Rattle.mqb_model.specs.rules.Timeouts.{durable_due}
 use Rattle.mqb_model.specs.state.Resolving.{queue_named, resolved}
+use Rattle.mqb_model.proofs.Heard.{hear_sound}
+use Rattle.mqb_model.proofs.Pumping.{pump_sound}
 
 unless_spelled : {V E : Type 0} (m : Manager) (refusal : Option E) (outcome : Outcome (Result V E)) → IsSpelled outcome → IsSpelled (unless m refusal outcome)
 unless_spelled m (Some fault) outcome h = tt
@@ -180,4 +182,6 @@ records_are_spelled m = record {
       (spelled_or (purge_at m now) (place_named m.state.places.queues p) (answering m (Err purge_fault.NoQueue))
       (λ at. spelled_or (purging m now at) (lists_at m.state.places at) (answering m (Err purge_fault.NoQueue)) (λ l. either_spelled (length l.durable == 0) (entry.Purged now at) tt) tt) tt);
   ticks = λ now. unless_spelled m (store_refusal m) (ticking m now) (either_spelled (durable_due m.state now == 0) (entry.Ticked now) tt);
+  hears = λ v p now r. (hear_sound m p now v r).spelled;
+  pumps = λ v now. (pump_sound m now v).spelled;
 }

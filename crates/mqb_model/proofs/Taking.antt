@@ -26,18 +26,18 @@ use Rattle.mqb_model.proofs.Members.{split_and}
 -- The free message of the greatest priority.
 
 -- the greatest priority, from this one on
-abbrev top_from : (Message → Bool) → ℕ → List Message → ℕ
+abbrev pub top_from : (Message → Bool) → ℕ → List Message → ℕ
 top_from free low held = fold max low (map (λ m. m.priority) (filter free held))
 
 -- a free message that none is above
-abbrev HasTop : (Message → Bool) → ℕ → List Message → Type 0
+abbrev pub HasTop : (Message → Bool) → ℕ → List Message → Type 0
 HasTop free top held = (k : ℕ) × (m : Message) × (slice_get held k ≡ Some m) × (free m ≡ true) × (top ≤ m.priority)
 
 behind : (free : Message → Bool) (top : ℕ) (m : Message) (held : List Message) → HasTop free top held → HasTop free top (m ∷ held)
 behind free top m held h = (suc h.0, h.1, h.2, h.3, h.4)
 
 -- the greatest priority is that from which it began, or that of a free message
-tops : (free : Message → Bool) (low : ℕ) (held : List Message) → (top_from free low held ≤ low) ⊎ HasTop free (top_from free low held) held
+pub tops : (free : Message → Bool) (low : ℕ) (held : List Message) → (top_from free low held ≤ low) ⊎ HasTop free (top_from free low held) held
 tops free low [] = inl (omega arith)
 tops free low (m ∷ held) = at (free m) refl (tops free low held) (tops free (max low m.priority) held)
   where

@@ -60,6 +60,8 @@ use Rattle.mqb_model.specs.rules.Timeouts.{durable_due}
 use Rattle.mqb_model.specs.state.Resolving.{queue_named, resolved}
 use Rattle.mqb_model.specs.state.State.{State}
 use Rattle.mqb_model.specs.state.Valid.{IsNamed}
+use Rattle.mqb_model.proofs.Heard.{hear_sound}
+use Rattle.mqb_model.proofs.Pumping.{pump_sound}
 use Rattle.mqb_model.proofs.Departing.{tx_bare}
 use Rattle.mqb_model.proofs.Followed.{bare_small}
 use Rattle.mqb_model.proofs.Members.{all_append}
@@ -94,16 +96,16 @@ at_most : (n limit : ℕ) → nat_lt limit n ≡ false → n ≤ limit
 at_most n limit h = grind (arith, nat_tests)
 
 -- what a message of a sender has from its parts
-record IsChosen (p : Parts) : Type 0 where
-  ack : p.ack ≤ MAX_ACK
-  journal : p.journal ≤ MAX_JOURNAL
-  label : length p.label ≤ MAX_LABEL
-  priority : p.priority ≤ MAX_PRIORITY
-  destination : IsTrue (names_queue p.destination)
-  admin : IsTrue (absent_or_queue p.admin)
-  response : IsTrue (absent_or_queue p.response)
+pub record IsChosen (p : Parts) : Type 0 where
+  pub ack : p.ack ≤ MAX_ACK
+  pub journal : p.journal ≤ MAX_JOURNAL
+  pub label : length p.label ≤ MAX_LABEL
+  pub priority : p.priority ≤ MAX_PRIORITY
+  pub destination : IsTrue (names_queue p.destination)
+  pub admin : IsTrue (absent_or_queue p.admin)
+  pub response : IsTrue (absent_or_queue p.response)
 
-chosen : (p : Parts) → IsDrafted p → IsChosen p
+pub chosen : (p : Parts) → IsDrafted p → IsChosen p
 chosen p d =
     let a = none_first (not (names_queue p.destination)) draft_fault.Destination _ d.sound in
     let b = none_first (nat_lt MAX_PRIORITY p.priority) draft_fault.Priority _ a.1 in
@@ -285,4 +287,6 @@ records_are_read m = record {
       (read_or (purge_at m now) (place_named m.state.places.queues p) (answering m (Err purge_fault.NoQueue))
       (λ at. read_or (purging m now at) (lists_at m.state.places at) (answering m (Err purge_fault.NoQueue)) (λ l. either_read (length l.durable == 0) (entry.Purged now at) tt) tt) tt);
   ticks = λ now. unless_read m (store_refusal m) (ticking m now) (either_read (durable_due m.state now == 0) (entry.Ticked now) tt);
+  hears = λ v p now r. (hear_sound m p now v r).written.read;
+  pumps = λ v now. (pump_sound m now v).written.read;
 }

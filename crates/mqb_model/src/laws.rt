@@ -85,7 +85,7 @@ pub fn unread_is_valid()
     ensures { UnreadIsValid }
 {}
 
-/// The records of added peers, queues, counts, sends, takes, purges and ticks fit.
+/// A record that a call makes fits: of a valid manager that of each call, and of any manager those of all but `hear` and `pump`.
 pub fn records_fit()
     ensures { RecordsFit }
 {}
@@ -120,17 +120,17 @@ pub fn kept_is_valid()
     ensures { KeptIsValid }
 {}
 
-/// A valid manager stays valid by the calls that add a peer or a queue or set the count.
+/// A valid manager stays valid by each call, whether it goes well or is refused.
 pub fn calls_keep_valid()
     ensures { CallsKeepValid }
 {}
 
-/// The records of added peers, queues, counts, commits, sends, takes, purges and ticks have a spelling.
+/// A record that a call makes has a spelling.
 pub fn records_are_spelled()
     ensures { RecordsAreSpelled }
 {}
 
-/// The records of added peers, queues, counts, commits, sends, takes, purges and ticks tell of what can be carried.
+/// A record that a call makes tells of what can be carried.
 pub fn records_are_read()
     ensures { RecordsAreRead }
 {}

@@ -8,6 +8,7 @@ use Rattle.mqb_base.specs.declared.ids.Identity.{Identity}
 use Rattle.mqb_base.specs.declared.queues.Place.{Place}
 use Rattle.mqb_base.specs.declared.queues.QueuePlan.{QueuePlan}
 use Rattle.mqb_names.specs.Values.{IsName, IsQueueName}
+use Rattle.mqb_packet.specs.declared.packet.Packet.{Packet}
 use Rattle.mqb_model.specs.calls.AddPeer.{add_peer}
 use Rattle.mqb_model.specs.calls.Commit.{commit}
 use Rattle.mqb_model.specs.calls.CreateQueue.{create_queue}
@@ -16,8 +17,11 @@ use Rattle.mqb_model.specs.calls.Send.{send}
 use Rattle.mqb_model.specs.calls.SetRoll.{set_roll}
 use Rattle.mqb_model.specs.calls.Take.{take_message}
 use Rattle.mqb_model.specs.calls.Tick.{tick}
+use Rattle.mqb_model.specs.calls.hear.Hear.{IsReadable, hear}
+use Rattle.mqb_model.specs.calls.pump.Pump.{pump}
 use Rattle.mqb_model.specs.managers.Manager.{Manager}
 use Rattle.mqb_model.specs.managers.Outcomes.{Outcome}
+use Rattle.mqb_model.specs.managers.Valid.{IsValidManager}
 use Rattle.mqb_model.specs.records.Applying.{fits, is_roll}
 use Rattle.mqb_model.specs.records.Carrying.{IsRead}
 use Rattle.mqb_model.specs.records.Counting.{IsSpellable}
@@ -26,8 +30,8 @@ use Rattle.mqb_model.specs.records.Counting.{IsSpellable}
 abbrev pub IsFitting : {A : Type 0} → Manager → Outcome A → Type 0
 IsFitting m outcome = IfSome outcome.entry (λ r. fits m.state r ≡ true)
 
--- The records of these calls do.
-pub record SomeRecordsFit (m : Manager) : Type 0 where
+-- The records of all calls do: of a valid manager that of each, and of any manager those of all but hear and pump.
+pub record RecordsOf (m : Manager) : Type 0 where
   pub peers : (peer : Identity) → IsFitting m (add_peer m peer)
   pub queues : (given : QueuePlan) → IsFitting m (create_queue m given)
   pub rolls : (count : ℕ) → is_roll count ≡ true → IsFitting m (set_roll m count)
@@ -35,17 +39,19 @@ pub record SomeRecordsFit (m : Manager) : Type 0 where
   pub takes : (p : Place) (now : ℕ) → IsFitting m (take_message m p now)
   pub purges : (p : Place) (now : ℕ) → IsFitting m (purge m p now)
   pub ticks : (now : ℕ) → IsFitting m (tick m now)
+  pub hears : IsValidManager m → (p : Packet) (now : ℕ) → IsReadable p → IsFitting m (hear m p now)
+  pub pumps : IsValidManager m → (now : ℕ) → IsFitting m (pump m now)
 
 -- of every manager
 abbrev pub RecordsFit : Type 0
-RecordsFit = (m : Manager) → SomeRecordsFit m
+RecordsFit = (m : Manager) → RecordsOf m
 
 -- the record of a call has a spelling, where there is one
 abbrev pub IsSpelled : {A : Type 0} → Outcome A → Type 0
 IsSpelled outcome = IfSome outcome.entry IsSpellable
 
--- The records of these calls have.
-pub record SomeRecordsAreSpelled (m : Manager) : Type 0 where
+-- The records of all calls have.
+pub record SpelledRecords (m : Manager) : Type 0 where
   pub peers : (peer : Identity) → IsSpelled (add_peer m peer)
   pub queues : (given : QueuePlan) → IsSpelled (create_queue m given)
   pub rolls : (count : ℕ) → is_roll count ≡ true → IsSpelled (set_roll m count)
@@ -54,10 +60,12 @@ pub record SomeRecordsAreSpelled (m : Manager) : Type 0 where
   pub takes : (p : Place) (now : ℕ) → IsSpelled (take_message m p now)
   pub purges : (p : Place) (now : ℕ) → IsSpelled (purge m p now)
   pub ticks : (now : ℕ) → IsSpelled (tick m now)
+  pub hears : IsValidManager m → (p : Packet) (now : ℕ) → IsReadable p → IsSpelled (hear m p now)
+  pub pumps : IsValidManager m → (now : ℕ) → IsSpelled (pump m now)
 
 -- of every manager
 abbrev pub RecordsAreSpelled : Type 0
-RecordsAreSpelled = (m : Manager) → SomeRecordsAreSpelled m
+RecordsAreSpelled = (m : Manager) → SpelledRecords m
 
 -- what a sender chooses makes a message, and its names are names
 pub record IsDrafted (p : Parts) : Type 0 where
@@ -75,8 +83,8 @@ IsDraftedOp (asked.Take name) = Unit {0}
 abbrev pub IsAsRead : {A : Type 0} → Outcome A → Type 0
 IsAsRead outcome = IfSome outcome.entry IsRead
 
--- The records of these calls are.
-pub record SomeRecordsAreRead (m : Manager) : Type 0 where
+-- The records of all calls are.
+pub record ReadRecords (m : Manager) : Type 0 where
   pub peers : (peer : Identity) → IsName peer.host → IsAsRead (add_peer m peer)
   pub queues : (given : QueuePlan) → IsAsRead (create_queue m given)
   pub rolls : (count : ℕ) → IsAsRead (set_roll m count)
@@ -85,7 +93,9 @@ pub record SomeRecordsAreRead (m : Manager) : Type 0 where
   pub takes : (p : Place) (now : ℕ) → IsAsRead (take_message m p now)
   pub purges : (p : Place) (now : ℕ) → IsAsRead (purge m p now)
   pub ticks : (now : ℕ) → IsAsRead (tick m now)
+  pub hears : IsValidManager m → (p : Packet) (now : ℕ) → IsReadable p → IsAsRead (hear m p now)
+  pub pumps : IsValidManager m → (now : ℕ) → IsAsRead (pump m now)
 
 -- of every manager
 abbrev pub RecordsAreRead : Type 0
-RecordsAreRead = (m : Manager) → SomeRecordsAreRead m
+RecordsAreRead = (m : Manager) → ReadRecords m

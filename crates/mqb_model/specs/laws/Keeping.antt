@@ -1,17 +1,27 @@
 -- A valid state stays valid by a record that fits.
-use Rattle.std.specs.Prelude.{◌≡◌, All, List, true, ℕ}
+use Rattle.std.specs.Prelude.{◌≡◌, All, Bool, List, true, ℕ}
+use Rattle.mqb_base.specs.declared.draft.Parts.{Parts}
 use Rattle.mqb_base.specs.declared.ids.Identity.{Identity}
 use Rattle.mqb_base.specs.declared.ids.MessageId.{MessageId}
 use Rattle.mqb_base.specs.declared.queues.EntryPlace.{EntryPlace}
+use Rattle.mqb_base.specs.declared.queues.Place.{Place}
 use Rattle.mqb_base.specs.declared.queues.QueuePlan.{QueuePlan}
 use Rattle.mqb_entries.specs.declared.members.Mark.{Mark}
 use Rattle.mqb_names.specs.Values.{IsName}
+use Rattle.mqb_packet.specs.declared.packet.Packet.{Packet}
 use Rattle.mqb_packet.specs.declared.packet.UserPacket.{UserPacket}
 use Rattle.mqb_model.specs.calls.AddPeer.{add_peer}
 use Rattle.mqb_model.specs.calls.CreateQueue.{create_queue}
 use Rattle.mqb_model.specs.calls.Link.{link}
+use Rattle.mqb_model.specs.calls.Purge.{purge}
+use Rattle.mqb_model.specs.calls.Send.{send}
 use Rattle.mqb_model.specs.calls.SetRoll.{set_roll}
+use Rattle.mqb_model.specs.calls.Take.{take_message}
+use Rattle.mqb_model.specs.calls.Tick.{tick}
+use Rattle.mqb_model.specs.calls.hear.Hear.{IsReadable, hear}
+use Rattle.mqb_model.specs.calls.pump.Pump.{pump}
 use Rattle.mqb_model.specs.declared.answers.Role.{Role}
+use Rattle.mqb_model.specs.laws.Fitting.{IsDrafted}
 use Rattle.mqb_model.specs.managers.Manager.{Manager}
 use Rattle.mqb_model.specs.managers.Outcomes.{succeeded}
 use Rattle.mqb_model.specs.managers.Restarts.{restarted}
@@ -78,12 +88,18 @@ AppliedIsValid = (s : State) (r : Record) → IsValidState s → IsRead r → fi
 abbrev pub KeptIsValid : Type 0
 KeptIsValid = (m : Manager) → IsValidManager m → IsValidManager (restarted m true)
 
--- A manager stays valid by these calls, whether they go well or are refused.
-pub record SomeCallsKeepValid (m : Manager) : Type 0 where
+-- A manager stays valid by each call, whether it goes well or is refused.
+pub record EachKeepsValid (m : Manager) : Type 0 where
   pub peers : (peer : Identity) → IsName peer.host → IsValidManager (succeeded m (add_peer m peer))
   pub queues : (plan : QueuePlan) → IsValidManager (succeeded m (create_queue m plan))
   pub rolls : (count : ℕ) → is_roll count ≡ true → IsValidManager (succeeded m (set_roll m count))
+  pub sends : (p : Parts) (recoverable : Bool) (now : ℕ) → IsDrafted p → IsValidManager (succeeded m (send m p recoverable now))
+  pub takes : (p : Place) (now : ℕ) → IsValidManager (succeeded m (take_message m p now))
+  pub purges : (p : Place) (now : ℕ) → IsValidManager (succeeded m (purge m p now))
+  pub ticks : (now : ℕ) → IsValidManager (succeeded m (tick m now))
+  pub hears : (p : Packet) (now : ℕ) → IsReadable p → IsValidManager (succeeded m (hear m p now))
+  pub pumps : (now : ℕ) → IsValidManager (succeeded m (pump m now))
 
 -- each valid one does
 abbrev pub CallsKeepValid : Type 0
-CallsKeepValid = (m : Manager) → IsValidManager m → SomeCallsKeepValid m
+CallsKeepValid = (m : Manager) → IsValidManager m → EachKeepsValid m

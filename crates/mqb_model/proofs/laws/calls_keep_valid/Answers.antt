@@ -1,4 +1,4 @@
-use Rattle.mqb_model.proofs.Calling as law
+use Rattle.mqb_model.proofs.Calls as law
 use Rattle.mqb_model.proofs.laws.calls_keep_valid.Goals as goal
 
 pub returns : goal.returns

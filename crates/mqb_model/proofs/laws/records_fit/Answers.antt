@@ -1,4 +1,4 @@
-use Rattle.mqb_model.proofs.Fitting as law
+use Rattle.mqb_model.proofs.Calls as law
 use Rattle.mqb_model.proofs.laws.records_fit.Goals as goal
 
 pub returns : goal.returns

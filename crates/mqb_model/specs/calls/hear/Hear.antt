@@ -1,7 +1,10 @@
 -- The call hear: the first rule that fits decides.
 use Rattle.std.specs.Option.{option_map_or}
-use Rattle.std.specs.Prelude.{Bool, Err, None, Option, Some, false, if◌then◌else◌, is_some, true, ℕ}
+use Rattle.std.specs.Prelude.{◌≤◌, Bool, Err, None, Option, Some, false, if◌then◌else◌, is_some, true, ℕ}
 use Rattle.mqb_base.specs.declared.heard.Heard.TheVariants as heard
+use Rattle.mqb_heads.specs.declared.base.TheConstants.{MAX_PACKET}
+use Rattle.mqb_packet.specs.Plain.{IsWellFormedPacket, packet_size}
+use Rattle.mqb_packet.specs.Values.{IsPacket}
 use Rattle.mqb_packet.specs.declared.packet.Packet.{Packet}
 use Rattle.mqb_packet.specs.declared.packet.Packet.TheVariants as packet
 use Rattle.mqb_packet.specs.declared.packet.UserPacket.{UserPacket}
@@ -18,6 +21,12 @@ use Rattle.mqb_model.specs.managers.Manager.{Manager, is_down}
 use Rattle.mqb_model.specs.managers.Outcomes.{answering, unless}
 use Rattle.mqb_model.specs.records.Record.{Nothing}
 use Rattle.mqb_model.specs.state.Resolving.{peer_known}
+
+-- A packet that can be heard, as each does that was read: it could be written, its numbers fit their types, and it is not longer than a packet can be.
+pub record IsReadable (p : Packet) : Type 0 where
+  pub well_formed : IsWellFormedPacket p
+  pub values : IsPacket p
+  pub size : packet_size p ≤ MAX_PACKET
 
 -- what a user packet carries is heard
 abbrev pub hear_user : Listening → Bool → UserPacket → HeardOutcome
