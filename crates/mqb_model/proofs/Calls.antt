@@ -6,13 +6,15 @@ use Rattle.mqb_model.proofs.Fitting.{some_fit}
 use Rattle.mqb_model.proofs.Heard.{hear_sound}
 use Rattle.mqb_model.proofs.Pumping.{pump_sound}
 use Rattle.mqb_model.proofs.Telling.{records_are_read}
-use Rattle.mqb_model.proofs.Working.{purge_valid, send_valid, take_valid, tick_valid}
+use Rattle.mqb_model.proofs.Transacting.{commit_goes}
+use Rattle.mqb_model.proofs.Working.{commit_valid, purge_valid, send_valid, take_valid, tick_valid}
 
 pub records_fit : RecordsFit
 records_fit m = let some = some_fit m in record {
   peers = some.peers;
   queues = some.queues;
   rolls = some.rolls;
+  commits = commit_goes m;
   sends = some.sends;
   takes = some.takes;
   purges = some.purges;
@@ -26,6 +28,7 @@ calls_keep_valid m v = let some = some_keep_valid m v in let fit = records_fit m
   peers = some.peers;
   queues = some.queues;
   rolls = some.rolls;
+  commits = λ ops now d. commit_valid m ops now v (record { fits = fit.commits ops now; read = read.commits ops now d });
   sends = λ p recoverable now d. send_valid m p recoverable now d v (record { fits = fit.sends p recoverable now; read = read.sends p recoverable now d });
   takes = λ p now. take_valid m p now v (record { fits = fit.takes p now; read = read.takes p now });
   purges = λ p now. purge_valid m p now v (record { fits = fit.purges p now; read = read.purges p now });

@@ -47,3 +47,6 @@ mod Heard
 mod Calls
 mod Offers
 mod Pumping
+mod Cores
+mod Trying
+mod Transacting

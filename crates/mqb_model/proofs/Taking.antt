@@ -72,7 +72,7 @@ first_there free held k m e f = by (tops free 0 held)
     by (inr h) = position_there passes held h.0 h.1 h.2 (both h.1 h.3 h.4)
 
 -- A message that is first is free.
-first_free : (free : Message → Bool) (held : List Message) (k : ℕ) (m : Message) → first_index free held ≡ Some k → slice_get held k ≡ Some m → free m ≡ true
+pub first_free : (free : Message → Bool) (held : List Message) (k : ℕ) (m : Message) → first_index free held ≡ Some k → slice_get held k ≡ Some m → free m ≡ true
 first_free free held k m found there = (split_and (free m) (nat_le (top_priority free held) m.priority)
     (subst (λ o. (free o && nat_le (top_priority free held) o.priority) ≡ true) (get_or_from_slice_get held k m m there)
     (position-Some (λ m. free m && nat_le (top_priority free held) m.priority) held k m found).1)).0

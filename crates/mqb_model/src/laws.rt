@@ -85,7 +85,7 @@ pub fn unread_is_valid()
     ensures { UnreadIsValid }
 {}
 
-/// A record that a call makes fits: of a valid manager that of each call, and of any manager those of all but `hear` and `pump`.
+/// A record that a call makes fits. Of `hear` and `pump` that is said of a valid manager, and of the others of any.
 pub fn records_fit()
     ensures { RecordsFit }
 {}

@@ -30,11 +30,12 @@ use Rattle.mqb_model.specs.records.Counting.{IsSpellable}
 abbrev pub IsFitting : {A : Type 0} → Manager → Outcome A → Type 0
 IsFitting m outcome = IfSome outcome.entry (λ r. fits m.state r ≡ true)
 
--- The records of all calls do: of a valid manager that of each, and of any manager those of all but hear and pump.
+-- The records of all calls do: those of hear and pump where the manager is valid.
 pub record RecordsOf (m : Manager) : Type 0 where
   pub peers : (peer : Identity) → IsFitting m (add_peer m peer)
   pub queues : (given : QueuePlan) → IsFitting m (create_queue m given)
   pub rolls : (count : ℕ) → is_roll count ≡ true → IsFitting m (set_roll m count)
+  pub commits : (ops : List Op) (now : ℕ) → IsFitting m (commit m ops now)
   pub sends : (p : Parts) (recoverable : Bool) (now : ℕ) → IsFitting m (send m p recoverable now)
   pub takes : (p : Place) (now : ℕ) → IsFitting m (take_message m p now)
   pub purges : (p : Place) (now : ℕ) → IsFitting m (purge m p now)

@@ -1,5 +1,6 @@
 -- A valid state stays valid by a record that fits.
 use Rattle.std.specs.Prelude.{◌≡◌, All, Bool, List, true, ℕ}
+use Rattle.mqb_base.specs.declared.draft.Op.{Op}
 use Rattle.mqb_base.specs.declared.draft.Parts.{Parts}
 use Rattle.mqb_base.specs.declared.ids.Identity.{Identity}
 use Rattle.mqb_base.specs.declared.ids.MessageId.{MessageId}
@@ -11,6 +12,7 @@ use Rattle.mqb_names.specs.Values.{IsName}
 use Rattle.mqb_packet.specs.declared.packet.Packet.{Packet}
 use Rattle.mqb_packet.specs.declared.packet.UserPacket.{UserPacket}
 use Rattle.mqb_model.specs.calls.AddPeer.{add_peer}
+use Rattle.mqb_model.specs.calls.Commit.{commit}
 use Rattle.mqb_model.specs.calls.CreateQueue.{create_queue}
 use Rattle.mqb_model.specs.calls.Link.{link}
 use Rattle.mqb_model.specs.calls.Purge.{purge}
@@ -21,7 +23,7 @@ use Rattle.mqb_model.specs.calls.Tick.{tick}
 use Rattle.mqb_model.specs.calls.hear.Hear.{IsReadable, hear}
 use Rattle.mqb_model.specs.calls.pump.Pump.{pump}
 use Rattle.mqb_model.specs.declared.answers.Role.{Role}
-use Rattle.mqb_model.specs.laws.Fitting.{IsDrafted}
+use Rattle.mqb_model.specs.laws.Fitting.{IsDrafted, IsDraftedOp}
 use Rattle.mqb_model.specs.managers.Manager.{Manager}
 use Rattle.mqb_model.specs.managers.Outcomes.{succeeded}
 use Rattle.mqb_model.specs.managers.Restarts.{restarted}
@@ -93,6 +95,7 @@ pub record EachKeepsValid (m : Manager) : Type 0 where
   pub peers : (peer : Identity) → IsName peer.host → IsValidManager (succeeded m (add_peer m peer))
   pub queues : (plan : QueuePlan) → IsValidManager (succeeded m (create_queue m plan))
   pub rolls : (count : ℕ) → is_roll count ≡ true → IsValidManager (succeeded m (set_roll m count))
+  pub commits : (ops : List Op) (now : ℕ) → All IsDraftedOp ops → IsValidManager (succeeded m (commit m ops now))
   pub sends : (p : Parts) (recoverable : Bool) (now : ℕ) → IsDrafted p → IsValidManager (succeeded m (send m p recoverable now))
   pub takes : (p : Place) (now : ℕ) → IsValidManager (succeeded m (take_message m p now))
   pub purges : (p : Place) (now : ℕ) → IsValidManager (succeeded m (purge m p now))
