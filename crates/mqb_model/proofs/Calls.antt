@@ -1,5 +1,31 @@
--- The records of all calls fit, and a valid manager stays valid by each call.
-use Rattle.mqb_model.specs.laws.Fitting.{RecordsFit}
+-- The records of all calls fit, a valid manager stays valid by each call, and its store stands for what the record left.
+use Rattle.std.specs.Prelude.{All, Bool, Err, List, None, Ok, Option, Result, Some, length, ℕ}
+use Rattle.std.proofs.Common.{refl}
+use Rattle.mqb_base.specs.declared.draft.Op.{Op}
+use Rattle.mqb_base.specs.declared.draft.Parts.{Parts}
+use Rattle.mqb_base.specs.declared.queues.Place.{Place}
+use Rattle.mqb_model.specs.calls.AddPeer.{add_peer_refusal}
+use Rattle.mqb_model.specs.calls.Commit.{Trial, commit, commit_tried, ops_refusal, trial_of, try_ops, whole_refusal}
+use Rattle.mqb_model.specs.calls.CreateQueue.{create_refusal}
+use Rattle.mqb_model.specs.calls.Link.{link_refusal, linking}
+use Rattle.mqb_model.specs.calls.Purge.{purge}
+use Rattle.mqb_model.specs.calls.Send.{send}
+use Rattle.mqb_model.specs.calls.SetRoll.{store_refusal}
+use Rattle.mqb_model.specs.calls.Take.{take_message}
+use Rattle.mqb_model.specs.calls.Tick.{tick}
+use Rattle.mqb_model.specs.declared.answers.Role.{Role}
+use Rattle.mqb_model.specs.declared.faults.CommitFault.{CommitFault}
+use Rattle.mqb_model.specs.declared.faults.LinkFault.{LinkFault}
+use Rattle.mqb_model.specs.laws.Durable.{CallsLeaveStore, LeavesStore}
+use Rattle.mqb_model.specs.laws.Fitting.{IsDrafted, IsDraftedOp, RecordsFit}
+use Rattle.mqb_model.specs.managers.Manager.{Manager}
+use Rattle.mqb_model.specs.managers.Outcomes.{recording, unless}
+use Rattle.mqb_model.specs.managers.Valid.{IsValidManager}
+use Rattle.mqb_model.specs.records.Peer.{next_queue}
+use Rattle.mqb_model.specs.records.Record as entry
+use Rattle.mqb_model.specs.records.Record.{Record}
+use Rattle.mqb_model.proofs.Standing.{stands_for}
+use Rattle.mqb_model.proofs.Succeeding.{IsKept}
 use Rattle.mqb_model.specs.laws.Keeping.{CallsKeepValid}
 use Rattle.mqb_model.proofs.Calling.{some_keep_valid}
 use Rattle.mqb_model.proofs.Fitting.{some_fit}
@@ -7,7 +33,7 @@ use Rattle.mqb_model.proofs.Heard.{hear_sound}
 use Rattle.mqb_model.proofs.Pumping.{pump_sound}
 use Rattle.mqb_model.proofs.Telling.{records_are_read}
 use Rattle.mqb_model.proofs.Transacting.{commit_goes}
-use Rattle.mqb_model.proofs.Working.{commit_valid, purge_valid, send_valid, take_valid, tick_valid}
+use Rattle.mqb_model.proofs.Working.{commit_kept, purge_kept, send_kept, take_kept, tick_kept}
 
 pub records_fit : RecordsFit
 records_fit m = let some = some_fit m in record {
@@ -23,16 +49,68 @@ records_fit m = let some = some_fit m in record {
   pumps = λ v now. (pump_sound m now v).written.fits;
 }
 
+-- What each call with a record of its own leaves.
+pub record EachIsKept (m : Manager) : Type 0 where
+  pub commits : (ops : List Op) (now : ℕ) → All IsDraftedOp ops → IsKept m (commit m ops now)
+  pub sends : (p : Parts) (recoverable : Bool) (now : ℕ) → IsDrafted p → IsKept m (send m p recoverable now)
+  pub takes : (p : Place) (now : ℕ) → IsKept m (take_message m p now)
+  pub purges : (p : Place) (now : ℕ) → IsKept m (purge m p now)
+  pub ticks : (now : ℕ) → IsKept m (tick m now)
+
+each_is_kept : (m : Manager) → IsValidManager m → EachIsKept m
+each_is_kept m v = let fit = records_fit m in let read = records_are_read m in record {
+  commits = λ ops now d. commit_kept m ops now v (record { fits = fit.commits ops now; read = read.commits ops now d });
+  sends = λ p recoverable now d. send_kept m p recoverable now d v (record { fits = fit.sends p recoverable now; read = read.sends p recoverable now d });
+  takes = λ p now. take_kept m p now v (record { fits = fit.takes p now; read = read.takes p now });
+  purges = λ p now. purge_kept m p now v (record { fits = fit.purges p now; read = read.purges p now });
+  ticks = λ now. tick_kept m now v (record { fits = fit.ticks now; read = read.ticks now });
+}
+
 pub calls_keep_valid : CallsKeepValid
-calls_keep_valid m v = let some = some_keep_valid m v in let fit = records_fit m in let read = records_are_read m in record {
+calls_keep_valid m v = let some = some_keep_valid m v in let each = each_is_kept m v in record {
   peers = some.peers;
   queues = some.queues;
   rolls = some.rolls;
-  commits = λ ops now d. commit_valid m ops now v (record { fits = fit.commits ops now; read = read.commits ops now d });
-  sends = λ p recoverable now d. send_valid m p recoverable now d v (record { fits = fit.sends p recoverable now; read = read.sends p recoverable now d });
-  takes = λ p now. take_valid m p now v (record { fits = fit.takes p now; read = read.takes p now });
-  purges = λ p now. purge_valid m p now v (record { fits = fit.purges p now; read = read.purges p now });
-  ticks = λ now. tick_valid m now v (record { fits = fit.ticks now; read = read.ticks now });
-  hears = λ p now r. (hear_sound m p now v r).valid;
-  pumps = λ now. (pump_sound m now v).valid;
+  commits = λ ops now d. (each.commits ops now d).valid;
+  sends = λ p recoverable now d. (each.sends p recoverable now d).valid;
+  takes = λ p now. (each.takes p now).valid;
+  purges = λ p now. (each.purges p now).valid;
+  ticks = λ now. (each.ticks now).valid;
+  hears = λ p now r. (hear_sound m p now v r).kept.valid;
+  pumps = λ now. (pump_sound m now v).kept.valid;
+}
+
+-- nothing is done beside a record alone
+record_leaves : {V E : Type 0} (m : Manager) (refusal : Option E) (r : Record) (answer : Result V E) → LeavesStore m (unless m refusal (recording m r answer))
+record_leaves m (Some fault) r answer = refl
+record_leaves m None r answer = refl
+
+link_leaves : (m : Manager) (refusal : Option LinkFault) (end : Role) (window : ℕ) → LeavesStore m (unless m refusal (linking m end window))
+link_leaves m (Some fault) end window = refl
+link_leaves m None end window = refl
+
+-- a transaction does nothing beside its record
+commit_leaves : (m : Manager) (ops : List Op) (now : ℕ) → LeavesStore m (commit m ops now)
+commit_leaves m ops now = at (ops_refusal m ops) (try_ops now 0 (trial_of m.state) ops)
+  where
+    at : (refusal : Option CommitFault) (r : Result Trial CommitFault) → LeavesStore m (unless m refusal (commit_tried m now r))
+    at (Some fault) r = refl
+    at None (Err why) = refl
+    at None (Ok t) = record_leaves m (whole_refusal t) (entry.Commit now t.ops) (Ok t.done)
+
+pub calls_leave_store : CallsLeaveStore
+calls_leave_store m v = let each = each_is_kept m v in record {
+  peers = λ peer. record_leaves m (add_peer_refusal m peer) (entry.Peer peer) (Ok (length m.state.peers));
+  queues = λ plan. record_leaves m (create_refusal m plan) (entry.CreateQueue (next_queue m.state) plan) (Ok (next_queue m.state));
+  rolls = λ count. record_leaves m (store_refusal m) (entry.Roll count) (Ok tt);
+  commits = commit_leaves m;
+  sends = λ p recoverable now d. (each.sends p recoverable now d).volatile;
+  takes = λ p now. (each.takes p now).volatile;
+  purges = λ p now. (each.purges p now).volatile;
+  ticks = λ now. (each.ticks now).volatile;
+  links = λ end window. link_leaves m (link_refusal m end window) end window;
+  unlinks = stands_for m.state;
+  resends = refl;
+  hears = λ p now r. (hear_sound m p now v r).kept.volatile;
+  pumps = λ now. (pump_sound m now v).kept.volatile;
 }

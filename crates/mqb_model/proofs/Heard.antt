@@ -39,7 +39,7 @@ use Rattle.mqb_model.proofs.Hearing.{IsGiven, IsSound, Listens, nothing_sound, s
 use Rattle.mqb_model.proofs.Members.{split_and}
 use Rattle.mqb_model.proofs.Names.{same_guid_is}
 use Rattle.mqb_model.proofs.Sessions.{HeardWith, IsKnown, Links, closed_linked, establish_linked, head_linked, parameters_linked}
-use Rattle.mqb_model.proofs.Succeeding.{valid_accords, well_valid}
+use Rattle.mqb_model.proofs.Succeeding.{valid_accords, well_kept}
 
 pub unless_sound : {V E : Type 0} (m : Manager) (refusal : Option E) (outcome : Outcome (Result V E)) → IsValidManager m → (refusal ≡ None → IsSound m outcome)
     → IsSound m (unless m refusal outcome)
@@ -75,7 +75,7 @@ module _ (m : Manager) (v : IsValidManager m) (up : is_down m ≡ false) (now : 
   session_sound after answer l = record {
     written = record { fits = tt; read = tt };
     spelled = tt;
-    valid = let a = valid_accords m up v in well_valid m (by_session m after answer) up v (record { fits = tt; read = tt })
+    kept = let a = valid_accords m up v in well_kept m (by_session m after answer) up v (record { fits = tt; read = tt })
         (record { accords = rests_accord m.rest (with_session m.rest after) m.state l a.cursors a.owes a; volatile = refl });
   }
 

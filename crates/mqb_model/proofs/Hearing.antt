@@ -37,7 +37,7 @@ use Rattle.mqb_model.specs.laws.Fitting.{IsSpelled}
 use Rattle.mqb_model.specs.managers.Beside as beside
 use Rattle.mqb_model.specs.managers.Beside.{Beside, beside_done, without_acked}
 use Rattle.mqb_model.specs.managers.Manager.{Manager, Rest, is_down}
-use Rattle.mqb_model.specs.managers.Outcomes.{Outcome, answering, recorded, succeeded}
+use Rattle.mqb_model.specs.managers.Outcomes.{Outcome, answering, recorded}
 use Rattle.mqb_model.specs.managers.Valid.{IsValidManager, MarksRise}
 use Rattle.mqb_model.specs.records.Applying.{fits}
 use Rattle.mqb_model.specs.records.Arrived.{arrived_fits, is_from_peer, part_fits, raises_ack}
@@ -66,17 +66,17 @@ use Rattle.mqb_model.proofs.Offering.{Precedes}
 use Rattle.mqb_model.proofs.Recorded.{IsDurablePart, arrival_accords, ins_after}
 use Rattle.mqb_model.proofs.Releasing.{AreThere, Apart, released_apart, released_few, released_there, releases_go}
 use Rattle.mqb_model.proofs.Sessions.{Links, stored_linked}
-use Rattle.mqb_model.proofs.Succeeding.{IsWritten, same_valid, valid_accords, well_valid}
+use Rattle.mqb_model.proofs.Succeeding.{IsKept, IsWritten, same_kept, valid_accords, well_kept}
 use Rattle.mqb_model.proofs.Volatile.{plain_volatile, volatile_arrived}
 
 -- What is said of the outcome of a call.
 pub record IsSound {A : Type 0} (m : Manager) (outcome : Outcome A) : Type 0 where
   pub written : IsWritten m outcome
   pub spelled : IsSpelled outcome
-  pub valid : IsValidManager (succeeded m outcome)
+  pub kept : IsKept m outcome
 
 pub same_sound : {A : Type 0} (m : Manager) (answer : A) → IsValidManager m → IsSound m (answering m answer)
-same_sound m answer v = record { written = record { fits = tt; read = tt }; spelled = tt; valid = same_valid m v }
+same_sound m answer v = record { written = record { fits = tt; read = tt }; spelled = tt; kept = same_kept m answer v }
 
 -- a manager that listens: it is valid and up, and its session is this one
 pub record Listens (l : Listening) : Type 0 where
@@ -189,7 +189,7 @@ module _ (l : Listening) (h : Listens l) where
     beside_sound part answer b f owes done = let a = arrival part f owes in let d = done a.accords in record {
       written = record { fits = a.fits; read = a.read };
       spelled = a.spelled;
-      valid = well_valid l.manager (record (heard_as l part answer) { beside = b; rest = after }) h.up h.valid (record { fits = a.fits; read = a.read }) (record { accords = d.0; volatile = d.1 });
+      kept = well_kept l.manager (record (heard_as l part answer) { beside = b; rest = after }) h.up h.valid (record { fits = a.fits; read = a.read }) (record { accords = d.0; volatile = d.1 });
     }
 
     pub heard_sound : (part : Part) (answer : Heard) → IsFit s part → length after.owes ≤ length (ins_after s.ins part) → IsSound l.manager (record (heard_as l part answer) { rest = after })

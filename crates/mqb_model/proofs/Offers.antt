@@ -63,28 +63,29 @@ abbrev pub IsOffered : State → Origin → Type 0
 IsOffered s (OfRow index number) = (row : Row) × (slice_get s.outs index ≡ Some row) × (list_any (λ k. k.number == number) row.kept ≡ true)
 IsOffered s _ = Unit {0}
 
-abbrev pub Stands : State → Candidate → Type 0
-Stands s c = IsOffered s c.origin
+-- so is that of a candidate
+abbrev pub IsThere : State → Candidate → Type 0
+IsThere s c = IsOffered s c.origin
 
-acks_stand : (s : State) (peer : Identity) (now number : ℕ) (rows : List (ℕ × InRow)) → AllByRecursion (Stands s) (acks s peer now number rows)
+acks_stand : (s : State) (peer : Identity) (now number : ℕ) (rows : List (ℕ × InRow)) → AllByRecursion (IsThere s) (acks s peer now number rows)
 acks_stand s peer now number [] = tt
 acks_stand s peer now number (row ∷ rows) = (tt, acks_stand s peer now (express_after number) rows)
 
-plain_stand : (s : State) (p : PlainLists) → AllByRecursion (Stands s) (plain_candidates p)
-plain_stand s p = all_append (Stands s) _ _ (all_filter_map (Stands s) (unsent_from OfRecoverable) p.recoverable recoverable)
-    (all_filter_map (Stands s) (unsent_from OfExpress) p.express express)
+plain_stand : (s : State) (p : PlainLists) → AllByRecursion (IsThere s) (plain_candidates p)
+plain_stand s p = all_append (IsThere s) _ _ (all_filter_map (IsThere s) (unsent_from OfRecoverable) p.recoverable recoverable)
+    (all_filter_map (IsThere s) (unsent_from OfExpress) p.express express)
   where
-    recoverable : (o : Outgoing) → IfSome (unsent_from OfRecoverable o) (Stands s)
+    recoverable : (o : Outgoing) → IfSome (unsent_from OfRecoverable o) (IsThere s)
     recoverable o = at (is_none o.mark)
       where
-        at : (b : Bool) → IfSome (cond b (Some (record { origin = OfRecoverable; message = o.message; tx = None })) None) (Stands s)
+        at : (b : Bool) → IfSome (cond b (Some (record { origin = OfRecoverable; message = o.message; tx = None })) None) (IsThere s)
         at true = tt
         at false = tt
 
-    express : (o : Outgoing) → IfSome (unsent_from OfExpress o) (Stands s)
+    express : (o : Outgoing) → IfSome (unsent_from OfExpress o) (IsThere s)
     express o = at (is_none o.mark)
       where
-        at : (b : Bool) → IfSome (cond b (Some (record { origin = OfExpress; message = o.message; tx = None })) None) (Stands s)
+        at : (b : Bool) → IfSome (cond b (Some (record { origin = OfExpress; message = o.message; tx = None })) None) (IsThere s)
         at true = tt
         at false = tt
 
@@ -98,30 +99,30 @@ kept_itself ks = any_itself (λ k x. x.number == k.number) ks (each ks)
     each [] = tt
     each (k ∷ ks) = (same_number k.number, each ks)
 
-row_stands : (s : State) (peer n : ℕ) (row : Row) (cursor : ℕ) → slice_get s.outs n ≡ Some row → AllByRecursion (Stands s) (waiting s peer (n, (row, cursor)))
+row_stands : (s : State) (peer n : ℕ) (row : Row) (cursor : ℕ) → slice_get s.outs n ≡ Some row → AllByRecursion (IsThere s) (waiting s peer (n, (row, cursor)))
 row_stands s peer n row cursor e = at (row.peer == peer && is_open s.outs n)
   where
-    at : (b : Bool) → AllByRecursion (Stands s) (cond b (map (of_row n row) (unsent_of row cursor)) [])
-    at true = all_mapped (Stands s) (of_row n row) (unsent_of row cursor) (each (unsent_of row cursor)
+    at : (b : Bool) → AllByRecursion (IsThere s) (cond b (map (of_row n row) (unsent_of row cursor)) [])
+    at true = all_mapped (IsThere s) (of_row n row) (unsent_of row cursor) (each (unsent_of row cursor)
         (fewer_all (λ k. list_any (λ x. x.number == k.number) row.kept ≡ true) (fewer_filter (λ k. nat_lt (max row.acked cursor) k.number) row.kept) (kept_itself row.kept)))
       where
-        each : (ks : List Kept) → AllByRecursion (λ k. list_any (λ x. x.number == k.number) row.kept ≡ true) ks → AllByRecursion (λ k. Stands s (of_row n row k)) ks
+        each : (ks : List Kept) → AllByRecursion (λ k. list_any (λ x. x.number == k.number) row.kept ≡ true) ks → AllByRecursion (λ k. IsThere s (of_row n row k)) ks
         each [] h = tt
         each (k ∷ ks) h = ((row, e, h.0), each ks h.1)
     at false = tt
 
 rows_stand : (s : State) (peer n : ℕ) (before outs : List Row) (cursors : List ℕ) → n ≡ length before → s.outs ≡ before ++ outs
-    → AllByRecursion (Stands s) (flat_map (waiting s peer) (enumerate_from n (zip outs cursors)))
+    → AllByRecursion (IsThere s) (flat_map (waiting s peer) (enumerate_from n (zip outs cursors)))
 rows_stand s peer n before [] [] e whole = tt
 rows_stand s peer n before [] (c ∷ cursors) e whole = tt
 rows_stand s peer n before (row ∷ outs) [] e whole = tt
-rows_stand s peer n before (row ∷ outs) (c ∷ cursors) e whole = all_append (Stands s) (waiting s peer (n, (row, c))) _
+rows_stand s peer n before (row ∷ outs) (c ∷ cursors) e whole = all_append (IsThere s) (waiting s peer (n, (row, c))) _
     (row_stands s peer n row c (ap (λ k. slice_get s.outs k) e ∙ ap (λ rows. slice_get rows (length before)) whole ∙ get_middle before row outs))
     (rows_stand s peer (n + 1) (before ++ row ∷ []) outs cursors (let counted = length-append before (row ∷ []) in omega (arith, e, counted)) (whole ∙ push_append before row outs))
 
-pub candidates_stand : (s : State) (rest : Rest) (now k : ℕ) (peer : Identity) (p : PlainLists) → AllByRecursion (Stands s) (candidates s rest now k peer p)
-candidates_stand s rest now k peer p = all_append (Stands s) (acks s peer now s.next_express (rows_owing s rest peer.guid) ++ plain_candidates p) (row_candidates s rest k)
-    (all_append (Stands s) (acks s peer now s.next_express (rows_owing s rest peer.guid)) (plain_candidates p)
+pub candidates_stand : (s : State) (rest : Rest) (now k : ℕ) (peer : Identity) (p : PlainLists) → AllByRecursion (IsThere s) (candidates s rest now k peer p)
+candidates_stand s rest now k peer p = all_append (IsThere s) (acks s peer now s.next_express (rows_owing s rest peer.guid) ++ plain_candidates p) (row_candidates s rest k)
+    (all_append (IsThere s) (acks s peer now s.next_express (rows_owing s rest peer.guid)) (plain_candidates p)
     (acks_stand s peer now s.next_express (rows_owing s rest peer.guid)) (plain_stand s p)) (rows_stand s k 0 [] s.outs rest.cursors refl refl)
 
 -- What is chosen.
@@ -175,7 +176,7 @@ number_is a b e = grind (arith, nat_tests)
 abbrev IsKeptOrNone : Row → ℕ → Type 0
 IsKeptOrNone row x = (x ≡ 0) ⊎ (list_any (λ k. k.number == x) row.kept ≡ true)
 
-numbers_kept : (s : State) (n : ℕ) (row : Row) (cs : List Candidate) → slice_get s.outs n ≡ Some row → AllByRecursion (Stands s) cs
+numbers_kept : (s : State) (n : ℕ) (row : Row) (cs : List Candidate) → slice_get s.outs n ≡ Some row → AllByRecursion (IsThere s) cs
     → AllByRecursion (IsKeptOrNone row) (filter_map (λ c. number_of_row n c.origin) cs)
 numbers_kept s n row [] e h = tt
 numbers_kept s n row (c ∷ cs) e h = by (numbers_kept s n row cs e h.1) c.origin h.0
@@ -194,7 +195,7 @@ numbers_kept s n row (c ∷ cs) e h = by (numbers_kept s n row cs e h.1) c.origi
         )
         at false f = later
 
-greatest_kept : (s : State) (n : ℕ) (row : Row) (cs : List Candidate) → slice_get s.outs n ≡ Some row → AllByRecursion (Stands s) cs → nat_lt row.offered (greatest_sent cs n) ≡ true
+greatest_kept : (s : State) (n : ℕ) (row : Row) (cs : List Candidate) → slice_get s.outs n ≡ Some row → AllByRecursion (IsThere s) cs → nat_lt row.offered (greatest_sent cs n) ≡ true
     → list_any (λ k. k.number == greatest_sent cs n) row.kept ≡ true
 greatest_kept s n row cs e h lt = by (fold_max (IsKeptOrNone row) 0 (filter_map (λ c. number_of_row n c.origin) cs) (inl refl) (numbers_kept s n row cs e h))
   where
@@ -226,7 +227,7 @@ pairs_offered number (y ∷ before) row outs h = (among before h.0, pairs_offere
     among [] a = a
     among (z ∷ ys) a = (a.0, among ys a.1)
 
-module _ (s : State) (cs : List Candidate) (stand : AllByRecursion (Stands s) cs) where
+module _ (s : State) (cs : List Candidate) (stand : AllByRecursion (IsThere s) cs) where
   marks_go : (t : State) (raised before outs : List Row) (n : ℕ) → n ≡ length before → s.outs ≡ before ++ outs → t.outs ≡ raised ++ outs
       → PairsByRecursion Precedes (raised ++ outs) → offered_fits t (filter_map (mark_for cs) (enumerate_from n outs)) ≡ true
   marks_go t raised before [] n e whole there rise = refl

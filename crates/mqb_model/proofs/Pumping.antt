@@ -55,10 +55,10 @@ use Rattle.mqb_model.proofs.Linking.{itself}
 use Rattle.mqb_model.proofs.Marks.{marked_all, marked_rise}
 use Rattle.mqb_model.proofs.Members.{changed_all, pairs_of, set_length, some_is}
 use Rattle.mqb_model.proofs.Offering.{Precedes}
-use Rattle.mqb_model.proofs.Offers.{Go, Stands, candidates_stand, chosen_all, chosen_few, chosen_go, marks_few, marks_fit}
+use Rattle.mqb_model.proofs.Offers.{Go, IsThere, candidates_stand, chosen_all, chosen_few, chosen_go, marks_few, marks_fit}
 use Rattle.mqb_model.proofs.Recorded.{offered_accords}
 use Rattle.mqb_model.proofs.Sessions.{Links, ack_linked, owed_linked, sent_linked}
-use Rattle.mqb_model.proofs.Succeeding.{valid_accords, well_valid}
+use Rattle.mqb_model.proofs.Succeeding.{valid_accords, well_kept}
 use Rattle.mqb_model.proofs.Volatile.{noted_volatile}
 
 -- One plain message more was sent to the peer.
@@ -209,7 +209,7 @@ module _ (m : Manager) (v : IsValidManager m) (up : is_down m ≡ false) (now : 
   one_sound p after l = record {
     written = record { fits = tt; read = tt };
     spelled = tt;
-    valid = let a = valid_accords m up v in well_valid m (sending_one m p after) up v (record { fits = tt; read = tt })
+    kept = let a = valid_accords m up v in well_kept m (sending_one m p after) up v (record { fits = tt; read = tt })
         (record { accords = rests_accord m.rest (with_session m.rest after) m.state l a.cursors a.owes a; volatile = refl });
   }
 
@@ -220,7 +220,7 @@ module _ (m : Manager) (v : IsValidManager m) (up : is_down m ≡ false) (now : 
       at true = one_sound (packet.Ack (stamped kind.Ack session).0) (stamped kind.Ack session).1 (ack_linked m.state.identity m.state.peers m.state.plain session linked)
       at false = same_sound m (Ok 0) v
 
-  module _ (cs : List Candidate) (stand : AllByRecursion (Stands m.state) cs) (few : length cs ≤ MAX_PACKETS) (go : Go session cs) where
+  module _ (cs : List Candidate) (stand : AllByRecursion (IsThere m.state) cs) (few : length cs ≤ MAX_PACKETS) (go : Go session cs) where
     abbrev after : Rest
     after = settled m.rest cs
 
@@ -257,23 +257,23 @@ module _ (m : Manager) (v : IsValidManager m) (up : is_down m ≡ false) (now : 
     all_sound to = record {
       written = record { fits = offered.fits; read = offered.read };
       spelled = offered.spelled;
-      valid = well_valid m (sending_all m now session (linked_peer m.state session) to cs) up v (record { fits = offered.fits; read = offered.read }) (record {
+      kept = well_kept m (sending_all m now session (linked_peer m.state session) to cs) up v (record { fits = offered.fits; read = offered.read }) (record {
         accords = all_noted after session cs (recorded m.state (offered_entry m.state cs)) (linked_peer m.state session) (sym (ap (λ peers. peer_in peers session) offered.peers)) go offered.accords;
         volatile = all_volatile (linked_peer m.state session) session cs (recorded m.state (offered_entry m.state cs));
       });
     }
 
-  chosen_sound : (to : Guid) (cs : List Candidate) → AllByRecursion (Stands m.state) cs → length cs ≤ MAX_PACKETS → Go session cs
+  chosen_sound : (to : Guid) (cs : List Candidate) → AllByRecursion (IsThere m.state) cs → length cs ≤ MAX_PACKETS → Go session cs
       → IsSound m (sending_chosen m now session (linked_peer m.state session) to cs)
   chosen_sound to [] stand few go = ack_sound
   chosen_sound to (c ∷ cs) stand few go = all_sound (c ∷ cs) stand few go to
 
-  with_sound : (to : Guid) (cs : List Candidate) → AllByRecursion (Stands m.state) cs → IsSound m (pump_with m now session (linked_peer m.state session) to cs)
+  with_sound : (to : Guid) (cs : List Candidate) → AllByRecursion (IsThere m.state) cs → IsSound m (pump_with m now session (linked_peer m.state session) to cs)
   with_sound to cs stand = at (is_spent session && not (length cs == 0))
     where
       at : (b : Bool) → IsSound m (cond b (answering m (Err fault.Spent)) (sending_chosen m now session (linked_peer m.state session) to (chosen session 0 0 cs)))
       at true = same_sound m (Err fault.Spent) v
-      at false = chosen_sound to (chosen session 0 0 cs) (chosen_all (Stands m.state) session 0 0 cs stand)
+      at false = chosen_sound to (chosen session 0 0 cs) (chosen_all (IsThere m.state) session 0 0 cs stand)
           (let most = chosen_few session 0 0 cs (omega arith) in omega (arith, most)) (chosen_go session 0 0 cs)
 
   to_sound : IsSound m (pump_at m now session (linked_peer m.state session))

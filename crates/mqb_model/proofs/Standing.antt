@@ -126,7 +126,7 @@ durable_again [] = refl
 durable_again (p ∷ ps) = ap (λ os. recoverable_alone os ∷ map durable_plain (map all_unmarked ps)) (unmarked_again p.recoverable)
     ∙ ap (λ rest. durable_plain p ∷ rest) (durable_again ps)
 
-stands_for : (s : State) → durable (unmarked_state s) ≡ durable s
+pub stands_for : (s : State) → durable (unmarked_state s) ≡ durable s
 stands_for s = ap (λ ps. record s { plain = ps; places = durable_places s.places; next_express = FIRST_EXPRESS }) (durable_again s.plain)
 
 still_fits : (s : State) → IsValidState s → (doubt : Option Record) → IfSome doubt (IsWritable s) → IfSome doubt (IsWritable (unmarked_state s))

@@ -4,7 +4,7 @@ use Rattle.std.proofs.lemmas.List.{length-replicate}
 use Rattle.std.proofs.lemmas.List.Elements.{All-from_recursion, recursion_from_All}
 use Rattle.std.specs.List.{AllByRecursion, flat_map}
 use Rattle.std.specs.Option.{option_map_or}
-use Rattle.std.specs.Prelude.{◌-◌, ◌∷◌, ◌≡◌, ◌≤◌, [], IfSome, List, None, Option, Result, Some, false, replicate, true, ℕ}
+use Rattle.std.specs.Prelude.{◌-◌, ◌∷◌, ◌≡◌, ◌≤◌, [], Err, IfSome, List, None, Option, Result, Some, false, replicate, true, ℕ}
 use Rattle.mqb_base.specs.declared.message.Lane.TheVariants as lane
 use Rattle.mqb_base.specs.declared.message.Message.{Message}
 use Rattle.mqb_orders.specs.Rows.{Row}
@@ -14,6 +14,7 @@ use Rattle.mqb_plain.specs.Plain.{PlainLists}
 use Rattle.mqb_plain.specs.declared.outgoing.Outgoing.{Outgoing}
 use Rattle.mqb_session.specs.State as one_end
 use Rattle.mqb_model.specs.Lists.{grown}
+use Rattle.mqb_model.specs.laws.Durable.{LeavesStore}
 use Rattle.mqb_model.specs.laws.Fitting.{IsAsRead, IsFitting}
 use Rattle.mqb_model.specs.managers.Manager.{Condition, Down, Manager, Rest, Up, is_down, rest_for}
 use Rattle.mqb_model.specs.managers.Outcomes.{Outcome, answering, recorded, state_after, succeeded, unless}
@@ -149,21 +150,28 @@ pub record GoesWell {A : Type 0} (m : Manager) (outcome : Outcome A) : Type 0 wh
   pub accords : Accords outcome.rest (state_after m outcome)
   pub volatile : durable (state_after m outcome) ≡ durable (recorded m.state outcome.entry)
 
-pub well_valid : {A : Type 0} (m : Manager) (outcome : Outcome A) → is_down m ≡ false → IsValidManager m → IsWritten m outcome → GoesWell m outcome
-    → IsValidManager (succeeded m outcome)
-well_valid m outcome up v w g = valid_again m outcome.rest (state_after m outcome) up
-    (stands_for_valid (state_after m outcome) (subst IsValidState (sym g.volatile)
-    (durable_is_valid (recorded m.state outcome.entry) (recorded_valid m.state outcome.entry v.state w.fits w.read)))) g.accords
+-- the manager is valid after it, and its store stands for what the record left
+pub record IsKept {A : Type 0} (m : Manager) (outcome : Outcome A) : Type 0 where
+  pub valid : IsValidManager (succeeded m outcome)
+  pub volatile : LeavesStore m outcome
 
-pub same_valid : (m : Manager) → IsValidManager m → IsValidManager (succeeded m (answering m true))
-same_valid m v = subst IsValidManager (sym (refused_is_same m true v)) v
+pub well_kept : {A : Type 0} (m : Manager) (outcome : Outcome A) → is_down m ≡ false → IsValidManager m → IsWritten m outcome → GoesWell m outcome → IsKept m outcome
+well_kept m outcome up v w g = record {
+  valid = valid_again m outcome.rest (state_after m outcome) up
+      (stands_for_valid (state_after m outcome) (subst IsValidState (sym g.volatile)
+      (durable_is_valid (recorded m.state outcome.entry) (recorded_valid m.state outcome.entry v.state w.fits w.read)))) g.accords;
+  volatile = g.volatile;
+}
+
+pub same_kept : {A : Type 0} (m : Manager) (answer : A) → IsValidManager m → IsKept m (answering m answer)
+same_kept m answer v = record { valid = subst IsValidManager (sym (refused_is_same m true v)) v; volatile = refl }
 
 pub unless_written : {V E : Type 0} (m : Manager) (refusal : Option E) (outcome : Outcome (Result V E)) → IsValidManager m → IsWritten m (unless m refusal outcome)
-    → (refusal ≡ None → IsWritten m outcome → IsValidManager (succeeded m outcome)) → IsValidManager (succeeded m (unless m refusal outcome))
-unless_written m (Some fault) outcome v w h = same_valid m v
+    → (refusal ≡ None → IsWritten m outcome → IsKept m outcome) → IsKept m (unless m refusal outcome)
+unless_written {V} {E} m (Some fault) outcome v w h = same_kept {A = Result V E} m (Err fault) v
 unless_written m None outcome v w h = h refl (record { fits = w.fits; read = w.read })
 
-pub or_written : {X A : Type 0} (m : Manager) (f : X → Outcome A) (o : Option X) (other : Outcome A) → IsValidManager (succeeded m other) → IsWritten m (option_map_or f o other)
-    → ((x : X) → o ≡ Some x → IsWritten m (f x) → IsValidManager (succeeded m (f x))) → IsValidManager (succeeded m (option_map_or f o other))
+pub or_written : {X A : Type 0} (m : Manager) (f : X → Outcome A) (o : Option X) (other : Outcome A) → IsKept m other → IsWritten m (option_map_or f o other)
+    → ((x : X) → o ≡ Some x → IsWritten m (f x) → IsKept m (f x)) → IsKept m (option_map_or f o other)
 or_written m f None other none w h = none
 or_written m f (Some x) other none w h = h x refl (record { fits = w.fits; read = w.read })

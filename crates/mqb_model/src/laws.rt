@@ -1,4 +1,4 @@
-ghost use Rattle.mqb_model.specs.laws.Durable.{DurableIsApplied, DurableIsFitted, LeavingIsDurable, MeetsDurably, StepsAreDurable};
+ghost use Rattle.mqb_model.specs.laws.Durable.{CallsLeaveStore, DurableIsApplied, DurableIsFitted, LeavingIsDurable, MeetsDurably, StepsAreDurable};
 ghost use Rattle.mqb_model.specs.laws.Fitting.{RecordsAreRead, RecordsAreSpelled, RecordsFit};
 ghost use Rattle.mqb_model.specs.laws.Keeping.{
   AppliedIsValid,
@@ -123,6 +123,11 @@ pub fn kept_is_valid()
 /// A valid manager stays valid by each call, whether it goes well or is refused.
 pub fn calls_keep_valid()
     ensures { CallsKeepValid }
+{}
+
+/// What a call does beside its record leaves what the store stands for.
+pub fn calls_leave_store()
+    ensures { CallsLeaveStore }
 {}
 
 /// A record that a call makes has a spelling.
