@@ -3,7 +3,7 @@ ghost use Rattle.std.specs.Borrow.{sem};
 ghost use Rattle.std.specs.Option.{option_map};
 ghost use Rattle.mqb_base.specs.declared.roomed.TheConstants.{MAX_MEMBERS};
 ghost use Rattle.mqb_queue.specs.Lending.{LendsLists};
-ghost use Rattle.mqb_queue.specs.Places.{NamesDiffer, found, lists_at, new_queue, no_rooms, nothing, numbered, place_named, rooms_at, with_queue, with_queue_room, without_last};
+ghost use Rattle.mqb_queue.specs.Places.{NamesDiffer, found, lists_at, new_queue, no_queue_room, no_rooms, nothing, numbered, place_named, rooms_at, with_queue, with_queue_room, without_last};
 ghost use Rattle.mqb_queue.specs.Seen.{queue_of};
 
 use crate::lists::Lists;
@@ -163,8 +163,10 @@ impl Queues {
     pub fn add_queue(&mut self, plan: QueuePlan) -> Result<(), (QueuePlan, Memory)>
         requires { found self.old.lists.queues plan.name ≡ None }
         ensures lists { OnOk result (self.new.lists ≡ with_queue plan self.old.lists) }
-        ensures room { OnOk result (self.new.rooms.more_queues ≡
-            max self.old.rooms.more_queues (length self.old.lists.queues + 1)) }
+        ensures rooms { OnOk result (self.new.rooms ≡ record self.old.rooms {
+          queues = self.old.rooms.queues ++ no_queue_room ∷ [];
+          more_queues = max self.old.rooms.more_queues (length self.old.lists.queues + 1);
+        }) }
         ensures refused { OnErr result (self.new ≡ self.old) }
         ensures handed_back { IfErr result (λ back. back.0 ≡ plan) }
         ensures ready { length self.old.lists.queues < self.old.rooms.more_queues → IsOk result }
