@@ -10,7 +10,7 @@ use Rattle.mqb_transcript.specs.declared.arrivals.Outcome.{Outcome}
 use Rattle.mqb_transcript.specs.declared.arrivals.Outcome.TheVariants as outcome
 use Rattle.mqb_transcript.specs.declared.replies.Reply.{Reply}
 use Rattle.mqb_transcript.specs.declared.replies.Reply.TheVariants as reply
-use Rattle.mqb_transcript.specs.Texts.{heard_text, heard_reply, outcome_text, reply_text}
+use Rattle.mqb_transcript.specs.Texts.{heard_text, heard_reply, outcome_text, reply_text, words_text}
 use Rattle.mqb_transcript.specs.Told.{Told, told, told_of}
 
 -- what a text tells
@@ -48,7 +48,7 @@ outcome_told hosts outcome.Stopped = refl
 outcome_told hosts outcome.Failed = refl
 
 reply_told : (hosts : List Identity) (r : Reply) → read_from (reply_text hosts r) ≡ told r
-unfolding reply_text
+unfolding reply_text words_text
 reply_told hosts reply.Done = refl
 reply_told hosts reply.Down = refl
 reply_told hosts reply.Stopped = refl

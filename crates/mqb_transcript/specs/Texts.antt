@@ -123,18 +123,33 @@ unfoldable pub op_text : Option ℕ → List ℕ
 op_text None = []
 op_text (Some op) = spaced (decimal op)
 
+-- a reply of words alone, and nothing where it says more
+unfoldable pub words_text : Reply → List ℕ
+words_text reply.Done = codes "ok"
+words_text reply.Down = codes "down"
+words_text reply.Stopped = codes "stopped"
+words_text reply.Failed = codes "failed"
+words_text reply.QueueThere = codes "queuethere"
+words_text reply.TooManyQueues = codes "toomanyqueues"
+words_text reply.TooManyOps = codes "toomanyops"
+words_text reply.TooLarge = codes "toolarge"
+words_text reply.NumbersSpent = codes "numbersspent"
+words_text reply.Transactional = codes "transactional"
+words_text reply.Linked = codes "linked"
+words_text reply.Disconnected = codes "disconnected"
+words_text reply.Unlinked = codes "unlinked"
+words_text reply.Spent = codes "spent"
+words_text reply.NoPacket = codes "none"
+words_text reply.Gone = codes "gone"
+words_text reply.Dropped = codes "dropped"
+words_text reply.Armed = codes "armed"
+words_text reply.Opened = codes "opened"
+words_text reply.OpenedLost = codes "opened lost"
+words_text _ = []
+
 -- a reply, and the ledger lines of its record
 unfoldable pub reply_text : List Identity → Reply → List ℕ
-reply_text hosts reply.Done = codes "ok"
-reply_text hosts reply.Down = codes "down"
-reply_text hosts reply.Stopped = codes "stopped"
-reply_text hosts reply.Failed = codes "failed"
-reply_text hosts reply.QueueThere = codes "queuethere"
-reply_text hosts reply.TooManyQueues = codes "toomanyqueues"
 reply_text hosts (reply.Committed lines) = codes "committed" ++ lines_text hosts lines
-reply_text hosts reply.TooManyOps = codes "toomanyops"
-reply_text hosts reply.TooLarge = codes "toolarge"
-reply_text hosts reply.NumbersSpent = codes "numbersspent"
 reply_text hosts (reply.NoQueue op) = codes "noqueue" ++ op_text op
 reply_text hosts (reply.NotTransactional op) = codes "nottransactional" ++ op_text (Some op)
 reply_text hosts (reply.QueueEmpty op) = codes "queueempty" ++ op_text op
@@ -142,25 +157,15 @@ reply_text hosts (reply.UnknownPeer op) = codes "unknownpeer" ++ op_text op
 reply_text hosts (reply.QueueFull op) = codes "queuefull" ++ op_text op
 reply_text hosts (reply.SequenceSpent op) = codes "sequencespent" ++ op_text (Some op)
 reply_text hosts (reply.Sent id lines) = codes "sent " ++ id_text hosts id ++ lines_text hosts lines
-reply_text hosts reply.Transactional = codes "transactional"
 reply_text hosts (reply.Took id lines) = codes "took " ++ id_text hosts id ++ lines_text hosts lines
 reply_text hosts (reply.Purged count lines) = codes "purged " ++ decimal count ++ lines_text hosts lines
 reply_text hosts (reply.Ticked express lines) = codes "ticked " ++ decimal express ++ lines_text hosts lines
 reply_text hosts (reply.Connected packets) = codes "connected" ++ numbers_text packets
-reply_text hosts reply.Linked = codes "linked"
-reply_text hosts reply.Disconnected = codes "disconnected"
-reply_text hosts reply.Unlinked = codes "unlinked"
 reply_text hosts (reply.Pumped packets) = codes "pumped" ++ numbers_text packets
-reply_text hosts reply.Spent = codes "spent"
-reply_text hosts reply.NoPacket = codes "none"
-reply_text hosts reply.Gone = codes "gone"
 reply_text hosts (reply.Heard heard lines) = heard_reply hosts heard lines
-reply_text hosts reply.Dropped = codes "dropped"
 reply_text hosts (reply.Flowed arrivals) = codes "flowed" ++ arrivals_text hosts arrivals
-reply_text hosts reply.Armed = codes "armed"
-reply_text hosts reply.Opened = codes "opened"
 reply_text hosts (reply.OpenedKept lines) = codes "opened kept" ++ lines_text hosts lines
-reply_text hosts reply.OpenedLost = codes "opened lost"
+reply_text hosts answer = words_text answer
 
 -- the script's line number, where there is one
 unfoldable pub number_text : Option ℕ → List ℕ

@@ -1,7 +1,7 @@
 ghost use Rattle.std.specs.Prelude.{◌≡◌, ◌++◌, codes, OnOk, OnErr};
 ghost use Rattle.std.specs.Fmt.{decimal};
 ghost use Rattle.mqb_transcript.specs.Printing.{wrote};
-ghost use Rattle.mqb_transcript.specs.Texts.{numbers_text, id_text, lines_text, cause_text, heard_text, heard_reply, outcome_text, arrival_text, arrivals_text, op_text, reply_text, number_text, printed};
+ghost use Rattle.mqb_transcript.specs.Texts.{numbers_text, id_text, lines_text, cause_text, heard_text, heard_reply, outcome_text, arrival_text, arrivals_text, op_text, words_text, reply_text, number_text, printed};
 
 use crate::arrivals::{Arrival, Outcome};
 use crate::printer::Printer;
@@ -19,6 +19,36 @@ fn cause_text(cause: Cause) -> &'static [u8]
         Cause::Refused => b"refused",
         Cause::Repeated => b"repeated",
         Cause::Foreign => b"foreign",
+    }
+}
+
+/// The text of a reply of words alone.
+#[tactic(auto, unfolding(crate::specs::Texts::words_text))]
+fn words_text(reply: &Reply) -> &'static [u8]
+    ensures { result.now ≡ words_text reply.now }
+{
+    match reply {
+        Reply::Done => b"ok",
+        Reply::Down => b"down",
+        Reply::Stopped => b"stopped",
+        Reply::Failed => b"failed",
+        Reply::QueueThere => b"queuethere",
+        Reply::TooManyQueues => b"toomanyqueues",
+        Reply::TooManyOps => b"toomanyops",
+        Reply::TooLarge => b"toolarge",
+        Reply::NumbersSpent => b"numbersspent",
+        Reply::Transactional => b"transactional",
+        Reply::Linked => b"linked",
+        Reply::Disconnected => b"disconnected",
+        Reply::Unlinked => b"unlinked",
+        Reply::Spent => b"spent",
+        Reply::NoPacket => b"none",
+        Reply::Gone => b"gone",
+        Reply::Dropped => b"dropped",
+        Reply::Armed => b"armed",
+        Reply::Opened => b"opened",
+        Reply::OpenedLost => b"opened lost",
+        _ => b"",
     }
 }
 
@@ -179,16 +209,7 @@ impl<'h> Printer<'h> {
         ensures { OnOk result (self.new ≡ wrote self.old (reply_text self.old.hosts reply.now)) }
     {
         match reply {
-            Reply::Done => self.put(b"ok"),
-            Reply::Down => self.put(b"down"),
-            Reply::Stopped => self.put(b"stopped"),
-            Reply::Failed => self.put(b"failed"),
-            Reply::QueueThere => self.put(b"queuethere"),
-            Reply::TooManyQueues => self.put(b"toomanyqueues"),
             Reply::Committed { lines } => self.recorded(b"committed", lines.as_slice()),
-            Reply::TooManyOps => self.put(b"toomanyops"),
-            Reply::TooLarge => self.put(b"toolarge"),
-            Reply::NumbersSpent => self.put(b"numbersspent"),
             Reply::NoQueue { op } => self.at_op(b"noqueue", *op),
             Reply::NotTransactional { op } => self.at_op(b"nottransactional", Some(*op)),
             Reply::QueueEmpty { op } => self.at_op(b"queueempty", *op),
@@ -196,7 +217,6 @@ impl<'h> Printer<'h> {
             Reply::QueueFull { op } => self.at_op(b"queuefull", *op),
             Reply::SequenceSpent { op } => self.at_op(b"sequencespent", Some(*op)),
             Reply::Sent { id, lines } => self.recorded_about(b"sent ", id, lines.as_slice()),
-            Reply::Transactional => self.put(b"transactional"),
             Reply::Took { id, lines } => self.recorded_about(b"took ", id, lines.as_slice()),
             Reply::Purged { count, lines } => self.counted(
                 b"purged ",
@@ -209,20 +229,11 @@ impl<'h> Printer<'h> {
                 lines.as_slice(),
             ),
             Reply::Connected { packets } => self.packets(b"connected", packets),
-            Reply::Linked => self.put(b"linked"),
-            Reply::Disconnected => self.put(b"disconnected"),
-            Reply::Unlinked => self.put(b"unlinked"),
             Reply::Pumped { packets } => self.packets(b"pumped", packets.as_slice()),
-            Reply::Spent => self.put(b"spent"),
-            Reply::NoPacket => self.put(b"none"),
-            Reply::Gone => self.put(b"gone"),
             Reply::Heard { heard, lines } => self.heard_reply(heard, lines.as_slice()),
-            Reply::Dropped => self.put(b"dropped"),
             Reply::Flowed { arrivals } => self.flowed(arrivals.as_slice()),
-            Reply::Armed => self.put(b"armed"),
-            Reply::Opened => self.put(b"opened"),
             Reply::OpenedKept { lines } => self.recorded(b"opened kept", lines.as_slice()),
-            Reply::OpenedLost => self.put(b"opened lost"),
+            _ => self.put(words_text(reply)),
         }
     }
 
