@@ -125,6 +125,7 @@ fn fill_packet(limit: u32, buffer: &mut Vec<u8>, bytes: &[u8]) -> usize
     requires one_packet { length buffer.old.items ≤ packet_end limit buffer.old.items }
     ensures held { buffer.new.items ≡
         take (packet_end limit (buffer.old.items ++ bytes.now)) (buffer.old.items ++ bytes.now) }
+    ensures one_packet { length buffer.new.items ≤ packet_end limit buffer.new.items }
     ensures taken { vec_len buffer.new ≡ vec_len buffer.old + result }
     ensures within { result ≤ length bytes.now }
     ensures room { vec_capacity buffer.new ≡ vec_capacity buffer.old }
@@ -188,6 +189,7 @@ impl Framer {
     }
 
     /// Takes the bytes that belong to the present packet, and tells how many they are. The others belong to the next one.
+    #[tactic(auto, unfolding(crate::specs::Framing::fed))]
     pub fn feed(&mut self, bytes: &[u8]) -> Result<usize, Full>
         requires { self.old.place + (length self.old.held + length bytes.now) < 2 ^ 64 }
         ensures answer { result ≡ taken_of self.old bytes.now }

@@ -1,8 +1,8 @@
-use Rattle.std.proofs.Common.{rules, ◌≡◌, ◌≤◌, ◌<◌, ◌++◌, [], ℕ, List, length, take, drop, ap, ◌∙◌, arith}
+use Rattle.std.proofs.Common.{rules, ◌≡◌, ◌≤◌, ◌<◌, ◌++◌, [], ℕ, List, length, take, drop, sym, ap, subst, ◌∙◌, arith}
 use Rattle.std.specs.Prelude.{vec_len}
 use Rattle.std.proofs.lemmas.List.{drop_all}
 use Rattle.mqb_stream.specs.Framing.{packet_end}
-use Rattle.mqb_stream.proofs.Filling.{head_end, head_within, end_most}
+use Rattle.mqb_stream.proofs.Filling.{head_end, head_within, held_end, end_most}
 use Rattle.mqb_stream.proofs.framer.fill_packet.Goals as goal
 
 pub fill-requires-clause-held : goal.fill-requires-clause-held
@@ -33,3 +33,9 @@ returns-clause-held c =
     c.packet_end-end.ensures ∙ ap (packet_end limit) c.as_slice.ensures.value ∙ head_end limit stream head rest c.fill_head-begun.ensures.rest all in
     let behind : c.split_at.result.1.now ≡ rest = search rules in
     c.fill.ensures.held ∙ ap (λ (t : List ℕ). take c.packet_end-end.result (head ++ t)) behind ∙ ap (take c.packet_end-end.result) c.fill_head-begun.ensures.rest ∙ ap (λ (n : ℕ). take n stream) end
+
+pub returns-clause-one_packet : goal.returns-clause-one_packet
+returns-clause-one_packet c =
+    let limit = c.args.limit in
+    let stream = c.args.buffer.now.items ++ c.args.bytes.now in
+    subst (λ (t : List ℕ). length t ≤ packet_end limit t) (sym (returns-clause-held c)) (held_end limit stream)
