@@ -13,3 +13,8 @@ pub fn read_is_spelled()
     ensures { (bytes : List ℕ) (entry : Entry) → All (λ b. b < 256) bytes →
         entry_of bytes ≡ Ok entry → IsEntry entry × (bytes ≡ spelled entry) }
 {}
+
+/// No two entries are spelled alike.
+pub fn one_spelling()
+    ensures { (a b : Entry) → IsEntry a → IsEntry b → spelled a ≡ spelled b → a ≡ b }
+{}
