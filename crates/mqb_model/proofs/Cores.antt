@@ -23,7 +23,7 @@ use Rattle.mqb_plain.specs.Plain.{PlainLists}
 use Rattle.mqb_queue.specs.First.{index_named}
 use Rattle.mqb_queue.specs.Lists.{Lists, put}
 use Rattle.mqb_queue.specs.Lists as places
-use Rattle.mqb_queue.specs.Places.{Places, Queue, changed_at, lists_at, numbered, with_lists}
+use Rattle.mqb_queue.specs.Places.{Queue, numbered}
 use Rattle.mqb_model.specs.Lists.{number_at, with_first_changed}
 use Rattle.mqb_model.specs.declared.limits.TheConstants.{MAX_ORDINAL}
 use Rattle.mqb_model.specs.declared.target.Target.{Target}
@@ -42,7 +42,7 @@ use Rattle.mqb_model.specs.state.Rows.{has_ordinal, with_row}
 use Rattle.mqb_model.specs.state.State.{State}
 use Rattle.mqb_base.specs.Bits.{keeps_copy}
 use Rattle.mqb_model.proofs.Mapped.{numbered_mapped, position_mapped}
-use Rattle.mqb_model.proofs.Remaining.{with_lists_plans}
+use Rattle.mqb_model.proofs.Remaining.{changed_plans}
 use Rattle.mqb_model.proofs.Walking.{Outlasts, OutlastsLeaving, meets_outlasts, taken_at_outlasts}
 
 -- Names.
@@ -106,13 +106,6 @@ pub record Core : Type 0 where
 
 abbrev pub core : State → Core
 core s = record { names = names s; outs = s.outs; next_ordinal = s.next_ordinal; roll = s.roll }
-
-changed_plans : (p : Places) (at : EntryPlace) (g : Lists → Lists) → map (λ q. q.plan) (changed_at p at g).queues ≡ map (λ q. q.plan) p.queues
-changed_plans p at g = by (lists_at p at)
-  where
-    by : (o : Option Lists) → map (λ q. q.plan) (option_map_or (λ l. with_lists p at (g l)) o p).queues ≡ map (λ q. q.plan) p.queues
-    by None = refl
-    by (Some l) = with_lists_plans p at (g l)
 
 place_core : (s : State) (at : EntryPlace) (g : Lists → Lists) → core (with_place g s at) ≡ core s
 place_core s at g = ap (λ plans. record (core s) { names = record (names s) { plans = plans } }) (changed_plans s.places at g)

@@ -36,10 +36,11 @@ use Rattle.mqb_model.specs.state.Places.{put_at, with_plain, without_at}
 use Rattle.mqb_model.specs.state.State.{State}
 use Rattle.mqb_model.specs.state.Valid.{IsCarried, IsGivenOrdinal, IsInOrder, IsKeptBy, IsOwn, IsValidState, kept_messages, recoverable_messages}
 use Rattle.mqb_model.proofs.Followed.{bare_carried, meets_stands}
+use Rattle.mqb_model.proofs.Having.{QueueHas, lists_have}
 use Rattle.mqb_model.proofs.Holding.{get_holds, item_holds, not_express, transactional_durable}
 use Rattle.mqb_model.proofs.Members.{Fewer, all_left, all_pairs, all_right, all_weaker, changed_all, changed_fewer, changed_length, changed_pairs, fewer_all, fewer_map, fewer_pairs, fewer_remove, fewer_without, first_holds, pairs_of}
 use Rattle.mqb_model.proofs.Offering.{Precedes, kept_in}
-use Rattle.mqb_model.proofs.Remaining.{IsApart, IsPlaced, QueueIs, Stands, lists_are, places_are, plain_in, plain_stands, put_stands, rows_stand, waiting, without_stands}
+use Rattle.mqb_model.proofs.Remaining.{IsApart, IsPlaced, PlacedIn, Stands, places_are, plain_in, plain_stands, put_stands, rows_stand, waiting, without_stands}
 
 -- every valid state stands beside no range
 pub valid_stands : (s : State) → IsValidState s → Stands s.identity.guid 0 0 s
@@ -64,7 +65,7 @@ for_each_keeps P step (suc n) x keeps h = keeps n (for_each_below n step x) (for
 -- Takes and purges.
 
 item_there : (s : State) (at : EntryPlace) (k : ℕ) → IsValidState s → IfSome (message_at lane.Durable s at k) IsPlaced
-item_there s at k v = of (lists_at s.places at) (lists_are s.places at (places_are s v))
+item_there s at k v = of (lists_at s.places at) (lists_have PlacedIn s.places at (places_are s v))
   where
     of : (o : Option Lists) → IfSome o (λ l. All IsPlaced l.durable) → IfSome (option_and_then (λ l. slice_get l.durable k) o) IsPlaced
     of None d = tt
@@ -245,7 +246,7 @@ lapsed_stands whose low high now k e h = at (slice_get e.state.plain k) (get_hol
     at (Some p) r = first p (lapsing lane.Durable now p) r
 
 swept_stands : (whose : Guid) (low high now k : ℕ) (e : Effect) → Stands whose low high e.state → Stands whose low high (next_swept lane.Durable now k e).state
-swept_stands whose low high now k e h = at (slice_get e.state.places.queues k) (get_holds QueueIs e.state.places.queues k (places_are e.state h.valid).queues)
+swept_stands whose low high now k e h = at (slice_get e.state.places.queues k) (get_holds (QueueHas PlacedIn) e.state.places.queues k (places_are e.state h.valid).queues)
   where
     each : (index : ℕ) (o : Option Message) → IfSome o IsPlaced
         → Stands whose low high (option_map_or (λ m. joined e (message_swept lane.Durable now (k + 1) index e.state m)) o e).state
@@ -253,12 +254,12 @@ swept_stands whose low high now k e h = at (slice_get e.state.places.queues k) (
     each index (Some m) p = meets_stands whose low high (without_at lane.Durable e.state (place.Queue (k + 1)) index) m RECEIVE_TIMEOUT now p refl
         (without_stands whose low high e.state (place.Queue (k + 1)) index h)
 
-    first : (q : Queue) (o : Option ℕ) → QueueIs q
+    first : (q : Queue) (o : Option ℕ) → QueueHas PlacedIn q
         → Stands whose low high (option_map_or (λ index. option_map_or (λ m. joined e (message_swept lane.Durable now (k + 1) index e.state m)) (slice_get q.lists.durable index) e) o e).state
     first q None r = h
     first q (Some index) r = each index (slice_get q.lists.durable index) (item_holds IsPlaced q.lists.durable index r.0)
 
-    at : (o : Option Queue) → IfSome o QueueIs → Stands whose low high (option_map_or (λ q. option_map_or (λ index.
+    at : (o : Option Queue) → IfSome o (QueueHas PlacedIn) → Stands whose low high (option_map_or (λ q. option_map_or (λ index.
         option_map_or (λ m. joined e (message_swept lane.Durable now (k + 1) index e.state m)) (slice_get q.lists.durable index) e) (sweeping lane.Durable now q) e) o e).state
     at None r = h
     at (Some q) r = first q (sweeping lane.Durable now q) r

@@ -4,7 +4,7 @@ use Rattle.std.proofs.lemmas.List.{length-map, map-append}
 use Rattle.std.proofs.lemmas.List.Elements.{All-from_recursion, All-push, recursion_from_All}
 use Rattle.std.specs.List.{AllByRecursion, flat_map, list_any}
 use Rattle.std.specs.Option.{option_map_or}
-use Rattle.std.specs.Prelude.{◌+◌, ◌++◌, ◌-◌, ◌<◌, ◌==◌, ◌||◌, ◌∷◌, ◌≡◌, ◌≤◌, [], All, Bool, IfSome, List, None, Option, Some, cond, false, map, option_map, slice_get, slice_set, true, ℕ}
+use Rattle.std.specs.Prelude.{◌+◌, ◌++◌, ◌-◌, ◌<◌, ◌==◌, ◌||◌, ◌∷◌, ◌≡◌, ◌≤◌, [], All, Bool, List, None, Option, Some, cond, false, map, slice_get, slice_set, true, ℕ}
 use Rattle.mqb_base.specs.Lanes.{lane_of}
 use Rattle.mqb_base.specs.Same.{same_guid, same_ignoring_case}
 use Rattle.mqb_base.specs.declared.ids.Guid.{Guid}
@@ -21,16 +21,17 @@ use Rattle.mqb_packet.specs.declared.packet.Headers.TheVariants as headers
 use Rattle.mqb_plain.specs.Lists.{messages_of, unsent}
 use Rattle.mqb_plain.specs.Plain.{PlainLists, pushed}
 use Rattle.mqb_queue.specs.Lists.{Lists, put, without}
-use Rattle.mqb_queue.specs.Places.{Places, Queue, lists_at, numbered, with_lists, with_numbered}
+use Rattle.mqb_queue.specs.Places.{Places, Queue, changed_at, lists_at, numbered, with_lists, with_numbered}
 use Rattle.mqb_model.specs.Lists.{with_changed}
 use Rattle.mqb_model.specs.declared.limits.TheConstants.{MAX_NUMBER, MAX_QUEUES}
 use Rattle.mqb_model.specs.records.Packets.{is_recoverable}
 use Rattle.mqb_model.specs.state.Places.{is_express, put_at, with_place, with_plain, without_at}
 use Rattle.mqb_model.specs.state.State.{State}
 use Rattle.mqb_model.specs.state.Valid.{AreNew, IsCarried, IsGivenOrdinal, IsInOrder, IsOwn, IsValidState, kept_messages, placed_messages, recoverable_messages, taken_among}
-use Rattle.mqb_model.proofs.Holding.{numbered_holds, removed_holds, with_numbered_holds}
+use Rattle.mqb_model.proofs.Having.{PlacesHave, changed_have, join_places, split_places, weaker_have}
+use Rattle.mqb_model.proofs.Holding.{removed_holds}
 use Rattle.mqb_model.proofs.Mapped.{any_mapped}
-use Rattle.mqb_model.proofs.Members.{Fewer, Gains, PairsByRecursion, all_append, all_left, all_pairs, all_right, changed_gains, changed_length, fewer_all, fewer_append, fewer_pairs, gains_all, gains_behind, gains_end, gains_pairs, pairs_of, same, set_same}
+use Rattle.mqb_model.proofs.Members.{Fewer, Gains, PairsByRecursion, all_pairs, changed_gains, changed_length, fewer_all, fewer_append, fewer_pairs, gains_all, gains_behind, gains_end, gains_pairs, pairs_of, same, set_same}
 use Rattle.mqb_model.proofs.Offering.{Differ, Precedes, kept_in, rows_valid}
 
 -- a number below a range, or behind it
@@ -53,69 +54,21 @@ pub record Stands (whose : Guid) (low high : ℕ) (s : State) : Type 0 where
 abbrev pub IsPlaced : Message → Type 0
 IsPlaced m = IsCarried headers.Bare m × (is_express m.delivery ≡ false)
 
-abbrev pub QueueIs : Queue → Type 0
-QueueIs q = All IsPlaced q.lists.durable × All IsPlaced q.journal.durable
+-- those of a place are
+abbrev pub PlacedIn : Lists → Type 0
+PlacedIn l = All IsPlaced l.durable
 
-pub record PlacesAre (p : Places) : Type 0 where
-  pub queues : AllByRecursion QueueIs p.queues
-  pub dead : All IsPlaced p.dead.durable
-  pub dead_xact : All IsPlaced p.dead_xact.durable
-  pub journal : All IsPlaced p.journal.durable
+pub places_are : (s : State) → IsValidState s → PlacesHave PlacedIn s.places
+places_are s v = weaker_have (λ l. AllByRecursion IsPlaced l.durable) PlacedIn (λ l h. All-from_recursion IsPlaced l.durable h) s.places
+    (split_places (λ l. l.durable) IsPlaced s.places (recursion_from_All IsPlaced (placed_messages s) (λ k d lt. (v.placed k d lt, v.durable k d lt))))
 
--- the durable messages of queues
-abbrev in_queues : List Queue → List Message
-in_queues qs = flat_map (λ q. q.lists.durable ++ q.journal.durable) qs
-
-queues_are : (qs : List Queue) → AllByRecursion IsPlaced (in_queues qs) → AllByRecursion QueueIs qs
-queues_are [] h = tt
-queues_are (q ∷ qs) h = let both = all_left IsPlaced (q.lists.durable ++ q.journal.durable) (in_queues qs) h in (
-  (
-    All-from_recursion IsPlaced q.lists.durable (all_left IsPlaced q.lists.durable q.journal.durable both),
-    All-from_recursion IsPlaced q.journal.durable (all_right IsPlaced q.lists.durable q.journal.durable both),
-  ),
-  queues_are qs (all_right IsPlaced (q.lists.durable ++ q.journal.durable) (in_queues qs) h),
-)
-
-all_queued : (qs : List Queue) → AllByRecursion QueueIs qs → AllByRecursion IsPlaced (in_queues qs)
-all_queued [] h = tt
-all_queued (q ∷ qs) h = all_append IsPlaced (q.lists.durable ++ q.journal.durable) (in_queues qs)
-    (all_append IsPlaced q.lists.durable q.journal.durable (recursion_from_All IsPlaced q.lists.durable h.0.0) (recursion_from_All IsPlaced q.journal.durable h.0.1))
-    (all_queued qs h.1)
-
-pub places_are : (s : State) → IsValidState s → PlacesAre s.places
-places_are s v = record {
-  queues = queues_are s.places.queues (all_left IsPlaced (in_queues s.places.queues) s.places.dead.durable two);
-  dead = All-from_recursion IsPlaced s.places.dead.durable (all_right IsPlaced (in_queues s.places.queues) s.places.dead.durable two);
-  dead_xact = All-from_recursion IsPlaced s.places.dead_xact.durable
-      (all_right IsPlaced (in_queues s.places.queues ++ s.places.dead.durable) s.places.dead_xact.durable three);
-  journal = All-from_recursion IsPlaced s.places.journal.durable
-      (all_right IsPlaced (in_queues s.places.queues ++ s.places.dead.durable ++ s.places.dead_xact.durable) s.places.journal.durable whole);
-}
-  where
-    whole : AllByRecursion IsPlaced (placed_messages s)
-    whole = recursion_from_All IsPlaced (placed_messages s) (λ k d lt. (v.placed k d lt, v.durable k d lt))
-
-    three : AllByRecursion IsPlaced (in_queues s.places.queues ++ s.places.dead.durable ++ s.places.dead_xact.durable)
-    three = all_left IsPlaced (in_queues s.places.queues ++ s.places.dead.durable ++ s.places.dead_xact.durable) s.places.journal.durable whole
-
-    two : AllByRecursion IsPlaced (in_queues s.places.queues ++ s.places.dead.durable)
-    two = all_left IsPlaced (in_queues s.places.queues ++ s.places.dead.durable) s.places.dead_xact.durable three
-
--- the durable messages of places
-abbrev in_places : Places → List Message
-in_places p = in_queues p.queues ++ p.dead.durable ++ p.dead_xact.durable ++ p.journal.durable
-
-all_placed : (p : Places) → PlacesAre p → All IsPlaced (in_places p)
-all_placed p h = All-from_recursion IsPlaced (in_places p)
-    (all_append IsPlaced (in_queues p.queues ++ p.dead.durable ++ p.dead_xact.durable) p.journal.durable
-    (all_append IsPlaced (in_queues p.queues ++ p.dead.durable) p.dead_xact.durable
-    (all_append IsPlaced (in_queues p.queues) p.dead.durable (all_queued p.queues h.queues) (recursion_from_All IsPlaced p.dead.durable h.dead))
-    (recursion_from_All IsPlaced p.dead_xact.durable h.dead_xact))
-    (recursion_from_All IsPlaced p.journal.durable h.journal))
+all_placed : (s : State) → PlacesHave PlacedIn s.places → All IsPlaced (placed_messages s)
+all_placed s h = All-from_recursion IsPlaced (placed_messages s) (join_places (λ l. l.durable) IsPlaced s.places
+    (weaker_have PlacedIn (λ l. AllByRecursion IsPlaced l.durable) (λ l h. recursion_from_All IsPlaced l.durable h) s.places h))
 
 -- Queues are new beside others by their plans.
 
-abbrev plan_of : Queue → QueuePlan
+abbrev pub plan_of : Queue → QueuePlan
 plan_of q = q.plan
 
 -- a plan takes the name or the GUID of another
@@ -144,7 +97,7 @@ new_queues before (q ∷ qs) h = (
 )
 
 -- other places stand in the state, of which the queues have the same plans
-pub places_stand : (whose : Guid) (low high : ℕ) (s : State) (p : Places) → Stands whose low high s → map plan_of p.queues ≡ map plan_of s.places.queues → PlacesAre p
+pub places_stand : (whose : Guid) (low high : ℕ) (s : State) (p : Places) → Stands whose low high s → map plan_of p.queues ≡ map plan_of s.places.queues → PlacesHave PlacedIn p
     → Stands whose low high (record s { places = p })
 places_stand whose low high s p h plans are = let v = h.valid in record {
   valid = record {
@@ -160,9 +113,9 @@ places_stand whose low high s p h plans are = let v = h.valid in record {
     sources_differ = v.sources_differ;
     kept = v.kept;
     plain = v.plain;
-    placed = λ k d lt. (all_placed p are k d lt).0;
+    placed = λ k d lt. (all_placed (record s { places = p }) are k d lt).0;
     recoverable = v.recoverable;
-    durable = λ k d lt. (all_placed p are k d lt).1;
+    durable = λ k d lt. (all_placed (record s { places = p }) are k d lt).1;
     next_number = v.next_number;
     next_ordinal = v.next_ordinal;
     roll = v.roll;
@@ -179,38 +132,6 @@ places_stand whose low high s p h plans are = let v = h.valid in record {
 
 -- what a place holds is changed
 
-pub lists_are : (p : Places) (at : EntryPlace) → PlacesAre p → IfSome (lists_at p at) (λ l. All IsPlaced l.durable)
-lists_are p (place.Queue n) h = of (numbered p.queues n) (numbered_holds QueueIs p.queues n h.queues)
-  where
-    of : (o : Option Queue) → IfSome o QueueIs → IfSome (option_map (λ q. q.lists) o) (λ l. All IsPlaced l.durable)
-    of None h = tt
-    of (Some q) h = h.0
-lists_are p (place.JournalOf n) h = of (numbered p.queues n) (numbered_holds QueueIs p.queues n h.queues)
-  where
-    of : (o : Option Queue) → IfSome o QueueIs → IfSome (option_map (λ q. q.journal) o) (λ l. All IsPlaced l.durable)
-    of None h = tt
-    of (Some q) h = h.1
-lists_are p place.Dead h = h.dead
-lists_are p place.DeadXact h = h.dead_xact
-lists_are p place.Journal h = h.journal
-
-with_lists_are : (p : Places) (at : EntryPlace) (l : Lists) → PlacesAre p → All IsPlaced l.durable → PlacesAre (with_lists p at l)
-with_lists_are p (place.Queue n) l h d = record {
-  queues = with_numbered_holds QueueIs (λ q. record q { lists = l }) p.queues n (λ q k. (d, k.1)) h.queues;
-  dead = h.dead;
-  dead_xact = h.dead_xact;
-  journal = h.journal;
-}
-with_lists_are p (place.JournalOf n) l h d = record {
-  queues = with_numbered_holds QueueIs (λ q. record q { journal = l }) p.queues n (λ q k. (k.0, d)) h.queues;
-  dead = h.dead;
-  dead_xact = h.dead_xact;
-  journal = h.journal;
-}
-with_lists_are p place.Dead l h d = record { queues = h.queues; dead = d; dead_xact = h.dead_xact; journal = h.journal }
-with_lists_are p place.DeadXact l h d = record { queues = h.queues; dead = h.dead; dead_xact = d; journal = h.journal }
-with_lists_are p place.Journal l h d = record { queues = h.queues; dead = h.dead; dead_xact = h.dead_xact; journal = d }
-
 pub numbered_get : {X : Type 0} (xs : List X) (n : ℕ) (x : X) → numbered xs n ≡ Some x → slice_get xs (n - 1) ≡ Some x
 numbered_get xs n x e = at (n == 0) e
   where
@@ -226,22 +147,25 @@ plans_stay qs n change keeps = at (numbered qs n) refl
     at None e = refl
     at (Some q) e = set_same plan_of qs (n - 1) q (change q) (numbered_get qs n q e) (keeps q)
 
-pub with_lists_plans : (p : Places) (at : EntryPlace) (l : Lists) → map plan_of (with_lists p at l).queues ≡ map plan_of p.queues
+with_lists_plans : (p : Places) (at : EntryPlace) (l : Lists) → map plan_of (with_lists p at l).queues ≡ map plan_of p.queues
 with_lists_plans p (place.Queue n) l = plans_stay p.queues n (λ q. record q { lists = l }) (λ q. refl)
 with_lists_plans p (place.JournalOf n) l = plans_stay p.queues n (λ q. record q { journal = l }) (λ q. refl)
 with_lists_plans p place.Dead l = refl
 with_lists_plans p place.DeadXact l = refl
 with_lists_plans p place.Journal l = refl
 
+-- the plans of queues stay where what a place holds is changed
+pub changed_plans : (p : Places) (at : EntryPlace) (g : Lists → Lists) → map plan_of (changed_at p at g).queues ≡ map plan_of p.queues
+changed_plans p at g = by (lists_at p at)
+  where
+    by : (o : Option Lists) → map plan_of (option_map_or (λ l. with_lists p at (g l)) o p).queues ≡ map plan_of p.queues
+    by None = refl
+    by (Some l) = with_lists_plans p at (g l)
+
 pub place_stands : (whose : Guid) (low high : ℕ) (s : State) (at : EntryPlace) (g : Lists → Lists) → ((l : Lists) → All IsPlaced l.durable → All IsPlaced (g l).durable)
     → Stands whose low high s → Stands whose low high (with_place g s at)
-place_stands whose low high s at g keeps h = by (lists_at s.places at) (lists_are s.places at (places_are s h.valid))
-  where
-    by : (o : Option Lists) → IfSome o (λ l. All IsPlaced l.durable)
-        → Stands whose low high (record s { places = option_map_or (λ l. with_lists s.places at (g l)) o s.places })
-    by None d = h
-    by (Some l) d = places_stand whose low high s (with_lists s.places at (g l)) h (with_lists_plans s.places at (g l))
-        (with_lists_are s.places at (g l) (places_are s h.valid) (keeps l d))
+place_stands whose low high s at g keeps h = places_stand whose low high s (changed_at s.places at g) h (changed_plans s.places at g)
+    (changed_have PlacedIn s.places at g keeps (places_are s h.valid))
 
 pub put_stands : (whose : Guid) (low high : ℕ) (s : State) (at : EntryPlace) (m : Message) → IsPlaced m → Stands whose low high s → Stands whose low high (put_at s at m)
 put_stands whose low high s at m placed h = by m.delivery placed.1
