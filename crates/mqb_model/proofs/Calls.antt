@@ -1,32 +1,37 @@
 -- The records of all calls fit, a valid manager stays valid by each call, and its store stands for what the record left.
-use Rattle.std.specs.Prelude.{All, Bool, Err, List, None, Ok, Option, Result, Some, length, ℕ}
+use Rattle.std.specs.Prelude.{All, Bool, Err, IfSome, List, None, Ok, Option, Result, Some, length, true, ℕ, ◌≡◌}
 use Rattle.std.proofs.Common.{refl}
 use Rattle.mqb_base.specs.declared.draft.Op.{Op}
 use Rattle.mqb_base.specs.declared.draft.Parts.{Parts}
 use Rattle.mqb_base.specs.declared.queues.Place.{Place}
-use Rattle.mqb_model.specs.calls.AddPeer.{add_peer_refusal}
+use Rattle.mqb_model.specs.calls.AddPeer.{add_peer, add_peer_refusal}
 use Rattle.mqb_model.specs.calls.Commit.{Trial, commit, commit_tried, ops_refusal, trial_of, try_ops, whole_refusal}
-use Rattle.mqb_model.specs.calls.CreateQueue.{create_refusal}
+use Rattle.mqb_model.specs.calls.CreateQueue.{create_queue, create_refusal}
 use Rattle.mqb_model.specs.calls.Link.{link_refusal, linking}
 use Rattle.mqb_model.specs.calls.Purge.{purge}
 use Rattle.mqb_model.specs.calls.Send.{send}
-use Rattle.mqb_model.specs.calls.SetRoll.{store_refusal}
+use Rattle.mqb_model.specs.calls.SetRoll.{set_roll, store_refusal}
 use Rattle.mqb_model.specs.calls.Take.{take_message}
 use Rattle.mqb_model.specs.calls.Tick.{tick}
 use Rattle.mqb_model.specs.declared.answers.Role.{Role}
 use Rattle.mqb_model.specs.declared.faults.CommitFault.{CommitFault}
 use Rattle.mqb_model.specs.declared.faults.LinkFault.{LinkFault}
 use Rattle.mqb_model.specs.laws.Durable.{CallsLeaveStore, LeavesStore}
-use Rattle.mqb_model.specs.laws.Fitting.{IsDrafted, IsDraftedOp, RecordsFit}
+use Rattle.mqb_model.specs.laws.Fitting.{IsAsRead, IsDrafted, IsDraftedOp, IsFitting, RecordsFit}
 use Rattle.mqb_model.specs.managers.Manager.{Manager}
-use Rattle.mqb_model.specs.managers.Outcomes.{recording, unless}
-use Rattle.mqb_model.specs.managers.Valid.{IsValidManager}
+use Rattle.mqb_model.specs.managers.Outcomes.{Outcome, recording, succeeded, unless}
+use Rattle.mqb_model.specs.managers.Valid.{IsValidManager, IsWritable}
 use Rattle.mqb_model.specs.records.Peer.{next_queue}
 use Rattle.mqb_model.specs.records.Record as entry
 use Rattle.mqb_model.specs.records.Record.{Record}
+use Rattle.mqb_model.specs.calls.hear.Hear.{hear}
+use Rattle.mqb_model.specs.calls.pump.Pump.{pump}
+use Rattle.mqb_model.specs.records.Applying.{fits}
+use Rattle.mqb_model.specs.records.Carrying.{IsRead}
+use Rattle.mqb_model.proofs.Validity.{failed_is_valid}
 use Rattle.mqb_model.proofs.Standing.{stands_for}
 use Rattle.mqb_model.proofs.Succeeding.{IsKept}
-use Rattle.mqb_model.specs.laws.Keeping.{CallsKeepValid}
+use Rattle.mqb_model.specs.laws.Keeping.{CallsKeepValid, StaysValid}
 use Rattle.mqb_model.proofs.Calling.{some_keep_valid}
 use Rattle.mqb_model.proofs.Fitting.{some_fit}
 use Rattle.mqb_model.proofs.Heard.{hear_sound}
@@ -66,18 +71,26 @@ each_is_kept m v = let fit = records_fit m in let read = records_are_read m in r
   ticks = λ now. tick_kept m now v (record { fits = fit.ticks now; read = read.ticks now });
 }
 
+-- a record that fits and was read may be in doubt
+stays : {A : Type 0} (m : Manager) (outcome : Outcome A) → IsValidManager m → IsFitting m outcome → IsAsRead outcome → IsValidManager (succeeded m outcome) → StaysValid m outcome
+stays m outcome v f r valid = record { succeeds = valid; fails = failed_is_valid m outcome.entry v (writable outcome.entry f r) }
+  where
+    writable : (o : Option Record) → IfSome o (λ r. fits m.state r ≡ true) → IfSome o IsRead → IfSome o (IsWritable m.state)
+    writable None f r = tt
+    writable (Some entry) f r = record { fits = f; read = r }
+
 pub calls_keep_valid : CallsKeepValid
-calls_keep_valid m v = let some = some_keep_valid m v in let each = each_is_kept m v in record {
-  peers = some.peers;
-  queues = some.queues;
-  rolls = some.rolls;
-  commits = λ ops now d. (each.commits ops now d).valid;
-  sends = λ p recoverable now d. (each.sends p recoverable now d).valid;
-  takes = λ p now. (each.takes p now).valid;
-  purges = λ p now. (each.purges p now).valid;
-  ticks = λ now. (each.ticks now).valid;
-  hears = λ p now r. (hear_sound m p now v r).kept.valid;
-  pumps = λ now. (pump_sound m now v).kept.valid;
+calls_keep_valid m v = let some = some_keep_valid m v in let each = each_is_kept m v in let fit = records_fit m in let read = records_are_read m in record {
+  peers = λ peer named. stays m (add_peer m peer) v (fit.peers peer) (read.peers peer named) (some.peers peer named);
+  queues = λ plan. stays m (create_queue m plan) v (fit.queues plan) (read.queues plan) (some.queues plan);
+  rolls = λ count h. stays m (set_roll m count) v (fit.rolls count h) (read.rolls count) (some.rolls count h);
+  commits = λ ops now d. stays m (commit m ops now) v (fit.commits ops now) (read.commits ops now d) (each.commits ops now d).valid;
+  sends = λ p recoverable now d. stays m (send m p recoverable now) v (fit.sends p recoverable now) (read.sends p recoverable now d) (each.sends p recoverable now d).valid;
+  takes = λ p now. stays m (take_message m p now) v (fit.takes p now) (read.takes p now) (each.takes p now).valid;
+  purges = λ p now. stays m (purge m p now) v (fit.purges p now) (read.purges p now) (each.purges p now).valid;
+  ticks = λ now. stays m (tick m now) v (fit.ticks now) (read.ticks now) (each.ticks now).valid;
+  hears = λ p now r. stays m (hear m p now) v (fit.hears v p now r) (read.hears v p now r) (hear_sound m p now v r).kept.valid;
+  pumps = λ now. stays m (pump m now) v (fit.pumps v now) (read.pumps v now) (pump_sound m now v).kept.valid;
 }
 
 -- nothing is done beside a record alone

@@ -120,7 +120,7 @@ pub fn kept_is_valid()
     ensures { KeptIsValid }
 {}
 
-/// A valid manager stays valid by each call, whether it goes well or is refused.
+/// A valid manager stays valid by each call, whether it goes well, is refused, or its disk fails.
 pub fn calls_keep_valid()
     ensures { CallsKeepValid }
 {}

@@ -1,4 +1,4 @@
--- A valid state stays valid by a record that fits.
+-- A valid state stays valid by a record that fits, and a valid manager by each call.
 use Rattle.std.specs.Prelude.{◌≡◌, All, Bool, List, true, ℕ}
 use Rattle.mqb_base.specs.declared.draft.Op.{Op}
 use Rattle.mqb_base.specs.declared.draft.Parts.{Parts}
@@ -25,7 +25,7 @@ use Rattle.mqb_model.specs.calls.pump.Pump.{pump}
 use Rattle.mqb_model.specs.declared.answers.Role.{Role}
 use Rattle.mqb_model.specs.laws.Fitting.{IsDrafted, IsDraftedOp}
 use Rattle.mqb_model.specs.managers.Manager.{Manager}
-use Rattle.mqb_model.specs.managers.Outcomes.{succeeded}
+use Rattle.mqb_model.specs.managers.Outcomes.{Outcome, failed, succeeded}
 use Rattle.mqb_model.specs.managers.Restarts.{restarted}
 use Rattle.mqb_model.specs.managers.Valid.{IsValidManager}
 use Rattle.mqb_model.specs.records.Applying.{apply, fits, is_roll}
@@ -90,18 +90,23 @@ AppliedIsValid = (s : State) (r : Record) → IsValidState s → IsRead r → fi
 abbrev pub KeptIsValid : Type 0
 KeptIsValid = (m : Manager) → IsValidManager m → IsValidManager (restarted m true)
 
--- A manager stays valid by each call, whether it goes well or is refused.
+-- A manager is valid after a call, whether it goes well, is refused, or its disk fails.
+pub record StaysValid {A : Type 0} (m : Manager) (outcome : Outcome A) : Type 0 where
+  pub succeeds : IsValidManager (succeeded m outcome)
+  pub fails : IsValidManager (failed m outcome)
+
+-- It is after each call.
 pub record EachKeepsValid (m : Manager) : Type 0 where
-  pub peers : (peer : Identity) → IsName peer.host → IsValidManager (succeeded m (add_peer m peer))
-  pub queues : (plan : QueuePlan) → IsValidManager (succeeded m (create_queue m plan))
-  pub rolls : (count : ℕ) → is_roll count ≡ true → IsValidManager (succeeded m (set_roll m count))
-  pub commits : (ops : List Op) (now : ℕ) → All IsDraftedOp ops → IsValidManager (succeeded m (commit m ops now))
-  pub sends : (p : Parts) (recoverable : Bool) (now : ℕ) → IsDrafted p → IsValidManager (succeeded m (send m p recoverable now))
-  pub takes : (p : Place) (now : ℕ) → IsValidManager (succeeded m (take_message m p now))
-  pub purges : (p : Place) (now : ℕ) → IsValidManager (succeeded m (purge m p now))
-  pub ticks : (now : ℕ) → IsValidManager (succeeded m (tick m now))
-  pub hears : (p : Packet) (now : ℕ) → IsReadable p → IsValidManager (succeeded m (hear m p now))
-  pub pumps : (now : ℕ) → IsValidManager (succeeded m (pump m now))
+  pub peers : (peer : Identity) → IsName peer.host → StaysValid m (add_peer m peer)
+  pub queues : (plan : QueuePlan) → StaysValid m (create_queue m plan)
+  pub rolls : (count : ℕ) → is_roll count ≡ true → StaysValid m (set_roll m count)
+  pub commits : (ops : List Op) (now : ℕ) → All IsDraftedOp ops → StaysValid m (commit m ops now)
+  pub sends : (p : Parts) (recoverable : Bool) (now : ℕ) → IsDrafted p → StaysValid m (send m p recoverable now)
+  pub takes : (p : Place) (now : ℕ) → StaysValid m (take_message m p now)
+  pub purges : (p : Place) (now : ℕ) → StaysValid m (purge m p now)
+  pub ticks : (now : ℕ) → StaysValid m (tick m now)
+  pub hears : (p : Packet) (now : ℕ) → IsReadable p → StaysValid m (hear m p now)
+  pub pumps : (now : ℕ) → StaysValid m (pump m now)
 
 -- each valid one does
 abbrev pub CallsKeepValid : Type 0
