@@ -23,8 +23,7 @@ use Rattle.mqb_session.specs.declared.heads.HeadHeard.{HeadHeard}
 use Rattle.mqb_session.specs.declared.heads.HeadHeard.TheVariants as head
 use Rattle.mqb_session.specs.declared.phase.Phase.{Phase}
 use Rattle.mqb_session.specs.declared.phase.Phase.TheVariants as phase
-use Rattle.mqb_setup.specs.Widths.{IsSessionHead}
-use Rattle.mqb_model.specs.calls.hear.Hear.{IsReadable, hear, hear_acknowledgement, hear_behind, hear_linked, hear_refusal, listening}
+use Rattle.mqb_model.specs.calls.hear.Hear.{IsHead, IsReadable, hear, hear_acknowledgement, hear_behind, hear_linked, hear_refusal, listening}
 use Rattle.mqb_model.specs.calls.hear.Session.{ack_heard, by_session, is_foreign, is_from, no_head, set_up_answer, user_heard, with_session}
 use Rattle.mqb_model.specs.declared.faults.HearFault.TheVariants as fault
 use Rattle.mqb_model.specs.managers.Manager.{Manager, is_down}
@@ -51,7 +50,7 @@ unless_sound m None outcome v h = h refl
 user_recorded : (p : UserPacket) → IsReadable (packet.User p) → IsRecorded p.message
 user_recorded p r = record {
   well_formed = r.well_formed.message;
-  named = record { destination = r.values.message.destination; admin = r.values.message.admin; response = r.values.message.response };
+  named = r.names;
   size = less (message_size headers.Bare p.message) (user_packet_size p) MAX_PACKET r.size (let fewer : message_size headers.Bare p.message ≤ user_packet_size p = omega arith in fewer);
 }
   where
@@ -59,9 +58,9 @@ user_recorded p r = record {
     less a b limit le few = grind (arith, nat_tests)
 
 -- the header of a user packet, or none
-head_small : (o : Option SessionHead) → IfSome o IsSessionHead → (unwrap_or o no_head).user < 2 ^ 16
+head_small : (o : Option SessionHead) → IfSome o IsHead → (unwrap_or o no_head).user < 2 ^ 16
 head_small None h = omega arith
-head_small (Some head) h = h.user
+head_small (Some head) h = h
 
 module _ (m : Manager) (v : IsValidManager m) (up : is_down m ≡ false) (now : ℕ) (session : one_end.State) (there : m.rest.session ≡ Some session) where
   -- a session of this manager
@@ -117,7 +116,7 @@ module _ (m : Manager) (v : IsValidManager m) (up : is_down m ≡ false) (now : 
       IsOne given.1 × HeardWith (is_from_peer m.state p.message ≡ true) given.0 given.1
   user_well p r true e = (closed_linked m.state.identity m.state.peers m.state.plain session cause.Foreign linked, tt)
   user_well p r false e = head_linked m.state.identity m.state.peers m.state.plain (is_from_peer m.state p.message ≡ true) (unwrap_or p.session no_head) session session.phase refl
-      (head_small p.session r.values.session) (λ ready. from_peer p (not_foreign session.phase ready e)) linked
+      (head_small p.session r.number) (λ ready. from_peer p (not_foreign session.phase ready e)) linked
     where
       not_foreign : (ph : Phase) → ph ≡ phase.Ready → (is_ready ph && is_foreign m.state session p) ≡ false → is_foreign m.state session p ≡ false
       not_foreign ph same e = sym (ap (λ b. b && is_foreign m.state session p) (ap is_ready same)) ∙ e

@@ -50,3 +50,4 @@ mod Pumping
 mod Cores
 mod Trying
 mod Transacting
+mod Sent

@@ -36,7 +36,7 @@ use Rattle.mqb_model.specs.state.Valid.{IsCarried}
 use Rattle.mqb_model.proofs.Adding.{append_nothing}
 
 -- how many bytes the wire form of a name has at most
-wire_most : (name : QueueName) → IsQueueName name → length (wire name) ≤ 284
+pub wire_most : (name : QueueName) → IsQueueName name → length (wire name) ≤ 284
 wire_most (Public guid journal) h = let sixteen : length (swapped guid.0) ≡ 16 = refl in omega (arith, sixteen)
 wire_most (Private qm number journal) h = let sixteen : length (swapped qm.0) ≡ 16 = refl in let four : length (bytes_of 4 number) ≡ 4 = refl in
     let both = length-append (swapped qm.0) (bytes_of 4 number) in omega (arith, sixteen, four, both)

@@ -111,7 +111,7 @@ pub all_mapped : {X Y : Type 0} (P : Y → Type 0) (f : X → Y) (xs : List X) �
 all_mapped P f [] h = tt
 all_mapped P f (x ∷ xs) h = (h.0, all_mapped P f xs h.1)
 
-mapped_all : {X Y : Type 0} (P : Y → Type 0) (f : X → Y) (xs : List X) → AllByRecursion P (map f xs) → AllByRecursion (λ x. P (f x)) xs
+pub mapped_all : {X Y : Type 0} (P : Y → Type 0) (f : X → Y) (xs : List X) → AllByRecursion P (map f xs) → AllByRecursion (λ x. P (f x)) xs
 mapped_all P f [] h = tt
 mapped_all P f (x ∷ xs) h = (h.0, mapped_all P f xs h.1)
 
@@ -135,7 +135,7 @@ fewer_right : {X : Type 0} (zs : List X) {xs ys : List X} → Fewer xs ys → Fe
 fewer_right [] f = f
 fewer_right (z ∷ zs) f = skip z (fewer_right zs f)
 
-fewer_at : {X Y : Type 0} (of : X → List Y) (xs : List X) (k : ℕ) (x : X) → slice_get xs k ≡ Some x → Fewer (of x) (flat_map of xs)
+pub fewer_at : {X Y : Type 0} (of : X → List Y) (xs : List X) (k : ℕ) (x : X) → slice_get xs k ≡ Some x → Fewer (of x) (flat_map of xs)
 fewer_at of [] k x e = absurd (let none : ⊥ = cc in none)
 fewer_at of (z ∷ zs) zero x e = subst (λ w. Fewer (of x) (of w ++ flat_map of zs)) (sym (some_is z x e)) (fewer_left (of x) (flat_map of zs))
 fewer_at of (z ∷ zs) (suc k) x e = fewer_right (of z) (fewer_at of zs k x e)

@@ -1,5 +1,5 @@
 ghost use Rattle.mqb_model.specs.laws.Durable.{CallsLeaveStore, DurableIsApplied, DurableIsFitted, LeavingIsDurable, MeetsDurably, StepsAreDurable};
-ghost use Rattle.mqb_model.specs.laws.Fitting.{RecordsAreRead, RecordsAreSpelled, RecordsFit};
+ghost use Rattle.mqb_model.specs.laws.Fitting.{PumpedIsReadable, RecordsAreRead, RecordsAreSpelled, RecordsFit};
 ghost use Rattle.mqb_model.specs.laws.Keeping.{
   AppliedIsValid,
   CallsKeepValid,
@@ -138,4 +138,9 @@ pub fn records_are_spelled()
 /// A record that a call makes tells of what can be carried.
 pub fn records_are_read()
     ensures { RecordsAreRead }
+{}
+
+/// The packets that a valid manager pumps can be heard.
+pub fn pumped_is_readable()
+    ensures { PumpedIsReadable }
 {}

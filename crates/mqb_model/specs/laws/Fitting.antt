@@ -100,3 +100,7 @@ pub record ReadRecords (m : Manager) : Type 0 where
 -- of every manager
 abbrev pub RecordsAreRead : Type 0
 RecordsAreRead = (m : Manager) → ReadRecords m
+
+-- The packets that a valid manager pumps can be heard.
+abbrev pub PumpedIsReadable : Type 0
+PumpedIsReadable = (m : Manager) → IsValidManager m → (now : ℕ) → All IsReadable (pump m now).packets

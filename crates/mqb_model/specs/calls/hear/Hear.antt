@@ -1,10 +1,10 @@
 -- The call hear: the first rule that fits decides.
 use Rattle.std.specs.Option.{option_map_or}
-use Rattle.std.specs.Prelude.{◌≤◌, Bool, Err, None, Option, Some, false, if◌then◌else◌, is_some, true, ℕ}
+use Rattle.std.specs.Prelude.{◌<◌, ◌^◌, ◌≤◌, Bool, Err, IfSome, None, Option, Some, false, if◌then◌else◌, is_some, true, ℕ}
+use Rattle.mqb_base.specs.declared.heads.SessionHead.{SessionHead}
 use Rattle.mqb_base.specs.declared.heard.Heard.TheVariants as heard
 use Rattle.mqb_heads.specs.declared.base.TheConstants.{MAX_PACKET}
 use Rattle.mqb_packet.specs.Plain.{IsWellFormedPacket, packet_size}
-use Rattle.mqb_packet.specs.Values.{IsPacket}
 use Rattle.mqb_packet.specs.declared.packet.Packet.{Packet}
 use Rattle.mqb_packet.specs.declared.packet.Packet.TheVariants as packet
 use Rattle.mqb_packet.specs.declared.packet.UserPacket.{UserPacket}
@@ -21,11 +21,27 @@ use Rattle.mqb_model.specs.managers.Manager.{Manager, is_down}
 use Rattle.mqb_model.specs.managers.Outcomes.{answering, unless}
 use Rattle.mqb_model.specs.records.Record.{Nothing}
 use Rattle.mqb_model.specs.state.Resolving.{peer_known}
+use Rattle.mqb_model.specs.state.Valid.{IsNamed}
 
--- A packet that can be heard, as each does that was read: it could be written, its numbers fit their types, and it is not longer than a packet can be.
+-- the names of a user packet's message are names
+abbrev pub BearsNames : Packet → Type 0
+BearsNames (packet.User p) = IsNamed p.message
+BearsNames _ = Unit {0}
+
+-- the number of a session header fits its field
+abbrev pub IsHead : SessionHead → Type 0
+IsHead head = head.user < 2 ^ 16
+
+-- so does that of a user packet's
+abbrev pub BearsNumber : Packet → Type 0
+BearsNumber (packet.User p) = IfSome p.session IsHead
+BearsNumber _ = Unit {0}
+
+-- A packet that can be heard, as each can that was read: it could be written, and is not longer than a packet can be.
 pub record IsReadable (p : Packet) : Type 0 where
   pub well_formed : IsWellFormedPacket p
-  pub values : IsPacket p
+  pub names : BearsNames p
+  pub number : BearsNumber p
   pub size : packet_size p ≤ MAX_PACKET
 
 -- what a user packet carries is heard
