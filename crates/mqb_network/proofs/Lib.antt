@@ -1,2 +1,2 @@
 mod Written
-mod Joining
+pub mod Joining

@@ -1,0 +1,14 @@
+mod Lists
+mod Staying
+mod Applying
+mod Calling
+mod Connections
+mod Knowing
+mod Ending
+mod Linking
+mod Ordering
+mod Beginning
+mod Orderly
+mod Parting
+mod Keeping
+mod Runs

@@ -1,0 +1,18 @@
+-- Laws of histories and of runs.
+use Rattle.std.specs.Prelude.{Bool, List, ℕ}
+use Rattle.mqb_base.specs.declared.ids.Identity.{Identity}
+use Rattle.mqb_network.specs.Doubts.{settled}
+use Rattle.mqb_network.specs.Laws.{AreApart}
+use Rattle.mqb_network.specs.Runs.{IsRun, Move, after_run}
+use Rattle.mqb_history.specs.Histories.{HasHistory, IsHistory, course_of}
+use Rattle.mqb_history.specs.Changes.{Change}
+use Rattle.mqb_history.specs.Orderly.{IsOrderly}
+
+-- Every course with a history is orderly.
+abbrev pub HistoriesAreOrderly : Type 0
+HistoriesAreOrderly = (known : List Identity) (xs : List Change) → AreApart known → IsHistory known xs → IsOrderly known (course_of known xs)
+
+-- Each point of each run has a history, and so has the course with each record in doubt applied or left out.
+abbrev pub RunsHaveHistories : Type 0
+RunsHaveHistories = (known : List Identity) (ms : List Move) → AreApart known → IsRun known ms → (kept : ℕ → Bool)
+    → HasHistory known (after_run known ms) × HasHistory known (settled kept (after_run known ms))

@@ -1,0 +1,5 @@
+pub mod Calls
+pub mod Changes
+pub mod Histories
+pub mod Orderly
+pub mod Laws

@@ -1,0 +1,16 @@
+//! The history of a network: each run of it is composed of a few primitive changes, and what each of them keeps holds at each point of each run.
+//!
+//! Each function stands for a law: its contract is the law, and its body is empty.
+#![tactic(auto)]
+
+ghost use Rattle.mqb_history.specs.Laws.{HistoriesAreOrderly, RunsHaveHistories};
+
+/// Sessions are connections, there is a note for each packet, and managers stay who they are.
+pub fn histories_are_orderly()
+    ensures { HistoriesAreOrderly }
+{}
+
+/// Each run is composed of primitive changes.
+pub fn runs_have_histories()
+    ensures { RunsHaveHistories }
+{}
