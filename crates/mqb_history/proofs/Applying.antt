@@ -40,7 +40,7 @@ use Rattle.std.specs.Prelude.{IfSome, false, length, option_and_then, slice_get,
 use Rattle.mqb_base.specs.declared.heads.TxHead.{TxHead}
 use Rattle.mqb_model.specs.Loops.{for_each_below, repeated}
 use Rattle.mqb_packet.specs.declared.packet.UserPacket.{UserPacket}
-use Rattle.mqb_history.specs.Orderly.{IsOfNoPeer}
+use Rattle.mqb_history.specs.Made.{IsMade}
 use Rattle.mqb_history.proofs.Staying.{HasSameRows, IsSameManager, KeepsRows, arrived_rows, delivered_rows, journalled_rows, manager_then, meets_rows, number_rows, plain_sent_rows, purged_rows, put_rows, rows_then, same_manager, same_rows, taken_at_rows, taken_rows, ticked_rows}
 
 -- What is done beside a record.
@@ -177,6 +177,24 @@ expiring_manager now e = each_manager (row_expired now)
 
 -- Every record but one of a peer.
 
+-- a record adds no peer
+abbrev pub IsOfNoPeer : Record → Type 0
+IsOfNoPeer (entry.Peer peer) = ⊥
+IsOfNoPeer _ = Unit {0}
+
+pub made_of_no_peer : (s : State) (r : Record) → IsMade s r → IsOfNoPeer r
+made_of_no_peer s (entry.Identity identity) h = tt
+made_of_no_peer s (entry.Peer peer) h = h
+made_of_no_peer s (entry.CreateQueue number plan) h = tt
+made_of_no_peer s (entry.Commit now ops) h = tt
+made_of_no_peer s (entry.Plain now p) h = tt
+made_of_no_peer s (entry.Offered marks) h = tt
+made_of_no_peer s (entry.Arrived now numbers part) h = tt
+made_of_no_peer s (entry.Taken now at id) h = tt
+made_of_no_peer s (entry.Purged now at) h = tt
+made_of_no_peer s (entry.Ticked now) h = tt
+made_of_no_peer s (entry.Roll count) h = tt
+
 pub applied_manager : (s : State) (r : Record) → IsOfNoPeer r → IsSameManager s (apply s r)
 applied_manager s (entry.Identity identity) h = same_manager s
 applied_manager s (entry.Peer peer) h = absurd h
@@ -195,6 +213,6 @@ applied_manager s (entry.Ticked now) h = manager_then s (rows_expired now (begun
 applied_manager s (entry.Roll count) h = record { identity = refl; peers = refl }
 
 -- a call's record, where there is one, and what it does beside it
-pub recorded_manager : (s : State) (o : Option Record) → IfSome o IsOfNoPeer → IsSameManager s (recorded s o)
+pub recorded_manager : (s : State) (o : Option Record) → IfSome o (IsMade s) → IsSameManager s (recorded s o)
 recorded_manager s None h = same_manager s
-recorded_manager s (Some r) h = applied_manager s r h
+recorded_manager s (Some r) h = applied_manager s r (made_of_no_peer s r h)

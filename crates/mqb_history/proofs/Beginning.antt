@@ -12,18 +12,18 @@ use Rattle.mqb_network.specs.Changes.{connection_to}
 use Rattle.mqb_network.specs.Connecting.{any_connected, any_down, asking, both_linked, linked_as}
 use Rattle.mqb_network.specs.Laws.{AreApart}
 use Rattle.mqb_network.specs.Network.{Connection, Network, is_connected, is_end, manager_at, nobody, with_manager}
-use Rattle.mqb_history.specs.Orderly.{AreAllDisjoint, IsItself, IsOfNoPeer}
+use Rattle.mqb_history.specs.Orderly.{AreAllDisjoint, IsItself}
+use Rattle.mqb_history.specs.Made.{IsMade}
 use Rattle.mqb_history.proofs.Connections.{any_begun, disjoint_begun, numbered_begun, split_or}
 use Rattle.mqb_history.proofs.Knowing.{apart_guids}
-use Rattle.mqb_history.proofs.Linking.{asks_itself, asks_other, link_manager, link_session}
+use Rattle.mqb_history.proofs.Linking.{asks_itself, asks_other, link_state, link_session}
 use Rattle.mqb_history.proofs.Lists.{clash, equal_numbers, get_within, set_apart, set_length, set_there, within_get, apart_numbers, none_some}
-use Rattle.mqb_history.proofs.Ordering.{IsOrderlyNetwork, itself_then, with_at}
-use Rattle.mqb_history.proofs.Staying.{IsSameManager, manager_then, same_manager}
+use Rattle.mqb_history.proofs.Ordering.{IsOrderlyNetwork, with_at}
 
 -- a connection begins between two managers of which each is linked now
 begun_orderly : (known : List Identity) (n m : Network) (a b : ℕ) → IsOrderlyNetwork known n → m.connections ≡ n.connections → m.connected ≡ n.connected
     → length m.managers ≡ length n.managers → is_connected n a ≡ false → is_connected n b ≡ false
-    → ((j : ℕ) → IsSameManager (manager_at n j).state (manager_at m j).state)
+    → ((j : ℕ) → (manager_at m j).state ≡ (manager_at n j).state)
     → ((j : ℕ) → (manager_at m j).condition ≡ (manager_at n j).condition)
     → ((j : ℕ) → is_some (manager_at m j).rest.session ≡ (is_some (manager_at n j).rest.session || (a == j || b == j)))
     → is_down (manager_at n a) ≡ false → is_down (manager_at n b) ≡ false
@@ -35,7 +35,8 @@ begun_orderly known n m a b o connections connected count apart_a apart_b same c
   };
   count = count ∙ o.count;
   themselves = λ j. themselves j (slice_get known j) (o.themselves j);
-  doubts = λ j. subst (λ x. IfSome (doubt_of x) IsOfNoPeer) (sym (condition j)) (o.doubts j);
+  doubts = λ j. subst (λ s. IfSome (doubt_of (manager_at m j).condition) (IsMade s)) (sym (same j))
+      (subst (λ x. IfSome (doubt_of x) (IsMade (manager_at n j).state)) (sym (condition j)) (o.doubts j));
   disjoint = subst₂ (λ ds k. AreAllDisjoint (ds ++ record { number = k + 1; first = a; second = b } ∷ [])) (sym connections) (sym connected)
       (disjoint_begun a b n.connected n.connections o.disjoint o.numbered apart_a apart_b);
   numbered = subst₂ (λ ds k. AllByRecursion (λ (d : Connection). d.number ≤ k + 1) (ds ++ record { number = k + 1; first = a; second = b } ∷ [])) (sym connections) (sym connected)
@@ -59,7 +60,7 @@ begun_orderly known n m a b o connections connected count apart_a apart_b same c
 
     themselves : (j : ℕ) (own : Option Identity) → IfSome own (λ own. IsItself known own (manager_at n j).state) → IfSome own (λ own. IsItself known own (manager_at m j).state)
     themselves j None h = tt
-    themselves j (Some own) h = itself_then known own (manager_at n j).state (manager_at m j).state (same j) h
+    themselves j (Some own) h = subst (IsItself known own) (sym (same j)) h
 
 -- A manager where another one is put.
 
@@ -77,9 +78,9 @@ elsewhere n i j m apart = ap (λ o. unwrap_or o nobody) (set_apart n.managers i 
 abbrev as_linked : Network → ℕ → Role → ℕ → Manager
 as_linked n i end window = succeeded (manager_at n i) (link (manager_at n i) end window)
 
-linked_same : (n : Network) (i j : ℕ) (end : Role) (window : ℕ) → IsSameManager (manager_at n j).state (manager_at (linked_as i end window n) j).state
-linked_same n i j end window = with_at (λ x. IsSameManager (manager_at n j).state x.state) n i j (as_linked n i end window) (same_manager (manager_at n j).state)
-    (λ e. subst (λ k. IsSameManager (manager_at n k).state (as_linked n i end window).state) e (link_manager (manager_at n i) end window))
+linked_same : (n : Network) (i j : ℕ) (end : Role) (window : ℕ) → (manager_at (linked_as i end window n) j).state ≡ (manager_at n j).state
+linked_same n i j end window = with_at (λ x. x.state ≡ (manager_at n j).state) n i j (as_linked n i end window) refl
+    (λ e. link_state (manager_at n i) end window ∙ ap (λ k. (manager_at n k).state) e)
 
 linked_condition : (n : Network) (i j : ℕ) (end : Role) (window : ℕ) → (manager_at (linked_as i end window n) j).condition ≡ (manager_at n j).condition
 linked_condition n i j end window = with_at (λ x. x.condition ≡ (manager_at n j).condition) n i j (as_linked n i end window) refl
@@ -96,12 +97,15 @@ or_true : (b : Bool) → (b || true) ≡ true
 or_true true = refl
 or_true false = refl
 
+pub linked_same_state : (n : Network) (i j : ℕ) (end : Role) (window : ℕ) → (manager_at (linked_as i end window n) j).state ≡ (manager_at n j).state
+linked_same_state = linked_same
+
 -- both are linked
 pub links_orderly : (known : List Identity) (n : Network) (a b window_a window_b : ℕ) → AreApart known → any_down n a b ≡ false → any_connected n a b ≡ false
     → IsOrderlyNetwork known n → IsOrderlyNetwork known (both_linked a b window_a window_b n)
 links_orderly known n a b window_a window_b apart up free o = begun_orderly known n m a b o refl refl
     (set_length _ b _ ∙ set_length n.managers a _) free_a free_b
-    (λ j. manager_then (manager_at n j).state (manager_at first j).state (manager_at m j).state (linked_same n a j end window_a) (linked_same first b j role.Acceptor window_b))
+    (λ j. linked_same first b j role.Acceptor window_b ∙ linked_same n a j end window_a)
     (λ j. linked_condition first b j role.Acceptor window_b ∙ linked_condition n a j end window_a) session up_a up_b
   where
     end : Role

@@ -63,7 +63,7 @@ use Rattle.mqb_model.specs.state.Resolving.{is_for_order_layer}
 use Rattle.mqb_model.specs.state.Rows.{in_row}
 use Rattle.std.specs.Prelude.{IfSome, ◌≡◌, is_some}
 use Rattle.mqb_model.specs.calls.Link.{rewound}
-use Rattle.mqb_model.specs.calls.hear.Session.{arrival_entry, numbers_released}
+use Rattle.mqb_model.specs.calls.hear.Session.{numbers_released}
 use Rattle.mqb_model.specs.calls.pump.Pump.{marks_for}
 use Rattle.mqb_model.specs.managers.Outcomes.{recorded, state_after}
 use Rattle.mqb_model.specs.records.Record.{Record}
@@ -71,19 +71,22 @@ use Rattle.mqb_model.specs.rules.Timeouts.{durable_due}
 use Rattle.mqb_queue.specs.Lists.{Lists}
 use Rattle.std.proofs.Common.{sym, ap, ◌∙◌}
 use Rattle.mqb_history.specs.Calls.{Call, answerless, CreateQueue, SetRoll, Commit, Send, Take, Purge, Tick, Resend, Pump, Hear, outcome_of}
-use Rattle.mqb_history.specs.Orderly.{IsOfNoPeer}
+use Rattle.mqb_history.specs.Made.{IsMade}
+use Rattle.mqb_history.proofs.Trying.{IfTried, ops_tried}
+use Rattle.mqb_model.specs.calls.hear.Plain.{express_answer}
 use Rattle.mqb_history.proofs.Applying.{beside_rows, recorded_manager}
 use Rattle.mqb_history.proofs.Staying.{IsSameManager, manager_then}
+use Rattle.mqb_model.specs.state.State.{State}
 
 -- a call leaves the session where there is one, and makes none where there is none, and its record is of no peer
 pub record IsModest {A : Type 0} (m : Manager) (outcome : Outcome A) : Type 0 where
   pub session : is_some outcome.rest.session ≡ is_some m.rest.session
-  pub entry : IfSome outcome.entry IsOfNoPeer
+  pub entry : IfSome outcome.entry (IsMade m.state)
 
 -- the same of a manager that is linked
-pub record IsModestLinked {A : Type 0} (outcome : Outcome A) : Type 0 where
+pub record IsModestLinked {A : Type 0} (s : State) (outcome : Outcome A) : Type 0 where
   pub session : is_some outcome.rest.session ≡ true
-  pub entry : IfSome outcome.entry IsOfNoPeer
+  pub entry : IfSome outcome.entry (IsMade s)
 
 unless_modest : {V E : Type 0} (m : Manager) (refusal : Option E) (outcome : Outcome (Result V E)) → IsModest m outcome → IsModest m (unless m refusal outcome)
 unless_modest m (Some fault) outcome h = record { session = refl; entry = tt }
@@ -97,25 +100,30 @@ or_modest m f (Some x) other some none = some x
 refusing : {V E : Type 0} (m : Manager) (fault : E) → IsModest {A = Result V E} m (answering m (Err fault))
 refusing m fault = record { session = refl; entry = tt }
 
-or_linked : {X V E : Type 0} (f : X → Outcome (Result V E)) (o : Option X) (other : Outcome (Result V E))
-    → ((x : X) → IsModestLinked (f x)) → IsModestLinked other → IsModestLinked (option_map_or f o other)
-or_linked f None other some none = none
-or_linked f (Some x) other some none = some x
+or_linked : {X V E : Type 0} (s : State) (f : X → Outcome (Result V E)) (o : Option X) (other : Outcome (Result V E))
+    → ((x : X) → IsModestLinked s (f x)) → IsModestLinked s other → IsModestLinked s (option_map_or f o other)
+or_linked s f None other some none = none
+or_linked s f (Some x) other some none = some x
 
-either : {V E : Type 0} (b : Bool) (x y : Outcome (Result V E)) → IsModestLinked x → IsModestLinked y → IsModestLinked (cond b x y)
-either true x y left right = left
-either false x y left right = right
+found_linked : {X V E : Type 0} (s : State) (f : X → Outcome (Result V E)) (o : Option X) (other : Outcome (Result V E))
+    → ((x : X) → o ≡ Some x → IsModestLinked s (f x)) → IsModestLinked s other → IsModestLinked s (option_map_or f o other)
+found_linked s f None other some none = none
+found_linked s f (Some x) other some none = some x refl
+
+either : {V E : Type 0} (s : State) (b : Bool) (x y : Outcome (Result V E)) → IsModestLinked s x → IsModestLinked s y → IsModestLinked s (cond b x y)
+either s true x y left right = left
+either s false x y left right = right
 
 -- a record, unless there is none
-none_or : (b : Bool) (r : Record) → IsOfNoPeer r → IfSome (cond b None (Some r)) IsOfNoPeer
-none_or true r h = tt
-none_or false r h = h
+none_or : (s : State) (b : Bool) (r : Record) → IsMade s r → IfSome (cond b None (Some r)) (IsMade s)
+none_or s true r h = tt
+none_or s false r h = h
 
 -- Calls on a store.
 
-commit_modest : (m : Manager) (now : ℕ) (tried : Result Trial CommitFault) → IsModest m (commit_tried m now tried)
-commit_modest m now (Err fault) = record { session = refl; entry = tt }
-commit_modest m now (Ok t) = unless_modest m (whole_refusal t) (recording m (entry.Commit now t.ops) (Ok t.done)) (record { session = refl; entry = tt })
+commit_modest : (m : Manager) (now : ℕ) (tried : Result Trial CommitFault) → IfTried m.state tried → IsModest m (commit_tried m now tried)
+commit_modest m now (Err fault) h = record { session = refl; entry = tt }
+commit_modest m now (Ok t) h = unless_modest m (whole_refusal t) (recording m (entry.Commit now t.ops) (Ok t.done)) (record { session = refl; entry = h.numbered })
 
 sending_modest : (m : Manager) (recoverable : Bool) (message : Message) (now : ℕ) → IsModest m (sending m recoverable message now)
 sending_modest m true message now = record { session = refl; entry = tt }
@@ -134,7 +142,7 @@ take_modest m now at = or_modest m (take_position m at now) (first_in m.state at
     (position_modest m at now) (refusing m take_fault.QueueEmpty)
 
 purging_modest : (m : Manager) (now : ℕ) (at : EntryPlace) (l : Lists) → IsModest m (purging m now at l)
-purging_modest m now at l = record { session = refl; entry = none_or (length l.durable == 0) (entry.Purged now at) tt }
+purging_modest m now at l = record { session = refl; entry = none_or m.state (length l.durable == 0) (entry.Purged now at) tt }
 
 purge_modest : (m : Manager) (now : ℕ) (at : EntryPlace) → IsModest m (purge_at m now at)
 purge_modest m now at = or_modest m (purging m now at) (lists_at m.state.places at) (answering m (Err purge_fault.NoQueue))
@@ -149,76 +157,73 @@ resend_modest m = record { session = at m.rest.session; entry = tt }
 
 -- Hearing.
 
-arrival_modest : (l : Listening) (part : Part) → IfSome (arrival_entry l part) IsOfNoPeer
-arrival_modest l entry.Nothing = none_or (length (numbers_released l) == 0) (entry.Arrived l.now (numbers_released l) entry.Nothing) tt
-arrival_modest l (entry.Decided p) = tt
-arrival_modest l (entry.Stored p) = tt
-arrival_modest l (entry.OrderAcknowledged ordinal number) = tt
-arrival_modest l (entry.Final p) = tt
+heard_modest : (l : Listening) (answer : Heard) → IsModestLinked l.manager.state (heard_as l Nothing answer)
+heard_modest l answer = record {
+  session = refl;
+  entry = none_or l.manager.state (length (numbers_released l) == 0) (entry.Arrived l.now (numbers_released l) entry.Nothing) tt;
+}
 
-heard_modest : (l : Listening) (part : Part) (answer : Heard) → IsModestLinked (heard_as l part answer)
-heard_modest l part answer = record { session = refl; entry = arrival_modest l part }
+owing_modest : (k : ℕ) (l : Listening) (answer : Heard) → IsModestLinked l.manager.state (owing k (heard_as l Nothing answer))
+owing_modest k l answer = record { session = refl; entry = (heard_modest l answer).entry }
 
-owing_modest : (k : ℕ) (l : Listening) (part : Part) (answer : Heard) → IsModestLinked (owing k (heard_as l part answer))
-owing_modest k l part answer = record { session = refl; entry = arrival_modest l part }
-
-duplicate_modest : (l : Listening) (message : Message) (tx : TxHead) → IsModestLinked (hear_duplicate l message tx)
-duplicate_modest l message tx = either (has_sequence l.manager.state message tx)
+duplicate_modest : (l : Listening) (message : Message) (tx : TxHead) → IsModestLinked l.manager.state (hear_duplicate l message tx)
+duplicate_modest l message tx = either l.manager.state (has_sequence l.manager.state message tx)
     (owing (index_for l.manager.state message) (duplicate_heard l tx)) (duplicate_heard l tx)
-    (owing_modest (index_for l.manager.state message) l Nothing (heard.Duplicate tx.sequence tx.number)) (heard_modest l Nothing (heard.Duplicate tx.sequence tx.number))
+    (owing_modest (index_for l.manager.state message) l (heard.Duplicate tx.sequence tx.number)) (heard_modest l (heard.Duplicate tx.sequence tx.number))
 
-judged_modest : (l : Listening) (p : UserPacket) (tx : TxHead) (found : Verdict) → IsModestLinked (judged l p tx found)
-judged_modest l p tx verdict.Next = record { session = refl; entry = tt }
-judged_modest l p tx verdict.Duplicate = duplicate_modest l p.message tx
-judged_modest l p tx verdict.Gap = heard_modest l Nothing (heard.Gap tx.sequence tx.number)
-judged_modest l p tx verdict.Stale = heard_modest l Nothing (heard.Stale tx.sequence tx.number)
+judged_modest : (l : Listening) (p : UserPacket) (tx : TxHead) (found : Verdict) → p.tx ≡ Some tx → verdict_of (in_row l.manager.state p.message) tx ≡ found
+    → IsModestLinked l.manager.state (judged l p tx found)
+judged_modest l p tx verdict.Next e v = record { session = refl; entry = record { head = tx; there = e; next = v } }
+judged_modest l p tx verdict.Duplicate e v = duplicate_modest l p.message tx
+judged_modest l p tx verdict.Gap e v = heard_modest l (heard.Gap tx.sequence tx.number)
+judged_modest l p tx verdict.Stale e v = heard_modest l (heard.Stale tx.sequence tx.number)
 
-discarded_modest : (l : Listening) → IsModestLinked (discarded l)
-discarded_modest l = heard_modest l Nothing heard.Discarded
+discarded_modest : (l : Listening) → IsModestLinked l.manager.state (discarded l)
+discarded_modest l = heard_modest l heard.Discarded
 
-stream_modest : (l : Listening) (p : UserPacket) (tx : TxHead) → IsModestLinked (hear_in_stream l p tx)
-stream_modest l p tx = let found = verdict_of (in_row l.manager.state p.message) tx in
-    either (is_ordinary p.message) (judged l p tx found) (discarded l) (judged_modest l p tx found) (discarded_modest l)
+stream_modest : (l : Listening) (p : UserPacket) (tx : TxHead) → p.tx ≡ Some tx → IsModestLinked l.manager.state (hear_in_stream l p tx)
+stream_modest l p tx e = let found = verdict_of (in_row l.manager.state p.message) tx in
+    either l.manager.state (is_ordinary p.message) (judged l p tx found) (discarded l) (judged_modest l p tx found e refl) (discarded_modest l)
 
-ack_modest : (l : Listening) (ack : OrderAck) → IsModestLinked (hear_order_ack l ack)
-ack_modest l ack = either (list_any (raises (peer_heard l) ack) l.manager.state.outs) (order_acked l ack) (heard_as l Nothing heard.OldAck)
-    (record { session = refl; entry = tt }) (heard_modest l Nothing heard.OldAck)
+ack_modest : (l : Listening) (ack : OrderAck) → IsModestLinked l.manager.state (hear_order_ack l ack)
+ack_modest l ack = either l.manager.state (list_any (raises (peer_heard l) ack) l.manager.state.outs) (order_acked l ack) (heard_as l Nothing heard.OldAck)
+    (record { session = refl; entry = tt }) (heard_modest l heard.OldAck)
 
-arriving_modest : (l : Listening) (p : UserPacket) → IsModestLinked (hear_arriving l p.message (refusal_of l.manager.state p))
-arriving_modest l p = record { session = refl; entry = arrival_modest l Nothing }
+arriving_modest : (l : Listening) (p : UserPacket) → IsModestLinked l.manager.state (hear_arriving l p.message (refusal_of l.manager.state p))
+arriving_modest l p = record { session = refl; entry = (heard_modest l (express_answer p.message (refusal_of l.manager.state p))).entry }
 
-express_modest : (l : Listening) (p : UserPacket) → IsModestLinked (hear_express l p)
-express_modest l p = either (is_for_order_layer l.manager.state p.message.destination) (discarded l)
+express_modest : (l : Listening) (p : UserPacket) → IsModestLinked l.manager.state (hear_express l p)
+express_modest l p = either l.manager.state (is_for_order_layer l.manager.state p.message.destination) (discarded l)
     (hear_arriving l p.message (refusal_of l.manager.state p)) (discarded_modest l) (arriving_modest l p)
 
-recoverable_modest : (l : Listening) (p : UserPacket) → IsModestLinked (hear_recoverable l p)
-recoverable_modest l p = either (is_final l.manager.state p.message) (hear_final l p) (hear_stored l p)
+recoverable_modest : (l : Listening) (p : UserPacket) → IsModestLinked l.manager.state (hear_recoverable l p)
+recoverable_modest l p = either l.manager.state (is_final l.manager.state p.message) (hear_final l p) (hear_stored l p)
     (record { session = refl; entry = tt }) (record { session = refl; entry = tt })
 
-in_order_modest : (l : Listening) (p : UserPacket) → IsModestLinked (hear_in_order l p)
-in_order_modest l p = either (is_express p.message.delivery) (hear_express l p) (hear_recoverable l p) (express_modest l p) (recoverable_modest l p)
+in_order_modest : (l : Listening) (p : UserPacket) → IsModestLinked l.manager.state (hear_in_order l p)
+in_order_modest l p = either l.manager.state (is_express p.message.delivery) (hear_express l p) (hear_recoverable l p) (express_modest l p) (recoverable_modest l p)
 
-message_modest : (l : Listening) (in_order : Bool) (p : UserPacket) → IsModestLinked (hear_message l in_order p)
+message_modest : (l : Listening) (in_order : Bool) (p : UserPacket) → IsModestLinked l.manager.state (hear_message l in_order p)
 message_modest l true p = in_order_modest l p
 message_modest l false p = discarded_modest l
 
-user_modest : (l : Listening) (in_order : Bool) (p : UserPacket) → IsModestLinked (hear_user l in_order p)
-user_modest l in_order p = or_linked (hear_in_stream l p) p.tx (hear_plain l in_order p) (stream_modest l p)
-    (or_linked (hear_order_ack l) (acknowledged_in l.manager.state p.message) (hear_message l in_order p) (ack_modest l) (message_modest l in_order p))
+user_modest : (l : Listening) (in_order : Bool) (p : UserPacket) → IsModestLinked l.manager.state (hear_user l in_order p)
+user_modest l in_order p = found_linked l.manager.state (hear_in_stream l p) p.tx (hear_plain l in_order p) (stream_modest l p)
+    (or_linked l.manager.state (hear_order_ack l) (acknowledged_in l.manager.state p.message) (hear_message l in_order p) (ack_modest l) (message_modest l in_order p))
 
-behind_modest : (m : Manager) (now : ℕ) (p : UserPacket) (given : HeadHeard) (session : one_end.State) → IsModestLinked (hear_behind m now p given session)
+behind_modest : (m : Manager) (now : ℕ) (p : UserPacket) (given : HeadHeard) (session : one_end.State) → IsModestLinked m.state (hear_behind m now p given session)
 behind_modest m now p (head.Closed why) session = record { session = refl; entry = tt }
 behind_modest m now p head.InOrder session = user_modest (listening m session now) true p
 behind_modest m now p head.OutOfOrder session = user_modest (listening m session now) false p
 behind_modest m now p head.AckOnly session = user_modest (listening m session now) false p
 
-acknowledgement_modest : (m : Manager) (now : ℕ) (given : HeadHeard) (session : one_end.State) → IsModestLinked (hear_acknowledgement m now given session)
+acknowledgement_modest : (m : Manager) (now : ℕ) (given : HeadHeard) (session : one_end.State) → IsModestLinked m.state (hear_acknowledgement m now given session)
 acknowledgement_modest m now (head.Closed why) session = record { session = refl; entry = tt }
-acknowledgement_modest m now head.InOrder session = heard_modest (listening m session now) Nothing heard.Session
-acknowledgement_modest m now head.OutOfOrder session = heard_modest (listening m session now) Nothing heard.Session
-acknowledgement_modest m now head.AckOnly session = heard_modest (listening m session now) Nothing heard.Session
+acknowledgement_modest m now head.InOrder session = heard_modest (listening m session now) heard.Session
+acknowledgement_modest m now head.OutOfOrder session = heard_modest (listening m session now) heard.Session
+acknowledgement_modest m now head.AckOnly session = heard_modest (listening m session now) heard.Session
 
-linked_modest : (m : Manager) (now : ℕ) (p : Packet) (session : one_end.State) → IsModestLinked (hear_linked m now p session)
+linked_modest : (m : Manager) (now : ℕ) (p : Packet) (session : one_end.State) → IsModestLinked m.state (hear_linked m now p session)
 linked_modest m now (packet.Establish e) session = record { session = refl; entry = tt }
 linked_modest m now (packet.Parameters p) session = record { session = refl; entry = tt }
 linked_modest m now (packet.Ack h) session = acknowledgement_modest m now (ack_heard h session).0 (ack_heard h session).1
@@ -226,7 +231,7 @@ linked_modest m now (packet.User p) session = behind_modest m now p (user_heard 
 
 -- a call of a manager that is linked, or is refused
 linked_or : {V E : Type 0} (m : Manager) (f : one_end.State → Outcome (Result V E)) (fault : E)
-    → ((session : one_end.State) → m.rest.session ≡ Some session → IsModestLinked (f session))
+    → ((session : one_end.State) → m.rest.session ≡ Some session → IsModestLinked m.state (f session))
     → IsModest m (option_map_or f m.rest.session (answering m (Err fault)))
 linked_or m f fault linked = at m.rest.session refl
   where
@@ -236,41 +241,41 @@ linked_or m f fault linked = at m.rest.session refl
 
 -- Pumping.
 
-nothing_modest : (m : Manager) → is_some m.rest.session ≡ true → IsModestLinked {A = Result ℕ PumpFault} (answering m (Ok 0))
+nothing_modest : (m : Manager) → is_some m.rest.session ≡ true → IsModestLinked {A = Result ℕ PumpFault} m.state (answering m (Ok 0))
 nothing_modest m linked = record { session = linked; entry = tt }
 
-storage_modest : (m : Manager) (session : one_end.State) → is_some m.rest.session ≡ true → IsModestLinked (sending_ack m session)
-storage_modest m session linked = either session.owes (sending_one m (packet.Ack (stamped kind.Ack session).0) (stamped kind.Ack session).1) (answering m (Ok 0))
+storage_modest : (m : Manager) (session : one_end.State) → is_some m.rest.session ≡ true → IsModestLinked m.state (sending_ack m session)
+storage_modest m session linked = either m.state session.owes (sending_one m (packet.Ack (stamped kind.Ack session).0) (stamped kind.Ack session).1) (answering m (Ok 0))
     (record { session = refl; entry = tt }) (nothing_modest m linked)
 
 chosen_modest : (m : Manager) (now : ℕ) (session : one_end.State) (k : ℕ) (to : Guid) (cs : List Candidate) → is_some m.rest.session ≡ true
-    → IsModestLinked (sending_chosen m now session k to cs)
+    → IsModestLinked m.state (sending_chosen m now session k to cs)
 chosen_modest m now session k to [] linked = storage_modest m session linked
 chosen_modest m now session k to (c ∷ cs) linked = record {
   session = refl;
-  entry = none_or (length (marks_for m.state (c ∷ cs)) == 0) (entry.Offered (marks_for m.state (c ∷ cs))) tt;
+  entry = none_or m.state (length (marks_for m.state (c ∷ cs)) == 0) (entry.Offered (marks_for m.state (c ∷ cs))) tt;
 }
 
 pump_modest : (m : Manager) (now : ℕ) (session : one_end.State) (k : ℕ) (to : Guid) (cs : List Candidate) → is_some m.rest.session ≡ true
-    → IsModestLinked (pump_with m now session k to cs)
-pump_modest m now session k to cs linked = either (is_spent session && not (length cs == 0)) (answering m (Err pump_fault.Spent))
+    → IsModestLinked m.state (pump_with m now session k to cs)
+pump_modest m now session k to cs linked = either m.state (is_spent session && not (length cs == 0)) (answering m (Err pump_fault.Spent))
     (sending_chosen m now session k to (chosen session 0 0 cs)) (record { session = linked; entry = tt }) (chosen_modest m now session k to (chosen session 0 0 cs) linked)
 
 peer_modest : (m : Manager) (now : ℕ) (session : one_end.State) (k : ℕ) (peer : Identity) → is_some m.rest.session ≡ true
-    → IsModestLinked (option_map_or (pump_to m now session k peer) (slice_get m.state.plain k) (answering m (Ok 0)))
-peer_modest m now session k peer linked = or_linked (pump_to m now session k peer) (slice_get m.state.plain k) (answering m (Ok 0))
+    → IsModestLinked m.state (option_map_or (pump_to m now session k peer) (slice_get m.state.plain k) (answering m (Ok 0)))
+peer_modest m now session k peer linked = or_linked m.state (pump_to m now session k peer) (slice_get m.state.plain k) (answering m (Ok 0))
     (λ p. pump_modest m now session k peer.guid (candidates m.state m.rest now k peer p) linked) (nothing_modest m linked)
 
-to_peer_modest : (m : Manager) (now : ℕ) (session : one_end.State) (k : ℕ) → is_some m.rest.session ≡ true → IsModestLinked (pump_at m now session k)
-to_peer_modest m now session k linked = or_linked (λ peer. option_map_or (pump_to m now session k peer) (slice_get m.state.plain k) (answering m (Ok 0)))
+to_peer_modest : (m : Manager) (now : ℕ) (session : one_end.State) (k : ℕ) → is_some m.rest.session ≡ true → IsModestLinked m.state (pump_at m now session k)
+to_peer_modest m now session k linked = or_linked m.state (λ peer. option_map_or (pump_to m now session k peer) (slice_get m.state.plain k) (answering m (Ok 0)))
     (slice_get m.state.peers k) (answering m (Ok 0)) (λ peer. peer_modest m now session k peer linked) (nothing_modest m linked)
 
-owed_modest : (m : Manager) (now : ℕ) (session : one_end.State) (owed : Option Internal) → is_some m.rest.session ≡ true → IsModestLinked (pump_owed m now session owed)
+owed_modest : (m : Manager) (now : ℕ) (session : one_end.State) (owed : Option Internal) → is_some m.rest.session ≡ true → IsModestLinked m.state (pump_owed m now session owed)
 owed_modest m now session (Some owed) linked = record { session = refl; entry = tt }
 owed_modest m now session None linked = let k = linked_peer m.state session in
-    either (is_ready session.phase) (pump_at m now session k) (answering m (Ok 0)) (to_peer_modest m now session k linked) (nothing_modest m linked)
+    either m.state (is_ready session.phase) (pump_at m now session k) (answering m (Ok 0)) (to_peer_modest m now session k linked) (nothing_modest m linked)
 
-session_modest : (m : Manager) (now : ℕ) (session : one_end.State) → is_some m.rest.session ≡ true → IsModestLinked (pump_linked m now session)
+session_modest : (m : Manager) (now : ℕ) (session : one_end.State) → is_some m.rest.session ≡ true → IsModestLinked m.state (pump_linked m now session)
 session_modest m now session linked = owed_modest m now session (owed_by session.phase now session) linked
 
 -- Each call.
@@ -284,7 +289,7 @@ calls_are_modest m (CreateQueue plan) = without_answer m _ (unless_modest m (cre
     (recording m (entry.CreateQueue (next_queue m.state) plan) (Ok (next_queue m.state))) (record { session = refl; entry = tt }))
 calls_are_modest m (SetRoll count) = without_answer m _ (unless_modest m (store_refusal m) (recording m (entry.Roll count) (Ok tt)) (record { session = refl; entry = tt }))
 calls_are_modest m (Commit now ops) = without_answer m _ (unless_modest m (ops_refusal m ops) (commit_tried m now (try_ops now 0 (trial_of m.state) ops))
-    (commit_modest m now (try_ops now 0 (trial_of m.state) ops)))
+    (commit_modest m now (try_ops now 0 (trial_of m.state) ops) (ops_tried m.state ops now)))
 calls_are_modest m (Send now recoverable p) = let message = plain_message m.state recoverable now p in
     without_answer m _ (unless_modest m (send_refusal m recoverable message) (sending m recoverable message now) (sending_modest m recoverable message now))
 calls_are_modest m (Take now p) = without_answer m _ (unless_modest m (take_refusal m)
@@ -294,7 +299,7 @@ calls_are_modest m (Purge now p) = without_answer m _ (unless_modest m (purge_re
     (option_map_or (purge_at m now) (place_named m.state.places.queues p) (answering m (Err purge_fault.NoQueue)))
     (or_modest m (purge_at m now) (place_named m.state.places.queues p) (answering m (Err purge_fault.NoQueue)) (purge_modest m now) (refusing m purge_fault.NoQueue)))
 calls_are_modest m (Tick now) = without_answer m _ (unless_modest m (store_refusal m) (ticking m now)
-    (record { session = refl; entry = none_or (durable_due m.state now == 0) (entry.Ticked now) tt }))
+    (record { session = refl; entry = none_or m.state (durable_due m.state now == 0) (entry.Ticked now) tt }))
 calls_are_modest m Resend = resend_modest m
 calls_are_modest m (Pump now) = without_answer m _ (unless_modest m (pump_refusal m)
     (option_map_or (pump_linked m now) m.rest.session (answering m (Err pump_fault.NotLinked)))
@@ -304,6 +309,6 @@ calls_are_modest m (Hear now p) = without_answer m _ (unless_modest m (hear_refu
     (linked_or m (hear_linked m now p) hear_fault.NotLinked (λ session e. linked_modest m now p session)))
 
 -- the state after it is of the same manager
-pub after_call : {A : Type 0} (m : Manager) (outcome : Outcome A) → IfSome outcome.entry IsOfNoPeer → IsSameManager m.state (state_after m outcome)
+pub after_call : {A : Type 0} (m : Manager) (outcome : Outcome A) → IfSome outcome.entry (IsMade m.state) → IsSameManager m.state (state_after m outcome)
 after_call m outcome h = manager_then m.state (recorded m.state outcome.entry) (state_after m outcome) (recorded_manager m.state outcome.entry h)
     (beside_rows outcome.beside (recorded m.state outcome.entry)).manager

@@ -9,10 +9,14 @@ use Rattle.mqb_model.specs.managers.Manager.{Manager, is_down}
 use Rattle.mqb_model.specs.managers.Outcomes.{succeeded}
 use Rattle.mqb_network.specs.Changes.{ended, ended_by, parted}
 use Rattle.mqb_network.specs.Network.{Connection, Network, connection_of, is_connected, is_end, manager_at, nobody}
+use Rattle.mqb_history.specs.Made.{IsMade}
 use Rattle.mqb_history.specs.Orderly.{AreAllDisjoint, IsLinkedRightly}
 use Rattle.mqb_history.proofs.Connections.{any_ended, found_passes, none_found}
 use Rattle.mqb_history.proofs.Lists.{changed_apart, changed_get, changed_there, clash, equal_numbers, same_number, true_not_false}
-use Rattle.mqb_history.proofs.Staying.{IsSameManager, same_manager}
+use Rattle.mqb_history.proofs.Staying.{HasSameRows, IsSameManager, same_manager, same_rows}
+use Rattle.std.proofs.Common.{arith}
+use Rattle.std.specs.Prelude.{IfSome}
+use Rattle.mqb_model.specs.managers.Manager.{doubt_of}
 
 -- a manager that is down is not linked
 abbrev pub IsUnlinkedDown : Manager → Type 0
@@ -43,6 +47,24 @@ parted_manager m = at (is_down m)
     at : (b : Bool) → IsSameManager m.state (cond b m (succeeded m (unlink m))).state
     at true = same_manager m.state
     at false = record { identity = refl; peers = refl }
+
+-- a record in doubt is one that a call made
+abbrev pub HasMade : Manager → Type 0
+HasMade m = IfSome (doubt_of m.condition) (IsMade m.state)
+
+pub parted_doubt : (m : Manager) → HasMade m → HasMade (parted m)
+parted_doubt m h = at (is_down m)
+  where
+    at : (b : Bool) → HasMade (cond b m (succeeded m (unlink m)))
+    at true = h
+    at false = h
+
+pub parted_rows : (m : Manager) → HasSameRows m.state (parted m).state
+parted_rows m = at (is_down m)
+  where
+    at : (b : Bool) → HasSameRows m.state (cond b m (succeeded m (unlink m))).state
+    at true = same_rows m.state
+    at false = record { manager = record { identity = refl; peers = refl }; outs = refl; ins = refl; next_ordinal = refl; numbers = omega arith }
 
 pub parted_condition : (m : Manager) → (parted m).condition ≡ m.condition
 parted_condition m = at (is_down m)

@@ -1,7 +1,6 @@
 -- Managers that began together know one another, and none is its own peer.
 use Rattle.std.proofs.Common.{refl, ap, sym, subst, ◌∙◌, arith}
 use Rattle.std.proofs.lemmas.Bool.Decides.{nat_tests}
-use Rattle.std.specs.Cmp.Lexicographic.{bytes_decides}
 use Rattle.std.specs.List.{list_any, prefix_len}
 use Rattle.std.specs.Prelude.{[], ◌+◌, ◌<◌, ◌||◌, ◌∷◌, ◌≡◌, Bool, List, None, Some, cond, false, filter, is_some, length, nat_lt, not, position, slice_get, slice_index_or, suc, true, unwrap_or, zero, ℕ}
 use Rattle.mqb_base.specs.Same.{same_guid, same_ignoring_case}
@@ -9,13 +8,8 @@ use Rattle.mqb_model.specs.records.Peer.{is_met}
 use Rattle.mqb_base.specs.declared.ids.Guid.{Guid}
 use Rattle.mqb_base.specs.declared.ids.Identity.{Identity}
 use Rattle.mqb_network.specs.Laws.{AreApart}
+use Rattle.mqb_history.proofs.Names.{same_guid_is, same_guid_refl}
 use Rattle.mqb_history.proofs.Lists.{clash, get_within, true_not_false}
-
-pub same_guid_refl : (a : Guid) → same_guid a a ≡ true
-same_guid_refl a = (bytes_decides a.0 a.0).1 refl
-
-pub same_guid_is : (a b : Guid) → same_guid a b ≡ true → a ≡ b
-same_guid_is a b h = ap (λ (x : List ℕ). record { 0 = x }) ((bytes_decides a.0 b.0).0 h)
 
 pub different_guids : (a b : Guid) → same_guid a b ≡ false → same_guid b a ≡ false
 different_guids a b h = at (same_guid b a) refl
@@ -25,10 +19,10 @@ different_guids a b h = at (same_guid b a) refl
     at false e = refl
 
 -- a place is found where a member passes
-counted : (a n : ℕ) → nat_lt (1 + a) (suc n) ≡ nat_lt a n
+pub counted : (a n : ℕ) → nat_lt (1 + a) (suc n) ≡ nat_lt a n
 counted a n = grind (arith, nat_tests)
 
-none_below : (n : ℕ) → nat_lt 0 (suc n) ≡ true
+pub none_below : (n : ℕ) → nat_lt 0 (suc n) ≡ true
 none_below n = grind (arith, nat_tests)
 
 pub any_position : {X : Type 0} (p : X → Bool) (xs : List X) → nat_lt (prefix_len (λ x. not (p x)) xs) (length xs) ≡ list_any p xs

@@ -1,8 +1,11 @@
 mod Lists
 mod Staying
 mod Applying
+mod Trying
 mod Calling
+mod Refusing
 mod Connections
+mod Names
 mod Knowing
 mod Ending
 mod Linking
@@ -12,3 +15,6 @@ mod Orderly
 mod Parting
 mod Keeping
 mod Runs
+mod Written
+mod Inside
+mod Deciding

@@ -19,7 +19,6 @@ use Rattle.mqb_session.specs.State as one_end
 use Rattle.mqb_history.specs.Orderly.{IsItself}
 use Rattle.mqb_history.proofs.Knowing.{found_place, not_own_peer, other_is_peer}
 use Rattle.mqb_history.proofs.Lists.{clash}
-use Rattle.mqb_history.proofs.Staying.{IsSameManager, same_manager}
 
 -- a manager with this session
 abbrev given_session : Manager → Option one_end.State → Outcome (Result (Unit {0}) LinkFault)
@@ -38,13 +37,13 @@ link_session m end window up apart = at (is_down m) up (is_some m.rest.session) 
     at false d false l None = apart
     at false d false l (Some session) = refl
 
--- its state and its condition stay
-pub link_manager : (m : Manager) (end : Role) (window : ℕ) → IsSameManager m.state (succeeded m (link m end window)).state
-link_manager m end window = at (link_refusal m end window)
+-- its state stays
+pub link_state : (m : Manager) (end : Role) (window : ℕ) → (succeeded m (link m end window)).state ≡ m.state
+link_state m end window = at (link_refusal m end window)
   where
-    at : (o : Option LinkFault) → IsSameManager m.state (succeeded m (unless m o (linking m end window))).state
-    at None = same_manager m.state
-    at (Some why) = same_manager m.state
+    at : (o : Option LinkFault) → (succeeded m (unless m o (linking m end window))).state ≡ m.state
+    at None = refl
+    at (Some why) = refl
 
 -- there is a session for the one that asks where the other is a peer
 asked_session : (s : State) (guid : Guid) (window : ℕ) → is_some (session_for s (asking s guid) window) ≡ list_any (λ p. same_guid p.guid guid) s.peers

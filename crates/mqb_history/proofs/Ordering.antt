@@ -5,7 +5,7 @@ use Rattle.std.specs.Option.{option_map_or}
 use Rattle.std.specs.Prelude.{◌==◌, ◌≡◌, ◌≤◌, ◌⊎◌, IfSome, List, None, Option, Some, false, is_some, length, not, slice_get, unwrap_or, ℕ}
 use Rattle.mqb_base.specs.declared.ids.Identity.{Identity}
 use Rattle.mqb_model.specs.managers.Manager.{Manager, doubt_of, is_down}
-use Rattle.mqb_model.specs.managers.Outcomes.{Outcome, failed, succeeded}
+use Rattle.mqb_model.specs.managers.Outcomes.{Outcome, failed, state_after, succeeded}
 use Rattle.mqb_model.specs.state.State.{State}
 use Rattle.mqb_network.specs.Changes.{ended, ended_by, failed_at, noted, succeeded_at}
 use Rattle.mqb_network.specs.Choices.{Failure}
@@ -13,19 +13,24 @@ use Rattle.mqb_network.specs.Courses.{Course}
 use Rattle.mqb_network.specs.Network.{Connection, Network, Note, connection_of, is_connected, manager_at, nobody, with_manager}
 use Rattle.mqb_history.specs.Calls.{Call, outcome_of}
 use Rattle.mqb_history.specs.Changes.{calling}
-use Rattle.mqb_history.specs.Orderly.{AreAllDisjoint, AreThemselves, IsItself, IsLinkedRightly, IsOfNoPeer, IsOrderly}
+use Rattle.mqb_history.specs.Orderly.{AreAllDisjoint, AreThemselves, IsItself, IsLinkedRightly, IsOrderly}
+use Rattle.mqb_history.specs.Made.{IsMade}
+use Rattle.mqb_history.proofs.Refusing.{down_changes_nothing}
+use Rattle.mqb_history.proofs.Ending.{parted_doubt}
 use Rattle.mqb_history.proofs.Calling.{IsModest, after_call, calls_are_modest}
 use Rattle.mqb_history.proofs.Connections.{disjoint_filter}
-use Rattle.mqb_history.proofs.Ending.{IsToEnd, ended_linked, parted_at, parted_condition, parted_manager}
+use Rattle.mqb_history.proofs.Ending.{HasMade, IsToEnd, ended_linked, parted_at, parted_manager}
 use Rattle.mqb_history.proofs.Lists.{all_filter, changed_length, set_get, set_length}
 use Rattle.mqb_history.proofs.Staying.{IsSameManager, same_manager}
+use Rattle.std.specs.Prelude.{true}
+use Rattle.mqb_model.specs.managers.Manager.{Condition, Down, Up}
 
 -- The parts that speak of managers.
 pub record IsOrderlyNetwork (known : List Identity) (n : Network) : Type 0 where
   pub linked : (i : ℕ) → IsLinkedRightly (is_connected n i) (manager_at n i)
   pub count : length n.managers ≡ length known
   pub themselves : AreThemselves known n
-  pub doubts : (i : ℕ) → IfSome (doubt_of (manager_at n i).condition) IsOfNoPeer
+  pub doubts : (i : ℕ) → HasMade (manager_at n i)
   pub disjoint : AreAllDisjoint n.connections
   pub numbered : AllByRecursion (λ d. d.number ≤ n.connected) n.connections
 
@@ -49,7 +54,7 @@ pub record Replaces (m next : Manager) : Type 0 where
   pub session : is_some next.rest.session ≡ is_some m.rest.session
   pub down : is_down next ≡ is_down m
   pub manager : IsSameManager m.state next.state
-  pub doubt : IfSome (doubt_of m.condition) IsOfNoPeer → IfSome (doubt_of next.condition) IsOfNoPeer
+  pub doubt : HasMade m → HasMade next
 
 pub some_themselves : (known : List Identity) (n : Network) (i : ℕ) (m : Manager) → IsSameManager (manager_at n i).state m.state → AreThemselves known n
     → AreThemselves known (with_manager n i m)
@@ -67,7 +72,7 @@ replaced known n i m r o = record {
       (λ e. subst (λ k. IsLinkedRightly (is_connected n k) m) e (record { session = r.session ∙ (o.linked i).session; up = λ c. r.down ∙ (o.linked i).up c }));
   count = set_length n.managers i m ∙ o.count;
   themselves = some_themselves known n i m r.manager o.themselves;
-  doubts = λ j. with_at (λ x. IfSome (doubt_of x.condition) IsOfNoPeer) n i j m (o.doubts j) (λ e. r.doubt (o.doubts i));
+  doubts = λ j. with_at HasMade n i j m (o.doubts j) (λ e. r.doubt (o.doubts i));
   disjoint = o.disjoint;
   numbered = o.numbered;
 }
@@ -108,7 +113,7 @@ pub record IsEndingNetwork (known : List Identity) (i : ℕ) (n : Network) : Typ
   pub linked : (j : ℕ) → IsToEnd n i j
   pub count : length n.managers ≡ length known
   pub themselves : AreThemselves known n
-  pub doubts : (j : ℕ) → IfSome (doubt_of (manager_at n j).condition) IsOfNoPeer
+  pub doubts : (j : ℕ) → HasMade (manager_at n j)
   pub disjoint : AreAllDisjoint n.connections
   pub numbered : AllByRecursion (λ d. d.number ≤ n.connected) n.connections
 
@@ -117,8 +122,7 @@ ends known i n o = record {
   linked = ended_linked n i o.disjoint o.linked;
   count = ended_count n i ∙ o.count;
   themselves = ended_themselves known n i o.themselves;
-  doubts = λ j. parted_at (λ m. IfSome (doubt_of m.condition) IsOfNoPeer) n i j
-      (λ m h. subst (λ x. IfSome (doubt_of x) IsOfNoPeer) (sym (parted_condition m)) h) (o.doubts j);
+  doubts = λ j. parted_at HasMade n i j parted_doubt (o.doubts j);
   disjoint = ended_disjoint n i o.disjoint;
   numbered = ended_numbered n i o.numbered;
 }
@@ -135,13 +139,22 @@ ended_notes n i = at (connection_of n i)
 
 -- Calls.
 
-called_well : {A : Type 0} (known : List Identity) (n : Network) (i : ℕ) (outcome : Outcome A) → IsModest (manager_at n i) outcome → IsOrderlyNetwork known n
+-- a manager in doubt makes no record
+doubt_stays : {A : Type 0} (m : Manager) (outcome : Outcome A) → (is_down m ≡ true → state_after m outcome ≡ m.state) → HasMade m → HasMade (succeeded m outcome)
+doubt_stays m outcome refused h = at m.condition refl h
+  where
+    at : (x : Condition) → m.condition ≡ x → IfSome (doubt_of x) (IsMade m.state) → IfSome (doubt_of x) (IsMade (state_after m outcome))
+    at Up e h = tt
+    at (Down doubt) e h = subst (λ s. IfSome doubt (IsMade s)) (sym (refused (ap (λ y. elim y [ Up ↦ false | Down doubt ↦ true ]) e))) h
+
+called_well : {A : Type 0} (known : List Identity) (n : Network) (i : ℕ) (outcome : Outcome A) → IsModest (manager_at n i) outcome
+    → (is_down (manager_at n i) ≡ true → state_after (manager_at n i) outcome ≡ (manager_at n i).state) → IsOrderlyNetwork known n
     → IsOrderlyNetwork known (succeeded_at i outcome n)
-called_well known n i outcome modest o = let r = replaced known n i (succeeded (manager_at n i) outcome) (record {
+called_well known n i outcome modest refused o = let r = replaced known n i (succeeded (manager_at n i) outcome) (record {
   session = modest.session;
   down = refl;
   manager = after_call (manager_at n i) outcome modest.entry;
-  doubt = λ h. h;
+  doubt = doubt_stays (manager_at n i) outcome refused;
 }) o in record { linked = r.linked; count = r.count; themselves = r.themselves; doubts = r.doubts; disjoint = r.disjoint; numbered = r.numbered }
 
 called_ill : {A : Type 0} (known : List Identity) (n : Network) (i : ℕ) (outcome : Outcome A) → IsModest (manager_at n i) outcome → IsOrderlyNetwork known n
@@ -151,14 +164,15 @@ called_ill known n i outcome modest o = ends known i (with_manager n i (failed (
       (inl (o.linked j)) (λ e. inr (e, refl));
   count = set_length n.managers i (failed (manager_at n i) outcome) ∙ o.count;
   themselves = some_themselves known n i (failed (manager_at n i) outcome) (same_manager (manager_at n i).state) o.themselves;
-  doubts = λ j. with_at (λ x. IfSome (doubt_of x.condition) IsOfNoPeer) n i j (failed (manager_at n i) outcome) (o.doubts j) (λ e. modest.entry);
+  doubts = λ j. with_at HasMade n i j (failed (manager_at n i) outcome) (o.doubts j) (λ e. modest.entry);
   disjoint = o.disjoint;
   numbered = o.numbered;
 })
 
 pub calling_orderly : (known : List Identity) (i : ℕ) (call : Call) (failure : Option Failure) (c : Course) → IsOrderly known c → IsOrderly known (calling i call failure c)
 calling_orderly known i call None c o = course_of known (calling i call None c) o.noted
-    (called_well known c.network i (outcome_of (manager_at c.network i) call) (calls_are_modest (manager_at c.network i) call) (network_of known c o))
+    (called_well known c.network i (outcome_of (manager_at c.network i) call) (calls_are_modest (manager_at c.network i) call)
+    (down_changes_nothing (manager_at c.network i) call) (network_of known c o))
 calling_orderly known i call (Some how) c o = course_of known (calling i call (Some how) c)
     (ap (λ (notes : List Note). length notes) (ended_notes (with_manager c.network i (failed (manager_at c.network i) (outcome_of (manager_at c.network i) call))) i) ∙ o.noted)
     (called_ill known c.network i (outcome_of (manager_at c.network i) call) (calls_are_modest (manager_at c.network i) call) (network_of known c o))

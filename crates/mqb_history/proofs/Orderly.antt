@@ -29,7 +29,8 @@ use Rattle.mqb_history.specs.Changes.{Change, Calls, Drops, Ends, Fails, Finds, 
 use Rattle.mqb_history.specs.Histories.{IsHistory}
 use Rattle.mqb_history.specs.Histories as histories
 use Rattle.mqb_history.specs.Laws.{HistoriesAreOrderly}
-use Rattle.mqb_history.specs.Orderly.{AreThemselves, IsItself, IsLinkedRightly, IsOfNoPeer, IsOrderly}
+use Rattle.mqb_history.specs.Orderly.{AreThemselves, IsItself, IsLinkedRightly, IsOrderly}
+use Rattle.mqb_history.proofs.Ending.{HasMade}
 use Rattle.mqb_history.proofs.Applying.{recorded_manager}
 use Rattle.mqb_history.proofs.Connections.{any_found}
 use Rattle.mqb_history.proofs.Lists.{append_length, append_nothing, clash, not_true, set_length, split_and, true_not_false}
@@ -98,13 +99,13 @@ hear_orderly known (Some note) (Some p) now failure c o = calling_orderly known 
 -- Managers are started again.
 
 started : (known : List Identity) (n : Network) (i : ℕ) (m : Manager) → is_connected n i ≡ false → is_some m.rest.session ≡ false
-    → IsSameManager (manager_at n i).state m.state → IfSome (doubt_of m.condition) IsOfNoPeer → IsOrderlyNetwork known n → IsOrderlyNetwork known (with_manager n i m)
+    → IsSameManager (manager_at n i).state m.state → HasMade m → IsOrderlyNetwork known n → IsOrderlyNetwork known (with_manager n i m)
 started known n i m apart none same doubt o = record {
   linked = λ j. with_at (IsLinkedRightly (is_connected n j)) n i j m (o.linked j)
       (λ e. subst (λ k. IsLinkedRightly (is_connected n k) m) e (record { session = none ∙ sym apart; up = λ c. absurd (true_not_false (is_connected n i) c apart) }));
   count = set_length n.managers i m ∙ o.count;
   themselves = themselves;
-  doubts = λ j. with_at (λ x. IfSome (doubt_of x.condition) IsOfNoPeer) n i j m (o.doubts j) (λ e. doubt);
+  doubts = λ j. with_at HasMade n i j m (o.doubts j) (λ e. doubt);
   disjoint = o.disjoint;
   numbered = o.numbered;
 }
@@ -168,7 +169,7 @@ joined_identity s (p ∷ ps) = joined_identity (apply s (entry.Peer p)) ps
 formatted_itself : (known : List Identity) (own : Identity) → IsItself known own (formatted own (others known own)).state
 formatted_itself known own = record { identity = joined_identity (empty own) (others known own); peers = joined_peers (empty own) (others known own) }
 
-map_get : {X Y : Type 0} (f : X → Y) (xs : List X) (k : ℕ) → slice_get (map f xs) k ≡ option_map f (slice_get xs k)
+pub map_get : {X Y : Type 0} (f : X → Y) (xs : List X) (k : ℕ) → slice_get (map f xs) k ≡ option_map f (slice_get xs k)
 map_get f [] k = refl
 map_get f (x ∷ xs) zero = refl
 map_get f (x ∷ xs) (suc k) = map_get f xs k
@@ -177,13 +178,13 @@ map_length : {X Y : Type 0} (f : X → Y) (xs : List X) → length (map f xs) �
 map_length f [] = refl
 map_length f (x ∷ xs) = ap (λ n. suc n) (map_length f xs)
 
-begins_orderly : (known : List Identity) → IsOrderly known (beginning known)
+pub begins_orderly : (known : List Identity) → IsOrderly known (beginning known)
 begins_orderly known = record {
   noted = refl;
   linked = λ i. by_manager (λ m. IsLinkedRightly false m) i (record { session = refl; up = λ e. absurd (clash (sym e)) }) (λ own. record { session = refl; up = λ e. absurd (clash (sym e)) });
   count = map_length first known;
   themselves = λ i. itself i;
-  doubts = λ i. by_manager (λ m. IfSome (doubt_of m.condition) IsOfNoPeer) i tt (λ own. tt);
+  doubts = λ i. by_manager HasMade i tt (λ own. tt);
   disjoint = tt;
   numbered = tt;
 }

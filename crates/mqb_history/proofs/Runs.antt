@@ -9,7 +9,7 @@ use Rattle.mqb_network.specs.Courses.{Course, found_kept}
 use Rattle.mqb_network.specs.Doubts.{settled_at}
 use Rattle.mqb_network.specs.Laws.{AreApart}
 use Rattle.mqb_network.specs.Network.{is_connected, manager_at}
-use Rattle.mqb_network.specs.Runs.{IsRunFrom, Move, after_run, beginning, course_after, moved_on}
+use Rattle.mqb_network.specs.Runs.{IsRun, IsRunFrom, Move, after_run, beginning, course_after, moved_on}
 use Rattle.mqb_network.proofs.Joining.{move_in_course}
 use Rattle.mqb_history.specs.Changes.{Finds, changed, may_change}
 use Rattle.mqb_history.specs.Histories.{HasHistory}
@@ -19,6 +19,7 @@ use Rattle.mqb_history.proofs.Keeping.{IsClosed, event_keeps}
 use Rattle.mqb_history.proofs.Lists.{join_and}
 use Rattle.mqb_history.proofs.Orderly.{histories_are_orderly}
 use Rattle.mqb_history.proofs.Parting.{doubt_free}
+use Rattle.mqb_network.specs.Doubts.{settled}
 
 -- a history goes on by each change
 has_history : (known : List Identity) → AreApart known → IsClosed known (HasHistory known)
@@ -58,3 +59,9 @@ runs_have_histories known ms apart run kept = (
   where
     reached : HasHistory known (after_run known ms)
     reached = moves_keep known (HasHistory known) (has_history known apart) (beginning known) ms run ([], tt, refl)
+
+-- what each change keeps holds at each point of each run, whatever became of the records in doubt
+pub always_kept : (known : List Identity) (P : Course → Type 0) → IsClosed known P → (ms : List Move) → IsRun known ms → (kept : ℕ → Bool) → P (beginning known)
+    → P (settled kept (after_run known ms))
+always_kept known P k ms run kept h = settled_keeps known P k kept (after_run known ms) (range_with_len 0 (length (after_run known ms).network.managers))
+    (moves_keep known P k (beginning known) ms run h)

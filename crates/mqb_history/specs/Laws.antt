@@ -6,7 +6,9 @@ use Rattle.mqb_network.specs.Laws.{AreApart}
 use Rattle.mqb_network.specs.Runs.{IsRun, Move, after_run}
 use Rattle.mqb_history.specs.Histories.{HasHistory, IsHistory, course_of}
 use Rattle.mqb_history.specs.Changes.{Change}
+use Rattle.mqb_history.specs.Decided.{IsDecidedInOrder}
 use Rattle.mqb_history.specs.Orderly.{IsOrderly}
+use Rattle.mqb_network.specs.Laws.{Always}
 
 -- Every course with a history is orderly.
 abbrev pub HistoriesAreOrderly : Type 0
@@ -16,3 +18,7 @@ HistoriesAreOrderly = (known : List Identity) (xs : List Change) → AreApart kn
 abbrev pub RunsHaveHistories : Type 0
 RunsHaveHistories = (known : List Identity) (ms : List Move) → AreApart known → IsRun known ms → (kept : ℕ → Bool)
     → HasHistory known (after_run known ms) × HasHistory known (settled kept (after_run known ms))
+
+-- Messages are decided in order, each once.
+abbrev pub AlwaysDecidedInOrder : Type 0
+AlwaysDecidedInOrder = Always IsDecidedInOrder

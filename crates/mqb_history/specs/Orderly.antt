@@ -3,11 +3,10 @@ use Rattle.std.specs.List.{AllByRecursion}
 use Rattle.std.specs.Prelude.{[], ◌==◌, ◌∷◌, ◌≡◌, ◌≤◌, Bool, IfSome, List, false, is_some, length, slice_get, true, ℕ}
 use Rattle.mqb_base.specs.declared.ids.Identity.{Identity}
 use Rattle.mqb_model.specs.managers.Manager.{Manager, doubt_of, is_down}
-use Rattle.mqb_model.specs.records.Record.{Record}
-use Rattle.mqb_model.specs.records.Record as entry
 use Rattle.mqb_model.specs.state.State.{State}
 use Rattle.mqb_network.specs.Courses.{Course}
 use Rattle.mqb_network.specs.Network.{Connection, Network, is_connected, is_end, manager_at, others}
+use Rattle.mqb_history.specs.Made.{IsMade}
 
 -- a manager is this one, and its peers are all others
 pub record IsItself (known : List Identity) (own : Identity) (s : State) : Type 0 where
@@ -33,11 +32,6 @@ abbrev pub AreAllDisjoint : List Connection → Type 0
 AreAllDisjoint [] = Unit {0}
 AreAllDisjoint (c ∷ cs) = AllByRecursion (AreDisjoint c) cs × AreAllDisjoint cs
 
--- a record adds no peer
-abbrev pub IsOfNoPeer : Record → Type 0
-IsOfNoPeer (entry.Peer peer) = ⊥
-IsOfNoPeer _ = Unit {0}
-
 -- An orderly course, point by point.
 pub record IsOrderly (known : List Identity) (c : Course) : Type 0 where
   -- there is a note for each packet
@@ -47,8 +41,8 @@ pub record IsOrderly (known : List Identity) (c : Course) : Type 0 where
   -- identities of managers stay, and their peers
   pub count : length c.network.managers ≡ length known
   pub themselves : AreThemselves known c.network
-  -- no record in doubt adds a peer
-  pub doubts : (i : ℕ) → IfSome (doubt_of (manager_at c.network i).condition) IsOfNoPeer
+  -- a record in doubt is one that a call made
+  pub doubts : (i : ℕ) → IfSome (doubt_of (manager_at c.network i).condition) (IsMade (manager_at c.network i).state)
   -- a manager has at most one connection, and each connection a number of its own
   pub disjoint : AreAllDisjoint c.network.connections
   pub numbered : AllByRecursion (λ d. d.number ≤ c.network.connected) c.network.connections

@@ -1,0 +1,41 @@
+-- What is known of a record that a call made, as long as its manager's rows and numbers stay.
+use Rattle.std.specs.Prelude.{[], ◌+◌, ◌∷◌, ◌≡◌, List, Option, Some, ℕ}
+use Rattle.mqb_base.specs.declared.heads.TxHead.{TxHead}
+use Rattle.mqb_base.specs.declared.ids.Guid.{Guid}
+use Rattle.mqb_base.specs.declared.message.Message.{Message}
+use Rattle.mqb_model.specs.Lists.{first_where}
+use Rattle.mqb_model.specs.records.Commit.{sends_of}
+use Rattle.mqb_model.specs.records.Record.{Record}
+use Rattle.mqb_model.specs.records.Record as entry
+use Rattle.mqb_model.specs.state.Rows.{is_row_of}
+use Rattle.mqb_model.specs.state.State.{State}
+use Rattle.mqb_orders.specs.Judging.{verdict_of}
+use Rattle.mqb_orders.specs.declared.judging.Verdict.TheVariants.{Next}
+use Rattle.mqb_orders.specs.declared.rows.InRow.{InRow}
+use Rattle.mqb_packet.specs.declared.packet.UserPacket.{UserPacket}
+
+-- messages bear a manager's numbers, one after another
+abbrev pub AreNumbered : Guid → ℕ → List Message → Type 0
+AreNumbered own number [] = Unit {0}
+AreNumbered own number (m ∷ ms) = (m.id ≡ record { qm = own; number = number }) × AreNumbered own (number + 1) ms
+
+-- the incoming row to which a message belongs
+abbrev pub row_heard : List InRow → Message → Option InRow
+row_heard ins m = first_where (is_row_of m.id.qm m.destination) ins
+
+-- a message is the next one of its stream
+pub record IsNext (ins : List InRow) (p : UserPacket) : Type 0 where
+  pub head : TxHead
+  pub there : p.tx ≡ Some head
+  pub next : verdict_of (row_heard ins p.message) head ≡ Next
+
+-- A record adds no peer, the messages that a transaction sends bear the next numbers, and what is decided is next.
+abbrev pub IsMadeBy : Guid → List InRow → ℕ → Record → Type 0
+IsMadeBy own ins next (entry.Peer peer) = ⊥
+IsMadeBy own ins next (entry.Commit now ops) = AreNumbered own next (sends_of ops)
+IsMadeBy own ins next (entry.Arrived now numbers (entry.Decided p)) = IsNext ins p
+IsMadeBy own ins next _ = Unit {0}
+
+-- it was made in this state
+abbrev pub IsMade : State → Record → Type 0
+IsMade s r = IsMadeBy s.identity.guid s.ins s.next_number r
