@@ -107,7 +107,7 @@ to_manager now s (AtPeer k) m = join_manager s k now m
 to_manager now s (Here queue) m = (delivered_rows s (Here queue) m now).manager
 to_manager now s Nowhere m = (delivered_rows s Nowhere m now).manager
 
-sent_manager : (now : ℕ) (s : State) (m : Message) → IsSameManager s (message_sent now s m).state
+pub sent_manager : (now : ℕ) (s : State) (m : Message) → IsSameManager s (message_sent now s m).state
 sent_manager now s m = manager_then s (journalled s m) (message_sent now s m).state (journalled_rows s m).manager (to_manager now (journalled s m) (resolved s m.destination) m)
 
 sends_manager : (now : ℕ) (e : Effect) (ms : List Message) → KeepsManager e (fold (send_made now) e ms)

@@ -18,3 +18,6 @@ mod Runs
 mod Written
 mod Inside
 mod Deciding
+mod Outside
+mod Committing
+mod Numbering

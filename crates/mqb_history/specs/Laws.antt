@@ -6,6 +6,7 @@ use Rattle.mqb_network.specs.Laws.{AreApart}
 use Rattle.mqb_network.specs.Runs.{IsRun, Move, after_run}
 use Rattle.mqb_history.specs.Histories.{HasHistory, IsHistory, course_of}
 use Rattle.mqb_history.specs.Changes.{Change}
+use Rattle.mqb_history.specs.Committed.{AreCommittedInOrder}
 use Rattle.mqb_history.specs.Decided.{IsDecidedInOrder}
 use Rattle.mqb_history.specs.Orderly.{IsOrderly}
 use Rattle.mqb_network.specs.Laws.{Always}
@@ -22,3 +23,7 @@ RunsHaveHistories = (known : List Identity) (ms : List Move) → AreApart known 
 -- Messages are decided in order, each once.
 abbrev pub AlwaysDecidedInOrder : Type 0
 AlwaysDecidedInOrder = Always IsDecidedInOrder
+
+-- Messages are committed in order, each under an identifier of its own.
+abbrev pub AlwaysCommittedInOrder : Type 0
+AlwaysCommittedInOrder = Always AreCommittedInOrder

@@ -4,4 +4,5 @@ pub mod Histories
 pub mod Made
 pub mod Orderly
 pub mod Decided
+pub mod Committed
 pub mod Laws

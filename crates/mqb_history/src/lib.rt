@@ -3,7 +3,7 @@
 //! Each function stands for a law: its contract is the law, and its body is empty.
 #![tactic(auto)]
 
-ghost use Rattle.mqb_history.specs.Laws.{AlwaysDecidedInOrder, HistoriesAreOrderly, RunsHaveHistories};
+ghost use Rattle.mqb_history.specs.Laws.{AlwaysCommittedInOrder, AlwaysDecidedInOrder, HistoriesAreOrderly, RunsHaveHistories};
 
 /// Sessions are connections, there is a note for each packet, and managers stay who they are.
 pub fn histories_are_orderly()
@@ -18,4 +18,9 @@ pub fn runs_have_histories()
 /// Whatever is lost, repeated and reordered, each manager decides the messages of a source and a destination in their order, each once.
 pub fn always_decided_in_order()
     ensures { AlwaysDecidedInOrder }
+{}
+
+/// Each manager numbers the messages of each sequence from 1 on, and no two have one identifier.
+pub fn always_committed_in_order()
+    ensures { AlwaysCommittedInOrder }
 {}
