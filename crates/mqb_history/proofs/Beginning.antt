@@ -82,7 +82,7 @@ linked_same : (n : Network) (i j : ℕ) (end : Role) (window : ℕ) → (manager
 linked_same n i j end window = with_at (λ x. x.state ≡ (manager_at n j).state) n i j (as_linked n i end window) refl
     (λ e. link_state (manager_at n i) end window ∙ ap (λ k. (manager_at n k).state) e)
 
-linked_condition : (n : Network) (i j : ℕ) (end : Role) (window : ℕ) → (manager_at (linked_as i end window n) j).condition ≡ (manager_at n j).condition
+pub linked_condition : (n : Network) (i j : ℕ) (end : Role) (window : ℕ) → (manager_at (linked_as i end window n) j).condition ≡ (manager_at n j).condition
 linked_condition n i j end window = with_at (λ x. x.condition ≡ (manager_at n j).condition) n i j (as_linked n i end window) refl
     (λ e. ap (λ k. (manager_at n k).condition) e)
 

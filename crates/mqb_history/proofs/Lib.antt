@@ -21,3 +21,5 @@ mod Deciding
 mod Outside
 mod Committing
 mod Numbering
+mod Sending
+mod Carrying

@@ -1,5 +1,6 @@
 -- Lists of which a member changed, and lists that were filtered.
-use Rattle.std.proofs.Common.{refl, ap, sym, subst, ◌∙◌, arith}
+use Rattle.mqb_exactly_once.specs.Words.{In}
+use Rattle.std.proofs.Common.{inl, inr, refl, ap, sym, subst, ◌∙◌, arith}
 use Rattle.std.proofs.lemmas.Bool.Decides.{nat_tests}
 use Rattle.std.specs.List.{AllByRecursion}
 use Rattle.std.specs.Option.{option_map_or}
@@ -159,3 +160,8 @@ get_before (y ∷ xs) ys (suc k) x e = get_before xs ys k x e
 pub numbered_behind : {X : Type 0} (xs ys : List X) (k : ℕ) → numbered (xs ++ ys) (length xs + 1 + k) ≡ slice_get ys k
 numbered_behind xs ys k = ap (λ b. cond b None (slice_get (xs ++ ys) (length xs + 1 + k - 1))) (other_numbers (length xs + 1 + k) 0 (λ e. omega arith))
     ∙ ap (slice_get (xs ++ ys)) (let e : length xs + 1 + k - 1 ≡ length xs + k = omega arith in e) ∙ get_behind xs ys k
+
+pub get_in : {X : Type 0} (xs : List X) (k : ℕ) (x : X) → slice_get xs k ≡ Some x → In x xs
+get_in [] k x e = absurd (none_some e)
+get_in (y ∷ ys) zero x e = inl (some_is y x e)
+get_in (y ∷ ys) (suc k) x e = inr (get_in ys k x e)

@@ -17,7 +17,8 @@ use Rattle.mqb_history.specs.Orderly.{AreAllDisjoint, AreThemselves, IsItself, I
 use Rattle.mqb_history.specs.Made.{IsMade}
 use Rattle.mqb_history.proofs.Refusing.{down_changes_nothing}
 use Rattle.mqb_history.proofs.Ending.{parted_doubt}
-use Rattle.mqb_history.proofs.Calling.{IsModest, after_call, calls_are_modest}
+use Rattle.mqb_history.proofs.Calling.{IsModest, after_call, calls_are_modest, made_only}
+use Rattle.mqb_packet.specs.declared.packet.Packet.{Packet}
 use Rattle.mqb_history.proofs.Connections.{disjoint_filter}
 use Rattle.mqb_history.proofs.Ending.{HasMade, IsToEnd, ended_linked, parted_at, parted_manager}
 use Rattle.mqb_history.proofs.Lists.{all_filter, changed_length, set_get, set_length}
@@ -147,24 +148,24 @@ doubt_stays m outcome refused h = at m.condition refl h
     at Up e h = tt
     at (Down doubt) e h = subst (λ s. IfSome doubt (IsMade s)) (sym (refused (ap (λ y. elim y [ Up ↦ false | Down doubt ↦ true ]) e))) h
 
-called_well : {A : Type 0} (known : List Identity) (n : Network) (i : ℕ) (outcome : Outcome A) → IsModest (manager_at n i) outcome
+called_well : {A : Type 0} {a : Option Packet} (known : List Identity) (n : Network) (i : ℕ) (outcome : Outcome A) → IsModest a (manager_at n i) outcome
     → (is_down (manager_at n i) ≡ true → state_after (manager_at n i) outcome ≡ (manager_at n i).state) → IsOrderlyNetwork known n
     → IsOrderlyNetwork known (succeeded_at i outcome n)
 called_well known n i outcome modest refused o = let r = replaced known n i (succeeded (manager_at n i) outcome) (record {
   session = modest.session;
   down = refl;
-  manager = after_call (manager_at n i) outcome modest.entry;
+  manager = after_call (manager_at n i) outcome (made_only _ (manager_at n i).state outcome.entry modest.entry);
   doubt = doubt_stays (manager_at n i) outcome refused;
 }) o in record { linked = r.linked; count = r.count; themselves = r.themselves; doubts = r.doubts; disjoint = r.disjoint; numbered = r.numbered }
 
-called_ill : {A : Type 0} (known : List Identity) (n : Network) (i : ℕ) (outcome : Outcome A) → IsModest (manager_at n i) outcome → IsOrderlyNetwork known n
+called_ill : {A : Type 0} {a : Option Packet} (known : List Identity) (n : Network) (i : ℕ) (outcome : Outcome A) → IsModest a (manager_at n i) outcome → IsOrderlyNetwork known n
     → IsOrderlyNetwork known (failed_at i outcome n)
 called_ill known n i outcome modest o = ends known i (with_manager n i (failed (manager_at n i) outcome)) (record {
   linked = λ j. with_at (λ x. IsLinkedRightly (is_connected n j) x ⊎ ((i ≡ j) × (is_some x.rest.session ≡ false))) n i j (failed (manager_at n i) outcome)
       (inl (o.linked j)) (λ e. inr (e, refl));
   count = set_length n.managers i (failed (manager_at n i) outcome) ∙ o.count;
   themselves = some_themselves known n i (failed (manager_at n i) outcome) (same_manager (manager_at n i).state) o.themselves;
-  doubts = λ j. with_at HasMade n i j (failed (manager_at n i) outcome) (o.doubts j) (λ e. modest.entry);
+  doubts = λ j. with_at HasMade n i j (failed (manager_at n i) outcome) (o.doubts j) (λ e. made_only _ (manager_at n i).state outcome.entry modest.entry);
   disjoint = o.disjoint;
   numbered = o.numbered;
 })

@@ -124,7 +124,7 @@ first_no_more change passes olds h = at (position passes olds)
     at None = have_no_more olds
     at (Some k) = changed_no_more change olds k h
 
-filtered_in : {X : Type 0} (test : X → Bool) (xs : List X) (x : X) → In x (filter test xs) → In x xs
+pub filtered_in : {X : Type 0} (test : X → Bool) (xs : List X) (x : X) → In x (filter test xs) → In x xs
 filtered_in test [] x h = h
 filtered_in test (y ∷ ys) x h = at (test y) h (filtered_in test ys x)
   where

@@ -26,7 +26,7 @@ use Rattle.mqb_history.specs.Made.{IsMade}
 use Rattle.mqb_history.specs.Orderly.{IsOrderly}
 use Rattle.mqb_history.proofs.Applying.{beside_rows}
 use Rattle.mqb_history.proofs.Beginning.{linked_same_state}
-use Rattle.mqb_history.proofs.Calling.{calls_are_modest}
+use Rattle.mqb_history.proofs.Calling.{calls_are_modest, made_only}
 use Rattle.mqb_history.proofs.Ending.{parted_at, parted_rows}
 use Rattle.mqb_history.proofs.Keeping.{IsClosed}
 use Rattle.mqb_history.proofs.Lists.{append_nothing, apart_numbers, equal_numbers, get_within, other_numbers, same_number, set_apart, set_get, set_there}
@@ -53,7 +53,7 @@ IsOrderlyWith known Q c = IsOrderly known c × ((i : ℕ) → OfManager Q i c)
 
 -- The records of one manager.
 
-of_append : (i : ℕ) (xs ys : List Written) → written_of i (xs ++ ys) ≡ written_of i xs ++ written_of i ys
+pub of_append : (i : ℕ) (xs ys : List Written) → written_of i (xs ++ ys) ≡ written_of i xs ++ written_of i ys
 of_append i [] ys = refl
 of_append i (x ∷ xs) ys = at (x.by == i) (of_append i xs ys)
   where
@@ -109,7 +109,7 @@ some_written Q q n i m o ws made rows absent h j = at (i == j) refl
 -- Changes.
 
 -- a manager that is not there writes nothing
-absent_idle : (n : Network) (i : ℕ) (call : Call) → slice_get n.managers i ≡ None → (outcome_of (manager_at n i) call).entry ≡ None
+pub absent_idle : (n : Network) (i : ℕ) (call : Call) → slice_get n.managers i ≡ None → (outcome_of (manager_at n i) call).entry ≡ None
 absent_idle n i call e = (down_is_idle (manager_at n i) call (ap (λ x. is_down (unwrap_or x nobody)) e)).entry
 
 ended_keeps : (Q : State → List Written → Type 0) → IsByRecords Q → (n : Network) (i j : ℕ) (ws : List Written) → Q (manager_at n j).state ws → Q (manager_at (ended i n) j).state ws
@@ -118,13 +118,13 @@ ended_keeps Q q n i j ws h = parted_at (λ m. Q m.state ws) n i j (λ m h. q.qui
 calling_keeps : (Q : State → List Written → Type 0) → IsByRecords Q → (i : ℕ) (call : Call) (failure : Option Failure) (c : Course)
     → ((j : ℕ) → OfManager Q j c) → (j : ℕ) → OfManager Q j (calling i call failure c)
 calling_keeps Q q i call None c h = let m = manager_at c.network i in let outcome = outcome_of m call in
-    some_written Q q c.network i (succeeded m outcome) outcome.entry c.written (calls_are_modest m call).entry (beside_rows outcome.beside (recorded m.state outcome.entry))
+    some_written Q q c.network i (succeeded m outcome) outcome.entry c.written (made_only _ m.state outcome.entry (calls_are_modest m call).entry) (beside_rows outcome.beside (recorded m.state outcome.entry))
     (absent_idle c.network i call) h
 calling_keeps Q q i call (Some how) c h = λ j. let m = manager_at c.network i in let outcome = outcome_of m call in
     ended_keeps Q q (with_manager c.network i (failed m outcome)) i j (written_of j c.written)
     (with_at (λ x. Q x.state (written_of j c.written)) c.network i j (failed m outcome) (h j) (λ e. subst (λ k. Q (manager_at c.network k).state (written_of j c.written)) (sym e) (h j)))
 
-noted_managers : (i now count : ℕ) (n : Network) → (noted i now count n).managers ≡ n.managers
+pub noted_managers : (i now count : ℕ) (n : Network) → (noted i now count n).managers ≡ n.managers
 noted_managers i now count n = at (connection_of n i)
   where
     at : (o : Option Connection) → (option_map_or (λ c. record n { notes = n.notes ++ replicate count (note_by i now c) }) o n).managers ≡ n.managers
@@ -150,7 +150,7 @@ durable_keeps Q q c i m same h j = with_at (λ x. Q x.state (written_of j c.writ
     (λ e. subst (λ s. Q s (written_of j c.written)) (sym same) (q.quiet (manager_at c.network i).state (durable (manager_at c.network i).state) (written_of j c.written)
     (durable_rows (manager_at c.network i).state) (subst (λ k. Q (manager_at c.network k).state (written_of j c.written)) (sym e) (h j))))
 
-change_keeps : (known : List Identity) (Q : State → List Written → Type 0) → IsByRecords Q → (c : Course) (x : Change) → may_change c x ≡ true → IsOrderly known c
+pub change_keeps : (known : List Identity) (Q : State → List Written → Type 0) → IsByRecords Q → (c : Course) (x : Change) → may_change c x ≡ true → IsOrderly known c
     → ((j : ℕ) → OfManager Q j c) → (j : ℕ) → OfManager Q j (changed x c)
 change_keeps known Q q c (Calls i call failure) may o h = calling_keeps Q q i call failure c h
 change_keeps known Q q c (Pumps i now failure) may o h = posted_keeps Q i now (given_out (outcome_of (manager_at c.network i) (Pump now)) failure) (calling i (Pump now) failure c)

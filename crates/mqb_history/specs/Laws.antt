@@ -6,6 +6,7 @@ use Rattle.mqb_network.specs.Laws.{AreApart}
 use Rattle.mqb_network.specs.Runs.{IsRun, Move, after_run}
 use Rattle.mqb_history.specs.Histories.{HasHistory, IsHistory, course_of}
 use Rattle.mqb_history.specs.Changes.{Change}
+use Rattle.mqb_history.specs.Carried.{AreCarriedTruly, AreDecidedTruly}
 use Rattle.mqb_history.specs.Committed.{AreCommittedInOrder}
 use Rattle.mqb_history.specs.Decided.{IsDecidedInOrder}
 use Rattle.mqb_history.specs.Orderly.{IsOrderly}
@@ -27,3 +28,11 @@ AlwaysDecidedInOrder = Always IsDecidedInOrder
 -- Messages are committed in order, each under an identifier of its own.
 abbrev pub AlwaysCommittedInOrder : Type 0
 AlwaysCommittedInOrder = Always AreCommittedInOrder
+
+-- What a packet of a stream carries was committed by its sender.
+abbrev pub AlwaysCarriedTruly : Type 0
+AlwaysCarriedTruly = Always AreCarriedTruly
+
+-- What is decided was committed by its source.
+abbrev pub AlwaysDecidedTruly : Type 0
+AlwaysDecidedTruly = Always AreDecidedTruly

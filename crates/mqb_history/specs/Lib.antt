@@ -5,4 +5,5 @@ pub mod Made
 pub mod Orderly
 pub mod Decided
 pub mod Committed
+pub mod Carried
 pub mod Laws

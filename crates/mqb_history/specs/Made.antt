@@ -12,6 +12,8 @@ use Rattle.mqb_model.specs.state.State.{State}
 use Rattle.mqb_orders.specs.Judging.{verdict_of}
 use Rattle.mqb_orders.specs.declared.judging.Verdict.TheVariants.{Next}
 use Rattle.mqb_orders.specs.declared.rows.InRow.{InRow}
+use Rattle.mqb_packet.specs.declared.packet.Packet.{Packet}
+use Rattle.mqb_packet.specs.declared.packet.Packet.TheVariants as packet
 use Rattle.mqb_packet.specs.declared.packet.UserPacket.{UserPacket}
 
 -- messages bear a manager's numbers, one after another
@@ -39,3 +41,8 @@ IsMadeBy own ins next _ = Unit {0}
 -- it was made in this state
 abbrev pub IsMade : State → Record → Type 0
 IsMade s r = IsMadeBy s.identity.guid s.ins s.next_number r
+
+-- What a record that a call made decides is the packet that the call heard.
+abbrev pub IsFrom : Option Packet → Record → Type 0
+IsFrom heard (entry.Arrived now numbers (entry.Decided p)) = heard ≡ Some (packet.User p)
+IsFrom heard _ = Unit {0}

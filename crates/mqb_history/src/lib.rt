@@ -3,7 +3,7 @@
 //! Each function stands for a law: its contract is the law, and its body is empty.
 #![tactic(auto)]
 
-ghost use Rattle.mqb_history.specs.Laws.{AlwaysCommittedInOrder, AlwaysDecidedInOrder, HistoriesAreOrderly, RunsHaveHistories};
+ghost use Rattle.mqb_history.specs.Laws.{AlwaysCarriedTruly, AlwaysCommittedInOrder, AlwaysDecidedInOrder, AlwaysDecidedTruly, HistoriesAreOrderly, RunsHaveHistories};
 
 /// Sessions are connections, there is a note for each packet, and managers stay who they are.
 pub fn histories_are_orderly()
@@ -23,4 +23,14 @@ pub fn always_decided_in_order()
 /// Each manager numbers the messages of each sequence from 1 on, and no two have one identifier.
 pub fn always_committed_in_order()
     ensures { AlwaysCommittedInOrder }
+{}
+
+/// Each packet of a stream that was ever sent carries a message that its sender committed, at the place that its header names.
+pub fn always_carried_truly()
+    ensures { AlwaysCarriedTruly }
+{}
+
+/// Whatever is decided was committed by its source, and is the same message in every field but the time to reach its queue.
+pub fn always_decided_truly()
+    ensures { AlwaysDecidedTruly }
 {}

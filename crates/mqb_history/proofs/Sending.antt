@@ -1,0 +1,175 @@
+-- The packets of streams that a pump gives out carry messages that its rows keep.
+use Rattle.std.proofs.Common.{refl, ap, subst, ◌∙◌, inl, inr}
+use Rattle.std.specs.List.{AllByRecursion, cons_option, enumerate_from, flat_map}
+use Rattle.std.specs.Option.{option_map_or}
+use Rattle.std.specs.Prelude.{[], ◌&&◌, ◌++◌, ◌==◌, ◌∷◌, ◌≡◌, Bool, Err, List, None, Ok, Option, Some, cond, filter_map, is_none, length, map, max, nat_lt, not, slice_get, true, zip, ◌+◌, false, ℕ}
+use Rattle.mqb_base.specs.declared.heads.SessionHead.{SessionHead}
+use Rattle.mqb_base.specs.declared.heads.TxHead.{TxHead}
+use Rattle.mqb_base.specs.declared.ids.Guid.{Guid}
+use Rattle.mqb_base.specs.declared.ids.Identity.{Identity}
+use Rattle.mqb_exactly_once.specs.ExactlyOnce.{SameButReach}
+use Rattle.mqb_exactly_once.specs.Words.{In, position_of}
+use Rattle.mqb_exactly_once.specs.World.{Commitment}
+use Rattle.mqb_model.specs.calls.pump.Candidates.{Candidate, acks, candidates, of_row, plain_candidates, row_candidates, rows_owing, tx_of, unsent_from, unsent_of, waiting}
+use Rattle.mqb_model.specs.calls.pump.Choosing.{candidate_size, chosen, head_for, may_follow, session_after, with_heads}
+use Rattle.mqb_model.specs.calls.pump.Pump.{PumpOutcome, carriage_for, packet_for, pump_at, pump_linked, pump_owed, pump_refusal, pump_to, pump_with, sending_chosen, sending_one, set_up_packet}
+use Rattle.mqb_model.specs.declared.faults.PumpFault.{PumpFault}
+use Rattle.mqb_model.specs.declared.faults.PumpFault.TheVariants as fault
+use Rattle.mqb_model.specs.managers.Beside.{OfExpress, OfRecoverable, Origin}
+use Rattle.mqb_model.specs.managers.Manager.{Manager, Rest, linked_peer}
+use Rattle.mqb_model.specs.managers.Outcomes.{answering, unless}
+use Rattle.mqb_model.specs.rules.Numbers.{express_after}
+use Rattle.mqb_model.specs.state.State.{State}
+use Rattle.mqb_orders.specs.Rows.{Row, is_open}
+use Rattle.mqb_orders.specs.declared.kept.Kept.{Kept}
+use Rattle.mqb_orders.specs.declared.rows.InRow.{InRow}
+use Rattle.mqb_packet.specs.Plain.{carried_user}
+use Rattle.mqb_packet.specs.declared.packet.Packet.{Packet}
+use Rattle.mqb_packet.specs.declared.packet.Packet.TheVariants as packet
+use Rattle.mqb_packet.specs.declared.packet.UserPacket.{UserPacket}
+use Rattle.mqb_plain.specs.Plain.{PlainLists}
+use Rattle.mqb_plain.specs.declared.outgoing.Outgoing.{Outgoing}
+use Rattle.mqb_session.specs.Phases.{owed_by}
+use Rattle.mqb_session.specs.Sending.{is_ready, is_spent, stamped}
+use Rattle.mqb_session.specs.State as one_end
+use Rattle.mqb_session.specs.declared.heads.Kind.TheVariants as kind
+use Rattle.mqb_setup.specs.declared.internal.Internal.{Internal}
+use Rattle.mqb_setup.specs.declared.internal.Internal.TheVariants as internal
+use Rattle.mqb_history.specs.Calls.{Pump, outcome_of}
+use Rattle.mqb_history.proofs.Committing.{IsCounted, kept_at}
+use Rattle.mqb_history.proofs.Lists.{all_append, none_some, some_is}
+use Rattle.mqb_history.proofs.Outside.{filtered_in}
+
+-- a candidate of a stream carries a message that was committed
+abbrev IsCandidateOf : List Commitment → Candidate → Type 0
+IsCandidateOf cs c = (tx : TxHead) → c.tx ≡ Some tx → In (record { position = position_of tx; message = c.message }) cs
+
+-- and so does a packet
+pub record Carries (cs : List Commitment) (p : UserPacket) (tx : TxHead) : Type 0 where
+  pub commitment : Commitment
+  pub there : In commitment cs
+  pub position : commitment.position ≡ position_of tx
+  pub message : SameButReach commitment.message p.message
+
+abbrev pub IsPacketOf : List Commitment → Packet → Type 0
+IsPacketOf cs x = (p : UserPacket) (tx : TxHead) → x ≡ packet.User p → p.tx ≡ Some tx → Carries cs p tx
+
+-- Candidates.
+
+acks_of : (cs : List Commitment) (s : State) (peer : Identity) (now number : ℕ) (rows : List (ℕ × InRow)) → AllByRecursion (IsCandidateOf cs) (acks s peer now number rows)
+acks_of cs s peer now number [] = tt
+acks_of cs s peer now number (row ∷ rows) = (λ tx e. absurd (none_some e), acks_of cs s peer now (express_after number) rows)
+
+unsent_of_all : (cs : List Commitment) (origin : Origin) (os : List Outgoing) → AllByRecursion (IsCandidateOf cs) (filter_map (unsent_from origin) os)
+unsent_of_all cs origin [] = tt
+unsent_of_all cs origin (o ∷ os) = at (is_none o.mark) (unsent_of_all cs origin os)
+  where
+    at : (b : Bool) → AllByRecursion (IsCandidateOf cs) (filter_map (unsent_from origin) os)
+        → AllByRecursion (IsCandidateOf cs) (cons_option (cond b (Some (record { origin = origin; message = o.message; tx = None })) None) (filter_map (unsent_from origin) os))
+    at true rest = (λ tx e. absurd (none_some e), rest)
+    at false rest = rest
+
+kept_of : (cs : List Commitment) (index : ℕ) (row : Row) (ks : List Kept) → ((k : Kept) → In k ks → In (kept_at row k) cs) → AllByRecursion (IsCandidateOf cs) (map (of_row index row) ks)
+kept_of cs index row [] h = tt
+kept_of cs index row (k ∷ ks) h = (λ tx e. subst (λ t. In (record { position = position_of t; message = k.message }) cs) (some_is (tx_of row k) tx e) (h k (inl refl)),
+    kept_of cs index row ks (λ x i. h x (inr i)))
+
+waiting_of : (cs : List Commitment) (s : State) (peer index : ℕ) (row : Row) (cursor : ℕ) → IsCounted cs row → AllByRecursion (IsCandidateOf cs) (waiting s peer (index, (row, cursor)))
+waiting_of cs s peer index row cursor h = at (row.peer == peer && is_open s.outs index)
+  where
+    at : (b : Bool) → AllByRecursion (IsCandidateOf cs) (cond b (map (of_row index row) (unsent_of row cursor)) [])
+    at true = kept_of cs index row (unsent_of row cursor) (λ k i. h.kept k (filtered_in (λ (x : Kept). nat_lt (max row.acked cursor) x.number) row.kept k i))
+    at false = tt
+
+rows_of : (cs : List Commitment) (s : State) (peer n : ℕ) (rows : List Row) (cursors : List ℕ) → AllByRecursion (IsCounted cs) rows
+    → AllByRecursion (IsCandidateOf cs) (flat_map (waiting s peer) (enumerate_from n (zip rows cursors)))
+rows_of cs s peer n [] cursors h = tt
+rows_of cs s peer n (row ∷ rows) [] h = tt
+rows_of cs s peer n (row ∷ rows) (cursor ∷ cursors) h = all_append (IsCandidateOf cs) (waiting s peer (n, (row, cursor))) (flat_map (waiting s peer) (enumerate_from (n + 1) (zip rows cursors)))
+    (waiting_of cs s peer n row cursor h.0) (rows_of cs s peer (n + 1) rows cursors h.1)
+
+candidates_of : (cs : List Commitment) (s : State) (rest : Rest) (now k : ℕ) (peer : Identity) (p : PlainLists) → AllByRecursion (IsCounted cs) s.outs
+    → AllByRecursion (IsCandidateOf cs) (candidates s rest now k peer p)
+candidates_of cs s rest now k peer p h = all_append (IsCandidateOf cs) (acks s peer now s.next_express (rows_owing s rest peer.guid) ++ plain_candidates p) (row_candidates s rest k)
+    (all_append (IsCandidateOf cs) (acks s peer now s.next_express (rows_owing s rest peer.guid)) (plain_candidates p)
+    (acks_of cs s peer now s.next_express (rows_owing s rest peer.guid))
+    (all_append (IsCandidateOf cs) (filter_map (unsent_from OfRecoverable) p.recoverable) (filter_map (unsent_from OfExpress) p.express)
+    (unsent_of_all cs OfRecoverable p.recoverable) (unsent_of_all cs OfExpress p.express)))
+    (rows_of cs s k 0 s.outs rest.cursors h)
+
+-- The chosen ones, and their packets.
+
+chosen_of : (cs : List Commitment) (session : one_end.State) (count bytes : ℕ) (xs : List Candidate) → AllByRecursion (IsCandidateOf cs) xs
+    → AllByRecursion (IsCandidateOf cs) (chosen session count bytes xs)
+chosen_of cs session count bytes [] h = tt
+chosen_of cs session count bytes (x ∷ xs) h = at (may_follow session count bytes x) (chosen_of cs (session_after session x) (count + 1) (bytes + candidate_size x) xs h.1)
+  where
+    at : (b : Bool) → AllByRecursion (IsCandidateOf cs) (chosen (session_after session x) (count + 1) (bytes + candidate_size x) xs)
+        → AllByRecursion (IsCandidateOf cs) (cond b (x ∷ chosen (session_after session x) (count + 1) (bytes + candidate_size x) xs) [])
+    at true rest = (h.0, rest)
+    at false rest = tt
+
+user_is : (a b : UserPacket) → packet.User a ≡ packet.User b → a ≡ b
+user_is a b e = cc
+
+packet_of : (cs : List Commitment) (to : Guid) (now : ℕ) (c : Candidate) (head : SessionHead) → IsCandidateOf cs c → IsPacketOf cs (packet_for to now (c, head))
+packet_of cs to now c head h p tx e t = let same = user_is (carried_user c.message (carriage_for to now (c, head))) p e in subst (λ x. Carries cs x tx) same (record {
+  commitment = record { position = position_of tx; message = c.message };
+  there = h tx (ap (λ (x : UserPacket). x.tx) same ∙ t);
+  position = refl;
+  message = refl;
+})
+
+packets_of : (cs : List Commitment) (to : Guid) (now : ℕ) (session : one_end.State) (xs : List Candidate) → AllByRecursion (IsCandidateOf cs) xs
+    → AllByRecursion (IsPacketOf cs) (map (packet_for to now) (with_heads session xs))
+packets_of cs to now session [] h = tt
+packets_of cs to now session (x ∷ xs) h = (packet_of cs to now x (head_for session x) h.0, packets_of cs to now (session_after session x) xs h.1)
+
+-- Pumps.
+
+abbrev AreOf : List Commitment → PumpOutcome → Type 0
+AreOf cs outcome = AllByRecursion (IsPacketOf cs) outcome.packets
+
+of_or : {X : Type 0} (cs : List Commitment) (f : X → PumpOutcome) (o : Option X) (other : PumpOutcome) → ((x : X) → AreOf cs (f x)) → AreOf cs other → AreOf cs (option_map_or f o other)
+of_or cs f None other some none = none
+of_or cs f (Some x) other some none = some x
+
+of_either : (cs : List Commitment) (b : Bool) (x y : PumpOutcome) → AreOf cs x → AreOf cs y → AreOf cs (cond b x y)
+of_either cs true x y left right = left
+of_either cs false x y left right = right
+
+no_user : (cs : List Commitment) (x : Packet) → ((p : UserPacket) → x ≡ packet.User p → ⊥) → IsPacketOf cs x
+no_user cs x none p tx e t = absurd (none p e)
+
+set_up_of : (cs : List Commitment) (owed : Internal) → IsPacketOf cs (set_up_packet owed)
+set_up_of cs (internal.Establish e) = no_user cs (packet.Establish e) (λ p f. let none : ⊥ = cc in none)
+set_up_of cs (internal.Parameters p) = no_user cs (packet.Parameters p) (λ q f. let none : ⊥ = cc in none)
+set_up_of cs (internal.Ack h) = no_user cs (packet.Ack h) (λ p f. let none : ⊥ = cc in none)
+
+chosen_go : (cs : List Commitment) (m : Manager) (now : ℕ) (session : one_end.State) (k : ℕ) (to : Guid) (xs : List Candidate) → AllByRecursion (IsCandidateOf cs) xs
+    → AreOf cs (sending_chosen m now session k to xs)
+chosen_go cs m now session k to [] h = of_either cs session.owes (sending_one m (packet.Ack (stamped kind.Ack session).0) (stamped kind.Ack session).1) (answering m (Ok 0))
+    (no_user cs (packet.Ack (stamped kind.Ack session).0) (λ p f. let none : ⊥ = cc in none), tt) tt
+chosen_go cs m now session k to (x ∷ xs) h = packets_of cs to now session (x ∷ xs) h
+
+pump_of : (cs : List Commitment) (m : Manager) (now : ℕ) (session : one_end.State) (k : ℕ) (to : Guid) (xs : List Candidate) → AllByRecursion (IsCandidateOf cs) xs
+    → AreOf cs (pump_with m now session k to xs)
+pump_of cs m now session k to xs h = of_either cs (is_spent session && not (length xs == 0)) (answering m (Err fault.Spent)) (sending_chosen m now session k to (chosen session 0 0 xs)) tt
+    (chosen_go cs m now session k to (chosen session 0 0 xs) (chosen_of cs session 0 0 xs h))
+
+owed_go : (cs : List Commitment) (m : Manager) (now : ℕ) (session : one_end.State) (owed : Option Internal) → AllByRecursion (IsCounted cs) m.state.outs
+    → AreOf cs (pump_owed m now session owed)
+owed_go cs m now session (Some owed) h = (set_up_of cs owed, tt)
+owed_go cs m now session None h = let k = linked_peer m.state session in
+    of_either cs (is_ready session.phase) (pump_at m now session k) (answering m (Ok 0))
+    (of_or cs (λ peer. option_map_or (pump_to m now session k peer) (slice_get m.state.plain k) (answering m (Ok 0))) (slice_get m.state.peers k) (answering m (Ok 0))
+    (λ peer. of_or cs (pump_to m now session k peer) (slice_get m.state.plain k) (answering m (Ok 0))
+    (λ p. pump_of cs m now session k peer.guid (candidates m.state m.rest now k peer p) (candidates_of cs m.state m.rest now k peer p h)) tt) tt) tt
+
+pub pump_carries : (cs : List Commitment) (m : Manager) (now : ℕ) → AllByRecursion (IsCounted cs) m.state.outs
+    → AllByRecursion (IsPacketOf cs) (outcome_of m (Pump now)).packets
+pump_carries cs m now h = at (pump_refusal m)
+  where
+    at : (o : Option PumpFault) → AreOf cs (unless m o (option_map_or (pump_linked m now) m.rest.session (answering m (Err fault.NotLinked))))
+    at (Some why) = tt
+    at None = of_or cs (pump_linked m now) m.rest.session (answering m (Err fault.NotLinked)) (λ session. owed_go cs m now session (owed_by session.phase now session) h) tt

@@ -1,0 +1,5 @@
+use Rattle.mqb_history.proofs.Carrying as carrying
+use Rattle.mqb_history.proofs.always_carried_truly.Goals as goal
+
+pub returns : goal.returns
+returns c = carrying.always_carried_truly
