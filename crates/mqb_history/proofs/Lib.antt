@@ -23,3 +23,5 @@ mod Committing
 mod Numbering
 mod Sending
 mod Carrying
+mod Lines
+mod Telling

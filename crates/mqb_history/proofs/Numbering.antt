@@ -335,7 +335,7 @@ commit_commits s now ops cs ids h = weaker (apply s (entry.Commit now ops)).iden
     enough : s.next_number + length (sends_of ops) ≤ (apply s (entry.Commit now ops)).next_number
     enough = let a = (ops_taken_rows now (sends_numbered s ops) ops).numbers in let b = sends_numbers now taken (sends_of ops) in omega (arith, a, b)
 
-commitments_more : (ws : List Written) (w : Written) → commitments (ws ++ w ∷ []) ≡ commitments ws ++ commitments_in w.before w.entry
+pub commitments_more : (ws : List Written) (w : Written) → commitments (ws ++ w ∷ []) ≡ commitments ws ++ commitments_in w.before w.entry
 commitments_more [] w = append_nothing (commitments_in w.before w.entry)
 commitments_more (x ∷ ws) w = ap (λ cs. commitments_in x.before x.entry ++ cs) (commitments_more ws w)
     ∙ sym (append_assoc (commitments_in x.before x.entry) (commitments ws) (commitments_in w.before w.entry))

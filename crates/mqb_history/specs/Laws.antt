@@ -8,9 +8,14 @@ use Rattle.mqb_history.specs.Histories.{HasHistory, IsHistory, course_of}
 use Rattle.mqb_history.specs.Changes.{Change}
 use Rattle.mqb_history.specs.Carried.{AreCarriedTruly, AreDecidedTruly}
 use Rattle.mqb_history.specs.Committed.{AreCommittedInOrder}
-use Rattle.mqb_history.specs.Decided.{IsDecidedInOrder}
+use Rattle.mqb_history.specs.Decided.{IsDecidedInOrder, decisions}
+use Rattle.mqb_history.specs.Told.{AreCommitmentsTold, decisions_told}
 use Rattle.mqb_history.specs.Orderly.{IsOrderly}
 use Rattle.mqb_network.specs.Laws.{Always}
+use Rattle.mqb_exactly_once.specs.World.{Channel}
+use Rattle.mqb_network.specs.Courses.{Written}
+use Rattle.mqb_network.specs.Laws.{lines_written}
+use Rattle.std.specs.Prelude.{◌≡◌}
 
 -- Every course with a history is orderly.
 abbrev pub HistoriesAreOrderly : Type 0
@@ -36,3 +41,11 @@ AlwaysCarriedTruly = Always AreCarriedTruly
 -- What is decided was committed by its source.
 abbrev pub AlwaysDecidedTruly : Type 0
 AlwaysDecidedTruly = Always AreDecidedTruly
+
+-- The lines of records tell what they decide.
+abbrev pub LinesTellDecisions : Type 0
+LinesTellDecisions = (channel : Channel) (written : List Written) → decisions_told channel (lines_written written) ≡ decisions channel written
+
+-- The lines of a manager's records tell what it commits.
+abbrev pub AlwaysToldCommitments : Type 0
+AlwaysToldCommitments = Always AreCommitmentsTold

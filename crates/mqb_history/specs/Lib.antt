@@ -6,4 +6,5 @@ pub mod Orderly
 pub mod Decided
 pub mod Committed
 pub mod Carried
+pub mod Told
 pub mod Laws

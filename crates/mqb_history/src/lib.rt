@@ -3,7 +3,7 @@
 //! Each function stands for a law: its contract is the law, and its body is empty.
 #![tactic(auto)]
 
-ghost use Rattle.mqb_history.specs.Laws.{AlwaysCarriedTruly, AlwaysCommittedInOrder, AlwaysDecidedInOrder, AlwaysDecidedTruly, HistoriesAreOrderly, RunsHaveHistories};
+ghost use Rattle.mqb_history.specs.Laws.{AlwaysCarriedTruly, AlwaysCommittedInOrder, AlwaysDecidedInOrder, AlwaysDecidedTruly, AlwaysToldCommitments, HistoriesAreOrderly, LinesTellDecisions, RunsHaveHistories};
 
 /// Sessions are connections, there is a note for each packet, and managers stay who they are.
 pub fn histories_are_orderly()
@@ -33,4 +33,14 @@ pub fn always_carried_truly()
 /// Whatever is decided was committed by its source, and is the same message in every field but the time to reach its queue.
 pub fn always_decided_truly()
     ensures { AlwaysDecidedTruly }
+{}
+
+/// The Put and Refused lines of a manager's records are its decisions, in order.
+pub fn lines_tell_decisions()
+    ensures { LinesTellDecisions }
+{}
+
+/// The Committed lines of a manager's records are its commitments, in order.
+pub fn always_told_commitments()
+    ensures { AlwaysToldCommitments }
 {}
