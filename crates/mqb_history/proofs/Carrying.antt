@@ -32,7 +32,7 @@ use Rattle.mqb_history.specs.Laws.{AlwaysCarriedTruly, AlwaysDecidedTruly}
 use Rattle.mqb_history.specs.Made.{IsFrom}
 use Rattle.mqb_history.proofs.Beginning.{linked_condition}
 use Rattle.mqb_history.proofs.Calling.{calls_are_modest, from_only, packet_heard}
-use Rattle.mqb_history.proofs.Committing.{IsOwnBelow, all_in, in_append, in_split}
+use Rattle.mqb_history.proofs.Committing.{IsOwnBelow, all_in, in_append}
 use Rattle.mqb_base.specs.declared.message.Message.{Message}
 use Rattle.mqb_network.specs.Doubts.{settled}
 use Rattle.mqb_network.specs.Runs.{after_run}
@@ -89,25 +89,29 @@ some_true_grown : (ws more : List Written) (o : Option Record) → IfSome o (Dec
 some_true_grown ws more None h = tt
 some_true_grown ws more (Some r) h = true_grown ws more r h
 
+-- each of these records decides nothing but what those before it committed
+abbrev DecideTruly : List Written → List Written → Type 0
+DecideTruly before [] = Unit {0}
+DecideTruly before (w ∷ ws) = DecidesTruly before w.entry × DecideTruly (before ++ w ∷ []) ws
+
+truly_more : (before ws : List Written) (w : Written) → DecideTruly before ws → DecidesTruly (before ++ ws) w.entry → DecideTruly before (ws ++ w ∷ [])
+truly_more before [] w h new = (subst (λ xs. DecidesTruly xs w.entry) (append_nothing before) new, tt)
+truly_more before (x ∷ ws) w h new = (h.0, truly_more (before ++ x ∷ []) ws w h.1 (subst (λ xs. DecidesTruly xs w.entry) (sym (append_assoc before (x ∷ []) ws)) new))
+
+truly_at : (first before behind : List Written) (w : Written) → DecideTruly first (before ++ w ∷ behind) → DecidesTruly (first ++ before) w.entry
+truly_at first [] behind w h = subst (λ xs. DecidesTruly xs w.entry) (sym (append_nothing first)) h.0
+truly_at first (x ∷ before) behind w h = subst (λ xs. DecidesTruly xs w.entry) (append_assoc first (x ∷ []) before) (truly_at (first ++ x ∷ []) before behind w h.1)
+
 -- What holds of a course beside its order and its counts.
 record IsTruthful (c : Course) : Type 0 where
   pub carried : AreCarriedTruly c
-  pub written : (w : Written) → In w c.written → DecidesTruly c.written w.entry
+  pub written : DecideTruly [] c.written
   pub doubts : (j : ℕ) → IfSome (doubt_of (manager_at c.network j).condition) (DecidesTruly c.written)
 
 -- a manager's record joins those before it
-with_record : (ws : List Written) (i : ℕ) (m : Manager) (o : Option Record) → IfSome o (DecidesTruly ws) → ((w : Written) → In w ws → DecidesTruly ws w.entry)
-    → (w : Written) → In w (ws ++ written_by i m o) → DecidesTruly (ws ++ written_by i m o) w.entry
-with_record ws i m None new h w inside = subst (λ xs. DecidesTruly xs w.entry) (sym (append_nothing ws)) (h w (subst (In w) (append_nothing ws) inside))
-with_record ws i m (Some r) new h w inside = by (in_split ws (record { by = i; before = m.state; entry = r } ∷ []) w inside)
-  where
-    more : List Written
-    more = record { by = i; before = m.state; entry = r } ∷ []
-
-    by : In w ws ⊎ In w more → DecidesTruly (ws ++ more) w.entry
-    by (inl old) = true_grown ws more w.entry (h w old)
-    by (inr (inl e)) = subst (λ (x : Written). DecidesTruly (ws ++ more) x.entry) e (true_grown ws more r new)
-    by (inr (inr none)) = absurd none
+with_record : (ws : List Written) (i : ℕ) (m : Manager) (o : Option Record) → IfSome o (DecidesTruly ws) → DecideTruly [] ws → DecideTruly [] (ws ++ written_by i m o)
+with_record ws i m None new h = subst (DecideTruly []) (sym (append_nothing ws)) h
+with_record ws i m (Some r) new h = truly_more [] ws (record { by = i; before = m.state; entry = r }) h new
 
 -- Calls.
 
@@ -400,7 +404,7 @@ carrying_closed known apart = record {
 carrying_begins : (known : List Identity) → IsCarrying known (beginning known)
 carrying_begins known = (begins_with known AreCounted counted_by_records, record {
   carried = λ k note p tx e f t. absurd (nothing_numbered k note e);
-  written = λ w inside. absurd inside;
+  written = tt;
   doubts = λ j. subst (λ o. IfSome (doubt_of (unwrap_or o nobody).condition) (DecidesTruly [])) (sym (map_get (λ own. formatted own (others known own)) known j)) (at (slice_get known j));
 })
   where
@@ -416,13 +420,15 @@ pub always_carried_truly : AlwaysCarriedTruly
 always_carried_truly known ms apart run kept = (always_kept known (IsCarrying known) (carrying_closed known apart) ms run kept (carrying_begins known)).1.carried
 
 pub always_decided_truly : AlwaysDecidedTruly
-always_decided_truly known ms apart run kept = λ w now numbers p tx inside e t. from_source (settled kept (after_run known ms))
-    (always_kept known (IsCarrying known) (carrying_closed known apart) ms run kept (carrying_begins known)) w now numbers p tx inside e t
+always_decided_truly known ms apart run kept = from_source (settled kept (after_run known ms))
+    (always_kept known (IsCarrying known) (carrying_closed known apart) ms run kept (carrying_begins known))
   where
     from_source : (c : Course) → IsCarrying known c → AreDecidedTruly c
-    from_source c h w now numbers p tx inside e t = let g = (subst (DecidesTruly c.written) e (h.1.written w inside)) tx t in record {
+    from_source c h before behind w now numbers p tx split e t =
+        let g = (subst (DecidesTruly before) e (truly_at [] before behind w (subst (DecideTruly []) split h.1.written))) tx t in
+        let all = subst (λ ws. IsCommittedBy g.0 ws p tx) (sym split) (grown g.0 before (w ∷ behind) p tx g.1) in record {
       source = g.0;
       own = sym ((all_in (IsOwnBelow (manager_at c.network g.0).state.identity.guid (manager_at c.network g.0).state.next_number) (commitments (written_of g.0 c.written))
-          g.1.commitment (h.0.1 g.0).own_ids g.1.there).0) ∙ ap (λ (m : Message). m.id.qm) (sym g.1.message);
+          all.commitment (h.0.1 g.0).own_ids all.there).0) ∙ ap (λ (m : Message). m.id.qm) (sym all.message);
       committed = g.1;
     }

@@ -1,5 +1,5 @@
 -- What packets carry, and what is decided, was committed.
-use Rattle.std.specs.Prelude.{◌≡◌, List, Some, ℕ}
+use Rattle.std.specs.Prelude.{◌++◌, ◌∷◌, ◌≡◌, List, Some, ℕ}
 use Rattle.mqb_base.specs.declared.heads.TxHead.{TxHead}
 use Rattle.mqb_exactly_once.specs.ExactlyOnce.{SameButReach}
 use Rattle.mqb_exactly_once.specs.Words.{In, position_of}
@@ -25,13 +25,14 @@ abbrev pub AreCarriedTruly : Course → Type 0
 AreCarriedTruly c = (k : ℕ) (note : Note) (p : UserPacket) (tx : TxHead) → numbered c.network.notes k ≡ Some note → numbered c.sent k ≡ Some (packet.User p)
     → p.tx ≡ Some tx → IsCommittedBy note.sender c.written p tx
 
--- a message was committed by the manager whose identifier it bears
-pub record ComesFromItsSource (c : Course) (p : UserPacket) (tx : TxHead) : Type 0 where
+-- a message was committed, by these records, by the manager whose identifier it bears
+pub record ComesFromItsSource (c : Course) (before : List Written) (p : UserPacket) (tx : TxHead) : Type 0 where
   pub source : ℕ
   pub own : (manager_at c.network source).state.identity.guid ≡ p.message.id.qm
-  pub committed : IsCommittedBy source c.written p tx
+  pub committed : IsCommittedBy source before p tx
 
--- What is decided was committed by its source.
+-- What is decided was committed by its source before.
 abbrev pub AreDecidedTruly : Course → Type 0
-AreDecidedTruly c = (w : Written) (now : ℕ) (numbers : List ℕ) (p : UserPacket) (tx : TxHead) → In w c.written
-    → w.entry ≡ entry.Arrived now numbers (entry.Decided p) → p.tx ≡ Some tx → ComesFromItsSource c p tx
+AreDecidedTruly c = (before behind : List Written) (w : Written) (now : ℕ) (numbers : List ℕ) (p : UserPacket) (tx : TxHead)
+    → c.written ≡ before ++ w ∷ behind → w.entry ≡ entry.Arrived now numbers (entry.Decided p) → p.tx ≡ Some tx
+    → ComesFromItsSource c before p tx

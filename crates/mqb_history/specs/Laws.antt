@@ -38,7 +38,7 @@ AlwaysCommittedInOrder = Always AreCommittedInOrder
 abbrev pub AlwaysCarriedTruly : Type 0
 AlwaysCarriedTruly = Always AreCarriedTruly
 
--- What is decided was committed by its source.
+-- What is decided was committed by its source before.
 abbrev pub AlwaysDecidedTruly : Type 0
 AlwaysDecidedTruly = Always AreDecidedTruly
 

@@ -30,7 +30,7 @@ pub fn always_carried_truly()
     ensures { AlwaysCarriedTruly }
 {}
 
-/// Whatever is decided was committed by its source, and is the same message in every field but the time to reach its queue.
+/// Whatever is decided was committed by its source before, and is the same message in every field but the time to reach its queue.
 pub fn always_decided_truly()
     ensures { AlwaysDecidedTruly }
 {}
