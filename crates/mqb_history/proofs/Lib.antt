@@ -25,3 +25,4 @@ mod Sending
 mod Carrying
 mod Lines
 mod Telling
+mod Stopping

@@ -16,6 +16,10 @@ use Rattle.mqb_exactly_once.specs.World.{Channel}
 use Rattle.mqb_network.specs.Courses.{Written}
 use Rattle.mqb_network.specs.Laws.{lines_written}
 use Rattle.std.specs.Prelude.{◌≡◌}
+use Rattle.std.specs.Prelude.{◌<◌, IsTrue, length}
+use Rattle.mqb_history.specs.Changes.{may_change}
+use Rattle.mqb_history.specs.Doubts.{IsSettled, StaysDown}
+use Rattle.mqb_network.specs.Courses.{Course}
 
 -- Every course with a history is orderly.
 abbrev pub HistoriesAreOrderly : Type 0
@@ -49,3 +53,11 @@ LinesTellDecisions = (channel : Channel) (written : List Written) → decisions_
 -- The lines of a manager's records tell what it commits.
 abbrev pub AlwaysToldCommitments : Type 0
 AlwaysToldCommitments = Always AreCommitmentsTold
+
+-- Until it is started again a manager that is down stays as it is.
+abbrev pub DownStays : Type 0
+DownStays = (c : Course) (x : Change) → IsTrue (may_change c x) → StaysDown c x
+
+-- A failure leaves a doubt, and a start settles it.
+abbrev pub FailuresAreSettled : Type 0
+FailuresAreSettled = (c : Course) (i : ℕ) → i < length c.network.managers → IsSettled c i

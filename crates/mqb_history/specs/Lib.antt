@@ -2,6 +2,7 @@ pub mod Calls
 pub mod Changes
 pub mod Histories
 pub mod Made
+pub mod Doubts
 pub mod Orderly
 pub mod Decided
 pub mod Committed

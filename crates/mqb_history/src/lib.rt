@@ -3,7 +3,7 @@
 //! Each function stands for a law: its contract is the law, and its body is empty.
 #![tactic(auto)]
 
-ghost use Rattle.mqb_history.specs.Laws.{AlwaysCarriedTruly, AlwaysCommittedInOrder, AlwaysDecidedInOrder, AlwaysDecidedTruly, AlwaysToldCommitments, HistoriesAreOrderly, LinesTellDecisions, RunsHaveHistories};
+ghost use Rattle.mqb_history.specs.Laws.{AlwaysCarriedTruly, AlwaysCommittedInOrder, AlwaysDecidedInOrder, AlwaysDecidedTruly, AlwaysToldCommitments, DownStays, FailuresAreSettled, HistoriesAreOrderly, LinesTellDecisions, RunsHaveHistories};
 
 /// Sessions are connections, there is a note for each packet, and managers stay who they are.
 pub fn histories_are_orderly()
@@ -43,4 +43,14 @@ pub fn lines_tell_decisions()
 /// The Committed lines of a manager's records are its commitments, in order.
 pub fn always_told_commitments()
     ensures { AlwaysToldCommitments }
+{}
+
+/// A manager that is down stays as it is until it is started again.
+pub fn down_stays()
+    ensures { DownStays }
+{}
+
+/// A disk that fails under a record leaves it in doubt, and a start finds it kept or lost.
+pub fn failures_are_settled()
+    ensures { FailuresAreSettled }
 {}
