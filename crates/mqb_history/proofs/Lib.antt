@@ -26,3 +26,4 @@ mod Carrying
 mod Lines
 mod Telling
 mod Stopping
+mod Reasons

@@ -20,6 +20,15 @@ use Rattle.std.specs.Prelude.{◌<◌, IsTrue, length}
 use Rattle.mqb_history.specs.Changes.{may_change}
 use Rattle.mqb_history.specs.Doubts.{IsSettled, StaysDown}
 use Rattle.mqb_network.specs.Courses.{Course}
+use Rattle.std.specs.Prelude.{[], ◌++◌, ◌∷◌, Some}
+use Rattle.mqb_base.specs.declared.heads.TxHead.{TxHead}
+use Rattle.mqb_base.specs.declared.ledger.Line.{Line}
+use Rattle.mqb_model.specs.records.Applying.{lines_of}
+use Rattle.mqb_model.specs.records.Decisions.{decided_line}
+use Rattle.mqb_model.specs.records.Record as entry
+use Rattle.mqb_model.specs.rules.Arrivals.{refusal_of}
+use Rattle.mqb_model.specs.state.State.{State}
+use Rattle.mqb_packet.specs.declared.packet.UserPacket.{UserPacket}
 
 -- Every course with a history is orderly.
 abbrev pub HistoriesAreOrderly : Type 0
@@ -61,3 +70,8 @@ DownStays = (c : Course) (x : Change) → IsTrue (may_change c x) → StaysDown 
 -- A failure leaves a doubt, and a start settles it.
 abbrev pub FailuresAreSettled : Type 0
 FailuresAreSettled = (c : Course) (i : ℕ) → i < length c.network.managers → IsSettled c i
+
+-- A decision's line is the last of its record: it puts the message, or refuses it for the reason that there is in the state in which it was heard.
+abbrev pub DecisionsHaveReasons : Type 0
+DecisionsHaveReasons = (s : State) (now : ℕ) (numbers : List ℕ) (p : UserPacket) (tx : TxHead) → p.tx ≡ Some tx
+    → (released : List Line) × (lines_of s (entry.Arrived now numbers (entry.Decided p)) ≡ released ++ decided_line p.message tx (refusal_of s p) ∷ [])

@@ -3,7 +3,7 @@
 //! Each function stands for a law: its contract is the law, and its body is empty.
 #![tactic(auto)]
 
-ghost use Rattle.mqb_history.specs.Laws.{AlwaysCarriedTruly, AlwaysCommittedInOrder, AlwaysDecidedInOrder, AlwaysDecidedTruly, AlwaysToldCommitments, DownStays, FailuresAreSettled, HistoriesAreOrderly, LinesTellDecisions, RunsHaveHistories};
+ghost use Rattle.mqb_history.specs.Laws.{AlwaysCarriedTruly, AlwaysCommittedInOrder, AlwaysDecidedInOrder, AlwaysDecidedTruly, AlwaysToldCommitments, DecisionsHaveReasons, DownStays, FailuresAreSettled, HistoriesAreOrderly, LinesTellDecisions, RunsHaveHistories};
 
 /// Sessions are connections, there is a note for each packet, and managers stay who they are.
 pub fn histories_are_orderly()
@@ -53,4 +53,9 @@ pub fn down_stays()
 /// A disk that fails under a record leaves it in doubt, and a start finds it kept or lost.
 pub fn failures_are_settled()
     ensures { FailuresAreSettled }
+{}
+
+/// A message that is decided is put, or refused for the reason that there is when it is heard.
+pub fn decisions_have_reasons()
+    ensures { DecisionsHaveReasons }
 {}
