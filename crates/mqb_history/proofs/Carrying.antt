@@ -54,18 +54,19 @@ commitments_append [] ys = refl
 commitments_append (x ∷ xs) ys = ap (λ cs. commitments_in x.before x.entry ++ cs) (commitments_append xs ys)
     ∙ sym (append_assoc (commitments_in x.before x.entry) (commitments xs) (commitments ys))
 
-grown : (i : ℕ) (ws more : List Written) (p : UserPacket) (tx : TxHead) → IsCommittedBy i ws p tx → IsCommittedBy i (ws ++ more) p tx
-grown i ws more p tx h = record {
+grown : (i : ℕ) (ws more : List Written) (moment : ℕ) (p : UserPacket) (tx : TxHead) → IsCommittedBy i ws moment p tx → IsCommittedBy i (ws ++ more) moment p tx
+grown i ws more moment p tx h = record {
   commitment = h.commitment;
   there = subst (In h.commitment) (sym (ap commitments (of_append i ws more) ∙ commitments_append (written_of i ws) (written_of i more)))
       (in_append (commitments (written_of i ws)) (commitments (written_of i more)) h.commitment h.there);
   position = h.position;
   message = h.message;
+  late = h.late;
 }
 
 -- a record decides nothing that some manager has not committed
 abbrev DecidesTruly : List Written → Record → Type 0
-DecidesTruly ws (entry.Arrived now numbers (entry.Decided p)) = (tx : TxHead) → p.tx ≡ Some tx → (i : ℕ) × IsCommittedBy i ws p tx
+DecidesTruly ws (entry.Arrived now numbers (entry.Decided p)) = (tx : TxHead) → p.tx ≡ Some tx → (i : ℕ) × (moment : ℕ) × IsCommittedBy i ws moment p tx
 DecidesTruly ws _ = Unit {0}
 
 true_grown : (ws more : List Written) (r : Record) → DecidesTruly ws r → DecidesTruly (ws ++ more) r
@@ -76,7 +77,7 @@ true_grown ws more (entry.Commit now ops) h = tt
 true_grown ws more (entry.Plain now p) h = tt
 true_grown ws more (entry.Offered marks) h = tt
 true_grown ws more (entry.Arrived now numbers entry.Nothing) h = tt
-true_grown ws more (entry.Arrived now numbers (entry.Decided p)) h = λ tx e. let g = h tx e in (g.0, grown g.0 ws more p tx g.1)
+true_grown ws more (entry.Arrived now numbers (entry.Decided p)) h = λ tx e. let g = h tx e in (g.0, g.1, grown g.0 ws more g.1 p tx g.2)
 true_grown ws more (entry.Arrived now numbers (entry.Stored p)) h = tt
 true_grown ws more (entry.Arrived now numbers (entry.OrderAcknowledged ordinal number)) h = tt
 true_grown ws more (entry.Arrived now numbers (entry.Final p)) h = tt
@@ -125,7 +126,7 @@ ended_notes_same n i = at (connection_of n i)
 calling_true : (i : ℕ) (call : Call) (failure : Option Failure) (c : Course) → IfSome (outcome_of (manager_at c.network i) call).entry (DecidesTruly c.written) → IsTruthful c
     → IsTruthful (calling i call failure c)
 calling_true i call None c new h = record {
-  carried = λ k note p tx e f t. grown note.sender c.written more p tx (h.carried k note p tx e f t);
+  carried = λ k note p tx e f t. grown note.sender c.written more note.moment p tx (h.carried k note p tx e f t);
   written = with_record c.written i m outcome.entry new h.written;
   doubts = λ j. with_at (λ x. IfSome (doubt_of x.condition) (DecidesTruly (c.written ++ more))) c.network i j (succeeded m outcome)
       (some_true_grown c.written more (doubt_of (manager_at c.network j).condition) (h.doubts j))
@@ -174,24 +175,24 @@ from_none ws (Some (entry.Ticked now)) h = tt
 from_none ws (Some (entry.Roll count)) h = tt
 
 -- one that hears a packet which carries what was committed decides that
-from_packet : (ws : List Written) (i : ℕ) (x : Packet) (o : Option Record) → IfSome o (IsFrom (Some x))
-    → ((p : UserPacket) (tx : TxHead) → x ≡ packet.User p → p.tx ≡ Some tx → IsCommittedBy i ws p tx) → IfSome o (DecidesTruly ws)
-from_packet ws i x None h g = tt
-from_packet ws i x (Some (entry.Identity identity)) h g = tt
-from_packet ws i x (Some (entry.Peer peer)) h g = tt
-from_packet ws i x (Some (entry.CreateQueue number plan)) h g = tt
-from_packet ws i x (Some (entry.Commit now ops)) h g = tt
-from_packet ws i x (Some (entry.Plain now p)) h g = tt
-from_packet ws i x (Some (entry.Offered marks)) h g = tt
-from_packet ws i x (Some (entry.Arrived now numbers entry.Nothing)) h g = tt
-from_packet ws i x (Some (entry.Arrived now numbers (entry.Decided p))) h g = λ tx e. (i, g p tx (some_is x (packet.User p) h) e)
-from_packet ws i x (Some (entry.Arrived now numbers (entry.Stored p))) h g = tt
-from_packet ws i x (Some (entry.Arrived now numbers (entry.OrderAcknowledged ordinal number))) h g = tt
-from_packet ws i x (Some (entry.Arrived now numbers (entry.Final p))) h g = tt
-from_packet ws i x (Some (entry.Taken now place id)) h g = tt
-from_packet ws i x (Some (entry.Purged now place)) h g = tt
-from_packet ws i x (Some (entry.Ticked now)) h g = tt
-from_packet ws i x (Some (entry.Roll count)) h g = tt
+from_packet : (ws : List Written) (i moment : ℕ) (x : Packet) (o : Option Record) → IfSome o (IsFrom (Some x))
+    → ((p : UserPacket) (tx : TxHead) → x ≡ packet.User p → p.tx ≡ Some tx → IsCommittedBy i ws moment p tx) → IfSome o (DecidesTruly ws)
+from_packet ws i moment x None h g = tt
+from_packet ws i moment x (Some (entry.Identity identity)) h g = tt
+from_packet ws i moment x (Some (entry.Peer peer)) h g = tt
+from_packet ws i moment x (Some (entry.CreateQueue number plan)) h g = tt
+from_packet ws i moment x (Some (entry.Commit now ops)) h g = tt
+from_packet ws i moment x (Some (entry.Plain now p)) h g = tt
+from_packet ws i moment x (Some (entry.Offered marks)) h g = tt
+from_packet ws i moment x (Some (entry.Arrived now numbers entry.Nothing)) h g = tt
+from_packet ws i moment x (Some (entry.Arrived now numbers (entry.Decided p))) h g = λ tx e. (i, moment, g p tx (some_is x (packet.User p) h) e)
+from_packet ws i moment x (Some (entry.Arrived now numbers (entry.Stored p))) h g = tt
+from_packet ws i moment x (Some (entry.Arrived now numbers (entry.OrderAcknowledged ordinal number))) h g = tt
+from_packet ws i moment x (Some (entry.Arrived now numbers (entry.Final p))) h g = tt
+from_packet ws i moment x (Some (entry.Taken now place id)) h g = tt
+from_packet ws i moment x (Some (entry.Purged now place)) h g = tt
+from_packet ws i moment x (Some (entry.Ticked now)) h g = tt
+from_packet ws i moment x (Some (entry.Roll count)) h g = tt
 
 none_heard : (call : Call) → is_of_packets call ≡ false → packet_heard call ≡ None
 none_heard (CreateQueue plan) e = refl
@@ -240,32 +241,33 @@ replicated (suc n) x y (inr h) = replicated n x y h
 
 -- packets that carry what their sender committed join the others
 posted_carried : (i now : ℕ) (packets : List Packet) (c : Course) → length c.network.notes ≡ length c.sent
-    → ((x : Packet) → In x packets → (p : UserPacket) (tx : TxHead) → x ≡ packet.User p → p.tx ≡ Some tx → IsCommittedBy i c.written p tx) → AreCarriedTruly c
+    → ((x : Packet) → In x packets → (p : UserPacket) (tx : TxHead) → x ≡ packet.User p → p.tx ≡ Some tx → IsCommittedBy i c.written now p tx) → AreCarriedTruly c
     → AreCarriedTruly (posted i now packets c)
 posted_carried i now packets c noted_all new h = λ k note p tx e f t. at (connection_of c.network i) k note p tx e (numbered_split c.sent packets k (packet.User p) f) t
   where
     notes_of : Option Connection → List Note
     notes_of o = (option_map_or (λ (d : Connection). record c.network { notes = c.network.notes ++ replicate (length packets) (note_by i now d) }) o c.network).notes
 
-    sender_of : (d : Connection) (note : Note) → In note (replicate (length packets) (note_by i now d)) → i ≡ note.sender
-    sender_of d note inside = ap (λ (x : Note). x.sender) (replicated (length packets) (note_by i now d) note inside)
+    sender_of : (d : Connection) (note : Note) (p : UserPacket) (tx : TxHead) → In note (replicate (length packets) (note_by i now d)) → IsCommittedBy i c.written now p tx
+        → IsCommittedBy note.sender c.written note.moment p tx
+    sender_of d note p tx inside g = subst (λ (x : Note). IsCommittedBy x.sender c.written x.moment p tx) (replicated (length packets) (note_by i now d) note inside) g
 
     with_sender : (d : Connection) (k : ℕ) (note : Note) (p : UserPacket) (tx : TxHead)
         → (numbered c.network.notes k ≡ Some note) ⊎ ((length c.network.notes < k) × In note (replicate (length packets) (note_by i now d)))
-        → (numbered c.sent k ≡ Some (packet.User p)) ⊎ ((length c.sent < k) × In (packet.User p) packets) → p.tx ≡ Some tx → IsCommittedBy note.sender c.written p tx
+        → (numbered c.sent k ≡ Some (packet.User p)) ⊎ ((length c.sent < k) × In (packet.User p) packets) → p.tx ≡ Some tx → IsCommittedBy note.sender c.written note.moment p tx
     with_sender d k note p tx (inl a) (inl b) t = h k note p tx a b t
     with_sender d k note p tx (inl a) (inr b) t = let low = numbered_within c.network.notes k note a in let high = b.0 in absurd (omega (arith, low, high, noted_all))
     with_sender d k note p tx (inr a) (inl b) t = let low = numbered_within c.sent k (packet.User p) b in let high = a.0 in absurd (omega (arith, low, high, noted_all))
-    with_sender d k note p tx (inr a) (inr b) t = subst (λ s. IsCommittedBy s c.written p tx) (sender_of d note a.1) (new (packet.User p) b.1 p tx refl t)
+    with_sender d k note p tx (inr a) (inr b) t = sender_of d note p tx a.1 (new (packet.User p) b.1 p tx refl t)
 
     at : (o : Option Connection) (k : ℕ) (note : Note) (p : UserPacket) (tx : TxHead) → numbered (notes_of o) k ≡ Some note
-        → (numbered c.sent k ≡ Some (packet.User p)) ⊎ ((length c.sent < k) × In (packet.User p) packets) → p.tx ≡ Some tx → IsCommittedBy note.sender c.written p tx
+        → (numbered c.sent k ≡ Some (packet.User p)) ⊎ ((length c.sent < k) × In (packet.User p) packets) → p.tx ≡ Some tx → IsCommittedBy note.sender c.written note.moment p tx
     at None k note p tx e (inl b) t = h k note p tx e b t
     at None k note p tx e (inr b) t = let low = numbered_within c.network.notes k note e in let high = b.0 in absurd (omega (arith, low, high, noted_all))
     at (Some d) k note p tx e b t = with_sender d k note p tx (numbered_split c.network.notes (replicate (length packets) (note_by i now d)) k note e) b t
 
 posted_true : (i now : ℕ) (packets : List Packet) (c : Course) → length c.network.notes ≡ length c.sent
-    → ((x : Packet) → In x packets → (p : UserPacket) (tx : TxHead) → x ≡ packet.User p → p.tx ≡ Some tx → IsCommittedBy i c.written p tx) → IsTruthful c
+    → ((x : Packet) → In x packets → (p : UserPacket) (tx : TxHead) → x ≡ packet.User p → p.tx ≡ Some tx → IsCommittedBy i c.written now p tx) → IsTruthful c
     → IsTruthful (posted i now packets c)
 posted_true i now packets c noted_all new h = record {
   carried = posted_carried i now packets c noted_all new h.carried;
@@ -274,22 +276,22 @@ posted_true i now packets c noted_all new h = record {
 }
 
 -- what a manager's records committed, a packet of its rows carries
-packet_true : (i : ℕ) (ws : List Written) (x : Packet) → IsPacketOf (commitments (written_of i ws)) x
-    → (p : UserPacket) (tx : TxHead) → x ≡ packet.User p → p.tx ≡ Some tx → IsCommittedBy i ws p tx
-packet_true i ws x h p tx e t = let g = h p tx e t in record { commitment = g.commitment; there = g.there; position = g.position; message = g.message }
+packet_true : (i : ℕ) (ws : List Written) (moment : ℕ) (x : Packet) → IsPacketOf (commitments (written_of i ws)) moment x
+    → (p : UserPacket) (tx : TxHead) → x ≡ packet.User p → p.tx ≡ Some tx → IsCommittedBy i ws moment p tx
+packet_true i ws moment x h p tx e t = let g = h p tx e t in record { commitment = g.commitment; there = g.there; position = g.position; message = g.message; late = g.late }
 
 given_true : (i now : ℕ) (failure : Option Failure) (c : Course) → AreCounted (manager_at c.network i).state (written_of i c.written)
     → (x : Packet) → In x (given_out (outcome_of (manager_at c.network i) (Pump now)) failure) → (p : UserPacket) (tx : TxHead) → x ≡ packet.User p → p.tx ≡ Some tx
-    → IsCommittedBy i c.written p tx
-given_true i now None c counted x inside = packet_true i c.written x
-    (all_in (IsPacketOf (commitments (written_of i c.written))) (outcome_of (manager_at c.network i) (Pump now)).packets x
+    → IsCommittedBy i c.written now p tx
+given_true i now None c counted x inside = packet_true i c.written now x
+    (all_in (IsPacketOf (commitments (written_of i c.written)) now) (outcome_of (manager_at c.network i) (Pump now)).packets x
     (pump_carries (commitments (written_of i c.written)) (manager_at c.network i) now counted.rows) inside)
 given_true i now (Some how) c counted x inside = absurd inside
 
-calling_grows : (i : ℕ) (call : Call) (failure : Option Failure) (c : Course) → (k : ℕ) (p : UserPacket) (tx : TxHead) → IsCommittedBy k c.written p tx
-    → IsCommittedBy k (calling i call failure c).written p tx
-calling_grows i call None c k p tx h = grown k c.written (written_by i (manager_at c.network i) (outcome_of (manager_at c.network i) call).entry) p tx h
-calling_grows i call (Some how) c k p tx h = h
+calling_grows : (i : ℕ) (call : Call) (failure : Option Failure) (c : Course) → (k moment : ℕ) (p : UserPacket) (tx : TxHead) → IsCommittedBy k c.written moment p tx
+    → IsCommittedBy k (calling i call failure c).written moment p tx
+calling_grows i call None c k moment p tx h = grown k c.written (written_by i (manager_at c.network i) (outcome_of (manager_at c.network i) call).entry) moment p tx h
+calling_grows i call (Some how) c k moment p tx h = h
 
 calling_noted : (i : ℕ) (call : Call) (failure : Option Failure) (c : Course) → length c.network.notes ≡ length c.sent
     → length (calling i call failure c).network.notes ≡ length (calling i call failure c).sent
@@ -304,7 +306,7 @@ hearing_true : (k now : ℕ) (failure : Option Failure) (c : Course) (note : Opt
 hearing_true k now failure c None x e f h = h
 hearing_true k now failure c (Some note) None e f h = h
 hearing_true k now failure c (Some note) (Some x) e f h = calling_true note.receiver (Hear now x) failure c
-    (from_packet c.written note.sender x (outcome_of (manager_at c.network note.receiver) (Hear now x)).entry
+    (from_packet c.written note.sender note.moment x (outcome_of (manager_at c.network note.receiver) (Hear now x)).entry
     (from_only _ (manager_at c.network note.receiver).state (outcome_of (manager_at c.network note.receiver) (Hear now x)).entry
     (calls_are_modest (manager_at c.network note.receiver) (Hear now x)).entry)
     (λ p tx g t. h.carried k note p tx e (f ∙ ap (λ y. Some y) g) t)) h
@@ -317,7 +319,7 @@ same_doubts c n ws same h j = subst (λ x. IfSome (doubt_of x) (DecidesTruly ws)
 
 -- the sender of a packet of a number
 abbrev HasSender : List Note → ℕ → Note → Type 0
-HasSender notes k note = (old : Note) × (numbered notes k ≡ Some old) × (old.sender ≡ note.sender)
+HasSender notes k note = (old : Note) × (numbered notes k ≡ Some old) × (old.sender ≡ note.sender) × (old.moment ≡ note.moment)
 
 place_there : {X : Type 0} (xs : List X) (d : ℕ) (x : X) → numbered xs d ≡ Some x → slice_get xs (d - 1) ≡ Some x
 place_there xs zero x e = absurd (none_some e)
@@ -326,15 +328,15 @@ place_there xs (suc d) x e = ap (slice_get xs) (let f : suc d - 1 ≡ d = omega 
 set_sender : (notes : List Note) (d k : ℕ) (x note : Note) → slice_get notes (d - 1) ≡ Some x → numbered (slice_set notes (d - 1) (as_dropped x)) k ≡ Some note → HasSender notes k note
 set_sender notes d zero x note place e = absurd (none_some e)
 set_sender notes d (suc k) x note place e = set_get (λ o. o ≡ Some note → HasSender notes (suc k) note) notes (d - 1) k (as_dropped x)
-    (λ f. (note, numbered_suc notes k ∙ f, refl))
-    (λ same lt f. (x, numbered_suc notes k ∙ ap (slice_get notes) (sym same) ∙ place, ap (λ (y : Note). y.sender) (some_is (as_dropped x) note f)))
+    (λ f. (note, numbered_suc notes k ∙ f, refl, refl))
+    (λ same lt f. (x, numbered_suc notes k ∙ ap (slice_get notes) (sym same) ∙ place, ap (λ (y : Note). y.sender) (some_is (as_dropped x) note f), ap (λ (y : Note). y.moment) (some_is (as_dropped x) note f)))
     (sym (numbered_suc (slice_set notes (d - 1) (as_dropped x)) k) ∙ e)
 
 dropped_note : (notes : List Note) (d k : ℕ) (note : Note) → numbered (with_numbered notes d as_dropped) k ≡ Some note → HasSender notes k note
 dropped_note notes d k note e = at (numbered notes d) refl e
   where
     at : (o : Option Note) → numbered notes d ≡ o → numbered (option_map_or (λ x. slice_set notes (d - 1) (as_dropped x)) o notes) k ≡ Some note → HasSender notes k note
-    at None f e = (note, e, refl)
+    at None f e = (note, e, refl, refl)
     at (Some x) f e = set_sender notes d k x note (place_there notes d x f) e
 
 -- Every change.
@@ -351,7 +353,7 @@ change_true c (Calls i call failure) may noted_all counted h = calling_true i ca
     (from_only _ (manager_at c.network i).state (outcome_of (manager_at c.network i) call).entry (calls_are_modest (manager_at c.network i) call).entry))) h
 change_true c (Pumps i now failure) may noted_all counted h = posted_true i now (given_out (outcome_of (manager_at c.network i) (Pump now)) failure) (calling i (Pump now) failure c)
     (calling_noted i (Pump now) failure c noted_all)
-    (λ x inside p tx e t. calling_grows i (Pump now) failure c i p tx (given_true i now failure c (counted i) x inside p tx e t))
+    (λ x inside p tx e t. calling_grows i (Pump now) failure c i now p tx (given_true i now failure c (counted i) x inside p tx e t))
     (calling_true i (Pump now) failure c (from_none c.written (outcome_of (manager_at c.network i) (Pump now)).entry
     (from_only _ (manager_at c.network i).state (outcome_of (manager_at c.network i) (Pump now)).entry (calls_are_modest (manager_at c.network i) (Pump now)).entry)) h)
 change_true c (Hears k now failure) may noted_all counted h = hearing_true k now failure c (numbered c.network.notes k) (numbered c.sent k) refl refl h
@@ -370,7 +372,7 @@ change_true c (Ends i) may noted_all counted h = record {
 }
 change_true c (Drops d) may noted_all counted h = record {
   carried = λ k note p tx e f t. let old = dropped_note c.network.notes d k note e in
-      subst (λ s. IsCommittedBy s c.written p tx) old.2 (h.carried k old.0 p tx old.1 f t);
+      subst (λ s. IsCommittedBy s c.written note.moment p tx) old.2 (subst (λ moment. IsCommittedBy old.0.sender c.written moment p tx) old.3 (h.carried k old.0 p tx old.1 f t));
   written = h.written;
   doubts = h.doubts;
 }
@@ -379,7 +381,7 @@ change_true c (Restarts i) may noted_all counted h = record {
   doubts = with_condition c.network c.written i (restarted (manager_at c.network i) false) h.doubts tt;
 }
 change_true c (Finds i) may noted_all counted h = let m = manager_at c.network i in let more = written_by i m (doubt_of m.condition) in record {
-  carried = λ k note p tx e f t. grown note.sender c.written more p tx (h.carried k note p tx e f t);
+  carried = λ k note p tx e f t. grown note.sender c.written more note.moment p tx (h.carried k note p tx e f t);
   written = with_record c.written i m (doubt_of m.condition) (h.doubts i) h.written;
   doubts = with_condition c.network (c.written ++ more) i (restarted m true) (λ j. some_true_grown c.written more (doubt_of (manager_at c.network j).condition) (h.doubts j)) tt;
 }
@@ -426,9 +428,10 @@ always_decided_truly known ms apart run kept = from_source (settled kept (after_
     from_source : (c : Course) → IsCarrying known c → AreDecidedTruly c
     from_source c h before behind w now numbers p tx split e t =
         let g = (subst (DecidesTruly before) e (truly_at [] before behind w (subst (DecideTruly []) split h.1.written))) tx t in
-        let all = subst (λ ws. IsCommittedBy g.0 ws p tx) (sym split) (grown g.0 before (w ∷ behind) p tx g.1) in record {
+        let all = subst (λ ws. IsCommittedBy g.0 ws g.1 p tx) (sym split) (grown g.0 before (w ∷ behind) g.1 p tx g.2) in record {
       source = g.0;
       own = sym ((all_in (IsOwnBelow (manager_at c.network g.0).state.identity.guid (manager_at c.network g.0).state.next_number) (commitments (written_of g.0 c.written))
           all.commitment (h.0.1 g.0).own_ids all.there).0) ∙ ap (λ (m : Message). m.id.qm) (sym all.message);
-      committed = g.1;
+      moment = g.1;
+      committed = g.2;
     }

@@ -7,8 +7,13 @@ use Rattle.mqb_base.specs.declared.heads.SessionHead.{SessionHead}
 use Rattle.mqb_base.specs.declared.heads.TxHead.{TxHead}
 use Rattle.mqb_base.specs.declared.ids.Guid.{Guid}
 use Rattle.mqb_base.specs.declared.ids.Identity.{Identity}
-use Rattle.mqb_exactly_once.specs.ExactlyOnce.{SameButReach}
-use Rattle.mqb_exactly_once.specs.Words.{In, position_of}
+use Rattle.mqb_base.specs.Times.{is_due, remaining}
+use Rattle.mqb_base.specs.declared.times.TheConstants.{UNLIMITED}
+use Rattle.std.proofs.lemmas.Bool.Decides.{nat_tests}
+use Rattle.std.proofs.Common.{arith}
+use Rattle.std.specs.Prelude.{◌<◌, ◌≤◌, ◌-◌, min, nat_le}
+use Rattle.mqb_history.proofs.Lists.{other_numbers}
+use Rattle.mqb_exactly_once.specs.Words.{In, carried, due, position_of}
 use Rattle.mqb_exactly_once.specs.World.{Commitment}
 use Rattle.mqb_model.specs.calls.pump.Candidates.{Candidate, acks, candidates, of_row, plain_candidates, row_candidates, rows_owing, tx_of, unsent_from, unsent_of, waiting}
 use Rattle.mqb_model.specs.calls.pump.Choosing.{candidate_size, chosen, head_for, may_follow, session_after, with_heads}
@@ -45,14 +50,15 @@ abbrev IsCandidateOf : List Commitment → Candidate → Type 0
 IsCandidateOf cs c = (tx : TxHead) → c.tx ≡ Some tx → In (record { position = position_of tx; message = c.message }) cs
 
 -- and so does a packet
-pub record Carries (cs : List Commitment) (p : UserPacket) (tx : TxHead) : Type 0 where
+pub record Carries (cs : List Commitment) (moment : ℕ) (p : UserPacket) (tx : TxHead) : Type 0 where
   pub commitment : Commitment
   pub there : In commitment cs
   pub position : commitment.position ≡ position_of tx
-  pub message : SameButReach commitment.message p.message
+  pub message : p.message ≡ carried commitment.message moment
+  pub late : (p.remaining == 0) ≡ due commitment.message moment
 
-abbrev pub IsPacketOf : List Commitment → Packet → Type 0
-IsPacketOf cs x = (p : UserPacket) (tx : TxHead) → x ≡ packet.User p → p.tx ≡ Some tx → Carries cs p tx
+abbrev pub IsPacketOf : List Commitment → ℕ → Packet → Type 0
+IsPacketOf cs moment x = (p : UserPacket) (tx : TxHead) → x ≡ packet.User p → p.tx ≡ Some tx → Carries cs moment p tx
 
 -- Candidates.
 
@@ -109,67 +115,84 @@ chosen_of cs session count bytes (x ∷ xs) h = at (may_follow session count byt
     at true rest = (h.0, rest)
     at false rest = tt
 
+-- no time is left exactly where it is over
+no_time_left : (sent reach now : ℕ) → (remaining sent reach now == 0) ≡ is_due sent reach now
+no_time_left sent reach now = at (reach == UNLIMITED)
+  where
+    finite : (min ((sent + reach) - now) (UNLIMITED - 1) == 0) ≡ nat_le (sent + reach) now
+    finite = by (nat_le (sent + reach) now) refl
+      where
+        by : (b : Bool) → nat_le (sent + reach) now ≡ b → (min ((sent + reach) - now) (UNLIMITED - 1) == 0) ≡ b
+        by true e = let le : sent + reach ≤ now = grind (arith, nat_tests, e) in let z : min ((sent + reach) - now) (UNLIMITED - 1) ≡ 0 = omega arith in
+            ap (λ k. k == 0) z
+        by false e = let lt : now < sent + reach = grind (arith, nat_tests, e) in other_numbers (min ((sent + reach) - now) (UNLIMITED - 1)) 0 (λ z. omega (arith, lt, z))
+
+    at : (b : Bool) → (cond b UNLIMITED (min ((sent + reach) - now) (UNLIMITED - 1)) == 0) ≡ (not b && nat_le (sent + reach) now)
+    at true = refl
+    at false = finite
+
 user_is : (a b : UserPacket) → packet.User a ≡ packet.User b → a ≡ b
 user_is a b e = cc
 
-packet_of : (cs : List Commitment) (to : Guid) (now : ℕ) (c : Candidate) (head : SessionHead) → IsCandidateOf cs c → IsPacketOf cs (packet_for to now (c, head))
-packet_of cs to now c head h p tx e t = let same = user_is (carried_user c.message (carriage_for to now (c, head))) p e in subst (λ x. Carries cs x tx) same (record {
+packet_of : (cs : List Commitment) (to : Guid) (now : ℕ) (c : Candidate) (head : SessionHead) → IsCandidateOf cs c → IsPacketOf cs now (packet_for to now (c, head))
+packet_of cs to now c head h p tx e t = let same = user_is (carried_user c.message (carriage_for to now (c, head))) p e in subst (λ x. Carries cs now x tx) same (record {
   commitment = record { position = position_of tx; message = c.message };
   there = h tx (ap (λ (x : UserPacket). x.tx) same ∙ t);
   position = refl;
   message = refl;
+  late = no_time_left c.message.sent c.message.reach now;
 })
 
 packets_of : (cs : List Commitment) (to : Guid) (now : ℕ) (session : one_end.State) (xs : List Candidate) → AllByRecursion (IsCandidateOf cs) xs
-    → AllByRecursion (IsPacketOf cs) (map (packet_for to now) (with_heads session xs))
+    → AllByRecursion (IsPacketOf cs now) (map (packet_for to now) (with_heads session xs))
 packets_of cs to now session [] h = tt
 packets_of cs to now session (x ∷ xs) h = (packet_of cs to now x (head_for session x) h.0, packets_of cs to now (session_after session x) xs h.1)
 
 -- Pumps.
 
-abbrev AreOf : List Commitment → PumpOutcome → Type 0
-AreOf cs outcome = AllByRecursion (IsPacketOf cs) outcome.packets
+abbrev AreOf : List Commitment → ℕ → PumpOutcome → Type 0
+AreOf cs now outcome = AllByRecursion (IsPacketOf cs now) outcome.packets
 
-of_or : {X : Type 0} (cs : List Commitment) (f : X → PumpOutcome) (o : Option X) (other : PumpOutcome) → ((x : X) → AreOf cs (f x)) → AreOf cs other → AreOf cs (option_map_or f o other)
-of_or cs f None other some none = none
-of_or cs f (Some x) other some none = some x
+of_or : {X : Type 0} (cs : List Commitment) (now : ℕ) (f : X → PumpOutcome) (o : Option X) (other : PumpOutcome) → ((x : X) → AreOf cs now (f x)) → AreOf cs now other → AreOf cs now (option_map_or f o other)
+of_or cs now f None other some none = none
+of_or cs now f (Some x) other some none = some x
 
-of_either : (cs : List Commitment) (b : Bool) (x y : PumpOutcome) → AreOf cs x → AreOf cs y → AreOf cs (cond b x y)
-of_either cs true x y left right = left
-of_either cs false x y left right = right
+of_either : (cs : List Commitment) (now : ℕ) (b : Bool) (x y : PumpOutcome) → AreOf cs now x → AreOf cs now y → AreOf cs now (cond b x y)
+of_either cs now true x y left right = left
+of_either cs now false x y left right = right
 
-no_user : (cs : List Commitment) (x : Packet) → ((p : UserPacket) → x ≡ packet.User p → ⊥) → IsPacketOf cs x
+no_user : (cs : List Commitment) {now : ℕ} (x : Packet) → ((p : UserPacket) → x ≡ packet.User p → ⊥) → IsPacketOf cs now x
 no_user cs x none p tx e t = absurd (none p e)
 
-set_up_of : (cs : List Commitment) (owed : Internal) → IsPacketOf cs (set_up_packet owed)
+set_up_of : (cs : List Commitment) {now : ℕ} (owed : Internal) → IsPacketOf cs now (set_up_packet owed)
 set_up_of cs (internal.Establish e) = no_user cs (packet.Establish e) (λ p f. let none : ⊥ = cc in none)
 set_up_of cs (internal.Parameters p) = no_user cs (packet.Parameters p) (λ q f. let none : ⊥ = cc in none)
 set_up_of cs (internal.Ack h) = no_user cs (packet.Ack h) (λ p f. let none : ⊥ = cc in none)
 
 chosen_go : (cs : List Commitment) (m : Manager) (now : ℕ) (session : one_end.State) (k : ℕ) (to : Guid) (xs : List Candidate) → AllByRecursion (IsCandidateOf cs) xs
-    → AreOf cs (sending_chosen m now session k to xs)
-chosen_go cs m now session k to [] h = of_either cs session.owes (sending_one m (packet.Ack (stamped kind.Ack session).0) (stamped kind.Ack session).1) (answering m (Ok 0))
+    → AreOf cs now (sending_chosen m now session k to xs)
+chosen_go cs m now session k to [] h = of_either cs now session.owes (sending_one m (packet.Ack (stamped kind.Ack session).0) (stamped kind.Ack session).1) (answering m (Ok 0))
     (no_user cs (packet.Ack (stamped kind.Ack session).0) (λ p f. let none : ⊥ = cc in none), tt) tt
 chosen_go cs m now session k to (x ∷ xs) h = packets_of cs to now session (x ∷ xs) h
 
 pump_of : (cs : List Commitment) (m : Manager) (now : ℕ) (session : one_end.State) (k : ℕ) (to : Guid) (xs : List Candidate) → AllByRecursion (IsCandidateOf cs) xs
-    → AreOf cs (pump_with m now session k to xs)
-pump_of cs m now session k to xs h = of_either cs (is_spent session && not (length xs == 0)) (answering m (Err fault.Spent)) (sending_chosen m now session k to (chosen session 0 0 xs)) tt
+    → AreOf cs now (pump_with m now session k to xs)
+pump_of cs m now session k to xs h = of_either cs now (is_spent session && not (length xs == 0)) (answering m (Err fault.Spent)) (sending_chosen m now session k to (chosen session 0 0 xs)) tt
     (chosen_go cs m now session k to (chosen session 0 0 xs) (chosen_of cs session 0 0 xs h))
 
 owed_go : (cs : List Commitment) (m : Manager) (now : ℕ) (session : one_end.State) (owed : Option Internal) → AllByRecursion (IsCounted cs) m.state.outs
-    → AreOf cs (pump_owed m now session owed)
+    → AreOf cs now (pump_owed m now session owed)
 owed_go cs m now session (Some owed) h = (set_up_of cs owed, tt)
 owed_go cs m now session None h = let k = linked_peer m.state session in
-    of_either cs (is_ready session.phase) (pump_at m now session k) (answering m (Ok 0))
-    (of_or cs (λ peer. option_map_or (pump_to m now session k peer) (slice_get m.state.plain k) (answering m (Ok 0))) (slice_get m.state.peers k) (answering m (Ok 0))
-    (λ peer. of_or cs (pump_to m now session k peer) (slice_get m.state.plain k) (answering m (Ok 0))
+    of_either cs now (is_ready session.phase) (pump_at m now session k) (answering m (Ok 0))
+    (of_or cs now (λ peer. option_map_or (pump_to m now session k peer) (slice_get m.state.plain k) (answering m (Ok 0))) (slice_get m.state.peers k) (answering m (Ok 0))
+    (λ peer. of_or cs now (pump_to m now session k peer) (slice_get m.state.plain k) (answering m (Ok 0))
     (λ p. pump_of cs m now session k peer.guid (candidates m.state m.rest now k peer p) (candidates_of cs m.state m.rest now k peer p h)) tt) tt) tt
 
 pub pump_carries : (cs : List Commitment) (m : Manager) (now : ℕ) → AllByRecursion (IsCounted cs) m.state.outs
-    → AllByRecursion (IsPacketOf cs) (outcome_of m (Pump now)).packets
+    → AllByRecursion (IsPacketOf cs now) (outcome_of m (Pump now)).packets
 pump_carries cs m now h = at (pump_refusal m)
   where
-    at : (o : Option PumpFault) → AreOf cs (unless m o (option_map_or (pump_linked m now) m.rest.session (answering m (Err fault.NotLinked))))
+    at : (o : Option PumpFault) → AreOf cs now (unless m o (option_map_or (pump_linked m now) m.rest.session (answering m (Err fault.NotLinked))))
     at (Some why) = tt
-    at None = of_or cs (pump_linked m now) m.rest.session (answering m (Err fault.NotLinked)) (λ session. owed_go cs m now session (owed_by session.phase now session) h) tt
+    at None = of_or cs now (pump_linked m now) m.rest.session (answering m (Err fault.NotLinked)) (λ session. owed_go cs m now session (owed_by session.phase now session) h) tt
