@@ -377,7 +377,8 @@ change_true c (Drops d) may noted_all counted h = record {
   doubts = h.doubts;
 }
 change_true c (Restarts i) may noted_all counted h = record {
-  carried = h.carried; written = h.written;
+  carried = h.carried;
+  written = h.written;
   doubts = with_condition c.network c.written i (restarted (manager_at c.network i) false) h.doubts tt;
 }
 change_true c (Finds i) may noted_all counted h = let m = manager_at c.network i in let more = written_by i m (doubt_of m.condition) in record {
@@ -386,7 +387,8 @@ change_true c (Finds i) may noted_all counted h = let m = manager_at c.network i
   doubts = with_condition c.network (c.written ++ more) i (restarted m true) (λ j. some_true_grown c.written more (doubt_of (manager_at c.network j).condition) (h.doubts j)) tt;
 }
 change_true c (Fails i) may noted_all counted h = record {
-  carried = h.carried; written = h.written;
+  carried = h.carried;
+  written = h.written;
   doubts = with_condition c.network c.written i (unread (manager_at c.network i)) h.doubts (h.doubts i);
 }
 
@@ -399,16 +401,21 @@ IsCarrying known c = IsOrderlyWith known AreCounted c × IsTruthful c
 carrying_closed : (known : List Identity) → AreApart known → IsClosed known (IsCarrying known)
 carrying_closed known apart = record {
   orderly = λ c h. h.0.0;
-  keeps = λ c x may h. ((change_orderly known c x apart may h.0.0, change_keeps known AreCounted counted_by_records c x may h.0.0 h.0.1),
-      change_true c x may h.0.0.noted h.0.1 h.1);
+  keeps = λ c x may h. (
+    (change_orderly known c x apart may h.0.0, change_keeps known AreCounted counted_by_records c x may h.0.0 h.0.1),
+    change_true c x may h.0.0.noted h.0.1 h.1,
+  );
 }
 
 carrying_begins : (known : List Identity) → IsCarrying known (beginning known)
-carrying_begins known = (begins_with known AreCounted counted_by_records, record {
-  carried = λ k note p tx e f t. absurd (nothing_numbered k note e);
-  written = tt;
-  doubts = λ j. subst (λ o. IfSome (doubt_of (unwrap_or o nobody).condition) (DecidesTruly [])) (sym (map_get (λ own. formatted own (others known own)) known j)) (at (slice_get known j));
-})
+carrying_begins known = (
+  begins_with known AreCounted counted_by_records,
+  record {
+    carried = λ k note p tx e f t. absurd (nothing_numbered k note e);
+    written = tt;
+    doubts = λ j. subst (λ o. IfSome (doubt_of (unwrap_or o nobody).condition) (DecidesTruly [])) (sym (map_get (λ own. formatted own (others known own)) known j)) (at (slice_get known j));
+  },
+)
   where
     nothing_numbered : (k : ℕ) (note : Note) → numbered [] k ≡ Some note → ⊥
     nothing_numbered zero note e = none_some e
@@ -429,9 +436,9 @@ always_decided_truly known ms apart run kept = from_source (settled kept (after_
     from_source c h before behind w now numbers p tx split e t =
         let g = (subst (DecidesTruly before) e (truly_at [] before behind w (subst (DecideTruly []) split h.1.written))) tx t in
         let all = subst (λ ws. IsCommittedBy g.0 ws g.1 p tx) (sym split) (grown g.0 before (w ∷ behind) g.1 p tx g.2) in record {
-      source = g.0;
-      own = sym ((all_in (IsOwnBelow (manager_at c.network g.0).state.identity.guid (manager_at c.network g.0).state.next_number) (commitments (written_of g.0 c.written))
-          all.commitment (h.0.1 g.0).own_ids all.there).0) ∙ ap (λ (m : Message). m.id.qm) (sym all.message);
-      moment = g.1;
-      committed = g.2;
-    }
+          source = g.0;
+          own = sym ((all_in (IsOwnBelow (manager_at c.network g.0).state.identity.guid (manager_at c.network g.0).state.next_number) (commitments (written_of g.0 c.written))
+              all.commitment (h.0.1 g.0).own_ids all.there).0) ∙ ap (λ (m : Message). m.id.qm) (sym all.message);
+          moment = g.1;
+          committed = g.2;
+        }

@@ -167,8 +167,11 @@ rows_join cs (a ∷ olds) row m (inl e) rise h = at (has_ordinal row.sequence.or
         both : (news : List Row) → AllByRecursion (λ b. a.sequence.ordinal < b.sequence.ordinal) news → AllByRecursion (IsCounted cs) news
             → AllByRecursion (IsCounted (cs ++ commitment_to row m ∷ [])) news
         both [] r g = tt
-        both (b ∷ news) r g = (counted_apart cs (commitment_to row m) b
-            (λ same. let less = r.0 in let f = ap (λ (x : Row). x.sequence.ordinal) e in omega (arith, less, f, same)) g.0, both news r.1 g.1)
+        both (b ∷ news) r g = (
+          counted_apart cs (commitment_to row m) b
+              (λ same. let less = r.0 in let f = ap (λ (x : Row). x.sequence.ordinal) e in omega (arith, less, f, same)) g.0,
+          both news r.1 g.1,
+        )
 
     at : (b : Bool) → b ≡ true → AllByRecursion (IsCounted (cs ++ commitment_to row m ∷ [])) (cond b (with_kept m a ∷ olds) (a ∷ first_changed (with_kept m) (has_ordinal row.sequence.ordinal) olds))
     at true f = (subst (λ x. IsCounted (cs ++ commitment_to x m ∷ []) (with_kept m a)) e (counted_own cs a m h.0), behind)

@@ -112,14 +112,14 @@ joins_row : (own : Guid) (rows : List Row) (next low : ℕ) (cs : List Commitmen
     → Commits own rows next low cs → Commits own (with_first_changed (with_kept m) (has_ordinal row.sequence.ordinal) rows) next (low + 1) (cs ++ commitment_to row m ∷ [])
 joins_row own rows next low cs row m inside id h = subst (λ x. Commits own x next (low + 1) (cs ++ commitment_to row m ∷ []))
     (sym (is_first_changed (with_kept m) (has_ordinal row.sequence.ordinal) rows)) (record {
-  rise = rise_kept m (has_ordinal row.sequence.ordinal) rows h.rise;
-  below = changed_all (λ b. b.sequence.ordinal < next) (with_kept m) (has_ordinal row.sequence.ordinal) rows (λ b less. less) h.below;
-  rows = rows_join cs rows row m inside h.rise h.rows;
-  given = all_append (λ c. c.position.sequence.ordinal < next) cs (commitment_to row m ∷ []) h.given (all_in (λ b. b.sequence.ordinal < next) rows row h.below inside, tt);
-  numbered = numbered_more cs row m h.numbered (all_in (IsCounted cs) rows row h.rows inside).count;
-  own_ids = ids_more own low cs (commitment_to row m) h.own_ids id;
-  differ = differ_more own low cs (commitment_to row m) h.own_ids (ap (λ i. i.number) id) h.differ;
-})
+      rise = rise_kept m (has_ordinal row.sequence.ordinal) rows h.rise;
+      below = changed_all (λ b. b.sequence.ordinal < next) (with_kept m) (has_ordinal row.sequence.ordinal) rows (λ b less. less) h.below;
+      rows = rows_join cs rows row m inside h.rise h.rows;
+      given = all_append (λ c. c.position.sequence.ordinal < next) cs (commitment_to row m ∷ []) h.given (all_in (λ b. b.sequence.ordinal < next) rows row h.below inside, tt);
+      numbered = numbered_more cs row m h.numbered (all_in (IsCounted cs) rows row h.rows inside).count;
+      own_ids = ids_more own low cs (commitment_to row m) h.own_ids id;
+      differ = differ_more own low cs (commitment_to row m) h.own_ids (ap (λ i. i.number) id) h.differ;
+    })
 
 -- of a sequence that is not given yet there is no commitment
 none_given : (cs : List Commitment) (next : ℕ) (q : SequenceId) → next ≤ q.ordinal → AllByRecursion (λ c. c.position.sequence.ordinal < next) cs → numbers_in q cs ≡ []
@@ -210,7 +210,11 @@ joins s peer now low m cs id h = at (sequence_in_use s peer m.destination) refl
 
 weaker : (own : Guid) (rows : List Row) (next low high : ℕ) (cs : List Commitment) → low ≤ high → Commits own rows next low cs → Commits own rows next high cs
 weaker own rows next low high cs le h = record {
-  rise = h.rise; below = h.below; rows = h.rows; given = h.given; numbered = h.numbered;
+  rise = h.rise;
+  below = h.below;
+  rows = h.rows;
+  given = h.given;
+  numbered = h.numbered;
   own_ids = all_weaker (IsOwnBelow own low) (IsOwnBelow own high) (λ x g. (g.0, let less = g.1 in omega (arith, less, le))) cs h.own_ids;
   differ = h.differ;
 }
@@ -307,7 +311,10 @@ no_more_commits own olds news next low cs less h = record {
   rise = rise_no_more olds news less h.rise;
   below = rows_no_more (λ x. x.sequence.ordinal < next) (λ x y same lt. let e = ap (λ (q : SequenceId). q.ordinal) same.sequence in omega (arith, lt, e)) olds news less h.below;
   rows = rows_no_more (IsCounted cs) (counted_no_more cs) olds news less h.rows;
-  given = h.given; numbered = h.numbered; own_ids = h.own_ids; differ = h.differ;
+  given = h.given;
+  numbered = h.numbered;
+  own_ids = h.own_ids;
+  differ = h.differ;
 }
 
 abbrev pub AreCounted : State → List Written → Type 0

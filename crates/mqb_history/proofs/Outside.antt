@@ -158,7 +158,10 @@ expired_no_more now a = record { peer = refl; destination = refl; sequence = ref
 
 finished_no_more : (id : MessageId) (number : ℕ) (a : Row) → HasNoMore a (finished_row id number a)
 finished_no_more id number a = record {
-  peer = refl; destination = refl; sequence = refl; committed = refl;
+  peer = refl;
+  destination = refl;
+  sequence = refl;
+  committed = refl;
   kept = λ k h. without_in (is_offered_as id a) a.kept k (filtered_in (λ (x : Kept). nat_lt (max a.acked number) x.number || keeps_dead x.message) (without_first (is_offered_as id a) a.kept) k h);
 }
 

@@ -16,9 +16,11 @@ released_reason e [] p = refl
 released_reason e (n ∷ ns) p = released_reason (message_released e n) ns p
 
 pub decisions_have_reasons : DecisionsHaveReasons
-decisions_have_reasons s now numbers p tx there = (e.lines,
-    ap (λ o. (option_map_or (λ tx. joined e (message_decided now e.state p tx)) o e).lines) there
-    ∙ ap (λ (o : Option Class). e.lines ++ decided_line p.message tx o ∷ []) (released_reason (begun s) numbers p))
+decisions_have_reasons s now numbers p tx there = (
+  e.lines,
+  ap (λ o. (option_map_or (λ tx. joined e (message_decided now e.state p tx)) o e).lines) there
+      ∙ ap (λ (o : Option Class). e.lines ++ decided_line p.message tx o ∷ []) (released_reason (begun s) numbers p),
+)
   where
     e : Effect
     e = releases_made s numbers

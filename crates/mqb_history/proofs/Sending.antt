@@ -77,8 +77,10 @@ unsent_of_all cs origin (o ∷ os) = at (is_none o.mark) (unsent_of_all cs origi
 
 kept_of : (cs : List Commitment) (index : ℕ) (row : Row) (ks : List Kept) → ((k : Kept) → In k ks → In (kept_at row k) cs) → AllByRecursion (IsCandidateOf cs) (map (of_row index row) ks)
 kept_of cs index row [] h = tt
-kept_of cs index row (k ∷ ks) h = (λ tx e. subst (λ t. In (record { position = position_of t; message = k.message }) cs) (some_is (tx_of row k) tx e) (h k (inl refl)),
-    kept_of cs index row ks (λ x i. h x (inr i)))
+kept_of cs index row (k ∷ ks) h = (
+  λ tx e. subst (λ t. In (record { position = position_of t; message = k.message }) cs) (some_is (tx_of row k) tx e) (h k (inl refl)),
+  kept_of cs index row ks (λ x i. h x (inr i)),
+)
 
 waiting_of : (cs : List Commitment) (s : State) (peer index : ℕ) (row : Row) (cursor : ℕ) → IsCounted cs row → AllByRecursion (IsCandidateOf cs) (waiting s peer (index, (row, cursor)))
 waiting_of cs s peer index row cursor h = at (row.peer == peer && is_open s.outs index)

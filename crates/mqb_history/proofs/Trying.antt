@@ -49,8 +49,11 @@ sends_append (entry.Take queue id ∷ xs) ys = sends_append xs ys
 numbered_append : (own : Guid) (n : ℕ) (ms : List Message) (m : Message) → AreNumbered own n ms → m.id ≡ record { qm = own; number = n + length ms }
     → AreNumbered own n (ms ++ m ∷ [])
 numbered_append own n [] m h e = (e ∙ ap (λ k. record { qm = own; number = k }) (let z : n + 0 ≡ n = omega arith in z), tt)
-numbered_append own n (x ∷ ms) m h e = (h.0, numbered_append own (n + 1) ms m h.1
-    (e ∙ ap (λ k. record { qm = own; number = k }) (let z : n + length (x ∷ ms) ≡ n + 1 + length ms = omega arith in z)))
+numbered_append own n (x ∷ ms) m h e = (
+  h.0,
+  numbered_append own (n + 1) ms m h.1
+      (e ∙ ap (λ k. record { qm = own; number = k }) (let z : n + length (x ∷ ms) ≡ n + 1 + length ms = omega arith in z)),
+)
 
 length_more : {X : Type 0} (xs : List X) (x : X) → length (xs ++ x ∷ []) ≡ length xs + 1
 length_more [] x = refl
