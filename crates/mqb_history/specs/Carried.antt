@@ -24,8 +24,8 @@ pub record IsCommittedBy (i : ℕ) (written : List Written) (moment : ℕ) (p : 
 
 -- What a packet of a stream carries was committed by its sender.
 abbrev pub AreCarriedTruly : Course → Type 0
-AreCarriedTruly c = (k : ℕ) (note : Note) (p : UserPacket) (tx : TxHead) → numbered c.network.notes k ≡ Some note → numbered c.sent k ≡ Some (packet.User p)
-    → p.tx ≡ Some tx → IsCommittedBy note.sender c.written note.moment p tx
+AreCarriedTruly c = (k : ℕ) (note : Note) (p : UserPacket) (tx : TxHead) → numbered c.network.notes k ≡ Some note
+    → numbered c.sent k ≡ Some (packet.User p) → p.tx ≡ Some tx → IsCommittedBy note.sender c.written note.moment p tx
 
 -- a message was committed, by these records, by the manager whose identifier it bears
 pub record ComesFromItsSource (c : Course) (before : List Written) (p : UserPacket) (tx : TxHead) : Type 0 where

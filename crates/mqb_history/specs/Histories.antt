@@ -18,7 +18,3 @@ IsHistory known (x ∷ xs) = IsTrue (may_change (course_of known xs) x) × IsHis
 -- a course has a history
 abbrev pub HasHistory : List Identity → Course → Type 0
 HasHistory known c = (xs : List Change) × IsHistory known xs × (course_of known xs ≡ c)
-
--- P is kept by each change that may happen.
-abbrev pub IsKept : (Course → Type 0) → Type 0
-IsKept P = (c : Course) (x : Change) → IsTrue (may_change c x) → P c → P (changed x c)

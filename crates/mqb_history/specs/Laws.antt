@@ -32,7 +32,8 @@ use Rattle.mqb_packet.specs.declared.packet.UserPacket.{UserPacket}
 
 -- Every course with a history is orderly.
 abbrev pub HistoriesAreOrderly : Type 0
-HistoriesAreOrderly = (known : List Identity) (xs : List Change) → AreApart known → IsHistory known xs → IsOrderly known (course_of known xs)
+HistoriesAreOrderly = (known : List Identity) (xs : List Change) → AreApart known → IsHistory known xs
+    → IsOrderly known (course_of known xs)
 
 -- Each point of each run has a history, and so has the course with each record in doubt applied or left out.
 abbrev pub RunsHaveHistories : Type 0
@@ -74,4 +75,5 @@ FailuresAreSettled = (c : Course) (i : ℕ) → i < length c.network.managers �
 -- A decision's line is the last of its record: it puts the message, or refuses it for the reason that there is in the state in which it was heard.
 abbrev pub DecisionsHaveReasons : Type 0
 DecisionsHaveReasons = (s : State) (now : ℕ) (numbers : List ℕ) (p : UserPacket) (tx : TxHead) → p.tx ≡ Some tx
-    → (released : List Line) × (lines_of s (entry.Arrived now numbers (entry.Decided p)) ≡ released ++ decided_line p.message tx (refusal_of s p) ∷ [])
+    → (released : List Line)
+    × (lines_of s (entry.Arrived now numbers (entry.Decided p)) ≡ released ++ decided_line p.message tx (refusal_of s p) ∷ [])
