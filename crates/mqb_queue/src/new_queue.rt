@@ -55,6 +55,12 @@ impl NewQueue {
         self.queue
     }
 
+    pub fn plan(&self) -> &QueuePlan
+        ensures { result.now ≡ self.now.plan }
+    {
+        &self.queue.plan
+    }
+
     pub fn into_plan(self) -> QueuePlan
         ensures { result ≡ self.plan }
     {

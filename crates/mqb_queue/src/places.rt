@@ -22,8 +22,9 @@ impl Queues {
 
     /// The messages of a lane of a place, the oldest first.
     pub fn messages_at(&self, at: EntryPlace, lane: Lane) -> Option<&[Message]>
-        ensures { option_copied result ≡ option_map (messages_in lane) (lists_at self.now.lists
-            at) }
+        ensures messages { option_copied result ≡ option_map (messages_in lane)
+            (lists_at self.now.lists at) }
+        ensures within { IfSome (option_copied result) (λ m. length m ≤ MAX_MEMBERS) }
     {
         Some(self.lists(at)?.messages(lane))
     }

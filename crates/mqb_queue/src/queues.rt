@@ -56,6 +56,7 @@ impl Queues {
     pub fn count(&self) -> u32
         ensures count { result ≡ length self.now.lists.queues }
         ensures distinct { NamesDiffer self.now.lists.queues }
+        ensures rooms { length self.now.rooms.queues ≡ length self.now.lists.queues }
     {
         self.queues.len() as u32
     }

@@ -1,0 +1,10 @@
+pub mod Members
+pub mod Places
+pub mod Laws
+pub mod Grown
+pub mod Ready
+pub mod Lens
+pub mod Lasts
+pub mod Waiting
+pub mod Named
+pub mod Reserved

@@ -1,0 +1,22 @@
+use Rattle.std.proofs.Common.{sym, subst}
+use Rattle.mqb_contents.specs.Rows.{KeepsCommitted, with_marks}
+use Rattle.mqb_contents.specs.declared.marks.RowMarks.{RowMarks}
+use Rattle.mqb_contents.specs.Seen.{room_of}
+use Rattle.mqb_orders.specs.Rows.{Row, row_of}
+use Rattle.mqb_orders.specs.declared.kept.Kept.{Kept}
+use Rattle.mqb_orders.specs.declared.rows.OutRow.{OutRow}
+use Rattle.mqb_contents.proofs.Lens.{changed, fact_now}
+use Rattle.mqb_contents.proofs.Members.{all_at}
+use Rattle.mqb_contents.proofs.out_rows.OutRows.mark.Goals as goal
+
+pub returns-clause-rows : goal.returns-clause-rows
+returns-clause-rows c =
+    changed row_of room_of c.self.inside.rows c.args.self.now c.self.view_is c.args.row c.get_mut.result.now c.get_mut.ensures.value c.mark.new.row (with_marks c.args.marks) c.mark.ensures.row c.mark.ensures.room
+
+pub returns-clause-back : goal.returns-clause-back
+returns-clause-back c =
+    let x : OutRow = c.get_mut.result.now in
+    let kept : KeepsCommitted (row_of x) = all_at (λ r. KeepsCommitted (row_of r)) c.self.inside.rows.items c.args.row x c.get_mut.ensures.value c.self.invariant.1 in
+    fact_now row_of room_of c.self.inside.rows c.args.self.now c.self.view_is c.args.row c.get_mut.result.now c.get_mut.ensures.value c.mark.new.row (λ r. KeepsCommitted (with_marks c.mark.result r))
+    (subst (λ (r : Row). KeepsCommitted (with_marks c.mark.result r)) (sym c.mark.ensures.row)
+    (subst (λ (m : RowMarks). KeepsCommitted (with_marks m (with_marks c.args.marks (row_of x)))) (sym c.mark.ensures.before) kept))

@@ -1,0 +1,5 @@
+pub mod Ends
+pub mod Rooms
+pub mod Rows
+pub mod Seen
+pub mod Changes

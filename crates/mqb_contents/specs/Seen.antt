@@ -1,0 +1,72 @@
+-- What contracts see of what a manager keeps.
+use Rattle.std.specs.Prelude.{◌≡◌, ◌≤◌, List, length, map, ℕ}
+use Rattle.mqb_base.specs.Rooms.{Room, WithRooms}
+use Rattle.mqb_base.specs.declared.ids.Identity.{Identity}
+use Rattle.mqb_base.specs.declared.roomed.TheConstants.{MAX_MEMBERS}
+use Rattle.mqb_orders.specs.Rows.{Row}
+use Rattle.mqb_orders.specs.declared.rows.InRow.{InRow}
+use Rattle.mqb_orders.specs.declared.rows.OutRow.{OutRow}
+use Rattle.mqb_plain.specs.Plain.{PlainLists, PlainRooms}
+use Rattle.mqb_queue.specs.Places.{PlaceRooms, Places}
+use Rattle.mqb_model.specs.declared.limits.TheConstants.{MAX_PEERS, MAX_QUEUES}
+use Rattle.mqb_model.specs.state.State.{State}
+use Rattle.mqb_contents.specs.Rooms.{MemberRooms, StateRooms}
+use Rattle.mqb_contents.specs.declared.counters.Counters.{Counters}
+
+-- members and their rooms, each as it is seen
+abbrev pub seen_members : {X Y R : Type 0} → (X → Y) → (X → R) → Room X → WithRooms (List Y) (MemberRooms R)
+seen_members see room members = record {
+  lists = map see members.items;
+  rooms = record { each = map room members.items; more = members.room };
+}
+
+-- the plain messages for a peer, and their rooms
+abbrev pub lists_of : WithRooms PlainLists PlainRooms → PlainLists
+lists_of p = p.lists
+
+abbrev pub rooms_of : WithRooms PlainLists PlainRooms → PlainRooms
+rooms_of p = p.rooms
+
+-- how many messages an outgoing row can keep
+abbrev pub room_of : OutRow → ℕ
+room_of r = r.kept.room
+
+abbrev pub counters_of : State → Counters
+counters_of s = record {
+  next_number = s.next_number;
+  next_ordinal = s.next_ordinal;
+  roll = s.roll;
+  next_express = s.next_express;
+}
+
+-- all lists, and their rooms
+abbrev pub seen : Identity → Room Identity → WithRooms (List PlainLists) (MemberRooms PlainRooms) → WithRooms Places PlaceRooms → WithRooms (List Row) (MemberRooms ℕ)
+    → Room InRow → Counters → WithRooms State StateRooms
+seen identity peers plain queues outs ins counters = record {
+  lists = record {
+    identity = identity;
+    peers = peers.items;
+    plain = plain.lists;
+    places = queues.lists;
+    outs = outs.lists;
+    ins = ins.items;
+    next_number = counters.next_number;
+    next_ordinal = counters.next_ordinal;
+    roll = counters.roll;
+    next_express = counters.next_express;
+  };
+  rooms = record {
+    places = queues.rooms;
+    peers = peers.room;
+    plain = plain.rooms;
+    outs = outs.rooms;
+    ins = ins.room;
+  };
+}
+
+-- Peers, queues and rows are within their limits, and each peer has its plain messages.
+pub record IsInLimits (peers : List Identity) (plain : List PlainLists) (places : Places) (ins : Room InRow) : Type 0 where
+  pub few_peers : length peers ≤ MAX_PEERS
+  pub few_queues : length places.queues ≤ MAX_QUEUES
+  pub plain_lists : length plain ≡ length peers
+  pub in_room : ins.room ≤ MAX_MEMBERS

@@ -1,0 +1,110 @@
+ghost use Rattle.std.specs.Prelude.{◌≡◌, ◌<◌, IfSome, None, filter, length, map, option_and_then, position, slice_get};
+ghost use Rattle.std.specs.List.{last_or};
+ghost use Rattle.mqb_base.specs.Same.{same_guid};
+ghost use Rattle.mqb_contents.specs.Rows.{plain_count};
+ghost use Rattle.mqb_model.specs.rules.Purges.{count_at};
+ghost use Rattle.mqb_model.specs.state.Resolving.{peer_known};
+ghost use Rattle.mqb_model.specs.state.Rows.{has_ordinal, is_row_of, last_sequence};
+ghost use Rattle.mqb_orders.specs.Rows.{leads_to, row_of};
+
+use crate::contents::Contents;
+use mqb_base::{EntryPlace, Guid, Identity, Lane, QueueName};
+use mqb_orders::{InRow, OutRow};
+
+fn index_of_ordinal(rows: &[OutRow], ordinal: u32) -> Option<usize>
+    ensures index { result ≡ position (λ r. has_ordinal ordinal (row_of r)) rows.now }
+    ensures within { IfSome result (λ k. k < length rows.now) }
+{
+    rows.iter().position(|row| row.sequence.ordinal == ordinal)
+}
+
+fn leads_to(row: &OutRow, peer: u32, destination: &QueueName) -> bool
+    ensures { result ≡ leads_to peer destination.now (row_of row.now) }
+{
+    row.peer == peer && row.destination == *destination
+}
+
+fn index_of_last(rows: &[OutRow], peer: u32, destination: &QueueName) -> Option<usize>
+    ensures row { option_and_then (slice_get (map row_of rows.now)) result ≡
+        last_or None (filter (leads_to peer destination.now) (map row_of rows.now)) }
+    ensures within { IfSome result (λ k. k < length rows.now) }
+{
+    let mut last = None;
+    for (k, row) in rows.iter().enumerate() {
+        if leads_to(row, peer, destination) {
+            last = Some(k);
+        }
+    }
+    last
+}
+
+fn index_of_source(rows: &[InRow], source: Guid, destination: &QueueName) -> Option<usize>
+    ensures index { result ≡ position (is_row_of source destination.now) rows.now }
+    ensures within { IfSome result (λ k. k < length rows.now) }
+{
+    rows.iter().position(|row| row.source == source && row.destination == *destination)
+}
+
+fn index_of_guid(peers: &[Identity], guid: Guid) -> Option<usize>
+    ensures index { result ≡ position (λ p. same_guid p.guid guid) peers.now }
+    ensures within { IfSome result (λ k. k < length peers.now) }
+{
+    peers.iter().position(|peer| peer.guid == guid)
+}
+
+impl Contents {
+    /// The index of the outgoing row that has an ordinal.
+    pub fn row_of_ordinal(&self, ordinal: u32) -> Option<u32>
+        ensures index { result ≡ position (has_ordinal ordinal) self.now.lists.outs }
+        ensures within { IfSome result (λ k. k < length self.now.lists.outs) }
+    {
+        let k = index_of_ordinal(self.outs(), ordinal)?;
+        Some(k as u32)
+    }
+
+    /// The index of the last outgoing row that leads to a destination at a peer.
+    pub fn last_sequence(&self, peer: u32, destination: &QueueName) -> Option<u32>
+        ensures row { option_and_then (slice_get self.now.lists.outs) result ≡
+            last_sequence self.now.lists peer destination.now }
+        ensures within { IfSome result (λ k. k < length self.now.lists.outs) }
+    {
+        let k = index_of_last(self.outs(), peer, destination)?;
+        Some(k as u32)
+    }
+
+    /// The index of the incoming row of a source and a destination.
+    pub fn in_index(&self, source: Guid, destination: &QueueName) -> Option<u32>
+        ensures index { result ≡ position (is_row_of source destination.now) self.now.lists.ins }
+        ensures within { IfSome result (λ k. k < length self.now.lists.ins) }
+    {
+        let k = index_of_source(self.ins(), source, destination)?;
+        Some(k as u32)
+    }
+
+    /// The index of the peer that has a GUID.
+    pub fn peer_known(&self, guid: Guid) -> Option<u32>
+        ensures index { result ≡ peer_known self.now.lists guid }
+        ensures within { IfSome result (λ k. k < length self.now.lists.peers) }
+    {
+        let k = index_of_guid(self.peers(), guid)?;
+        Some(k as u32)
+    }
+
+    /// How many messages of a lane a place has.
+    pub fn count_at(&self, at: EntryPlace, lane: Lane) -> u32
+        ensures { result ≡ count_at lane self.now.lists at }
+    {
+        match self.queues().messages_at(at, lane) {
+            Some(messages) => messages.len() as u32,
+            None => 0,
+        }
+    }
+
+    /// How many plain messages of a lane wait for the peer at an index.
+    pub fn plain_count(&self, peer: u32, lane: Lane) -> u32
+        requires { peer < length self.now.lists.plain }
+        ensures { result ≡ plain_count self.now.lists.plain peer lane }
+    {
+        self.plain.count_in(peer, lane)
+    }
+}
