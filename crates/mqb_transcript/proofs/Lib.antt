@@ -1,4 +1,3 @@
-pub mod Wrote
 pub mod ToldApart
 pub mod Colons
 pub mod FlowApart

@@ -24,7 +24,7 @@ fn block_count(n: u32) -> u32
 }
 
 impl<'h> Printer<'h> {
-    #[tactic(auto, using(crate::proofs::Wrote::writing), unfolding(crate::specs::Generator::order_text))]
+    #[tactic(auto, using(crate::specs::lemmas::Wrote::writing), unfolding(crate::specs::Generator::order_text))]
     fn order(&mut self, order: u32) -> Result<(), Memory>
         ensures { OnOk result (self.new ≡ wrote self.old (order_text order)) }
     {
@@ -33,7 +33,7 @@ impl<'h> Printer<'h> {
     }
 
     /// An order, where it is one of the `n` orders.
-    #[tactic(auto, using(crate::proofs::Wrote::writing), unfolding(crate::specs::Generator::order_of))]
+    #[tactic(auto, using(crate::specs::lemmas::Wrote::writing), unfolding(crate::specs::Generator::order_of))]
     fn order_of(&mut self, n: u32, order: u32) -> Result<(), Memory>
         ensures { OnOk result (self.new ≡ wrote self.old (order_of n order)) }
     {
@@ -43,7 +43,7 @@ impl<'h> Printer<'h> {
         self.order(order)
     }
 
-    #[tactic(auto, using(crate::proofs::Wrote::writing))]
+    #[tactic(auto, using(crate::specs::lemmas::Wrote::writing))]
     fn orders(&mut self, n: u32, first: u32) -> Result<(), Memory>
         requires { first ≤ 10000 }
         ensures { OnOk result (self.new ≡ wrote self.old (flat_map (order_of n)
@@ -55,7 +55,7 @@ impl<'h> Printer<'h> {
         Ok(())
     }
 
-    #[tactic(auto, using(crate::proofs::Wrote::writing), unfolding(crate::specs::Generator::commit_text))]
+    #[tactic(auto, using(crate::specs::lemmas::Wrote::writing), unfolding(crate::specs::Generator::commit_text))]
     fn commit(&mut self, n: u32, block: u32) -> Result<(), Memory>
         requires least { 1 ≤ block }
         requires most { block ≤ 2500 }
@@ -67,7 +67,7 @@ impl<'h> Printer<'h> {
         self.put(b"\n")
     }
 
-    #[tactic(auto, using(crate::proofs::Wrote::writing), unfolding(crate::specs::Generator::connect_text))]
+    #[tactic(auto, using(crate::specs::lemmas::Wrote::writing), unfolding(crate::specs::Generator::connect_text))]
     fn connect(&mut self, moment: u32) -> Result<(), Memory>
         ensures { OnOk result (self.new ≡ wrote self.old (connect_text moment)) }
     {
@@ -77,7 +77,7 @@ impl<'h> Printer<'h> {
     }
 
     /// A line that ends the connection and a new connection, where it is said.
-    #[tactic(auto, using(crate::proofs::Wrote::writing), unfolding(crate::specs::Generator::broken_text))]
+    #[tactic(auto, using(crate::specs::lemmas::Wrote::writing), unfolding(crate::specs::Generator::broken_text))]
     fn broken(&mut self, here: bool, line: &[u8], moment: u32) -> Result<(), Memory>
         ensures { OnOk result (self.new ≡ wrote self.old (broken_text here line.now moment)) }
     {
@@ -89,7 +89,7 @@ impl<'h> Printer<'h> {
         self.connect(moment)
     }
 
-    #[tactic(auto, using(crate::proofs::Wrote::writing), unfolding(crate::specs::Generator::flow_text))]
+    #[tactic(auto, using(crate::specs::lemmas::Wrote::writing), unfolding(crate::specs::Generator::flow_text))]
     fn flow(&mut self, host: &[u8], moment: u32) -> Result<(), Memory>
         ensures { OnOk result (self.new ≡ wrote self.old (flow_text host.now moment)) }
     {
@@ -100,7 +100,7 @@ impl<'h> Printer<'h> {
         self.put(b"\n")
     }
 
-    #[tactic(auto, using(crate::proofs::Wrote::writing), unfolding(crate::specs::Generator::flows_text))]
+    #[tactic(auto, using(crate::specs::lemmas::Wrote::writing), unfolding(crate::specs::Generator::flows_text))]
     fn flows(&mut self, moment: u32) -> Result<(), Memory>
         ensures { OnOk result (self.new ≡ wrote self.old (flows_text moment)) }
     {
@@ -109,7 +109,7 @@ impl<'h> Printer<'h> {
         self.flow(b"alpha", moment)
     }
 
-    #[tactic(auto, using(crate::proofs::Wrote::writing), unfolding(crate::specs::Generator::breaks_text))]
+    #[tactic(auto, using(crate::specs::lemmas::Wrote::writing), unfolding(crate::specs::Generator::breaks_text))]
     fn breaks(&mut self, count: u32, block: u32) -> Result<(), Memory>
         requires count { count ≤ 2500 }
         requires block { block ≤ 2500 }
@@ -122,7 +122,7 @@ impl<'h> Printer<'h> {
         self.broken(block == count, b"disconnect", moment)
     }
 
-    #[tactic(auto, using(crate::proofs::Wrote::writing), unfolding(crate::specs::Generator::block_text))]
+    #[tactic(auto, using(crate::specs::lemmas::Wrote::writing), unfolding(crate::specs::Generator::block_text))]
     fn block(&mut self, n: u32, block: u32) -> Result<(), Memory>
         requires orders { n ≤ 10000 }
         requires least { 1 ≤ block }
@@ -134,7 +134,7 @@ impl<'h> Printer<'h> {
         self.flows(1000 + block)
     }
 
-    #[tactic(auto, using(crate::proofs::Wrote::writing))]
+    #[tactic(auto, using(crate::specs::lemmas::Wrote::writing))]
     fn blocks(&mut self, n: u32) -> Result<(), Memory>
         requires { n ≤ 10000 }
         ensures { OnOk result (self.new ≡ wrote self.old (flat_map (block_text n)
@@ -146,7 +146,7 @@ impl<'h> Printer<'h> {
         Ok(())
     }
 
-    #[tactic(auto, using(crate::proofs::Wrote::writing), unfolding(crate::specs::Generator::generated))]
+    #[tactic(auto, using(crate::specs::lemmas::Wrote::writing), unfolding(crate::specs::Generator::generated))]
     fn script(&mut self, n: u32) -> Result<(), Memory>
         requires { n ≤ 10000 }
         ensures { OnOk result (self.new ≡ wrote self.old (generated n)) }
@@ -158,7 +158,7 @@ impl<'h> Printer<'h> {
 
 /// Appends the script of `n` orders that alpha sends to beta, four in a transaction, with two disconnections and a restart of each manager. After
 /// a refusal `out` is as before.
-#[tactic(auto, using(crate::proofs::Wrote::text_wrote))]
+#[tactic(auto, using(crate::specs::lemmas::Wrote::text_wrote))]
 pub fn make_script(alloc: Global, n: u32, out: &mut Vec<u8>) -> Result<(), Memory>
     requires least { 1 ≤ n }
     requires most { n ≤ 10000 }

@@ -7,7 +7,7 @@ use mqb_base::{Class, Line, Memory, MessageId, SequenceId};
 
 impl<'h> Printer<'h> {
     /// A word, a number of a sequence and an identifier.
-    #[tactic(auto, using(crate::proofs::Wrote::writing))]
+    #[tactic(auto, using(crate::specs::lemmas::Wrote::writing))]
     fn placed_about(
         &mut self,
         word: &[u8],
@@ -23,7 +23,7 @@ impl<'h> Printer<'h> {
     }
 
     /// A word, a class and an identifier.
-    #[tactic(auto, using(crate::proofs::Wrote::writing))]
+    #[tactic(auto, using(crate::specs::lemmas::Wrote::writing))]
     pub fn classed_about(&mut self, word: &[u8], class: Class, id: &MessageId) -> Result<(), Memory>
         ensures { OnOk result (self.new ≡ wrote self.old
             (word.now ++ class_text class ++ spaced (id_text self.old.hosts id.now))) }
@@ -32,7 +32,7 @@ impl<'h> Printer<'h> {
         self.about(b" ", id)
     }
 
-    #[tactic(auto, using(crate::proofs::Wrote::writing))]
+    #[tactic(auto, using(crate::specs::lemmas::Wrote::writing))]
     fn refused(
         &mut self,
         sequence: &SequenceId,
@@ -48,7 +48,7 @@ impl<'h> Printer<'h> {
         self.about(b" ", id)
     }
 
-    #[tactic(auto, using(crate::proofs::Wrote::writing), unfolding(crate::specs::Texts::line_text))]
+    #[tactic(auto, using(crate::specs::lemmas::Wrote::writing), unfolding(crate::specs::Texts::line_text))]
     fn ledger_line(&mut self, line: &Line) -> Result<(), Memory>
         ensures { OnOk result (self.new ≡ wrote self.old (line_text self.old.hosts line.now)) }
     {
@@ -83,7 +83,7 @@ impl<'h> Printer<'h> {
         }
     }
 
-    #[tactic(auto, using(crate::proofs::Wrote::writing), unfolding(crate::specs::Texts::bracketed))]
+    #[tactic(auto, using(crate::specs::lemmas::Wrote::writing), unfolding(crate::specs::Texts::bracketed))]
     fn bracketed(&mut self, line: &Line) -> Result<(), Memory>
         ensures { OnOk result (self.new ≡ wrote self.old (bracketed self.old.hosts line.now)) }
     {
@@ -93,7 +93,7 @@ impl<'h> Printer<'h> {
     }
 
     /// Ledger lines, each in brackets behind a space.
-    #[tactic(auto, using(crate::proofs::Wrote::writing), unfolding(crate::specs::Texts::lines_text))]
+    #[tactic(auto, using(crate::specs::lemmas::Wrote::writing), unfolding(crate::specs::Texts::lines_text))]
     pub fn ledger(&mut self, lines: &[Line]) -> Result<(), Memory>
         ensures { OnOk result (self.new ≡ wrote self.old (lines_text self.old.hosts lines.now)) }
     {

@@ -1,6 +1,7 @@
 //! The replies of a replay, and their texts.
 //!
 //! `Texts` of the definitions has the text of each reply. `print_reply` writes a line of a transcript, `make_script` a script with orders in it.
+//! A `Printer` has the parts that all printed texts share, for crates above too.
 #![tactic(auto)]
 
 mod arrivals;
@@ -16,5 +17,6 @@ pub use arrivals::{Arrival, Outcome};
 pub use generator::make_script;
 pub use laws::texts_tell_apart;
 pub use lists::Listed;
+pub use printer::Printer;
 pub use replies::Reply;
 pub use reply_texts::print_reply;

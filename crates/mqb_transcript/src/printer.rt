@@ -2,17 +2,18 @@ ghost use Rattle.std.specs.Prelude.{◌≡◌, ◌++◌, ◌<◌, [], find, OnOk
 ghost use Rattle.std.specs.Fmt.{decimal};
 ghost use Rattle.std.specs.Option.{option_copied};
 ghost use Rattle.mqb_base.specs.Same.{same_guid};
-ghost use Rattle.mqb_names.specs.Printed.{printed_guid};
+ghost use Rattle.mqb_names.specs.Printed.{printed, printed_guid};
 ghost use Rattle.mqb_transcript.specs.Printing.{wrote};
 ghost use Rattle.mqb_transcript.specs.Texts.{spaced, numbers_text, manager_text, id_text, place_text, hex_digit, class_text};
 
 use itoa::Buffer;
-use mqb_base::{Class, Guid, Identity, Memory, MessageId, SequenceId};
-use mqb_names::write_guid;
+use mqb_base::{Class, Guid, Identity, Memory, MessageId, QueueName, SequenceId};
+use mqb_names::{write_guid, write_name};
 use std::alloc::Global;
 use std::marker::Model;
 
 /// A text that is being printed, and the managers that are printed as their hosts. After a refusal a part of what was asked may stand in it.
+/// Contracts see both.
 #[derive(Drop)]
 pub struct Printer<'h> {
     hosts: &'h [Identity],
@@ -88,8 +89,9 @@ impl<'h> Printer<'h> {
         write_guid(guid, &mut self.text)
     }
 
+    /// The host of a manager, or its GUID.
     #[tactic(auto, unfolding(crate::specs::Texts::manager_text))]
-    fn manager(&mut self, guid: &Guid) -> Result<(), Memory>
+    pub fn manager(&mut self, guid: &Guid) -> Result<(), Memory>
         ensures { OnOk result (self.new ≡ wrote self.old (manager_text self.old.hosts guid.now)) }
     {
         match known_as(guid, self.hosts) {
@@ -98,8 +100,16 @@ impl<'h> Printer<'h> {
         }
     }
 
+    /// The name of a queue.
+    #[tactic(auto, unfolding(crate::specs::Printing::wrote))]
+    pub fn name(&mut self, name: &QueueName) -> Result<(), Memory>
+        ensures { OnOk result (self.new ≡ wrote self.old (printed name.now)) }
+    {
+        write_name(name, &mut self.text)
+    }
+
     /// The identifier of a message: its manager, a dot and its number.
-    #[tactic(auto, using(crate::proofs::Wrote::writing), unfolding(crate::specs::Texts::id_text))]
+    #[tactic(auto, using(crate::specs::lemmas::Wrote::writing), unfolding(crate::specs::Texts::id_text))]
     pub fn id(&mut self, id: &MessageId) -> Result<(), Memory>
         ensures { OnOk result (self.new ≡ wrote self.old (id_text self.old.hosts id.now)) }
     {
@@ -109,7 +119,7 @@ impl<'h> Printer<'h> {
     }
 
     /// The numbers, each behind a space.
-    #[tactic(auto, using(crate::proofs::Wrote::writing), unfolding(crate::specs::Texts::numbers_text))]
+    #[tactic(auto, using(crate::specs::lemmas::Wrote::writing), unfolding(crate::specs::Texts::numbers_text))]
     pub fn numbers(&mut self, numbers: &[u32]) -> Result<(), Memory>
         ensures { OnOk result (self.new ≡ wrote self.old (numbers_text numbers.now)) }
     {
@@ -119,7 +129,7 @@ impl<'h> Printer<'h> {
         Ok(())
     }
 
-    #[tactic(auto, using(crate::proofs::Wrote::writing))]
+    #[tactic(auto, using(crate::specs::lemmas::Wrote::writing))]
     pub fn spaced_number(&mut self, number: u32) -> Result<(), Memory>
         ensures { OnOk result (self.new ≡ wrote self.old (spaced (decimal number))) }
     {
@@ -128,7 +138,7 @@ impl<'h> Printer<'h> {
     }
 
     /// The ordinal of a sequence and a number in it.
-    #[tactic(auto, using(crate::proofs::Wrote::writing), unfolding(crate::specs::Texts::place_text))]
+    #[tactic(auto, using(crate::specs::lemmas::Wrote::writing), unfolding(crate::specs::Texts::place_text))]
     pub fn place(&mut self, sequence: &SequenceId, number: u32) -> Result<(), Memory>
         ensures { OnOk result (self.new ≡ wrote self.old (place_text sequence.now number)) }
     {
@@ -151,7 +161,7 @@ impl<'h> Printer<'h> {
     }
 
     /// A word and an identifier.
-    #[tactic(auto, using(crate::proofs::Wrote::writing))]
+    #[tactic(auto, using(crate::specs::lemmas::Wrote::writing))]
     pub fn about(&mut self, word: &[u8], id: &MessageId) -> Result<(), Memory>
         ensures { OnOk result (self.new ≡ wrote self.old (word.now ++
             id_text self.old.hosts id.now)) }
@@ -161,7 +171,7 @@ impl<'h> Printer<'h> {
     }
 
     /// A word and a class.
-    #[tactic(auto, using(crate::proofs::Wrote::writing))]
+    #[tactic(auto, using(crate::specs::lemmas::Wrote::writing))]
     pub fn classed(&mut self, word: &[u8], class: Class) -> Result<(), Memory>
         ensures { OnOk result (self.new ≡ wrote self.old (word.now ++ class_text class)) }
     {
@@ -170,7 +180,7 @@ impl<'h> Printer<'h> {
     }
 
     /// A word, the ordinal of a sequence and a number in it.
-    #[tactic(auto, using(crate::proofs::Wrote::writing))]
+    #[tactic(auto, using(crate::specs::lemmas::Wrote::writing))]
     pub fn placed(&mut self, word: &[u8], sequence: &SequenceId, number: u32) -> Result<(), Memory>
         ensures { OnOk result (self.new ≡ wrote self.old (word.now ++
             place_text sequence.now number)) }

@@ -53,7 +53,7 @@ fn words_text(reply: &Reply) -> &'static [u8]
 }
 
 impl<'h> Printer<'h> {
-    #[tactic(auto, using(crate::proofs::Wrote::writing))]
+    #[tactic(auto, using(crate::specs::lemmas::Wrote::writing))]
     fn acked(&mut self, ordinal: u32, number: u32) -> Result<(), Memory>
         ensures { OnOk result (self.new ≡ wrote self.old (codes "acked " ++ decimal ordinal ++
             codes " " ++ decimal number)) }
@@ -64,7 +64,7 @@ impl<'h> Printer<'h> {
         self.number(number)
     }
 
-    #[tactic(auto, using(crate::proofs::Wrote::writing))]
+    #[tactic(auto, using(crate::specs::lemmas::Wrote::writing))]
     fn closed(&mut self, cause: Cause) -> Result<(), Memory>
         ensures { OnOk result (self.new ≡ wrote self.old (codes "closed " ++ cause_text cause)) }
     {
@@ -72,7 +72,7 @@ impl<'h> Printer<'h> {
         self.put(cause_text(cause))
     }
 
-    #[tactic(auto, using(crate::proofs::Wrote::writing), unfolding(crate::specs::Texts::heard_text))]
+    #[tactic(auto, using(crate::specs::lemmas::Wrote::writing), unfolding(crate::specs::Texts::heard_text))]
     fn heard(&mut self, heard: &Heard) -> Result<(), Memory>
         ensures { OnOk result (self.new ≡ wrote self.old (heard_text self.old.hosts heard.now)) }
     {
@@ -100,7 +100,7 @@ impl<'h> Printer<'h> {
         }
     }
 
-    #[tactic(auto, using(crate::proofs::Wrote::writing))]
+    #[tactic(auto, using(crate::specs::lemmas::Wrote::writing))]
     fn heard_reply(&mut self, heard: &Heard, lines: &[Line]) -> Result<(), Memory>
         ensures { OnOk result (self.new ≡ wrote self.old (heard_reply self.old.hosts heard.now
             lines.now)) }
@@ -109,7 +109,7 @@ impl<'h> Printer<'h> {
         self.ledger(lines)
     }
 
-    #[tactic(auto, using(crate::proofs::Wrote::writing), unfolding(crate::specs::Texts::outcome_text))]
+    #[tactic(auto, using(crate::specs::lemmas::Wrote::writing), unfolding(crate::specs::Texts::outcome_text))]
     fn outcome(&mut self, outcome: &Outcome) -> Result<(), Memory>
         ensures { OnOk result (self.new ≡ wrote self.old (outcome_text self.old.hosts
             outcome.now)) }
@@ -122,7 +122,7 @@ impl<'h> Printer<'h> {
         }
     }
 
-    #[tactic(auto, using(crate::proofs::Wrote::writing), unfolding(crate::specs::Texts::arrival_text))]
+    #[tactic(auto, using(crate::specs::lemmas::Wrote::writing), unfolding(crate::specs::Texts::arrival_text))]
     fn arrival(&mut self, arrival: &Arrival) -> Result<(), Memory>
         ensures { OnOk result (self.new ≡ wrote self.old (arrival_text self.old.hosts
             arrival.now)) }
@@ -132,7 +132,7 @@ impl<'h> Printer<'h> {
         self.outcome(&arrival.outcome)
     }
 
-    #[tactic(auto, using(crate::proofs::Wrote::writing), unfolding(crate::specs::Texts::arrivals_text))]
+    #[tactic(auto, using(crate::specs::lemmas::Wrote::writing), unfolding(crate::specs::Texts::arrivals_text))]
     fn arrivals(&mut self, arrivals: &[Arrival]) -> Result<(), Memory>
         ensures { OnOk result (self.new ≡ wrote self.old (arrivals_text self.old.hosts
             arrivals.now)) }
@@ -143,7 +143,7 @@ impl<'h> Printer<'h> {
         Ok(())
     }
 
-    #[tactic(auto, using(crate::proofs::Wrote::writing))]
+    #[tactic(auto, using(crate::specs::lemmas::Wrote::writing))]
     fn flowed(&mut self, arrivals: &[Arrival]) -> Result<(), Memory>
         ensures { OnOk result (self.new ≡ wrote self.old (codes "flowed" ++
             arrivals_text self.old.hosts arrivals.now)) }
@@ -153,7 +153,7 @@ impl<'h> Printer<'h> {
     }
 
     /// A word and the numbers of packets.
-    #[tactic(auto, using(crate::proofs::Wrote::writing))]
+    #[tactic(auto, using(crate::specs::lemmas::Wrote::writing))]
     fn packets(&mut self, word: &[u8], packets: &[u32]) -> Result<(), Memory>
         ensures { OnOk result (self.new ≡ wrote self.old (word.now ++ numbers_text packets.now)) }
     {
@@ -162,7 +162,7 @@ impl<'h> Printer<'h> {
     }
 
     /// A word and the place of an op, where there is one.
-    #[tactic(auto, using(crate::proofs::Wrote::writing), unfolding(crate::specs::Texts::op_text))]
+    #[tactic(auto, using(crate::specs::lemmas::Wrote::writing), unfolding(crate::specs::Texts::op_text))]
     fn at_op(&mut self, word: &[u8], op: Option<u32>) -> Result<(), Memory>
         ensures { OnOk result (self.new ≡ wrote self.old (word.now ++ op_text op)) }
     {
@@ -174,7 +174,7 @@ impl<'h> Printer<'h> {
     }
 
     /// A word and ledger lines.
-    #[tactic(auto, using(crate::proofs::Wrote::writing))]
+    #[tactic(auto, using(crate::specs::lemmas::Wrote::writing))]
     fn recorded(&mut self, word: &[u8], lines: &[Line]) -> Result<(), Memory>
         ensures { OnOk result (self.new ≡ wrote self.old (word.now ++
             lines_text self.old.hosts lines.now)) }
@@ -184,7 +184,7 @@ impl<'h> Printer<'h> {
     }
 
     /// A word, an identifier and ledger lines.
-    #[tactic(auto, using(crate::proofs::Wrote::writing))]
+    #[tactic(auto, using(crate::specs::lemmas::Wrote::writing))]
     fn recorded_about(&mut self, word: &[u8], id: &MessageId, lines: &[Line]) -> Result<(), Memory>
         ensures { OnOk result (self.new ≡ wrote self.old (word.now ++
             id_text self.old.hosts id.now ++ lines_text self.old.hosts lines.now)) }
@@ -194,7 +194,7 @@ impl<'h> Printer<'h> {
     }
 
     /// A word, a count and ledger lines.
-    #[tactic(auto, using(crate::proofs::Wrote::writing))]
+    #[tactic(auto, using(crate::specs::lemmas::Wrote::writing))]
     fn counted(&mut self, word: &[u8], count: u64, lines: &[Line]) -> Result<(), Memory>
         ensures { OnOk result (self.new ≡ wrote self.old (word.now ++ decimal count ++
             lines_text self.old.hosts lines.now)) }
@@ -204,7 +204,7 @@ impl<'h> Printer<'h> {
         self.ledger(lines)
     }
 
-    #[tactic(auto, using(crate::proofs::Wrote::writing), unfolding(crate::specs::Texts::reply_text))]
+    #[tactic(auto, using(crate::specs::lemmas::Wrote::writing), unfolding(crate::specs::Texts::reply_text))]
     fn reply(&mut self, reply: &Reply) -> Result<(), Memory>
         ensures { OnOk result (self.new ≡ wrote self.old (reply_text self.old.hosts reply.now)) }
     {
@@ -237,7 +237,7 @@ impl<'h> Printer<'h> {
         }
     }
 
-    #[tactic(auto, using(crate::proofs::Wrote::writing), unfolding(crate::specs::Texts::number_text))]
+    #[tactic(auto, using(crate::specs::lemmas::Wrote::writing), unfolding(crate::specs::Texts::number_text))]
     fn line_number(&mut self, line: Option<u32>) -> Result<(), Memory>
         ensures { OnOk result (self.new ≡ wrote self.old (number_text line)) }
     {
@@ -250,7 +250,7 @@ impl<'h> Printer<'h> {
         }
     }
 
-    #[tactic(auto, using(crate::proofs::Wrote::writing))]
+    #[tactic(auto, using(crate::specs::lemmas::Wrote::writing))]
     fn line(&mut self, line: Option<u32>, reply: &Reply) -> Result<(), Memory>
         ensures { OnOk result (self.new ≡ wrote self.old (printed self.old.hosts line reply.now)) }
     {
@@ -262,7 +262,7 @@ impl<'h> Printer<'h> {
 
 /// Appends a line of the transcript: the script's line number, where there is one, and the reply with its ledger lines. A GUID of `hosts` is
 /// printed as its host. After a refusal `out` is as before.
-#[tactic(auto, using(crate::proofs::Wrote::text_wrote))]
+#[tactic(auto, using(crate::specs::lemmas::Wrote::text_wrote))]
 pub fn print_reply(
     alloc: Global,
     line: Option<u32>,

@@ -1,5 +1,5 @@
 use Rattle.mqb_transcript.specs.Texts.{arrival_text, arrivals_text}
-use Rattle.mqb_transcript.proofs.Wrote.{wrote_item}
+use Rattle.mqb_transcript.specs.lemmas.Wrote.{wrote_item}
 use Rattle.mqb_transcript.proofs.printer.Printer.arrivals.Goals as goal
 
 pub loop-arrival-preserved : goal.loop-arrival-preserved

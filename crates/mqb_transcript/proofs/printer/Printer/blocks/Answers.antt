@@ -1,5 +1,5 @@
 use Rattle.mqb_transcript.specs.Generator.{block_text}
-use Rattle.mqb_transcript.proofs.Wrote.{wrote_number}
+use Rattle.mqb_transcript.specs.lemmas.Wrote.{wrote_number}
 use Rattle.mqb_transcript.proofs.printer.Printer.blocks.Goals as goal
 
 pub loop-index-preserved : goal.loop-index-preserved

@@ -1,5 +1,5 @@
 use Rattle.mqb_transcript.specs.Generator.{commit_text}
-use Rattle.mqb_transcript.proofs.Wrote.{then_wrote, last_wrote}
+use Rattle.mqb_transcript.specs.lemmas.Wrote.{then_wrote, last_wrote}
 use Rattle.mqb_transcript.proofs.printer.Printer.commit.Goals as goal
 
 pub returns : goal.returns

@@ -1,5 +1,5 @@
 use Rattle.mqb_transcript.specs.Generator.{connect_text}
-use Rattle.mqb_transcript.proofs.Wrote.{then_wrote, last_wrote}
+use Rattle.mqb_transcript.specs.lemmas.Wrote.{then_wrote, last_wrote}
 use Rattle.mqb_transcript.proofs.printer.Printer.connect.Goals as goal
 
 pub returns : goal.returns

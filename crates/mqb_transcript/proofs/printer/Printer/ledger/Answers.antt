@@ -1,5 +1,5 @@
 use Rattle.mqb_transcript.specs.Texts.{bracketed, lines_text}
-use Rattle.mqb_transcript.proofs.Wrote.{wrote_item}
+use Rattle.mqb_transcript.specs.lemmas.Wrote.{wrote_item}
 use Rattle.mqb_transcript.proofs.printer.Printer.ledger.Goals as goal
 
 pub loop-line-preserved : goal.loop-line-preserved

@@ -1,6 +1,6 @@
 use Rattle.std.specs.Fmt.{decimal}
 use Rattle.mqb_transcript.specs.Texts.{spaced, numbers_text}
-use Rattle.mqb_transcript.proofs.Wrote.{wrote_more}
+use Rattle.mqb_transcript.specs.lemmas.Wrote.{wrote_more}
 use Rattle.mqb_transcript.proofs.printer.Printer.numbers.Goals as goal
 
 pub loop-number-preserved : goal.loop-number-preserved

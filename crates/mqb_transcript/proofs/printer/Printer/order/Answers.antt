@@ -1,5 +1,5 @@
 use Rattle.mqb_transcript.specs.Generator.{order_text}
-use Rattle.mqb_transcript.proofs.Wrote.{last_wrote}
+use Rattle.mqb_transcript.specs.lemmas.Wrote.{last_wrote}
 use Rattle.mqb_transcript.proofs.printer.Printer.order.Goals as goal
 
 pub returns : goal.returns

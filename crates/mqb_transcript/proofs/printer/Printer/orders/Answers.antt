@@ -1,5 +1,5 @@
 use Rattle.mqb_transcript.specs.Generator.{order_of}
-use Rattle.mqb_transcript.proofs.Wrote.{wrote_number}
+use Rattle.mqb_transcript.specs.lemmas.Wrote.{wrote_number}
 use Rattle.mqb_transcript.proofs.printer.Printer.orders.Goals as goal
 
 pub loop-place-preserved : goal.loop-place-preserved
