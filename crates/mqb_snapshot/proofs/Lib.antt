@@ -1,0 +1,4 @@
+pub mod Walks
+pub mod Ends
+pub mod Sized
+pub mod Carried

@@ -1,0 +1,10 @@
+use Rattle.std.proofs.Common.{◌≡◌}
+use Rattle.mqb_snapshot.specs.Spelled.{spelled_message}
+use Rattle.mqb_snapshot.proofs.Walks.{PutSoFar}
+use Rattle.mqb_snapshot.proofs.tail.Tail.messages.Given as goal
+
+abbrev pub invariant-loop-message : goal.invariant-loop-message
+invariant-loop-message l = record {
+  put : PutSoFar spelled_message l.messages l.message-index l.initial.self.text l.self.text;
+  front : l.self.front ≡ l.fn.self.front;
+}

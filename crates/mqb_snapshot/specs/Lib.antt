@@ -1,0 +1,4 @@
+pub mod Tails
+pub mod Spelled
+pub mod Snapshot
+pub mod Spellable
