@@ -1,0 +1,68 @@
+-- The parts of a state that were read, one after the other.
+use Rattle.std.specs.List.{list_any}
+use Rattle.std.specs.Prelude.{[], ◌==◌, ◌≡◌, Bool, Err, List, None, Ok, Option, Result, Some, if◌then◌else◌, suc, zero, ℕ}
+use Rattle.mqb_entries.specs.Fields.{outside, u32_at}
+use Rattle.mqb_entries.specs.declared.faults.EntryFault.{EntryFault}
+use Rattle.mqb_fields.specs.Reading.{◌>>=◌, Reading}
+use Rattle.mqb_base.specs.Rooms.{WithRooms}
+use Rattle.mqb_contents.specs.Rooms.{StateRooms}
+use Rattle.mqb_model.specs.state.State.{State}
+use Rattle.mqb_snapshot.specs.declared.faults.BackFault.{BackFault}
+use Rattle.mqb_snapshot.specs.declared.faults.BackFault.TheVariants.{Bad, Memory}
+
+-- the parts read so far, as a state, and the numbers of the manager's own messages among them
+pub record Parts : Type 0 where
+  pub state : State
+  pub numbers : List ℕ
+
+-- what stands here, if it passes a test
+abbrev pub tested : {X : Type 0} → (X → Bool) → (Reading → Result (X × Reading) EntryFault) → Reading → Result (X × Reading) EntryFault
+tested passes read r = do
+  x ← read r
+  if passes x.0 then Ok x else outside r
+
+-- what was read up to a place, if it is anything
+abbrev pub found_in : {X : Type 0} → Reading → Reading → Option X → Result (X × Reading) EntryFault
+found_in r after (Some x) = Ok (x, after)
+found_in r after None = outside r
+
+-- a part is read, and joins those before it, so many times
+abbrev pub joined : ℕ → (Parts → Reading → Result (Parts × Reading) EntryFault) → Parts → Reading → Result (Parts × Reading) EntryFault
+joined zero part p r = Ok (p, r)
+joined (suc count) part p r = do
+  x ← part p r
+  joined count part x.0 x.1
+
+-- parts behind their count join those before them
+abbrev pub list_joined : (Parts → Reading → Result (Parts × Reading) EntryFault) → Parts → Reading → Result (Parts × Reading) EntryFault
+list_joined part p r = do
+  count ← u32_at r
+  joined count.0 part p count.1
+
+-- a part for each index from one on
+abbrev pub each_joined : ℕ → ℕ → (ℕ → Parts → Reading → Result (Parts × Reading) EntryFault) → Parts → Reading → Result (Parts × Reading) EntryFault
+each_joined zero k part p r = Ok (p, r)
+each_joined (suc count) k part p r = do
+  x ← part k p r
+  each_joined count (suc k) part x.0 x.1
+
+-- What a call that joined a part answered, and what it left, is what reading gives.
+abbrev pub Joins : (Parts → Reading → Result (Parts × Reading) EntryFault) → Parts → Reading → Parts → Reading → Result (Unit {0}) BackFault → Type 0
+Joins part old start new end (Ok _) = part old start ≡ Ok (new, end)
+Joins part old start new end (Err (Bad at)) = part old start ≡ Err (record { at = at })
+Joins part old start new end (Err Memory) = Unit {0}
+
+-- What a call that read a value answered, seen by view, is what reading gives.
+abbrev pub GivesAs : {X Y : Type 0} → (X → Y) → (Reading → Result (Y × Reading) EntryFault) → Reading → Reading → Result X BackFault → Type 0
+GivesAs view read start end (Ok x) = read start ≡ Ok (view x, end)
+GivesAs view read start end (Err (Bad at)) = read start ≡ Err (record { at = at })
+GivesAs view read start end (Err Memory) = Unit {0}
+
+abbrev pub Gives : {X : Type 0} → (Reading → Result (X × Reading) EntryFault) → Reading → Reading → Result X BackFault → Type 0
+Gives = GivesAs (λ x. x)
+
+-- What a call that read a state back answered is what its bytes are.
+abbrev pub IsReadBack : Result State EntryFault → Result (WithRooms State StateRooms) BackFault → Type 0
+IsReadBack given (Ok contents) = given ≡ Ok contents.lists
+IsReadBack given (Err (Bad at)) = given ≡ Err (record { at = at })
+IsReadBack given (Err Memory) = Unit {0}
