@@ -1,5 +1,5 @@
 -- A valid state can be spelled.
-use Rattle.std.proofs.Common.{◌≡◌, ◌≤◌, ◌<◌, ◌+◌, ℕ, List, [], ◌∷◌, ◌++◌, None, Option, Some, get_or, inl, inr, refl, subst, sym, ◌∙◌, arith}
+use Rattle.std.proofs.Common.{◌≡◌, ◌≤◌, ◌<◌, ℕ, List, [], ◌∷◌, ◌++◌, None, Option, Some, get_or, inl, inr, refl, subst, sym, ◌∙◌, arith}
 use Rattle.std.proofs.lemmas.Bool.{ltb-false}
 use Rattle.std.proofs.lemmas.List.Elements.{All-cons, All-head, All-nil, All-tail}
 use Rattle.std.proofs.lemmas.Option.{get_or_from_slice_get, slice_get_cases}
@@ -7,7 +7,7 @@ use Rattle.std.specs.Prelude.{All, IsSomeAnd, flat_map, length, map, slice_get}
 use Rattle.mqb_base.specs.declared.message.Message.{Message}
 use Rattle.mqb_heads.specs.declared.base.TheConstants.{MAX_PACKET}
 use Rattle.mqb_model.specs.state.State.{State}
-use Rattle.mqb_model.specs.state.Valid.{IsCarried, IsValidState, kept_messages, recoverable_messages}
+use Rattle.mqb_model.specs.state.Valid.{IsCarried, IsValidState}
 use Rattle.mqb_packet.specs.Plain.{message_size}
 use Rattle.mqb_packet.specs.declared.packet.Headers.TheVariants.{Bare, Session, TxAndSession}
 use Rattle.mqb_plain.specs.Lists.{messages_of}

@@ -1,5 +1,5 @@
 -- The packet in which a store has a message, part by part.
-use Rattle.std.proofs.Common.{◌≡◌, ◌≤◌, ◌<◌, ◌+◌, ◌^◌, ℕ, List, [], ◌++◌, length, refl, sym, ap, ◌∙◌, append_assoc, arith}
+use Rattle.std.proofs.Common.{◌≡◌, ℕ, List, [], ◌++◌, length, sym, ap, ◌∙◌, append_assoc, arith}
 use Rattle.std.proofs.lemmas.List.{append-nil}
 use Rattle.mqb_base.specs.declared.message.Message.{Message}
 use Rattle.mqb_entries.specs.Spelled.{spelled_packet}
@@ -8,9 +8,8 @@ use Rattle.mqb_heads.specs.Base.{IsBaseHead, plain_base}
 use Rattle.mqb_heads.specs.Properties.{FitsProps, plain_props}
 use Rattle.mqb_heads.specs.User.{FitsUser, plain_user}
 use Rattle.mqb_heads.specs.declared.base.BaseHead.{BaseHead}
-use Rattle.mqb_packet.specs.Plain.{base_for, message_size, plain_user_packet}
-use Rattle.mqb_packet.specs.declared.packet.Headers.TheVariants.{Bare}
-use Rattle.mqb_packet.specs.lemmas.Fits.{fits_user, fits_props}
+use Rattle.mqb_packet.specs.Plain.{base_for, plain_user_packet}
+use Rattle.mqb_packet.specs.lemmas.Fits.{fits_props}
 use Rattle.mqb_snapshot.specs.Spelled.{IsSized, header_of, stored}
 use Rattle.mqb_snapshot.specs.declared.messages.TheConstants.{NOBODY}
 

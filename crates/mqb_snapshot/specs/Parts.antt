@@ -1,6 +1,5 @@
 -- The parts of a state that were read, one after the other.
-use Rattle.std.specs.List.{list_any}
-use Rattle.std.specs.Prelude.{[], ◌==◌, ◌≡◌, Bool, Err, List, None, Ok, Option, Result, Some, if◌then◌else◌, suc, zero, ℕ}
+use Rattle.std.specs.Prelude.{◌≡◌, Bool, Err, List, None, Ok, Option, Result, Some, if◌then◌else◌, suc, zero, ℕ}
 use Rattle.mqb_entries.specs.Fields.{outside, u32_at}
 use Rattle.mqb_entries.specs.declared.faults.EntryFault.{EntryFault}
 use Rattle.mqb_fields.specs.Reading.{◌>>=◌, Reading}

@@ -3,9 +3,7 @@ use Rattle.std.specs.List.{list_all}
 use Rattle.std.specs.Option.{option_map_or}
 use Rattle.std.specs.Prelude.{[], ◌&&◌, ◌++◌, ◌+◌, ◌-◌, ◌==◌, ◌∷◌, Bool, List, Ok, Result, if◌then◌else◌, false, is_none, length, nat_le, nat_lt, not, position, slice_get, true, ℕ}
 use Rattle.mqb_base.specs.declared.ids.Identity.{Identity}
-use Rattle.mqb_base.specs.declared.ids.SequenceId.{SequenceId}
 use Rattle.mqb_base.specs.declared.message.Lane.TheVariants.{Durable}
-use Rattle.mqb_base.specs.declared.queue_names.QueueName.{QueueName}
 use Rattle.mqb_base.specs.declared.queues.EntryPlace.{EntryPlace}
 use Rattle.mqb_base.specs.declared.queues.EntryPlace.TheVariants as place
 use Rattle.mqb_base.specs.declared.queues.QueuePlan.{QueuePlan}
@@ -16,7 +14,6 @@ use Rattle.mqb_fields.specs.Reading.{◌>>=◌, Reading, rest_of}
 use Rattle.mqb_orders.specs.Rows.{Row}
 use Rattle.mqb_orders.specs.declared.kept.Kept.{Kept}
 use Rattle.mqb_orders.specs.declared.rows.InRow.{InRow}
-use Rattle.mqb_packet.specs.declared.packet.Headers.{Headers}
 use Rattle.mqb_packet.specs.declared.packet.Headers.TheVariants.{Bare, Session, TxAndSession}
 use Rattle.mqb_plain.specs.Plain.{pushed}
 use Rattle.mqb_model.specs.Lists.{with_changed}

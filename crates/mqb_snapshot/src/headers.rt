@@ -61,7 +61,8 @@ impl Tail {
 
     pub(crate) fn user(&mut self, message: &Message) -> Result<(), Memory>
         requires { FitsUser message.now }
-        ensures added { OnOk result (self.new.text ≡ self.old.text ++ plain_user message.now NOBODY) }
+        ensures added { OnOk result (self.new.text ≡
+            self.old.text ++ plain_user message.now NOBODY) }
         ensures front { self.new.front ≡ self.old.front }
     {
         add_user(message, &mut self.bytes)?;

@@ -99,7 +99,8 @@ impl Tail {
     pub(crate) fn messages(&mut self, alloc: Global, messages: &[Message]) -> Result<(), Memory>
         requires few { length messages.now ≤ MAX_MEMBERS }
         requires sized { All IsSized messages.now }
-        ensures added { OnOk result (self.new.text ≡ self.old.text ++ spelled_messages messages.now) }
+        ensures added { OnOk result (self.new.text ≡
+            self.old.text ++ spelled_messages messages.now) }
         ensures front { self.new.front ≡ self.old.front }
     {
         self.u32(messages.len() as u32)?;

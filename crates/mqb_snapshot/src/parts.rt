@@ -11,7 +11,8 @@ use std::alloc::Global;
 
 impl Tail {
     pub(crate) fn identity(&mut self, identity: &Identity) -> Result<(), Memory>
-        ensures added { OnOk result (self.new.text ≡ self.old.text ++ spelled_identity identity.now) }
+        ensures added { OnOk result (self.new.text ≡
+            self.old.text ++ spelled_identity identity.now) }
         ensures front { self.new.front ≡ self.old.front }
     {
         self.name(&identity.host)?;
@@ -69,7 +70,8 @@ impl Tail {
     pub(crate) fn out_row(&mut self, alloc: Global, row: &OutRow) -> Result<(), Memory>
         requires named { IsTrue (names_queue row.now.destination) }
         requires sized { All (λ k. IsSized k.message) row.now.kept.items }
-        ensures added { OnOk result (self.new.text ≡ self.old.text ++ spelled_out (row_of row.now)) }
+        ensures added { OnOk result (self.new.text ≡
+            self.old.text ++ spelled_out (row_of row.now)) }
         ensures front { self.new.front ≡ self.old.front }
     {
         self.u32(row.peer)?;

@@ -1,5 +1,4 @@
-ghost use Rattle.std.specs.Prelude.{◌≡◌, ◌++◌, OnErr, OnOk};
-ghost use Rattle.std.specs.Prelude.{IsTrue};
+ghost use Rattle.std.specs.Prelude.{◌≡◌, ◌++◌, IsTrue, OnErr, OnOk};
 ghost use Rattle.mqb_base.specs.QueueNames.{names_queue};
 ghost use Rattle.mqb_entries.specs.Spelled.{spelled_flag, spelled_guid, spelled_name, spelled_public};
 ghost use Rattle.mqb_fields.specs.Writing.{bytes_of};
@@ -100,7 +99,8 @@ impl Tail {
     /// A queue's name in its wire form, behind its type.
     pub(crate) fn destination(&mut self, name: &QueueName) -> Result<(), Memory>
         requires { IsTrue (names_queue name.now) }
-        ensures added { OnOk result (self.new.text ≡ self.old.text ++ spelled_destination name.now) }
+        ensures added { OnOk result (self.new.text ≡
+            self.old.text ++ spelled_destination name.now) }
         ensures front { self.new.front ≡ self.old.front }
     {
         self.u8(kind_of(name))?;

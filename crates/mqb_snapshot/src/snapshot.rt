@@ -6,7 +6,7 @@ ghost use Rattle.mqb_model.specs.state.Valid.{IsValidState};
 ghost use Rattle.mqb_orders.specs.Rows.{row_of};
 ghost use Rattle.mqb_plain.specs.Lists.{messages_of};
 ghost use Rattle.mqb_queue.specs.Places.{lists_at};
-ghost use Rattle.mqb_snapshot.specs.Snapshot.{snapshot};
+ghost use Rattle.mqb_snapshot.specs.Snapshot.{snapshot, spelled_counters};
 ghost use Rattle.mqb_snapshot.specs.Spellable.{AreSized, IsNamed, IsSpellable};
 ghost use Rattle.mqb_snapshot.specs.Spelled.{IsSized, counted, spelled_in, spelled_messages, spelled_out, spelled_places, spelled_plain, spelled_plan, spelled_queue};
 
@@ -60,7 +60,8 @@ impl Tail {
     }
 
     fn queues(&mut self, alloc: Global, queues: &Queues) -> Result<(), Memory>
-        requires { All (λ q. All IsSized q.lists.durable × All IsSized q.journal.durable) queues.now.lists.queues }
+        requires { All (λ q. All IsSized q.lists.durable × All IsSized q.journal.durable)
+            queues.now.lists.queues }
         ensures added { OnOk result (self.new.text ≡
             self.old.text ++ flat_map spelled_queue queues.now.lists.queues) }
         ensures front { self.new.front ≡ self.old.front }
@@ -73,7 +74,8 @@ impl Tail {
 
     fn places(&mut self, alloc: Global, queues: &Queues) -> Result<(), Memory>
         requires { AreSized queues.now.lists }
-        ensures added { OnOk result (self.new.text ≡ self.old.text ++ spelled_places queues.now.lists) }
+        ensures added { OnOk result (self.new.text ≡
+            self.old.text ++ spelled_places queues.now.lists) }
         ensures front { self.new.front ≡ self.old.front }
     {
         self.queues(alloc, queues)?;
@@ -135,6 +137,18 @@ impl Tail {
         Ok(())
     }
 
+    /// The next number, the next ordinal, and last the count at which a sequence is full.
+    fn counters(&mut self, contents: &Contents) -> Result<(), Memory>
+        ensures added { OnOk result (self.new.text ≡
+            self.old.text ++ spelled_counters contents.now.lists) }
+        ensures front { self.new.front ≡ self.old.front }
+    {
+        self.u32(contents.next_number())?;
+        self.u32(contents.next_ordinal())?;
+        self.u32(contents.roll())?;
+        Ok(())
+    }
+
     /// What a store stands for.
     fn contents(&mut self, alloc: Global, contents: &Contents) -> Result<(), Memory>
         requires sized { IsSpellable contents.now.lists }
@@ -149,9 +163,7 @@ impl Tail {
         self.waiting_for_all(alloc, contents)?;
         self.out_rows(alloc, contents.outs())?;
         self.in_rows(contents.ins())?;
-        self.u32(contents.next_number())?;
-        self.u32(contents.next_ordinal())?;
-        self.u32(contents.roll())?;
+        self.counters(contents)?;
         Ok(())
     }
 }

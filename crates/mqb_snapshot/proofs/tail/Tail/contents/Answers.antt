@@ -1,8 +1,9 @@
-use Rattle.std.proofs.Common.{List, ℕ, ◌++◌, ap, map, ◌∙◌}
+use Rattle.std.proofs.Common.{◌++◌, ap, map, ◌∙◌}
 use Rattle.std.specs.List.{flat_map}
 use Rattle.mqb_base.specs.declared.ids.Identity.{Identity}
 use Rattle.mqb_orders.specs.Rows.{row_of}
-use Rattle.mqb_snapshot.specs.Spelled.{counted, spelled_identity, spelled_in, spelled_out, spelled_places, spelled_plain, spelled_plan, word}
+use Rattle.mqb_snapshot.specs.Spelled.{counted, spelled_identity, spelled_in, spelled_out, spelled_places, spelled_plain, spelled_plan}
+use Rattle.mqb_snapshot.specs.Snapshot.{spelled_counters}
 use Rattle.mqb_snapshot.proofs.Walks.{chained, two_added}
 use Rattle.mqb_snapshot.proofs.tail.Tail.contents.Goals as goal
 
@@ -17,8 +18,6 @@ returns-clause-added c =
     let plain = places ++ flat_map spelled_plain s.plain in
     let outs = plain ++ counted spelled_out s.outs in
     let ins = outs ++ counted spelled_in s.ins in
-    let number = ins ++ word s.next_number in
-    let ordinal = number ++ word s.next_ordinal in
     let one = c.in_ok-identity.ensures.added ∙ ap (λ (m : Identity). old ++ spelled_identity m) c.identity.ensures in
     let two = chained (counted spelled_identity) old identity c.identity-2.new.self.text c.identities.new.self.text c.peers.result.now s.peers one c.in_ok-identities.ensures.added c.peers.ensures.peers in
     let three = chained (λ p. counted (λ q. spelled_plan q.plan) p.queues) old peers c.identities.new.self.text c.plans.new.self.text c.queues.result.now.lists s.places two c.in_ok-plans.ensures.added c.queues.ensures.places in
@@ -26,6 +25,4 @@ returns-clause-added c =
     let five = two_added old places (flat_map spelled_plain s.plain) c.places.new.self.text c.waiting_for_all.new.self.text four c.in_ok-waiting_for_all.ensures.added in
     let six = chained (counted spelled_out) old plain c.waiting_for_all.new.self.text c.out_rows.new.self.text (map row_of c.outs.result.now) s.outs five c.in_ok-out_rows.ensures.added c.outs.ensures.rows in
     let seven = chained (counted spelled_in) old outs c.out_rows.new.self.text c.in_rows.new.self.text c.ins.result.now s.ins six c.in_ok-in_rows.ensures.added c.ins.ensures.rows in
-    let eight = chained word old ins c.in_rows.new.self.text c.u32.new.self.text c.next_number.result s.next_number seven c.in_ok-u32.ensures.added c.next_number.ensures in
-    let nine = chained word old number c.u32.new.self.text c.u32-2.new.self.text c.next_ordinal.result s.next_ordinal eight c.in_ok-u32-2.ensures.added c.next_ordinal.ensures in
-    chained word old ordinal c.u32-2.new.self.text c.u32-3.new.self.text c.roll.result s.roll nine c.in_ok-u32-3.ensures.added c.roll.ensures
+    two_added old ins (spelled_counters s) c.in_rows.new.self.text c.counters.new.self.text seven c.in_ok-counters.ensures.added

@@ -1,4 +1,4 @@
-use Rattle.std.proofs.Common.{length, ◌∙◌, ap, arith}
+use Rattle.std.proofs.Common.{length, ◌∙◌, arith}
 use Rattle.mqb_snapshot.specs.Spelled.{spelled_kept, word}
 use Rattle.mqb_snapshot.proofs.Walks.{put_got, put_all}
 use Rattle.mqb_snapshot.proofs.tail.Tail.kept_list.Goals as goal

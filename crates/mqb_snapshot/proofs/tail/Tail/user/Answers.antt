@@ -1,4 +1,4 @@
-use Rattle.std.proofs.Common.{rules, List, ℕ, ◌≤◌, ◌++◌, length, ap, ◌∙◌}
+use Rattle.std.proofs.Common.{rules, ◌≤◌, ◌++◌, length, ap, ◌∙◌}
 use Rattle.mqb_heads.specs.User.{plain_user}
 use Rattle.mqb_snapshot.specs.Tails.{Added}
 use Rattle.mqb_snapshot.specs.declared.messages.TheConstants.{NOBODY}

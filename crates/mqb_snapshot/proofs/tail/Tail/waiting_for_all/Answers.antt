@@ -1,6 +1,6 @@
-use Rattle.std.proofs.Common.{◌∙◌, arith}
+use Rattle.std.proofs.Common.{◌∙◌}
 use Rattle.mqb_snapshot.specs.Spelled.{spelled_plain}
-use Rattle.mqb_snapshot.proofs.Walks.{put_there, put_done}
+use Rattle.mqb_snapshot.proofs.Walks.{put_there}
 use Rattle.mqb_snapshot.proofs.tail.Tail.waiting_for_all.Goals as goal
 
 pub loop-k-preserved : goal.loop-k-preserved
