@@ -157,7 +157,7 @@ part_manager now e (entry.Final p) = final_manager e.state p.message
 
 -- Messages of sequences expire.
 
-expired_manager : (now k : ℕ) (e : Effect) → KeepsManager e (next_expired now k e)
+pub expired_manager : (now k : ℕ) (e : Effect) → KeepsManager e (next_expired now k e)
 expired_manager now k e = effect_or e (λ (row : Row). option_map_or (λ kept. joined e (message_expired now k e.state row kept)) (expiring now row) e) (slice_get e.state.outs k)
     (λ row. effect_or e (λ kept. joined e (message_expired now k e.state row kept)) (expiring now row)
     (λ kept. manager_then e.state (with_expired now e.state k) (meets (with_expired now e.state k) kept.message REACH_TIMEOUT now)

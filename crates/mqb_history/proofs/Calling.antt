@@ -253,7 +253,7 @@ chosen_modest : (m : Manager) (now : ℕ) (session : one_end.State) (k : ℕ) (t
 chosen_modest m now session k to [] linked = storage_modest m session linked
 chosen_modest m now session k to (c ∷ cs) linked = record {
   session = refl;
-  entry = none_or None m.state (length (marks_for m.state (c ∷ cs)) == 0) (entry.Offered (marks_for m.state (c ∷ cs))) tt tt;
+  entry = none_or None m.state (length (marks_for m.state (c ∷ cs)) == 0) (entry.Offered (marks_for m.state (c ∷ cs))) (c ∷ cs, refl) tt;
 }
 
 pump_modest : (m : Manager) (now : ℕ) (session : one_end.State) (k : ℕ) (to : Guid) (cs : List Candidate) → is_some m.rest.session ≡ true

@@ -39,7 +39,7 @@ use Rattle.mqb_history.proofs.Lists.{all_append, append_nothing, join_and, split
 -- Rows.
 
 -- the first row that passes is the one that is found
-first_is_found : {X : Type 0} (p : X → Bool) (xs : List X) → first_where p xs ≡ find p xs
+pub first_is_found : {X : Type 0} (p : X → Bool) (xs : List X) → first_where p xs ≡ find p xs
 first_is_found p [] = refl
 first_is_found p (x ∷ xs) = at (p x) (first_is_found p xs)
   where

@@ -18,12 +18,14 @@ mod Runs
 mod Written
 mod Inside
 mod Deciding
-mod Outside
 mod Committing
+mod Marking
+mod Outside
 mod Numbering
 mod Sending
 mod Carrying
 mod Lines
 mod Telling
+mod Expiring
 mod Stopping
 mod Reasons

@@ -1,4 +1,4 @@
--- Which lines records add: all but those of decisions and commitments tell of no stream what was decided or committed.
+-- Which lines records add: all but those of commitments, of messages that expire and of decisions tell of no stream.
 use Rattle.std.proofs.Common.{refl, ap, sym, ◌∙◌}
 use Rattle.std.proofs.lemmas.List.{append_assoc}
 use Rattle.std.specs.List.{AllByRecursion, cons_option}
@@ -18,7 +18,10 @@ use Rattle.mqb_model.specs.records.Commit.{op_taken}
 use Rattle.mqb_model.specs.records.Record.{RecordOp}
 use Rattle.mqb_model.specs.records.Record as entry
 use Rattle.mqb_model.specs.records.Releases.{message_released}
-use Rattle.mqb_model.specs.rules.Effects.{Effect, joined}
+use Rattle.mqb_model.specs.records.Applying.{effect_of, lines_of}
+use Rattle.mqb_model.specs.rules.Effects.{Effect, begun, joined}
+use Rattle.mqb_model.specs.state.State.{State}
+use Rattle.mqb_base.specs.declared.ledger.Stream.{Stream}
 use Rattle.mqb_model.specs.rules.Purges.{count_at, message_purged, oldest_purged, purge_line, purged}
 use Rattle.mqb_model.specs.rules.Takes.{message_at, message_taken, take_line, taken, taken_at}
 use Rattle.mqb_model.specs.rules.Timeouts.{expiring, expiring_in, lane_ticked, lapsing, lapsing_in, message_expired, message_lapsed, message_swept, next_expired, next_lapsed, next_swept, peer_lapsed, queue_swept, row_expired, rows_expired, sweeping, sweeping_in}
@@ -33,9 +36,10 @@ use Rattle.mqb_queue.specs.Places.{Queue}
 use Rattle.mqb_history.specs.Told.{commitment_told, decision_told}
 use Rattle.mqb_history.proofs.Lists.{all_append, append_nothing}
 
--- a line tells of no commitment and no decision
+-- a line tells of no stream
 abbrev pub IsOther : Line → Type 0
 IsOther (line.Committed stream number id) = ⊥
+IsOther (line.Expired stream number id moment) = ⊥
 IsOther (line.Put stream number id) = ⊥
 IsOther (line.Refused stream number class id) = ⊥
 IsOther _ = Unit {0}
@@ -117,15 +121,6 @@ ticked_adds kind now e = let lapsed = for_each_below (length e.state.plain) (pee
     (each_adds (queue_swept kind now) (λ k f. repeated_adds (next_swept kind now k) (swept_adds kind now k) (option_map_or (sweeping_in kind now) (slice_get f.state.places.queues k) 0) f)
     (length e.state.places.queues) lapsed)
 
-expired_adds : (now k : ℕ) (e : Effect) → Adds e (next_expired now k e)
-expired_adds now k e = adds_or e (λ (row : Row). option_map_or (λ kept. joined e (message_expired now k e.state row kept)) (expiring now row) e) (slice_get e.state.outs k)
-    (λ row. adds_or e (λ kept. joined e (message_expired now k e.state row kept)) (expiring now row)
-    (λ kept. adds_one e (message_expired now k e.state row kept) (line.Expired (stream_of e.state row) kept.number kept.message.id now) refl tt))
-
-pub expiring_adds : (now : ℕ) (e : Effect) → Adds e (rows_expired now e)
-expiring_adds now e = each_adds (row_expired now)
-    (λ k f. repeated_adds (next_expired now k) (expired_adds now k) (option_map_or (expiring_in now) (slice_get f.state.outs k) 0) f) (length e.state.outs) e
-
 pub releases_add : (e : Effect) (numbers : List ℕ) → Adds e (fold message_released e numbers)
 releases_add e [] = adds_none e
 releases_add e (n ∷ ns) = adds_then e (message_released e n) (fold message_released (message_released e n) ns)
@@ -143,7 +138,7 @@ pub other_undecided : (channel : Channel) (l : Line) → IsOther l → decision_
 other_undecided channel (line.Committed stream number id) h = absurd h
 other_undecided channel (line.Put stream number id) h = absurd h
 other_undecided channel (line.Refused stream number class id) h = absurd h
-other_undecided channel (line.Expired stream number id moment) h = refl
+other_undecided channel (line.Expired stream number id moment) h = absurd h
 other_undecided channel (line.Local id) h = refl
 other_undecided channel (line.Stored id) h = refl
 other_undecided channel (line.Bounced class id) h = refl
@@ -158,7 +153,7 @@ pub other_uncommitted : (l : Line) → IsOther l → commitment_told l ≡ None
 other_uncommitted (line.Committed stream number id) h = absurd h
 other_uncommitted (line.Put stream number id) h = absurd h
 other_uncommitted (line.Refused stream number class id) h = absurd h
-other_uncommitted (line.Expired stream number id moment) h = refl
+other_uncommitted (line.Expired stream number id moment) h = absurd h
 other_uncommitted (line.Local id) h = refl
 other_uncommitted (line.Stored id) h = refl
 other_uncommitted (line.Bounced class id) h = refl
@@ -187,3 +182,35 @@ told_append tells (x ∷ xs) ys = at (tells x) (told_append tells xs ys)
 pub told_same : {X : Type 0} (tells : Line → Option X) → ((l : Line) → IsOther l → tells l ≡ None) → (e f : Effect) → Adds e f → filter_map tells f.lines ≡ filter_map tells e.lines
 told_same tells quiet e f a = ap (filter_map tells) a.lines ∙ told_append tells e.lines a.more
     ∙ ap (λ zs. filter_map tells e.lines ++ zs) (told_nothing tells quiet a.more a.others) ∙ append_nothing (filter_map tells e.lines)
+
+-- messages that expire change nothing that a word tells which says nothing of them
+expiring_tells : {X : Type 0} (tells : Line → Option X) → ((stream : Stream) (number : ℕ) (id : MessageId) (moment : ℕ) → tells (line.Expired stream number id moment) ≡ None)
+    → (now : ℕ) (e : Effect) → filter_map tells (rows_expired now e).lines ≡ filter_map tells e.lines
+expiring_tells {X} tells quiet now e = rows (length e.state.outs) e
+  where
+    or : {Y : Type 0} (e : Effect) (f : Y → Effect) (o : Option Y) → ((y : Y) → filter_map tells (f y).lines ≡ filter_map tells e.lines)
+        → filter_map tells (option_map_or f o e).lines ≡ filter_map tells e.lines
+    or e f None same = refl
+    or e f (Some y) same = same y
+
+    one : (k : ℕ) (e : Effect) → filter_map tells (next_expired now k e).lines ≡ filter_map tells e.lines
+    one k e = or e (λ (row : Row). option_map_or (λ kept. joined e (message_expired now k e.state row kept)) (expiring now row) e) (slice_get e.state.outs k)
+        (λ row. or e (λ kept. joined e (message_expired now k e.state row kept)) (expiring now row)
+        (λ kept. told_append tells e.lines (line.Expired (stream_of e.state row) kept.number kept.message.id now ∷ [])
+        ∙ ap (λ o. filter_map tells e.lines ++ cons_option o []) (quiet (stream_of e.state row) kept.number kept.message.id now)
+        ∙ append_nothing (filter_map tells e.lines)))
+
+    times : (k n : ℕ) (e : Effect) → filter_map tells (repeated n (next_expired now k) e).lines ≡ filter_map tells e.lines
+    times k zero e = refl
+    times k (suc n) e = one k (repeated n (next_expired now k) e) ∙ times k n e
+
+    rows : (n : ℕ) (e : Effect) → filter_map tells (for_each_below n (row_expired now) e).lines ≡ filter_map tells e.lines
+    rows zero e = refl
+    rows (suc n) e = let f = for_each_below n (row_expired now) e in times n (option_map_or (expiring_in now) (slice_get f.state.outs n) 0) f ∙ rows n e
+
+-- a tick tells nothing by such a word
+pub ticking_tells : {X : Type 0} (tells : Line → Option X) → ((l : Line) → IsOther l → tells l ≡ None)
+    → ((stream : Stream) (number : ℕ) (id : MessageId) (moment : ℕ) → tells (line.Expired stream number id moment) ≡ None)
+    → (s : State) (now : ℕ) → filter_map tells (lines_of s (entry.Ticked now)) ≡ []
+ticking_tells tells other quiet s now = told_same tells other (rows_expired now (begun s)) (effect_of s (entry.Ticked now)) (ticked_adds lane.Durable now (rows_expired now (begun s)))
+    ∙ expiring_tells tells quiet now (begun s)

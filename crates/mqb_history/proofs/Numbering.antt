@@ -35,7 +35,8 @@ use Rattle.mqb_history.specs.Made.{AreNumbered, IsMade}
 use Rattle.mqb_history.proofs.Applying.{applied_manager, made_of_no_peer, ops_taken_rows, sent_manager, takes_made_rows}
 use Rattle.mqb_history.proofs.Committing.{Commits, IsCounted, IsOwnBelow, OrdinalsRise, all_in, counted_apart, counted_own, differ_by_ordinal, first_changed, is_first_changed, numbers_apart, length_more, numbers_own, range_more, rows_join}
 use Rattle.mqb_history.proofs.Lists.{all_append, all_weaker, append_nothing, none_some, other_numbers, some_is}
-use Rattle.mqb_history.proofs.Outside.{CommitsNothing, HasNoMore, HaveNoMore, applied_no_more}
+use Rattle.mqb_history.proofs.Outside.{CommitsNothing, HasNoMore, HaveNoMore, Offers, applied_no_more}
+use Rattle.mqb_history.proofs.Marking.{Raise, marks_raise}
 use Rattle.mqb_history.proofs.Staying.{HasSameRows, delivered_rows, journalled_rows}
 use Rattle.mqb_history.proofs.Written.{IsByRecords, always_by_records}
 
@@ -320,9 +321,23 @@ no_more_commits own olds news next low cs less h = record {
 abbrev pub AreCounted : State → List Written → Type 0
 AreCounted s ws = CommitsIn s s.next_number (commitments ws)
 
-quiet_commits : (s : State) (r : Record) (cs : List Commitment) → CommitsNothing r → (apply s r).identity ≡ s.identity → CommitsIn s s.next_number cs
+-- the marks of a record that was made rise
+pub made_offers : (s : State) (r : Record) → OrdinalsRise s.outs → IsMade s r → Offers s.outs r
+made_offers s (entry.Identity identity) rise h = tt
+made_offers s (entry.Peer peer) rise h = tt
+made_offers s (entry.CreateQueue number plan) rise h = tt
+made_offers s (entry.Commit now ops) rise h = tt
+made_offers s (entry.Plain now p) rise h = tt
+made_offers s (entry.Offered marks) rise h = subst (Raise s.outs) (sym h.1) (marks_raise h.0 0 s.outs rise)
+made_offers s (entry.Arrived now numbers part) rise h = tt
+made_offers s (entry.Taken now place id) rise h = tt
+made_offers s (entry.Purged now place) rise h = tt
+made_offers s (entry.Ticked now) rise h = tt
+made_offers s (entry.Roll count) rise h = tt
+
+quiet_commits : (s : State) (r : Record) (cs : List Commitment) → CommitsNothing r → IsMade s r → (apply s r).identity ≡ s.identity → CommitsIn s s.next_number cs
     → CommitsIn (apply s r) (apply s r).next_number cs
-quiet_commits s r cs nothing same h = let less = applied_no_more s r nothing in
+quiet_commits s r cs nothing made same h = let less = applied_no_more s r nothing (made_offers s r h.rise made) in
     subst (λ (i : Identity). Commits i.guid (apply s r).outs (apply s r).next_ordinal (apply s r).next_number cs) (sym same)
     (subst (λ next. Commits s.identity.guid (apply s r).outs next (apply s r).next_number cs) (sym less.next_ordinal)
     (no_more_commits s.identity.guid s.outs (apply s r).outs s.next_ordinal (apply s r).next_number cs less.outs
@@ -351,22 +366,22 @@ record_commits : (s : State) (r : Record) (cs : List Commitment) → IsMade s r 
     → CommitsIn (apply s r) (apply s r).next_number (cs ++ commitments_in s r)
 record_commits s r cs made h = at r made (applied_manager s r (made_of_no_peer s r made)).identity
   where
-    nothing : (x : Record) → CommitsNothing x → commitments_in s x ≡ [] → (apply s x).identity ≡ s.identity → CommitsIn (apply s x) (apply s x).next_number (cs ++ commitments_in s x)
-    nothing x quiet none same = subst (λ more. CommitsIn (apply s x) (apply s x).next_number (cs ++ more)) (sym none)
-        (subst (CommitsIn (apply s x) (apply s x).next_number) (sym (append_nothing cs)) (quiet_commits s x cs quiet same h))
+    nothing : (x : Record) → CommitsNothing x → IsMade s x → commitments_in s x ≡ [] → (apply s x).identity ≡ s.identity → CommitsIn (apply s x) (apply s x).next_number (cs ++ commitments_in s x)
+    nothing x quiet made none same = subst (λ more. CommitsIn (apply s x) (apply s x).next_number (cs ++ more)) (sym none)
+        (subst (CommitsIn (apply s x) (apply s x).next_number) (sym (append_nothing cs)) (quiet_commits s x cs quiet made same h))
 
     at : (x : Record) → IsMade s x → (apply s x).identity ≡ s.identity → CommitsIn (apply s x) (apply s x).next_number (cs ++ commitments_in s x)
-    at (entry.Identity identity) made same = nothing (entry.Identity identity) tt refl same
+    at (entry.Identity identity) made same = nothing (entry.Identity identity) tt made refl same
     at (entry.Peer peer) made same = absurd made
-    at (entry.CreateQueue number plan) made same = nothing (entry.CreateQueue number plan) tt refl same
+    at (entry.CreateQueue number plan) made same = nothing (entry.CreateQueue number plan) tt made refl same
     at (entry.Commit now ops) made same = commit_commits s now ops cs made h
-    at (entry.Plain now p) made same = nothing (entry.Plain now p) tt refl same
-    at (entry.Offered marks) made same = nothing (entry.Offered marks) tt refl same
-    at (entry.Arrived now numbers part) made same = nothing (entry.Arrived now numbers part) tt refl same
-    at (entry.Taken now place id) made same = nothing (entry.Taken now place id) tt refl same
-    at (entry.Purged now place) made same = nothing (entry.Purged now place) tt refl same
-    at (entry.Ticked now) made same = nothing (entry.Ticked now) tt refl same
-    at (entry.Roll count) made same = nothing (entry.Roll count) tt refl same
+    at (entry.Plain now p) made same = nothing (entry.Plain now p) tt made refl same
+    at (entry.Offered marks) made same = nothing (entry.Offered marks) tt made refl same
+    at (entry.Arrived now numbers part) made same = nothing (entry.Arrived now numbers part) tt made refl same
+    at (entry.Taken now place id) made same = nothing (entry.Taken now place id) tt made refl same
+    at (entry.Purged now place) made same = nothing (entry.Purged now place) tt made refl same
+    at (entry.Ticked now) made same = nothing (entry.Ticked now) tt made refl same
+    at (entry.Roll count) made same = nothing (entry.Roll count) tt made refl same
 
 -- The law.
 

@@ -1,4 +1,4 @@
--- Outgoing rows: but for a transaction a record adds none, and each keeps its sequence and its count, and no message that it had not kept.
+-- Outgoing rows: but for a transaction a record adds none, and each keeps its sequence and its count, and no message that it had not kept. Its mark does not fall.
 use Rattle.std.proofs.Common.{refl, sym, subst, ◌∙◌, arith, inl, inr}
 use Rattle.std.specs.Option.{option_map_or}
 use Rattle.std.specs.Prelude.{[], ◌∷◌, ◌≡◌, Bool, List, None, Option, Some, cond, filter, fold, length, option_and_then, position, remove, slice_get, slice_set, suc, zero, ℕ}
@@ -33,7 +33,9 @@ use Rattle.mqb_base.specs.Bits.{keeps_dead}
 use Rattle.mqb_model.specs.rules.Notices.{meets}
 use Rattle.std.specs.Prelude.{◌||◌, ◌≤◌, false, max, nat_lt, true}
 use Rattle.mqb_model.specs.records.Finals.{is_offered_as}
-use Rattle.mqb_history.proofs.Lists.{some_is}
+use Rattle.mqb_history.proofs.Lists.{equal_numbers, some_is}
+use Rattle.mqb_history.proofs.Marking.{IsAbove, Raise, raise_then}
+use Rattle.mqb_history.proofs.Committing.{first_changed, is_first_changed}
 use Rattle.mqb_history.proofs.Applying.{dead_rows, releases_rows}
 use Rattle.mqb_history.proofs.Staying.{HasSameRows, arrived_rows, meets_rows, plain_sent_rows, purged_rows, taken_rows, ticked_rows}
 
@@ -44,9 +46,11 @@ pub record HasNoMore (a b : Row) : Type 0 where
   pub sequence : b.sequence ≡ a.sequence
   pub committed : b.committed ≡ a.committed
   pub kept : (k : Kept) → In k b.kept → In k a.kept
+  -- and was offered no less
+  pub offered : a.offered ≤ b.offered
 
 pub no_more : (a : Row) → HasNoMore a a
-no_more a = record { peer = refl; destination = refl; sequence = refl; committed = refl; kept = λ k h. h }
+no_more a = record { peer = refl; destination = refl; sequence = refl; committed = refl; kept = λ k h. h; offered = omega arith }
 
 no_more_then : (a b c : Row) → HasNoMore a b → HasNoMore b c → HasNoMore a c
 no_more_then a b c f g = record {
@@ -55,6 +59,7 @@ no_more_then a b c f g = record {
   sequence = g.sequence ∙ f.sequence;
   committed = g.committed ∙ f.committed;
   kept = λ k h. f.kept k (g.kept k h);
+  offered = let low = f.offered in let high = g.offered in omega (arith, low, high);
 }
 
 -- nor have rows, one by one
@@ -85,7 +90,7 @@ pub record NoMore (a b : State) : Type 0 where
 pub nothing_more : (s : State) → NoMore s s
 nothing_more s = record { outs = have_no_more s.outs; next_ordinal = refl; numbers = omega arith }
 
-more_then : (a b c : State) → NoMore a b → NoMore b c → NoMore a c
+pub more_then : (a b c : State) → NoMore a b → NoMore b c → NoMore a c
 more_then a b c f g = record {
   outs = have_then a.outs b.outs c.outs f.outs g.outs;
   next_ordinal = g.next_ordinal ∙ f.next_ordinal;
@@ -148,13 +153,13 @@ without_in test xs x h = at (position test xs) h
     at (Some k) h = removed_in xs k x h
 
 acknowledged_no_more : (number : ℕ) (a : Row) → HasNoMore a (acknowledged number a)
-acknowledged_no_more number a = record { peer = refl; destination = refl; sequence = refl; committed = refl; kept = λ k h. filtered_in (λ (x : Kept). nat_lt (max a.acked number) x.number || keeps_dead x.message) a.kept k h }
+acknowledged_no_more number a = record { peer = refl; destination = refl; sequence = refl; committed = refl; kept = λ k h. filtered_in (λ (x : Kept). nat_lt (max a.acked number) x.number || keeps_dead x.message) a.kept k h; offered = omega arith }
 
-offered_no_more : (number : ℕ) (a : Row) → HasNoMore a (with_offered number a)
-offered_no_more number a = record { peer = refl; destination = refl; sequence = refl; committed = refl; kept = λ k h. h }
+offered_no_more : (number : ℕ) (a : Row) → a.offered ≤ number → HasNoMore a (with_offered number a)
+offered_no_more number a above = record { peer = refl; destination = refl; sequence = refl; committed = refl; kept = λ k h. h; offered = above }
 
 expired_no_more : (now : ℕ) (a : Row) → HasNoMore a (without_expired now a)
-expired_no_more now a = record { peer = refl; destination = refl; sequence = refl; committed = refl; kept = λ k h. without_in (expires now a) a.kept k h }
+expired_no_more now a = record { peer = refl; destination = refl; sequence = refl; committed = refl; kept = λ k h. without_in (expires now a) a.kept k h; offered = omega arith }
 
 finished_no_more : (id : MessageId) (number : ℕ) (a : Row) → HasNoMore a (finished_row id number a)
 finished_no_more id number a = record {
@@ -163,16 +168,26 @@ finished_no_more id number a = record {
   sequence = refl;
   committed = refl;
   kept = λ k h. without_in (is_offered_as id a) a.kept k (filtered_in (λ (x : Kept). nat_lt (max a.acked number) x.number || keeps_dead x.message) (without_first (is_offered_as id a) a.kept) k h);
+  offered = omega arith;
 }
 
 -- Records.
 
-mark_no_more : (s : State) (mark : Mark) → NoMore s (mark_raised s mark)
-mark_no_more s mark = record { outs = first_no_more (with_offered mark.number) (has_ordinal mark.ordinal) s.outs (offered_no_more mark.number); next_ordinal = refl; numbers = omega arith }
+raised_no_more : (mark : Mark) (olds : List Row) → IsAbove mark olds → HaveNoMore olds (first_changed (with_offered mark.number) (has_ordinal mark.ordinal) olds)
+raised_no_more mark [] h = tt
+raised_no_more mark (a ∷ olds) h = at (has_ordinal mark.ordinal a) refl (raised_no_more mark olds h.1)
+  where
+    at : (b : Bool) → has_ordinal mark.ordinal a ≡ b → HaveNoMore olds (first_changed (with_offered mark.number) (has_ordinal mark.ordinal) olds)
+        → HaveNoMore (a ∷ olds) (cond b (with_offered mark.number a ∷ olds) (a ∷ first_changed (with_offered mark.number) (has_ordinal mark.ordinal) olds))
+    at true e rest = (offered_no_more mark.number a (h.0 (equal_numbers a.sequence.ordinal mark.ordinal e)), have_no_more olds)
+    at false e rest = (no_more a, rest)
 
-marks_no_more : (s : State) (marks : List Mark) → NoMore s (fold mark_raised s marks)
-marks_no_more s [] = nothing_more s
-marks_no_more s (mark ∷ marks) = more_then s (mark_raised s mark) (fold mark_raised (mark_raised s mark) marks) (mark_no_more s mark) (marks_no_more (mark_raised s mark) marks)
+marks_no_more : (s : State) (marks : List Mark) → Raise s.outs marks → NoMore s (fold mark_raised s marks)
+marks_no_more s [] h = nothing_more s
+marks_no_more s (mark ∷ marks) h = let same = sym (is_first_changed (with_offered mark.number) (has_ordinal mark.ordinal) s.outs) in
+    more_then s (mark_raised s mark) (fold mark_raised (mark_raised s mark) marks)
+    (record { outs = subst (HaveNoMore s.outs) same (raised_no_more mark s.outs h.0.0); next_ordinal = refl; numbers = omega arith })
+    (marks_no_more (mark_raised s mark) marks (subst (λ rows. Raise rows marks) same (raise_then mark marks s.outs h.1.0 (h.0.1, h.1.1))))
 
 finished_at_no_more : (s : State) (m : Message) (index : ℕ) → NoMore s (finished_at s m index)
 finished_at_no_more s m index = no_more_or s (λ k. dead_for m.class (with_finished m.correlation s index k) k.message)
@@ -186,7 +201,7 @@ final_no_more : (s : State) (m : Message) → NoMore s (final_stored s m).state
 final_no_more s m = no_more_or s (λ peer. finished_by s peer m) (peer_known s m.id.qm)
     (λ peer. no_more_or s (finished_at s m) (index_finished s peer m) (finished_at_no_more s m))
 
-next_no_more : (now k : ℕ) (e : Effect) → NoMore e.state (next_expired now k e).state
+pub next_no_more : (now k : ℕ) (e : Effect) → NoMore e.state (next_expired now k e).state
 next_no_more now k e = effect_or e (λ (row : Row). option_map_or (λ kept. joined e (message_expired now k e.state row kept)) (expiring now row) e) (slice_get e.state.outs k)
     (λ row. effect_or e (λ kept. joined e (message_expired now k e.state row kept)) (expiring now row)
     (λ kept. more_then e.state (with_expired now e.state k) (meets (with_expired now e.state k) kept.message REACH_TIMEOUT now)
@@ -226,19 +241,24 @@ part_no_more now e (entry.OrderAcknowledged ordinal number) = record {
 }
 part_no_more now e (entry.Final p) = final_no_more e.state p.message
 
-pub applied_no_more : (s : State) (r : Record) → CommitsNothing r → NoMore s (apply s r)
-applied_no_more s (entry.Identity identity) h = nothing_more s
-applied_no_more s (entry.Peer peer) h = record { outs = have_no_more s.outs; next_ordinal = refl; numbers = omega arith }
-applied_no_more s (entry.CreateQueue number plan) h = record { outs = have_no_more s.outs; next_ordinal = refl; numbers = omega arith }
-applied_no_more s (entry.Commit now ops) h = absurd h
-applied_no_more s (entry.Plain now p) h = more_then s (numbers_taken s 1) (apply s (entry.Plain now p))
+-- what a record offers raises marks
+abbrev pub Offers : List Row → Record → Type 0
+Offers rows (entry.Offered marks) = Raise rows marks
+Offers rows _ = Unit {0}
+
+pub applied_no_more : (s : State) (r : Record) → CommitsNothing r → Offers s.outs r → NoMore s (apply s r)
+applied_no_more s (entry.Identity identity) h o = nothing_more s
+applied_no_more s (entry.Peer peer) h o = record { outs = have_no_more s.outs; next_ordinal = refl; numbers = omega arith }
+applied_no_more s (entry.CreateQueue number plan) h o = record { outs = have_no_more s.outs; next_ordinal = refl; numbers = omega arith }
+applied_no_more s (entry.Commit now ops) h o = absurd h
+applied_no_more s (entry.Plain now p) h o = more_then s (numbers_taken s 1) (apply s (entry.Plain now p))
     (record { outs = have_no_more s.outs; next_ordinal = refl; numbers = omega arith })
     (from_same (numbers_taken s 1) (apply s (entry.Plain now p)) (plain_sent_rows (numbers_taken s 1) p.message now))
-applied_no_more s (entry.Offered marks) h = marks_no_more s marks
-applied_no_more s (entry.Arrived now numbers part) h = more_then s (releases_made s numbers).state (apply s (entry.Arrived now numbers part))
+applied_no_more s (entry.Offered marks) h o = marks_no_more s marks o
+applied_no_more s (entry.Arrived now numbers part) h o = more_then s (releases_made s numbers).state (apply s (entry.Arrived now numbers part))
     (from_same s (releases_made s numbers).state (releases_rows (begun s) numbers)) (part_no_more now (releases_made s numbers) part)
-applied_no_more s (entry.Taken now at id) h = from_same s (apply s (entry.Taken now at id)) (taken_rows at id now (begun s))
-applied_no_more s (entry.Purged now at) h = from_same s (apply s (entry.Purged now at)) (purged_rows lane.Durable at now (begun s))
-applied_no_more s (entry.Ticked now) h = more_then s (rows_expired now (begun s)).state (apply s (entry.Ticked now)) (expiring_no_more now (begun s))
+applied_no_more s (entry.Taken now at id) h o = from_same s (apply s (entry.Taken now at id)) (taken_rows at id now (begun s))
+applied_no_more s (entry.Purged now at) h o = from_same s (apply s (entry.Purged now at)) (purged_rows lane.Durable at now (begun s))
+applied_no_more s (entry.Ticked now) h o = more_then s (rows_expired now (begun s)).state (apply s (entry.Ticked now)) (expiring_no_more now (begun s))
     (from_same (rows_expired now (begun s)).state (apply s (entry.Ticked now)) (ticked_rows lane.Durable now (rows_expired now (begun s))))
-applied_no_more s (entry.Roll count) h = record { outs = have_no_more s.outs; next_ordinal = refl; numbers = omega arith }
+applied_no_more s (entry.Roll count) h o = record { outs = have_no_more s.outs; next_ordinal = refl; numbers = omega arith }

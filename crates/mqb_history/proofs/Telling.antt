@@ -26,7 +26,6 @@ use Rattle.mqb_model.specs.records.Releases.{releases_made}
 use Rattle.mqb_model.specs.rules.Arrivals.{refusal_of, storing_refusal}
 use Rattle.mqb_model.specs.rules.Effects.{Effect, begun, joined}
 use Rattle.mqb_model.specs.rules.Sends.{committed_to, journalled, message_sent}
-use Rattle.mqb_model.specs.rules.Timeouts.{rows_expired}
 use Rattle.mqb_model.specs.state.Resolving.{is_here, resolved}
 use Rattle.mqb_model.specs.state.State.{State}
 use Rattle.mqb_network.specs.Courses.{Written}
@@ -44,7 +43,7 @@ use Rattle.mqb_model.specs.records.Finals.{final_stored}
 use Rattle.mqb_model.specs.rules.Sequences.{new_sequence, sequence_for}
 use Rattle.mqb_model.specs.state.Rows.{last_sequence}
 use Rattle.mqb_history.specs.Told.{Joined, commitment_told, decision_told, joined_by}
-use Rattle.mqb_history.proofs.Lines.{Adds, IsOther, adds_then, expiring_adds, ops_add, other_uncommitted, other_undecided, purged_adds, releases_add, taken_adds, ticked_adds, told_append, told_nothing, told_same}
+use Rattle.mqb_history.proofs.Lines.{Adds, IsOther, ops_add, other_uncommitted, other_undecided, purged_adds, releases_add, taken_adds, ticking_tells, told_append, told_nothing, told_same}
 use Rattle.mqb_history.proofs.Lists.{append_nothing, none_some, some_is, split_and}
 use Rattle.mqb_history.proofs.Written.{IsByRecords, always_by_records}
 
@@ -115,8 +114,7 @@ record_tells channel s (entry.Arrived now numbers (entry.Final p)) = let e = rel
     joined_tells channel e (final_stored e.state p.message) (quiet_effect channel s e (releases_add (begun s) numbers))
 record_tells channel s (entry.Taken now place id) = quiet_effect channel s (effect_of s (entry.Taken now place id)) (taken_adds place id now (begun s))
 record_tells channel s (entry.Purged now place) = quiet_effect channel s (effect_of s (entry.Purged now place)) (purged_adds lane.Durable place now (begun s))
-record_tells channel s (entry.Ticked now) = quiet_effect channel s (effect_of s (entry.Ticked now))
-    (adds_then (begun s) (rows_expired now (begun s)) (effect_of s (entry.Ticked now)) (expiring_adds now (begun s)) (ticked_adds lane.Durable now (rows_expired now (begun s))))
+record_tells channel s (entry.Ticked now) = ticking_tells (decision_told channel) (other_undecided channel) (λ stream number id moment. refl) s now
 record_tells channel s (entry.Roll count) = refl
 
 -- of all records, in order
@@ -235,8 +233,7 @@ record_joins s (entry.Arrived now numbers (entry.Final p)) = let e = releases_ma
     more_joins e (final_stored e.state p.message) (quiet_joins s e (releases_add (begun s) numbers)) refl
 record_joins s (entry.Taken now place id) = quiet_joins s (effect_of s (entry.Taken now place id)) (taken_adds place id now (begun s))
 record_joins s (entry.Purged now place) = quiet_joins s (effect_of s (entry.Purged now place)) (purged_adds lane.Durable place now (begun s))
-record_joins s (entry.Ticked now) = quiet_joins s (effect_of s (entry.Ticked now))
-    (adds_then (begun s) (rows_expired now (begun s)) (effect_of s (entry.Ticked now)) (expiring_adds now (begun s)) (ticked_adds lane.Durable now (rows_expired now (begun s))))
+record_joins s (entry.Ticked now) = ticking_tells commitment_told other_uncommitted (λ stream number id moment. refl) s now
 record_joins s (entry.Roll count) = refl
 
 -- The law.
@@ -244,7 +241,7 @@ record_joins s (entry.Roll count) = refl
 abbrev AreJoinsTold : State → List Written → Type 0
 AreJoinsTold s ws = told_joins (lines_written ws) ≡ map (joined_by s.identity.guid) (commitments ws)
 
-lines_more : (ws : List Written) (w : Written) → lines_written (ws ++ w ∷ []) ≡ lines_written ws ++ lines_of w.before w.entry
+pub lines_more : (ws : List Written) (w : Written) → lines_written (ws ++ w ∷ []) ≡ lines_written ws ++ lines_of w.before w.entry
 lines_more [] w = append_nothing (lines_of w.before w.entry)
 lines_more (x ∷ ws) w = ap (λ ls. lines_of x.before x.entry ++ ls) (lines_more ws w) ∙ sym (append_assoc (lines_of x.before x.entry) (lines_written ws) (lines_of w.before w.entry))
 

@@ -11,6 +11,12 @@ use Rattle.mqb_history.specs.Committed.{AreCommittedInOrder}
 use Rattle.mqb_history.specs.Decided.{IsDecidedInOrder, decisions}
 use Rattle.mqb_history.specs.Told.{AreCommitmentsTold, decisions_told}
 use Rattle.mqb_history.specs.Orderly.{IsOrderly}
+use Rattle.mqb_history.specs.Expired.{AreExpiredDuly, MayExpire}
+use Rattle.mqb_base.specs.declared.ids.MessageId.{MessageId}
+use Rattle.mqb_base.specs.declared.ledger.Line.TheVariants as line
+use Rattle.mqb_base.specs.declared.ledger.Stream.{Stream}
+use Rattle.mqb_exactly_once.specs.Words.{In}
+use Rattle.mqb_model.specs.records.Record.{Record}
 use Rattle.mqb_network.specs.Laws.{Always}
 use Rattle.mqb_exactly_once.specs.World.{Channel}
 use Rattle.mqb_network.specs.Courses.{Written}
@@ -77,3 +83,12 @@ abbrev pub DecisionsHaveReasons : Type 0
 DecisionsHaveReasons = (s : State) (now : ℕ) (numbers : List ℕ) (p : UserPacket) (tx : TxHead) → p.tx ≡ Some tx
     → (released : List Line)
     × (lines_of s (entry.Arrived now numbers (entry.Decided p)) ≡ released ++ decided_line p.message tx (refusal_of s p) ∷ [])
+
+-- A message expires out of a row of the state that its record met: it was not offered, and was due.
+abbrev pub ExpiriesHaveReasons : Type 0
+ExpiriesHaveReasons = (s : State) (r : Record) (stream : Stream) (number : ℕ) (id : MessageId) (moment : ℕ)
+    → In (line.Expired stream number id moment) (lines_of s r) → MayExpire s stream number id moment
+
+-- What expires was committed by its manager, and was due.
+abbrev pub AlwaysExpiredDuly : Type 0
+AlwaysExpiredDuly = Always AreExpiredDuly

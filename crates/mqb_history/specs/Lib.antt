@@ -8,4 +8,5 @@ pub mod Decided
 pub mod Committed
 pub mod Carried
 pub mod Told
+pub mod Expired
 pub mod Laws

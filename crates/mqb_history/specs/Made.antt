@@ -1,15 +1,20 @@
 -- What is known of a record that a call made, as long as its manager's rows and numbers stay.
-use Rattle.std.specs.Prelude.{[], ◌+◌, ◌∷◌, ◌≡◌, List, Option, Some, ℕ}
+use Rattle.std.specs.List.{enumerate_from}
+use Rattle.std.specs.Prelude.{[], ◌+◌, ◌∷◌, ◌≡◌, List, Option, Some, filter_map, ℕ}
 use Rattle.mqb_base.specs.declared.heads.TxHead.{TxHead}
 use Rattle.mqb_base.specs.declared.ids.Guid.{Guid}
 use Rattle.mqb_base.specs.declared.message.Message.{Message}
+use Rattle.mqb_entries.specs.declared.members.Mark.{Mark}
 use Rattle.mqb_model.specs.Lists.{first_where}
+use Rattle.mqb_model.specs.calls.pump.Candidates.{Candidate}
+use Rattle.mqb_model.specs.calls.pump.Pump.{mark_for}
 use Rattle.mqb_model.specs.records.Commit.{sends_of}
 use Rattle.mqb_model.specs.records.Record.{Record}
 use Rattle.mqb_model.specs.records.Record as entry
 use Rattle.mqb_model.specs.state.Rows.{is_row_of}
 use Rattle.mqb_model.specs.state.State.{State}
 use Rattle.mqb_orders.specs.Judging.{verdict_of}
+use Rattle.mqb_orders.specs.Rows.{Row}
 use Rattle.mqb_orders.specs.declared.judging.Verdict.TheVariants.{Next}
 use Rattle.mqb_orders.specs.declared.rows.InRow.{InRow}
 use Rattle.mqb_packet.specs.declared.packet.Packet.{Packet}
@@ -31,16 +36,21 @@ pub record IsNext (ins : List InRow) (p : UserPacket) : Type 0 where
   pub there : p.tx ≡ Some head
   pub next : verdict_of (row_heard ins p.message) head ≡ Next
 
--- A record adds no peer, the messages that a transaction sends bear the next numbers, and what is decided is next.
-abbrev pub IsMadeBy : Guid → List InRow → ℕ → Record → Type 0
-IsMadeBy own ins next (entry.Peer peer) = ⊥
-IsMadeBy own ins next (entry.Commit now ops) = AreNumbered own next (sends_of ops)
-IsMadeBy own ins next (entry.Arrived now numbers (entry.Decided p)) = IsNext ins p
-IsMadeBy own ins next _ = Unit {0}
+-- marks are those of candidates that a pump sends from these rows
+abbrev pub AreSent : List Row → List Mark → Type 0
+AreSent outs marks = (cs : List Candidate) × (marks ≡ filter_map (mark_for cs) (enumerate_from 0 outs))
+
+-- A record adds no peer, the messages that a transaction sends bear the next numbers, what is offered is sent, and what is decided is next.
+abbrev pub IsMadeBy : Guid → List Row → List InRow → ℕ → Record → Type 0
+IsMadeBy own outs ins next (entry.Peer peer) = ⊥
+IsMadeBy own outs ins next (entry.Commit now ops) = AreNumbered own next (sends_of ops)
+IsMadeBy own outs ins next (entry.Offered marks) = AreSent outs marks
+IsMadeBy own outs ins next (entry.Arrived now numbers (entry.Decided p)) = IsNext ins p
+IsMadeBy own outs ins next _ = Unit {0}
 
 -- it was made in this state
 abbrev pub IsMade : State → Record → Type 0
-IsMade s r = IsMadeBy s.identity.guid s.ins s.next_number r
+IsMade s r = IsMadeBy s.identity.guid s.outs s.ins s.next_number r
 
 -- What a record that a call made decides is the packet that the call heard.
 abbrev pub IsFrom : Option Packet → Record → Type 0

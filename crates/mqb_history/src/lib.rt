@@ -3,7 +3,7 @@
 //! Each function stands for a law: its contract is the law, and its body is empty.
 #![tactic(auto)]
 
-ghost use Rattle.mqb_history.specs.Laws.{AlwaysCarriedTruly, AlwaysCommittedInOrder, AlwaysDecidedInOrder, AlwaysDecidedTruly, AlwaysToldCommitments, DecisionsHaveReasons, DownStays, FailuresAreSettled, HistoriesAreOrderly, LinesTellDecisions, RunsHaveHistories};
+ghost use Rattle.mqb_history.specs.Laws.{AlwaysCarriedTruly, AlwaysCommittedInOrder, AlwaysDecidedInOrder, AlwaysDecidedTruly, AlwaysExpiredDuly, AlwaysToldCommitments, DecisionsHaveReasons, DownStays, ExpiriesHaveReasons, FailuresAreSettled, HistoriesAreOrderly, LinesTellDecisions, RunsHaveHistories};
 
 /// Sessions are connections, there is a note for each packet, and managers stay who they are.
 pub fn histories_are_orderly()
@@ -58,4 +58,14 @@ pub fn failures_are_settled()
 /// A message that is decided is put, or refused for the reason that there is when it is heard.
 pub fn decisions_have_reasons()
     ensures { DecisionsHaveReasons }
+{}
+
+/// A message expires out of the row that keeps it, where its time to reach its queue is over and it was not offered.
+pub fn expiries_have_reasons()
+    ensures { ExpiriesHaveReasons }
+{}
+
+/// Whatever expires at a manager was committed there, and its time to reach its queue was over.
+pub fn always_expired_duly()
+    ensures { AlwaysExpiredDuly }
 {}

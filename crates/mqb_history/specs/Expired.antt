@@ -1,0 +1,41 @@
+-- What the lines of the ledger say of messages that expire.
+use Rattle.std.specs.Prelude.{◌<◌, ◌≡◌, IsTrue, List, ℕ}
+use Rattle.mqb_base.specs.declared.ids.MessageId.{MessageId}
+use Rattle.mqb_base.specs.declared.ledger.Line.TheVariants as line
+use Rattle.mqb_base.specs.declared.ledger.Stream.{Stream}
+use Rattle.mqb_exactly_once.specs.Words.{In, due}
+use Rattle.mqb_exactly_once.specs.World.{Commitment}
+use Rattle.mqb_model.specs.state.Rows.{stream_of}
+use Rattle.mqb_model.specs.state.State.{State}
+use Rattle.mqb_network.specs.Courses.{Course}
+use Rattle.mqb_network.specs.Laws.{lines_written}
+use Rattle.mqb_orders.specs.Rows.{Row}
+use Rattle.mqb_orders.specs.declared.kept.Kept.{Kept}
+use Rattle.mqb_history.specs.Committed.{commitments}
+use Rattle.mqb_history.specs.Decided.{written_of}
+
+-- An outgoing row of a state keeps the message, above the number that it offered last, and its time to reach its queue is over at that moment.
+pub record MayExpire (s : State) (stream : Stream) (number : ℕ) (id : MessageId) (moment : ℕ) : Type 0 where
+  pub row : Row
+  pub there : In row s.outs
+  pub of_row : stream ≡ stream_of s row
+  pub kept : Kept
+  pub inside : In kept row.kept
+  pub of_kept : number ≡ kept.number
+  pub names : id ≡ kept.message.id
+  pub unoffered : row.offered < kept.number
+  pub due : IsTrue (due kept.message moment)
+
+-- A message was committed with this identifier, under this number of a sequence, and it was due at that moment.
+pub record WasDue (cs : List Commitment) (stream : Stream) (number : ℕ) (id : MessageId) (moment : ℕ) : Type 0 where
+  pub commitment : Commitment
+  pub there : In commitment cs
+  pub position : commitment.position ≡ record { sequence = stream.sequence; number = number }
+  pub names : commitment.message.id ≡ id
+  pub due : IsTrue (due commitment.message moment)
+
+-- What a manager lets expire it had committed, and its time to reach its queue was over.
+abbrev pub AreExpiredDuly : Course → Type 0
+AreExpiredDuly c = (i : ℕ) (stream : Stream) (number : ℕ) (id : MessageId) (moment : ℕ)
+    → In (line.Expired stream number id moment) (lines_written (written_of i c.written))
+    → WasDue (commitments (written_of i c.written)) stream number id moment
