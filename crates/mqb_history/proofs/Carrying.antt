@@ -40,7 +40,12 @@ use Rattle.std.specs.Prelude.{not}
 use Rattle.mqb_history.proofs.Ending.{parted_at, parted_condition}
 use Rattle.mqb_history.proofs.Keeping.{IsClosed}
 use Rattle.mqb_history.proofs.Lists.{append_nothing, clash, get_in, get_within, none_some, not_true, set_get, other_numbers, some_is, split_and}
-use Rattle.mqb_history.proofs.Numbering.{AreCounted, counted_by_records}
+use Rattle.mqb_history.proofs.Holding.{HasExpired, expired_more}
+use Rattle.mqb_history.proofs.Previous.{IsKnownTo, rows_known}
+use Rattle.mqb_history.proofs.Unskipped.{AreHeld, held_by_records}
+use Rattle.mqb_network.specs.Laws.{lines_written}
+use Rattle.mqb_model.specs.records.Applying.{lines_of}
+use Rattle.mqb_exactly_once.specs.Words.{position_of}
 use Rattle.mqb_history.proofs.Ordering.{with_at}
 use Rattle.mqb_history.proofs.Orderly.{change_orderly, map_get}
 use Rattle.mqb_history.proofs.Runs.{always_kept}
@@ -54,6 +59,11 @@ commitments_append [] ys = refl
 commitments_append (x ∷ xs) ys = ap (λ cs. commitments_in x.before x.entry ++ cs) (commitments_append xs ys)
     ∙ sym (append_assoc (commitments_in x.before x.entry) (commitments xs) (commitments ys))
 
+lines_append : (xs ys : List Written) → lines_written (xs ++ ys) ≡ lines_written xs ++ lines_written ys
+lines_append [] ys = refl
+lines_append (x ∷ xs) ys = ap (λ ls. lines_of x.before x.entry ++ ls) (lines_append xs ys)
+    ∙ sym (append_assoc (lines_of x.before x.entry) (lines_written xs) (lines_written ys))
+
 grown : (i : ℕ) (ws more : List Written) (moment : ℕ) (p : UserPacket) (tx : TxHead) → IsCommittedBy i ws moment p tx → IsCommittedBy i (ws ++ more) moment p tx
 grown i ws more moment p tx h = record {
   commitment = h.commitment;
@@ -62,6 +72,8 @@ grown i ws more moment p tx h = record {
   position = h.position;
   message = h.message;
   late = h.late;
+  between = λ n low high. subst (λ ls. HasExpired ls tx.sequence n) (sym (ap lines_written (of_append i ws more) ∙ lines_append (written_of i ws) (written_of i more)))
+      (expired_more (lines_written (written_of i ws)) (lines_written (written_of i more)) tx.sequence n (h.between n low high));
 }
 
 -- a record decides nothing that some manager has not committed
@@ -276,17 +288,24 @@ posted_true i now packets c noted_all new h = record {
 }
 
 -- what a manager's records committed, a packet of its rows carries
-packet_true : (i : ℕ) (ws : List Written) (moment : ℕ) (x : Packet) → IsPacketOf (commitments (written_of i ws)) moment x
+packet_true : (i : ℕ) (ws : List Written) (moment : ℕ) (x : Packet) → IsPacketOf (IsKnownTo (written_of i ws)) moment x
     → (p : UserPacket) (tx : TxHead) → x ≡ packet.User p → p.tx ≡ Some tx → IsCommittedBy i ws moment p tx
-packet_true i ws moment x h p tx e t = let g = h p tx e t in record { commitment = g.commitment; there = g.there; position = g.position; message = g.message; late = g.late }
+packet_true i ws moment x h p tx e t = let g = h p tx e t in record {
+  commitment = record { position = position_of tx; message = g.source };
+  there = g.known.0;
+  position = refl;
+  message = g.message;
+  late = g.late;
+  between = g.known.1;
+}
 
-given_true : (i now : ℕ) (failure : Option Failure) (c : Course) → AreCounted (manager_at c.network i).state (written_of i c.written)
+given_true : (i now : ℕ) (failure : Option Failure) (c : Course) → AreHeld (manager_at c.network i).state (written_of i c.written)
     → (x : Packet) → In x (given_out (outcome_of (manager_at c.network i) (Pump now)) failure) → (p : UserPacket) (tx : TxHead) → x ≡ packet.User p → p.tx ≡ Some tx
     → IsCommittedBy i c.written now p tx
-given_true i now None c counted x inside = packet_true i c.written now x
-    (all_in (IsPacketOf (commitments (written_of i c.written)) now) (outcome_of (manager_at c.network i) (Pump now)).packets x
-    (pump_carries (commitments (written_of i c.written)) (manager_at c.network i) now counted.rows) inside)
-given_true i now (Some how) c counted x inside = absurd inside
+given_true i now None c held x inside = let known = IsKnownTo (written_of i c.written) in packet_true i c.written now x
+    (all_in (IsPacketOf known now) (outcome_of (manager_at c.network i) (Pump now)).packets x
+    (pump_carries known (manager_at c.network i) now (rows_known (manager_at c.network i).state (written_of i c.written) held)) inside)
+given_true i now (Some how) c held x inside = absurd inside
 
 calling_grows : (i : ℕ) (call : Call) (failure : Option Failure) (c : Course) → (k moment : ℕ) (p : UserPacket) (tx : TxHead) → IsCommittedBy k c.written moment p tx
     → IsCommittedBy k (calling i call failure c).written moment p tx
@@ -345,48 +364,48 @@ with_condition : (n : Network) (ws : List Written) (i : ℕ) (m : Manager) → (
     → IfSome (doubt_of m.condition) (DecidesTruly ws) → (j : ℕ) → IfSome (doubt_of (manager_at (with_manager n i m) j).condition) (DecidesTruly ws)
 with_condition n ws i m h new j = with_at (λ x. IfSome (doubt_of x.condition) (DecidesTruly ws)) n i j m (h j) (λ e. new)
 
-change_true : (c : Course) (x : Change) → may_change c x ≡ true → length c.network.notes ≡ length c.sent → ((i : ℕ) → AreCounted (manager_at c.network i).state (written_of i c.written))
+change_true : (c : Course) (x : Change) → may_change c x ≡ true → length c.network.notes ≡ length c.sent → ((i : ℕ) → AreHeld (manager_at c.network i).state (written_of i c.written))
     → IsTruthful c → IsTruthful (changed x c)
-change_true c (Calls i call failure) may noted_all counted h = calling_true i call failure c
+change_true c (Calls i call failure) may noted_all held h = calling_true i call failure c
     (from_none c.written (outcome_of (manager_at c.network i) call).entry
     (subst (λ a. IfSome (outcome_of (manager_at c.network i) call).entry (IsFrom a)) (none_heard call (not_true (is_of_packets call) (split_and (not (is_of_packets call)) _ may).0))
     (from_only _ (manager_at c.network i).state (outcome_of (manager_at c.network i) call).entry (calls_are_modest (manager_at c.network i) call).entry))) h
-change_true c (Pumps i now failure) may noted_all counted h = posted_true i now (given_out (outcome_of (manager_at c.network i) (Pump now)) failure) (calling i (Pump now) failure c)
+change_true c (Pumps i now failure) may noted_all held h = posted_true i now (given_out (outcome_of (manager_at c.network i) (Pump now)) failure) (calling i (Pump now) failure c)
     (calling_noted i (Pump now) failure c noted_all)
-    (λ x inside p tx e t. calling_grows i (Pump now) failure c i now p tx (given_true i now failure c (counted i) x inside p tx e t))
+    (λ x inside p tx e t. calling_grows i (Pump now) failure c i now p tx (given_true i now failure c (held i) x inside p tx e t))
     (calling_true i (Pump now) failure c (from_none c.written (outcome_of (manager_at c.network i) (Pump now)).entry
     (from_only _ (manager_at c.network i).state (outcome_of (manager_at c.network i) (Pump now)).entry (calls_are_modest (manager_at c.network i) (Pump now)).entry)) h)
-change_true c (Hears k now failure) may noted_all counted h = hearing_true k now failure c (numbered c.network.notes k) (numbered c.sent k) refl refl h
-change_true c (Links a b window_a window_b) may noted_all counted h = record {
+change_true c (Hears k now failure) may noted_all held h = hearing_true k now failure c (numbered c.network.notes k) (numbered c.sent k) refl refl h
+change_true c (Links a b window_a window_b) may noted_all held h = record {
   carried = h.carried;
   written = h.written;
   doubts = let end = asking (manager_at c.network a).state (manager_at c.network b).state.identity.guid in
       same_doubts c (linked_as b role.Acceptor window_b (linked_as a end window_a c.network)) c.written
       (λ j. linked_condition (linked_as a end window_a c.network) b j role.Acceptor window_b ∙ linked_condition c.network a j end window_a) h.doubts;
 }
-change_true c (Ends i) may noted_all counted h = record {
+change_true c (Ends i) may noted_all held h = record {
   carried = λ k note p tx e f t. h.carried k note p tx (subst (λ (notes : List Note). numbered notes k ≡ Some note) (ended_notes_same c.network i) e) f t;
   written = h.written;
   doubts = λ j. parted_at (λ x. IfSome (doubt_of x.condition) (DecidesTruly c.written)) c.network i j
       (λ x g. subst (λ y. IfSome (doubt_of y) (DecidesTruly c.written)) (sym (parted_condition x)) g) (h.doubts j);
 }
-change_true c (Drops d) may noted_all counted h = record {
+change_true c (Drops d) may noted_all held h = record {
   carried = λ k note p tx e f t. let old = dropped_note c.network.notes d k note e in
       subst (λ s. IsCommittedBy s c.written note.moment p tx) old.2 (subst (λ moment. IsCommittedBy old.0.sender c.written moment p tx) old.3 (h.carried k old.0 p tx old.1 f t));
   written = h.written;
   doubts = h.doubts;
 }
-change_true c (Restarts i) may noted_all counted h = record {
+change_true c (Restarts i) may noted_all held h = record {
   carried = h.carried;
   written = h.written;
   doubts = with_condition c.network c.written i (restarted (manager_at c.network i) false) h.doubts tt;
 }
-change_true c (Finds i) may noted_all counted h = let m = manager_at c.network i in let more = written_by i m (doubt_of m.condition) in record {
+change_true c (Finds i) may noted_all held h = let m = manager_at c.network i in let more = written_by i m (doubt_of m.condition) in record {
   carried = λ k note p tx e f t. grown note.sender c.written more note.moment p tx (h.carried k note p tx e f t);
   written = with_record c.written i m (doubt_of m.condition) (h.doubts i) h.written;
   doubts = with_condition c.network (c.written ++ more) i (restarted m true) (λ j. some_true_grown c.written more (doubt_of (manager_at c.network j).condition) (h.doubts j)) tt;
 }
-change_true c (Fails i) may noted_all counted h = record {
+change_true c (Fails i) may noted_all held h = record {
   carried = h.carried;
   written = h.written;
   doubts = with_condition c.network c.written i (unread (manager_at c.network i)) h.doubts (h.doubts i);
@@ -396,20 +415,20 @@ change_true c (Fails i) may noted_all counted h = record {
 
 -- what holds of each course
 abbrev IsCarrying : List Identity → Course → Type 0
-IsCarrying known c = IsOrderlyWith known AreCounted c × IsTruthful c
+IsCarrying known c = IsOrderlyWith known AreHeld c × IsTruthful c
 
 carrying_closed : (known : List Identity) → AreApart known → IsClosed known (IsCarrying known)
 carrying_closed known apart = record {
   orderly = λ c h. h.0.0;
   keeps = λ c x may h. (
-    (change_orderly known c x apart may h.0.0, change_keeps known AreCounted counted_by_records c x may h.0.0 h.0.1),
+    (change_orderly known c x apart may h.0.0, change_keeps known AreHeld held_by_records c x may h.0.0 h.0.1),
     change_true c x may h.0.0.noted h.0.1 h.1,
   );
 }
 
 carrying_begins : (known : List Identity) → IsCarrying known (beginning known)
 carrying_begins known = (
-  begins_with known AreCounted counted_by_records,
+  begins_with known AreHeld held_by_records,
   record {
     carried = λ k note p tx e f t. absurd (nothing_numbered k note e);
     written = tt;
@@ -438,7 +457,7 @@ always_decided_truly known ms apart run kept = from_source (settled kept (after_
         let all = subst (λ ws. IsCommittedBy g.0 ws g.1 p tx) (sym split) (grown g.0 before (w ∷ behind) g.1 p tx g.2) in record {
           source = g.0;
           own = sym ((all_in (IsOwnBelow (manager_at c.network g.0).state.identity.guid (manager_at c.network g.0).state.next_number) (commitments (written_of g.0 c.written))
-              all.commitment (h.0.1 g.0).own_ids all.there).0) ∙ ap (λ (m : Message). m.id.qm) (sym all.message);
+              all.commitment (h.0.1 g.0).0.own_ids all.there).0) ∙ ap (λ (m : Message). m.id.qm) (sym all.message);
           moment = g.1;
           committed = g.2;
         }

@@ -140,7 +140,7 @@ counted_apart cs c row apart h = record {
   kept = λ k i. in_append cs (c ∷ []) (kept_at row k) (h.kept k i);
 }
 
-itself : (q : SequenceId) → same_sequence q q ≡ true
+pub itself : (q : SequenceId) → same_sequence q q ≡ true
 itself q = ap (λ t. t && q.stamp == q.stamp) (same_number q.ordinal) ∙ same_number q.stamp
 
 pub counted_own : (cs : List Commitment) (row : Row) (m : Message) → IsCounted cs row → IsCounted (cs ++ commitment_to row m ∷ []) (with_kept m row)

@@ -23,9 +23,12 @@ mod Marking
 mod Outside
 mod Numbering
 mod Sending
-mod Carrying
 mod Lines
 mod Telling
 mod Expiring
+mod Holding
+mod Unskipped
+mod Previous
+mod Carrying
 mod Stopping
 mod Reasons

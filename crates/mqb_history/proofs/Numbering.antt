@@ -43,7 +43,7 @@ use Rattle.mqb_history.proofs.Written.{IsByRecords, always_by_records}
 -- A message joins a row.
 
 -- what a change of a row leaves of all rows
-changed_all : (P : Row → Type 0) (change : Row → Row) (test : Row → Bool) (rows : List Row) → ((row : Row) → P row → P (change row)) → AllByRecursion P rows
+pub changed_all : (P : Row → Type 0) (change : Row → Row) (test : Row → Bool) (rows : List Row) → ((row : Row) → P row → P (change row)) → AllByRecursion P rows
     → AllByRecursion P (first_changed change test rows)
 changed_all P change test [] keeps h = tt
 changed_all P change test (row ∷ rows) keeps h = at (test row) (changed_all P change test rows keeps h.1)
@@ -385,7 +385,7 @@ record_commits s r cs made h = at r made (applied_manager s r (made_of_no_peer s
 
 -- The law.
 
-joined_outs : (s : State) (peers : List Identity) → (fold apply s (map (λ peer. entry.Peer peer) peers)).outs ≡ s.outs
+pub joined_outs : (s : State) (peers : List Identity) → (fold apply s (map (λ peer. entry.Peer peer) peers)).outs ≡ s.outs
 joined_outs s [] = refl
 joined_outs s (p ∷ ps) = joined_outs (apply s (entry.Peer p)) ps
 

@@ -1,19 +1,21 @@
 -- What packets carry, and what is decided, was committed.
-use Rattle.std.specs.Prelude.{◌++◌, ◌==◌, ◌∷◌, ◌≡◌, List, Some, ℕ}
+use Rattle.std.specs.Prelude.{◌++◌, ◌<◌, ◌==◌, ◌∷◌, ◌≡◌, List, Some, ℕ}
 use Rattle.mqb_base.specs.declared.heads.TxHead.{TxHead}
 use Rattle.mqb_exactly_once.specs.Words.{In, carried, due, position_of}
 use Rattle.mqb_exactly_once.specs.World.{Commitment}
 use Rattle.mqb_model.specs.records.Record as entry
 use Rattle.mqb_network.specs.Courses.{Course, Written}
+use Rattle.mqb_network.specs.Laws.{lines_written}
 use Rattle.mqb_network.specs.Network.{Note, manager_at}
 use Rattle.mqb_packet.specs.declared.packet.Packet.TheVariants as packet
 use Rattle.mqb_packet.specs.declared.packet.UserPacket.{UserPacket}
 use Rattle.mqb_queue.specs.Places.{numbered}
 use Rattle.mqb_history.specs.Committed.{commitments}
 use Rattle.mqb_history.specs.Decided.{written_of}
+use Rattle.mqb_history.specs.Expired.{expiries_told}
 
 -- A manager committed what a packet carries that it sends at a moment: at the place that its header names, and the same in every field but the time
--- to reach its queue, which is what is left of it then.
+-- to reach its queue, which is what is left of it then. Whatever stands between this place and the previous one that the header names expired.
 pub record IsCommittedBy (i : ℕ) (written : List Written) (moment : ℕ) (p : UserPacket) (tx : TxHead) : Type 0 where
   pub commitment : Commitment
   pub there : In commitment (commitments (written_of i written))
@@ -21,6 +23,8 @@ pub record IsCommittedBy (i : ℕ) (written : List Written) (moment : ℕ) (p : 
   pub message : p.message ≡ carried commitment.message moment
   -- no time is left where it is due
   pub late : (p.remaining == 0) ≡ due commitment.message moment
+  pub between : (n : ℕ) → tx.previous < n → n < tx.number
+      → In (record { sequence = tx.sequence; number = n }) (expiries_told (lines_written (written_of i written)))
 
 -- What a packet of a stream carries was committed by its sender.
 abbrev pub AreCarriedTruly : Course → Type 0

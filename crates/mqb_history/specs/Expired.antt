@@ -1,10 +1,11 @@
 -- What the lines of the ledger say of messages that expire.
-use Rattle.std.specs.Prelude.{◌<◌, ◌≡◌, IsTrue, List, ℕ}
+use Rattle.std.specs.Prelude.{None, Option, Some, filter_map, ◌<◌, ◌≡◌, IsTrue, List, ℕ}
 use Rattle.mqb_base.specs.declared.ids.MessageId.{MessageId}
+use Rattle.mqb_base.specs.declared.ledger.Line.{Line}
 use Rattle.mqb_base.specs.declared.ledger.Line.TheVariants as line
 use Rattle.mqb_base.specs.declared.ledger.Stream.{Stream}
 use Rattle.mqb_exactly_once.specs.Words.{In, due}
-use Rattle.mqb_exactly_once.specs.World.{Commitment}
+use Rattle.mqb_exactly_once.specs.World.{Commitment, Position}
 use Rattle.mqb_model.specs.state.Rows.{stream_of}
 use Rattle.mqb_model.specs.state.State.{State}
 use Rattle.mqb_network.specs.Courses.{Course}
@@ -39,3 +40,12 @@ abbrev pub AreExpiredDuly : Course → Type 0
 AreExpiredDuly c = (i : ℕ) (stream : Stream) (number : ℕ) (id : MessageId) (moment : ℕ)
     → In (line.Expired stream number id moment) (lines_written (written_of i c.written))
     → WasDue (commitments (written_of i c.written)) stream number id moment
+
+-- where a message stood that a line says expired
+abbrev pub expiry_told : Line → Option Position
+expiry_told (line.Expired stream number id moment) = Some (record { sequence = stream.sequence; number = number })
+expiry_told _ = None
+
+-- those of all lines, in order
+abbrev pub expiries_told : List Line → List Position
+expiries_told ledger = filter_map expiry_told ledger
