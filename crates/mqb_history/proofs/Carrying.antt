@@ -64,7 +64,7 @@ lines_append [] ys = refl
 lines_append (x ∷ xs) ys = ap (λ ls. lines_of x.before x.entry ++ ls) (lines_append xs ys)
     ∙ sym (append_assoc (lines_of x.before x.entry) (lines_written xs) (lines_written ys))
 
-grown : (i : ℕ) (ws more : List Written) (moment : ℕ) (p : UserPacket) (tx : TxHead) → IsCommittedBy i ws moment p tx → IsCommittedBy i (ws ++ more) moment p tx
+pub grown : (i : ℕ) (ws more : List Written) (moment : ℕ) (p : UserPacket) (tx : TxHead) → IsCommittedBy i ws moment p tx → IsCommittedBy i (ws ++ more) moment p tx
 grown i ws more moment p tx h = record {
   commitment = h.commitment;
   there = subst (In h.commitment) (sym (ap commitments (of_append i ws more) ∙ commitments_append (written_of i ws) (written_of i more)))

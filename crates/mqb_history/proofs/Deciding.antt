@@ -96,7 +96,7 @@ other_put p q y (x ∷ xs) apart e = at (p x) refl (other_put p q y xs apart e)
 -- Positions.
 
 -- the last one
-abbrev last_of : List Position → Option Position
+abbrev pub last_of : List Position → Option Position
 last_of [] = None
 last_of (p ∷ []) = Some p
 last_of (p ∷ q ∷ ps) = last_of (q ∷ ps)
@@ -125,7 +125,7 @@ rises ps p rise h = rise_more ps p rise (all_precede ps p rise h)
 
 -- What a record decides of a channel.
 
-one_more : (channel : Channel) (ws : List Written) (w : Written) → decisions channel (ws ++ w ∷ []) ≡ decisions channel ws ++ cons_option (decided_in channel w.entry) []
+pub one_more : (channel : Channel) (ws : List Written) (w : Written) → decisions channel (ws ++ w ∷ []) ≡ decisions channel ws ++ cons_option (decided_in channel w.entry) []
 one_more channel [] w = refl
 one_more channel (x ∷ ws) w = at (decided_in channel x.entry) (one_more channel ws w)
   where
@@ -135,11 +135,11 @@ one_more channel (x ∷ ws) w = at (decided_in channel x.entry) (one_more channe
     at (Some p) rest = ap (λ ps. p ∷ ps) rest
 
 -- where a row stands
-abbrev place_of : InRow → Position
+abbrev pub place_of : InRow → Position
 place_of row = record { sequence = row.sequence; number = row.last }
 
 -- the row of a channel
-abbrev row_of : Channel → List InRow → Option InRow
+abbrev pub row_of : Channel → List InRow → Option InRow
 row_of channel ins = find (is_row_of channel.source channel.destination) ins
 
 -- the decided positions rise, and the row is the last of them
@@ -178,7 +178,7 @@ behind_last (Some row) last tx e v = subst (λ p. LastPrecedes p (position_of tx
 abbrev channel_of : Message → Channel
 channel_of m = record { source = m.id.qm; destination = m.destination }
 
-in_its_channel : (channel : Channel) (m : Message) → is_in_channel channel m ≡ true → channel_of m ≡ channel
+pub in_its_channel : (channel : Channel) (m : Message) → is_in_channel channel m ≡ true → channel_of m ≡ channel
 in_its_channel channel m e = let both = split_and (same_guid m.id.qm channel.source) (same_name m.destination channel.destination) e in
     ap (λ g. record { source = g; destination = m.destination }) (same_guid_is m.id.qm channel.source both.0)
     ∙ ap (λ d. record { source = channel.source; destination = d }) (same_name_is m.destination channel.destination both.1)
@@ -263,7 +263,7 @@ joined_ins : (s : State) (peers : List Identity) → (fold apply s (map (λ peer
 joined_ins s [] = refl
 joined_ins s (p ∷ ps) = joined_ins (apply s (entry.Peer p)) ps
 
-in_order_by_records : IsByRecords AreInOrder
+pub in_order_by_records : IsByRecords AreInOrder
 in_order_by_records = record {
   starts = λ own peers channel. record { rise = tt; row = ap (λ ins. option_map place_of (row_of channel ins)) (joined_ins (empty own) peers) };
   quiet = λ a b ws same h channel. subst (λ ins. IsInOrder channel ins (decisions channel ws)) (sym same.ins) (h channel);

@@ -30,5 +30,6 @@ mod Holding
 mod Unskipped
 mod Previous
 mod Carrying
+mod Skipping
 mod Stopping
 mod Reasons

@@ -11,6 +11,7 @@ use Rattle.mqb_history.specs.Committed.{AreCommittedInOrder}
 use Rattle.mqb_history.specs.Decided.{IsDecidedInOrder, decisions}
 use Rattle.mqb_history.specs.Told.{AreCommitmentsTold, decisions_told}
 use Rattle.mqb_history.specs.Orderly.{IsOrderly}
+use Rattle.mqb_history.specs.Skipped.{AreUnskipped}
 use Rattle.mqb_history.specs.Expired.{AreExpiredDuly, MayExpire}
 use Rattle.mqb_base.specs.declared.ids.MessageId.{MessageId}
 use Rattle.mqb_base.specs.declared.ledger.Line.TheVariants as line
@@ -92,3 +93,7 @@ ExpiriesHaveReasons = (s : State) (r : Record) (stream : Stream) (number : ℕ) 
 -- What expires was committed by its manager, and was due.
 abbrev pub AlwaysExpiredDuly : Type 0
 AlwaysExpiredDuly = Always AreExpiredDuly
+
+-- None of a sequence is skipped.
+abbrev pub AlwaysUnskipped : Type 0
+AlwaysUnskipped = Always AreUnskipped

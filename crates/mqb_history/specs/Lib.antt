@@ -9,4 +9,5 @@ pub mod Committed
 pub mod Carried
 pub mod Told
 pub mod Expired
+pub mod Skipped
 pub mod Laws

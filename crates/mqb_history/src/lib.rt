@@ -3,7 +3,7 @@
 //! Each function stands for a law: its contract is the law, and its body is empty.
 #![tactic(auto)]
 
-ghost use Rattle.mqb_history.specs.Laws.{AlwaysCarriedTruly, AlwaysCommittedInOrder, AlwaysDecidedInOrder, AlwaysDecidedTruly, AlwaysExpiredDuly, AlwaysToldCommitments, DecisionsHaveReasons, DownStays, ExpiriesHaveReasons, FailuresAreSettled, HistoriesAreOrderly, LinesTellDecisions, RunsHaveHistories};
+ghost use Rattle.mqb_history.specs.Laws.{AlwaysCarriedTruly, AlwaysCommittedInOrder, AlwaysDecidedInOrder, AlwaysDecidedTruly, AlwaysExpiredDuly, AlwaysToldCommitments, AlwaysUnskipped, DecisionsHaveReasons, DownStays, ExpiriesHaveReasons, FailuresAreSettled, HistoriesAreOrderly, LinesTellDecisions, RunsHaveHistories};
 
 /// Sessions are connections, there is a note for each packet, and managers stay who they are.
 pub fn histories_are_orderly()
@@ -68,4 +68,9 @@ pub fn expiries_have_reasons()
 /// Whatever expires at a manager was committed there, and its time to reach its queue was over.
 pub fn always_expired_duly()
     ensures { AlwaysExpiredDuly }
+{}
+
+/// None of a sequence is skipped: whatever stands before a decided message was decided too, or it expired at the source before it was offered.
+pub fn always_unskipped()
+    ensures { AlwaysUnskipped }
 {}
