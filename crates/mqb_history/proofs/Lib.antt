@@ -31,5 +31,6 @@ mod Unskipped
 mod Previous
 mod Carrying
 mod Skipping
+mod Waiting
 mod Stopping
 mod Reasons

@@ -175,7 +175,7 @@ last_in test o (y ∷ ys) x e = at (test y) e (last_in test (Some y) ys x) (last
         by (inl f) = inl f
         by (inr i) = inr (inr i)
 
-in_use_in : (s : State) (peer : ℕ) (destination : QueueName) (row : Row) → sequence_in_use s peer destination ≡ Some row → In row s.outs
+pub in_use_in : (s : State) (peer : ℕ) (destination : QueueName) (row : Row) → sequence_in_use s peer destination ≡ Some row → In row s.outs
 in_use_in s peer destination row e = at (last_sequence s peer destination) refl e
   where
     found : (x : Row) → last_sequence s peer destination ≡ Some x → In x s.outs
@@ -237,7 +237,7 @@ to_commits now low s Nowhere m cs id h = subst (CommitsIn (committed_to now s No
     (same_commits s (committed_to now s Nowhere m).state (low + 1) cs (delivered_rows s Nowhere m now)
     (weaker s.identity.guid s.outs s.next_ordinal low (low + 1) cs (omega arith) h))
 
-cons_behind : (cs : List Commitment) (o : Option Commitment) (rest : List Commitment) → (cs ++ cons_option o []) ++ rest ≡ cs ++ cons_option o rest
+pub cons_behind : (cs : List Commitment) (o : Option Commitment) (rest : List Commitment) → (cs ++ cons_option o []) ++ rest ≡ cs ++ cons_option o rest
 cons_behind cs None rest = ap (λ xs. xs ++ rest) (append_nothing cs)
 cons_behind cs (Some c) rest = append_assoc cs (c ∷ []) rest
 

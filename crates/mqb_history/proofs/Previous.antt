@@ -35,12 +35,12 @@ linked acked n kept k i less = (All-contains (λ x. x < n → x ≤ link_before 
 
 -- A kept number is one of those that the row counts.
 
-in_range : (a len n : ℕ) → In n (range_with_len a len) → n < a + len
+pub in_range : (a len n : ℕ) → In n (range_with_len a len) → n < a + len
 in_range a zero n i = absurd i
 in_range a (suc len) n (inl e) = omega (arith, e)
 in_range a (suc len) n (inr i) = let less = in_range (a + 1) len n i in omega (arith, less)
 
-in_numbers : (cs : List Commitment) (c : Commitment) → In c cs → In c.position.number (numbers_in c.position.sequence cs)
+pub in_numbers : (cs : List Commitment) (c : Commitment) → In c cs → In c.position.number (numbers_in c.position.sequence cs)
 in_numbers [] c i = absurd i
 in_numbers (x ∷ cs) c (inl e) = subst (λ (y : Commitment). In y.position.number (numbers_in y.position.sequence (x ∷ cs))) e
     (subst (λ b. In x.position.number (cons_option (cond b (Some x.position.number) None) (numbers_in x.position.sequence cs))) (sym (itself x.position.sequence)) (inl refl))

@@ -12,6 +12,7 @@ use Rattle.mqb_history.specs.Decided.{IsDecidedInOrder, decisions}
 use Rattle.mqb_history.specs.Told.{AreCommitmentsTold, decisions_told}
 use Rattle.mqb_history.specs.Orderly.{IsOrderly}
 use Rattle.mqb_history.specs.Skipped.{AreUnskipped}
+use Rattle.mqb_history.specs.Waiting.{AreWaiting}
 use Rattle.mqb_history.specs.Expired.{AreExpiredDuly, MayExpire}
 use Rattle.mqb_base.specs.declared.ids.MessageId.{MessageId}
 use Rattle.mqb_base.specs.declared.ledger.Line.TheVariants as line
@@ -97,3 +98,7 @@ AlwaysExpiredDuly = Always AreExpiredDuly
 -- None of a sequence is skipped.
 abbrev pub AlwaysUnskipped : Type 0
 AlwaysUnskipped = Always AreUnskipped
+
+-- Each committed message waits in its row until it is acknowledged, or it expired.
+abbrev pub AlwaysWaiting : Type 0
+AlwaysWaiting = Always AreWaiting

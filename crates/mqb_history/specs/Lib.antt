@@ -10,4 +10,5 @@ pub mod Carried
 pub mod Told
 pub mod Expired
 pub mod Skipped
+pub mod Waiting
 pub mod Laws
