@@ -1,61 +1,30 @@
 -- A row keeps each number above the acknowledged one but those that expired.
 use Rattle.std.proofs.Common.{refl, ap, sym, subst, ◌∙◌, arith, inl, inr}
 use Rattle.std.proofs.lemmas.Bool.Decides.{nat_tests}
-use Rattle.std.proofs.lemmas.List.{append_assoc}
 use Rattle.std.specs.List.{AllByRecursion, prefix_len}
 use Rattle.std.specs.Option.{option_map_or}
-use Rattle.std.specs.Prelude.{[], ◌+◌, ◌++◌, ◌<◌, ◌||◌, ◌∷◌, ◌≡◌, ◌≤◌, ◌⊎◌, Bool, List, None, Option, Some, cond, false, filter, find, fold, length, map, max, nat_le, nat_lt, not, option_and_then, position, remove, slice_get, slice_set, suc, true, zero, ℕ}
+use Rattle.std.specs.Prelude.{[], ◌+◌, ◌++◌, ◌<◌, ◌||◌, ◌∷◌, ◌≡◌, ◌≤◌, ◌⊎◌, Bool, List, None, Some, cond, false, filter, find, length, max, nat_le, nat_lt, not, remove, slice_get, slice_set, suc, true, zero, ℕ}
 use Rattle.mqb_base.specs.Bits.{keeps_dead}
-use Rattle.mqb_base.specs.declared.class.TheConstants.Class.{REACH_TIMEOUT}
-use Rattle.mqb_base.specs.declared.heads.TxHead.{TxHead}
-use Rattle.mqb_base.specs.declared.ids.Identity.{Identity}
 use Rattle.mqb_base.specs.declared.ids.MessageId.{MessageId}
 use Rattle.mqb_base.specs.declared.ids.SequenceId.{SequenceId}
 use Rattle.mqb_base.specs.declared.ledger.Line.{Line}
 use Rattle.mqb_base.specs.declared.ledger.Line.TheVariants as line
-use Rattle.mqb_base.specs.declared.message.Lane.TheVariants as lane
 use Rattle.mqb_base.specs.declared.message.Message.{Message}
-use Rattle.mqb_entries.specs.declared.members.Mark.{Mark}
 use Rattle.mqb_exactly_once.specs.Words.{In}
-use Rattle.mqb_model.specs.Lists.{first_where, with_changed, with_first_changed, without_first}
-use Rattle.mqb_model.specs.Loops.{for_each_below, repeated}
-use Rattle.mqb_model.specs.declared.target.Target.{Target}
-use Rattle.mqb_model.specs.declared.target.Target.TheVariants.{AtPeer, Here, Nowhere}
-use Rattle.mqb_model.specs.records.Applying.{apply, effect_of}
-use Rattle.mqb_model.specs.records.Arrived.{part_made}
-use Rattle.mqb_model.specs.records.Commit.{send_made, sends_numbered, sends_of, takes_made}
-use Rattle.mqb_model.specs.records.Decisions.{message_decided, message_stored, with_decided}
-use Rattle.mqb_model.specs.records.Finals.{dead_for, final_stored, finished_at, finished_by, finished_row, index_finished, is_offered_as, kept_named, with_finished}
-use Rattle.mqb_model.specs.records.Offered.{mark_raised, with_offered}
-use Rattle.mqb_model.specs.records.Record.{Part, Record}
-use Rattle.mqb_model.specs.records.Record as entry
-use Rattle.mqb_model.specs.records.Releases.{releases_made}
-use Rattle.mqb_model.specs.rules.Arrivals.{refusal_of, storing_refusal}
-use Rattle.mqb_model.specs.rules.Effects.{Effect, begun, joined}
-use Rattle.mqb_model.specs.rules.Notices.{meets}
-use Rattle.mqb_model.specs.rules.Numbers.{numbers_taken}
-use Rattle.mqb_model.specs.rules.Sends.{committed_to, journalled, message_sent}
-use Rattle.mqb_model.specs.rules.Sequences.{join, new_sequence, sequence_in_use, with_kept, with_sequence}
-use Rattle.mqb_model.specs.rules.Timeouts.{expires, expiring, expiring_in, message_expired, next_expired, row_expired, rows_expired, with_expired, without_expired}
-use Rattle.mqb_model.specs.state.Resolving.{peer_known, resolved}
-use Rattle.mqb_model.specs.state.Rows.{has_ordinal, stream_of, with_row}
+use Rattle.mqb_model.specs.Lists.{first_where, with_changed, without_first}
+use Rattle.mqb_model.specs.records.Finals.{finished_row, is_offered_as, kept_named}
+use Rattle.mqb_model.specs.rules.Sequences.{with_kept}
+use Rattle.mqb_model.specs.rules.Timeouts.{expires, expiring, without_expired}
+use Rattle.mqb_model.specs.state.Rows.{stream_of}
 use Rattle.mqb_model.specs.state.State.{State}
-use Rattle.mqb_network.specs.Courses.{Written}
-use Rattle.mqb_network.specs.Laws.{lines_written}
 use Rattle.mqb_orders.specs.Rows.{Row, acknowledged}
 use Rattle.mqb_orders.specs.declared.kept.Kept.{Kept}
-use Rattle.mqb_packet.specs.declared.packet.UserPacket.{UserPacket}
 use Rattle.mqb_history.specs.Expired.{expiries_told, expiry_told}
-use Rattle.mqb_history.proofs.Applying.{dead_rows, releases_rows, takes_made_rows}
-use Rattle.mqb_history.proofs.Committing.{all_in, first_changed, in_append, in_end, is_first_changed}
+use Rattle.mqb_history.proofs.Committing.{in_append, in_end}
 use Rattle.mqb_history.proofs.Deciding.{first_is_found}
 use Rattle.mqb_history.proofs.Knowing.{counted, none_below}
-use Rattle.mqb_history.proofs.Lines.{Adds, ops_add, purged_adds, releases_add, taken_adds, ticked_adds, told_append}
-use Rattle.mqb_history.proofs.Lists.{all_append, all_weaker, append_nothing, get_in, some_is}
-use Rattle.mqb_history.proofs.Numbering.{AreCounted, changed_all, counted_by_records}
-use Rattle.mqb_history.proofs.Staying.{HasSameRows, arrived_rows, delivered_rows, journalled_rows, meets_rows, plain_sent_rows, purged_rows, taken_rows, ticked_rows}
-use Rattle.mqb_history.proofs.Telling.{lines_more}
-use Rattle.mqb_history.proofs.Written.{IsByRecords}
+use Rattle.mqb_history.proofs.Lines.{told_append}
+use Rattle.mqb_history.proofs.Lists.{some_is}
 
 -- a number expired
 abbrev pub HasExpired : List Line → SequenceId → ℕ → Type 0
@@ -158,8 +127,12 @@ released_whole ls row number kept h = λ n low high. at n low (h n low high)
   where
     at : (n : ℕ) → max row.acked number < n → ((k : Kept) × In k kept × (k.number ≡ n)) ⊎ HasExpired ls row.sequence n
         → Keeps (acknowledged number (record row { kept = kept })) n ⊎ HasExpired ls row.sequence n
-    at n low (inl k) = inl (k.0, in_filter (λ (x : Kept). nat_lt (max row.acked number) x.number || keeps_dead x.message) kept k.0
-        (ap (λ b. b || keeps_dead k.0.message) (ap (nat_lt (max row.acked number)) k.2 ∙ (above_low row.acked number n low).0)) k.1, k.2)
+    at n low (inl k) = inl (
+      k.0,
+      in_filter (λ (x : Kept). nat_lt (max row.acked number) x.number || keeps_dead x.message) kept k.0
+          (ap (λ b. b || keeps_dead k.0.message) (ap (nat_lt (max row.acked number)) k.2 ∙ (above_low row.acked number n low).0)) k.1,
+      k.2,
+    )
     at n low (inr e) = inr e
 
 pub acknowledged_whole : (ls : List Line) (number : ℕ) (row : Row) → IsWhole ls row → IsWhole ls (acknowledged number row)
@@ -217,5 +190,8 @@ joined_whole ls m row h = λ n low high. at n low high (nat_le n row.committed) 
 
     at : (n : ℕ) → row.acked < n → n ≤ row.committed + 1 → (b : Bool) → nat_le n row.committed ≡ b → Keeps (with_kept m row) n ⊎ HasExpired ls row.sequence n
     at n low high true e = old n (h n low (within n e))
-    at n low high false e = let more = beyond n e in inl (record { number = row.committed + 1; message = m }, in_end row.kept (record { number = row.committed + 1; message = m }),
-        let f : row.committed + 1 ≡ n = omega (arith, high, more) in f)
+    at n low high false e = let more = beyond n e in inl (
+      record { number = row.committed + 1; message = m },
+      in_end row.kept (record { number = row.committed + 1; message = m }),
+      let f : row.committed + 1 ≡ n = omega (arith, high, more) in f,
+    )

@@ -1,15 +1,12 @@
 -- What stands between a message that a row keeps and the previous one expired.
-use Rattle.std.proofs.Common.{refl, ap, sym, subst, arith, inl, inr}
+use Rattle.std.proofs.Common.{refl, sym, subst, arith, inl, inr}
 use Rattle.std.proofs.lemmas.List.Elements.{All-contains}
 use Rattle.std.specs.List.{AllByRecursion, Contains, cons_option, range_with_len}
-use Rattle.std.specs.Prelude.{[], ◌+◌, ◌<◌, ◌∷◌, ◌≡◌, ◌≤◌, ◌⊎◌, Bool, List, None, Option, Some, cond, length, suc, zero, ℕ}
-use Rattle.mqb_base.specs.Sequences.{same_sequence}
+use Rattle.std.specs.Prelude.{[], ◌+◌, ◌<◌, ◌∷◌, ◌≤◌, ◌⊎◌, List, None, Option, Some, cond, length, suc, zero, ℕ}
 use Rattle.mqb_base.specs.declared.heads.TxHead.{TxHead}
-use Rattle.mqb_base.specs.declared.ids.SequenceId.{SequenceId}
 use Rattle.mqb_base.specs.declared.message.Message.{Message}
 use Rattle.mqb_exactly_once.specs.Words.{In, position_of}
 use Rattle.mqb_exactly_once.specs.World.{Commitment}
-use Rattle.mqb_model.specs.calls.pump.Candidates.{tx_of}
 use Rattle.mqb_model.specs.state.State.{State}
 use Rattle.mqb_network.specs.Courses.{Written}
 use Rattle.mqb_network.specs.Laws.{lines_written}
@@ -56,12 +53,15 @@ IsKnownTo ws m tx = In (record { position = position_of tx; message = m }) (comm
     × ((n : ℕ) → tx.previous < n → n < tx.number → HasExpired (lines_written ws) tx.sequence n)
 
 row_known : (s : State) (ws : List Written) (row : Row) → AreHeld s ws → IsCounted (commitments ws) row → IsWhole (lines_written ws) row → IsRowOf (IsKnownTo ws) row
-row_known s ws row held counted whole k i = (counted.kept k i, λ n low high. at n low high
-    (whole n (let f = floor row.acked k.number (numbers row.kept) in omega (arith, f, low)) (omega (arith, high, within))))
+row_known s ws row held counted whole k i = (
+  counted.kept k i,
+  λ n low high. at n low high
+      (whole n (let f = floor row.acked k.number (numbers row.kept) in omega (arith, f, low)) (omega (arith, high, within))),
+)
   where
     within : k.number ≤ row.committed
     within = let less = in_range 1 (length (numbers_in row.sequence (commitments ws))) k.number
-            (subst (In k.number) (held.0.numbered row.sequence) (in_numbers (commitments ws) (kept_at row k) (counted.kept k i))) in
+        (subst (In k.number) (held.0.numbered row.sequence) (in_numbers (commitments ws) (kept_at row k) (counted.kept k i))) in
         let count = counted.count in omega (arith, less, count)
 
     at : (n : ℕ) → link_before row.acked row.kept k.number < n → n < k.number → Keeps row n ⊎ HasExpired (lines_written ws) row.sequence n

@@ -14,8 +14,7 @@ use Rattle.std.proofs.lemmas.Bool.Decides.{nat_tests}
 use Rattle.std.proofs.Common.{arith}
 use Rattle.std.specs.Prelude.{◌<◌, ◌≤◌, ◌-◌, min, nat_le}
 use Rattle.mqb_history.proofs.Lists.{other_numbers}
-use Rattle.mqb_exactly_once.specs.Words.{In, carried, due, position_of}
-use Rattle.mqb_exactly_once.specs.World.{Commitment}
+use Rattle.mqb_exactly_once.specs.Words.{In, carried, due}
 use Rattle.mqb_model.specs.calls.pump.Candidates.{Candidate, acks, candidates, of_row, plain_candidates, row_candidates, rows_owing, tx_of, unsent_from, unsent_of, waiting}
 use Rattle.mqb_model.specs.calls.pump.Choosing.{candidate_size, chosen, head_for, may_follow, session_after, with_heads}
 use Rattle.mqb_model.specs.calls.pump.Pump.{PumpOutcome, carriage_for, packet_for, pump_at, pump_linked, pump_owed, pump_refusal, pump_to, pump_with, sending_chosen, sending_one, set_up_packet}
@@ -42,7 +41,6 @@ use Rattle.mqb_session.specs.declared.heads.Kind.TheVariants as kind
 use Rattle.mqb_setup.specs.declared.internal.Internal.{Internal}
 use Rattle.mqb_setup.specs.declared.internal.Internal.TheVariants as internal
 use Rattle.mqb_history.specs.Calls.{Pump, outcome_of}
-use Rattle.mqb_history.proofs.Committing.{IsCounted, kept_at}
 use Rattle.mqb_history.proofs.Lists.{all_append, none_some, some_is}
 use Rattle.mqb_history.proofs.Outside.{filtered_in}
 

@@ -2,14 +2,12 @@
 use Rattle.std.proofs.Common.{refl, ap, sym, subst, ◌∙◌, arith, inl, inr}
 use Rattle.std.proofs.lemmas.Bool.Decides.{nat_tests}
 use Rattle.std.proofs.lemmas.List.{append_assoc}
-use Rattle.std.specs.List.{AllByRecursion, cons_option}
+use Rattle.std.specs.List.{cons_option}
 use Rattle.std.specs.Prelude.{[], ◌++◌, ◌<◌, ◌==◌, ◌∷◌, ◌≡◌, ◌≤◌, ◌⊎◌, Bool, List, None, Option, Some, cond, false, find, nat_le, nat_lt, option_map, true, ℕ}
 use Rattle.mqb_base.specs.Same.{same_guid, same_name}
 use Rattle.mqb_base.specs.Sequences.{earlier, same_sequence}
 use Rattle.mqb_base.specs.declared.heads.TxHead.{TxHead}
-use Rattle.mqb_base.specs.declared.ids.Guid.{Guid}
 use Rattle.mqb_base.specs.declared.ids.SequenceId.{SequenceId}
-use Rattle.mqb_base.specs.declared.message.Message.{Message}
 use Rattle.mqb_exactly_once.specs.Words.{In, position_of}
 use Rattle.mqb_exactly_once.specs.World.{Channel, Position}
 use Rattle.mqb_exactly_once.proofs.Positions.{same_sequence_is}
@@ -84,8 +82,11 @@ AreSteps channel before (w ∷ ws) = IsStep channel (decisions channel before) w
 steps_more : (channel : Channel) (before ws : List Written) (w : Written) → AreSteps channel before ws → IsStep channel (decisions channel (before ++ ws)) w
     → AreSteps channel before (ws ++ w ∷ [])
 steps_more channel before [] w h new = (subst (λ xs. IsStep channel (decisions channel xs) w) (append_nothing before) new, tt)
-steps_more channel before (x ∷ ws) w h new = (h.0, steps_more channel (before ++ x ∷ []) ws w h.1
-    (subst (λ xs. IsStep channel (decisions channel xs) w) (sym (append_assoc before (x ∷ []) ws)) new))
+steps_more channel before (x ∷ ws) w h new = (
+  h.0,
+  steps_more channel (before ++ x ∷ []) ws w h.1
+      (subst (λ xs. IsStep channel (decisions channel xs) w) (sym (append_assoc before (x ∷ []) ws)) new),
+)
 
 next_follows : (channel : Channel) (s : State) (p : UserPacket) (tx : TxHead) (ps : List Position) → IsInOrder channel s.ins ps → IsNext s.ins p → p.tx ≡ Some tx
     → is_in_channel channel p.message ≡ true → FollowsOn ps tx

@@ -1,18 +1,17 @@
 -- By each record a manager's rows keep each number above the acknowledged one but those that expired.
-use Rattle.std.proofs.Common.{refl, ap, sym, subst, ◌∙◌, arith}
+use Rattle.std.proofs.Common.{refl, sym, subst, arith}
 use Rattle.std.proofs.lemmas.List.{append_assoc}
 use Rattle.std.specs.List.{AllByRecursion}
 use Rattle.std.specs.Option.{option_map_or}
-use Rattle.std.specs.Prelude.{[], ◌++◌, ◌∷◌, ◌≡◌, List, None, Option, Some, fold, length, map, option_and_then, position, slice_get, suc, zero, ℕ}
+use Rattle.std.specs.Prelude.{[], ◌++◌, ◌∷◌, ◌≡◌, List, None, Option, Some, fold, length, option_and_then, slice_get, suc, zero, ℕ}
 use Rattle.mqb_base.specs.declared.class.TheConstants.Class.{REACH_TIMEOUT}
 use Rattle.mqb_base.specs.declared.heads.TxHead.{TxHead}
-use Rattle.mqb_base.specs.declared.ids.Identity.{Identity}
 use Rattle.mqb_base.specs.declared.ledger.Line.{Line}
 use Rattle.mqb_base.specs.declared.ledger.Line.TheVariants as line
 use Rattle.mqb_base.specs.declared.message.Lane.TheVariants as lane
 use Rattle.mqb_base.specs.declared.message.Message.{Message}
 use Rattle.mqb_entries.specs.declared.members.Mark.{Mark}
-use Rattle.mqb_model.specs.Lists.{with_changed, with_first_changed}
+use Rattle.mqb_model.specs.Lists.{with_first_changed}
 use Rattle.mqb_model.specs.Loops.{for_each_below, repeated}
 use Rattle.mqb_model.specs.declared.target.Target.{Target}
 use Rattle.mqb_model.specs.declared.target.Target.TheVariants.{AtPeer, Here, Nowhere}
@@ -27,7 +26,6 @@ use Rattle.mqb_model.specs.records.Record as entry
 use Rattle.mqb_model.specs.records.Releases.{releases_made}
 use Rattle.mqb_model.specs.rules.Arrivals.{refusal_of, storing_refusal}
 use Rattle.mqb_model.specs.rules.Effects.{Effect, begun, joined}
-use Rattle.mqb_model.specs.rules.Notices.{meets}
 use Rattle.mqb_model.specs.rules.Numbers.{numbers_taken}
 use Rattle.mqb_model.specs.rules.Sends.{committed_to, journalled, message_sent}
 use Rattle.mqb_model.specs.rules.Sequences.{join, new_sequence, sequence_in_use, with_kept, with_sequence}
@@ -39,14 +37,13 @@ use Rattle.mqb_network.specs.Courses.{Written}
 use Rattle.mqb_network.specs.Laws.{lines_written}
 use Rattle.mqb_orders.specs.Rows.{Row, acknowledged}
 use Rattle.mqb_orders.specs.declared.kept.Kept.{Kept}
-use Rattle.mqb_packet.specs.declared.packet.UserPacket.{UserPacket}
 use Rattle.mqb_history.proofs.Applying.{dead_rows, releases_rows, takes_made_rows}
 use Rattle.mqb_history.proofs.Committing.{all_in, is_first_changed}
 use Rattle.mqb_history.proofs.Holding.{IsWhole, acknowledged_whole, changed_at, expired_whole, finished_whole, joined_whole, whole_more}
 use Rattle.mqb_history.proofs.Lines.{Adds, ops_add, purged_adds, releases_add, taken_adds, ticked_adds}
 use Rattle.mqb_history.proofs.Lists.{all_append, all_weaker, append_nothing, get_in}
 use Rattle.mqb_history.proofs.Numbering.{AreCounted, changed_all, counted_by_records, joined_outs}
-use Rattle.mqb_history.proofs.Staying.{HasSameRows, arrived_rows, delivered_rows, journalled_rows, meets_rows, plain_sent_rows, purged_rows, taken_rows, ticked_rows}
+use Rattle.mqb_history.proofs.Staying.{arrived_rows, delivered_rows, journalled_rows, meets_rows, plain_sent_rows, purged_rows, taken_rows, ticked_rows}
 use Rattle.mqb_history.proofs.Telling.{lines_more}
 use Rattle.mqb_history.proofs.Written.{IsByRecords}
 

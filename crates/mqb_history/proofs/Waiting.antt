@@ -4,7 +4,6 @@ use Rattle.std.proofs.lemmas.Bool.Decides.{nat_tests}
 use Rattle.std.specs.List.{AllByRecursion, cons_option, range_with_len}
 use Rattle.std.specs.Option.{option_map_or}
 use Rattle.std.specs.Prelude.{[], ◌+◌, ◌++◌, ◌<◌, ◌∷◌, ◌≡◌, ◌≤◌, ◌⊎◌, Bool, List, None, Option, Some, cond, false, fold, length, nat_le, suc, true, unwrap_or, zero, ℕ}
-use Rattle.mqb_base.specs.Sequences.{same_sequence}
 use Rattle.mqb_base.specs.declared.ids.SequenceId.{SequenceId}
 use Rattle.mqb_base.specs.declared.message.Message.{Message}
 use Rattle.mqb_exactly_once.specs.Words.{In}
@@ -39,7 +38,7 @@ use Rattle.mqb_history.proofs.Committing.{IsCounted, all_in, first_changed, in_a
 use Rattle.mqb_history.proofs.Holding.{HasExpired, IsWhole, Keeps}
 use Rattle.mqb_history.proofs.Lists.{all_append, all_weaker, append_nothing}
 use Rattle.mqb_history.proofs.Numbering.{commitments_more, cons_behind, in_use_in, made_offers}
-use Rattle.mqb_history.proofs.Outside.{CommitsNothing, HasNoMore, HaveNoMore, applied_no_more}
+use Rattle.mqb_history.proofs.Outside.{CommitsNothing, HaveNoMore, applied_no_more}
 use Rattle.mqb_history.proofs.Previous.{in_numbers, in_range}
 use Rattle.mqb_history.proofs.Staying.{delivered_rows, journalled_rows}
 use Rattle.mqb_history.proofs.Unskipped.{AreHeld, held_by_records}
@@ -216,7 +215,7 @@ waits_or s ws m h i = of_row g.0 g.1 g.2
 
         within : m.position.number ≤ row.committed
         within = let less = in_range 1 (length (numbers_in row.sequence cs)) m.position.number
-                (subst (In m.position.number) (h.0.0.numbered row.sequence) (subst (λ q. In m.position.number (numbers_in q cs)) (sym same) (in_numbers cs m i))) in
+            (subst (In m.position.number) (h.0.0.numbered row.sequence) (subst (λ q. In m.position.number (numbers_in q cs)) (sym same) (in_numbers cs m i))) in
             let count = counted.count in omega (arith, less, count)
 
         kept_is : (k : Kept) → In k row.kept → k.number ≡ m.position.number → k ≡ record { number = m.position.number; message = m.message }
