@@ -55,7 +55,7 @@ use Rattle.mqb_history.proofs.Telling.{lines_more}
 use Rattle.mqb_history.proofs.Written.{IsByRecords, always_by_records}
 
 -- what a line says of an expiry is so
-abbrev IsReasoned : State → Line → Type 0
+abbrev pub IsReasoned : State → Line → Type 0
 IsReasoned s (line.Expired stream number id moment) = MayExpire s stream number id moment
 IsReasoned s _ = Unit {0}
 
@@ -187,7 +187,7 @@ decided_reasoned s now e p (Some tx) h = joined_reasoned s e (message_decided no
 released_reasoned : (s : State) (numbers : List ℕ) → AreReasoned s (releases_made s numbers)
 released_reasoned s numbers = adds_reasoned s (begun s) (releases_made s numbers) (releases_add (begun s) numbers) tt
 
-record_reasoned : (s : State) (r : Record) → AllByRecursion (IsReasoned s) (lines_of s r)
+pub record_reasoned : (s : State) (r : Record) → AllByRecursion (IsReasoned s) (lines_of s r)
 record_reasoned s (entry.Identity identity) = tt
 record_reasoned s (entry.Peer peer) = tt
 record_reasoned s (entry.CreateQueue number plan) = tt

@@ -26,6 +26,7 @@ mod Sending
 mod Lines
 mod Telling
 mod Expiring
+mod Offering
 mod Holding
 mod Unskipped
 mod Previous

@@ -284,13 +284,13 @@ sends_numbers now e (m ∷ ms) = let a = (journalled_rows e.state m).numbers in 
 
 -- Records.
 
-rows_no_more : (P : Row → Type 0) → ((a b : Row) → HasNoMore a b → P a → P b) → (olds news : List Row) → HaveNoMore olds news → AllByRecursion P olds → AllByRecursion P news
+pub rows_no_more : (P : Row → Type 0) → ((a b : Row) → HasNoMore a b → P a → P b) → (olds news : List Row) → HaveNoMore olds news → AllByRecursion P olds → AllByRecursion P news
 rows_no_more P keeps [] [] less h = tt
 rows_no_more P keeps [] (b ∷ news) less h = absurd less
 rows_no_more P keeps (a ∷ olds) [] less h = absurd less
 rows_no_more P keeps (a ∷ olds) (b ∷ news) less h = (keeps a b less.0 h.0, rows_no_more P keeps olds news less.1 h.1)
 
-rise_no_more : (olds news : List Row) → HaveNoMore olds news → OrdinalsRise olds → OrdinalsRise news
+pub rise_no_more : (olds news : List Row) → HaveNoMore olds news → OrdinalsRise olds → OrdinalsRise news
 rise_no_more [] [] less h = tt
 rise_no_more [] (b ∷ news) less h = absurd less
 rise_no_more (a ∷ olds) [] less h = absurd less

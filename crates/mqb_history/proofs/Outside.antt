@@ -173,7 +173,7 @@ finished_no_more id number a = record {
 
 -- Records.
 
-raised_no_more : (mark : Mark) (olds : List Row) → IsAbove mark olds → HaveNoMore olds (first_changed (with_offered mark.number) (has_ordinal mark.ordinal) olds)
+pub raised_no_more : (mark : Mark) (olds : List Row) → IsAbove mark olds → HaveNoMore olds (first_changed (with_offered mark.number) (has_ordinal mark.ordinal) olds)
 raised_no_more mark [] h = tt
 raised_no_more mark (a ∷ olds) h = at (has_ordinal mark.ordinal a) refl (raised_no_more mark olds h.1)
   where
@@ -182,7 +182,7 @@ raised_no_more mark (a ∷ olds) h = at (has_ordinal mark.ordinal a) refl (raise
     at true e rest = (offered_no_more mark.number a (h.0 (equal_numbers a.sequence.ordinal mark.ordinal e)), have_no_more olds)
     at false e rest = (no_more a, rest)
 
-marks_no_more : (s : State) (marks : List Mark) → Raise s.outs marks → NoMore s (fold mark_raised s marks)
+pub marks_no_more : (s : State) (marks : List Mark) → Raise s.outs marks → NoMore s (fold mark_raised s marks)
 marks_no_more s [] h = nothing_more s
 marks_no_more s (mark ∷ marks) h = let same = sym (is_first_changed (with_offered mark.number) (has_ordinal mark.ordinal) s.outs) in
     more_then s (mark_raised s mark) (fold mark_raised (mark_raised s mark) marks)

@@ -1,5 +1,5 @@
 -- What the lines of the ledger say of messages that expire.
-use Rattle.std.specs.Prelude.{None, Option, Some, filter_map, ◌<◌, ◌≡◌, IsTrue, List, ℕ}
+use Rattle.std.specs.Prelude.{◌++◌, ◌∷◌, None, Option, Some, filter_map, ◌<◌, ◌≡◌, IsTrue, List, ℕ}
 use Rattle.mqb_base.specs.declared.ids.MessageId.{MessageId}
 use Rattle.mqb_base.specs.declared.ledger.Line.{Line}
 use Rattle.mqb_base.specs.declared.ledger.Line.TheVariants as line
@@ -8,7 +8,9 @@ use Rattle.mqb_exactly_once.specs.Words.{In, due}
 use Rattle.mqb_exactly_once.specs.World.{Commitment, Position}
 use Rattle.mqb_model.specs.state.Rows.{stream_of}
 use Rattle.mqb_model.specs.state.State.{State}
-use Rattle.mqb_network.specs.Courses.{Course}
+use Rattle.mqb_entries.specs.declared.members.Mark.{Mark}
+use Rattle.mqb_model.specs.records.Record as entry
+use Rattle.mqb_network.specs.Courses.{Course, Written}
 use Rattle.mqb_network.specs.Laws.{lines_written}
 use Rattle.mqb_orders.specs.Rows.{Row}
 use Rattle.mqb_orders.specs.declared.kept.Kept.{Kept}
@@ -49,3 +51,10 @@ expiry_told _ = None
 -- those of all lines, in order
 abbrev pub expiries_told : List Line → List Position
 expiries_told ledger = filter_map expiry_told ledger
+
+-- What a manager offered never expires later: of the sequence of a mark only what stands above it does.
+abbrev pub AreOffersKept : Course → Type 0
+AreOffersKept c = (i : ℕ) (before behind : List Written) (w : Written) (marks : List Mark) (mark : Mark)
+    → written_of i c.written ≡ before ++ w ∷ behind → w.entry ≡ entry.Offered marks → In mark marks
+    → (stream : Stream) (number : ℕ) (id : MessageId) (moment : ℕ) → In (line.Expired stream number id moment) (lines_written behind)
+    → stream.sequence.ordinal ≡ mark.ordinal → mark.number < number

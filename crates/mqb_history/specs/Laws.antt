@@ -13,7 +13,7 @@ use Rattle.mqb_history.specs.Told.{AreCommitmentsTold, decisions_told}
 use Rattle.mqb_history.specs.Orderly.{IsOrderly}
 use Rattle.mqb_history.specs.Skipped.{AreUnskipped}
 use Rattle.mqb_history.specs.Waiting.{AreWaiting}
-use Rattle.mqb_history.specs.Expired.{AreExpiredDuly, MayExpire}
+use Rattle.mqb_history.specs.Expired.{AreExpiredDuly, AreOffersKept, MayExpire}
 use Rattle.mqb_base.specs.declared.ids.MessageId.{MessageId}
 use Rattle.mqb_base.specs.declared.ledger.Line.TheVariants as line
 use Rattle.mqb_base.specs.declared.ledger.Stream.{Stream}
@@ -102,3 +102,7 @@ AlwaysUnskipped = Always AreUnskipped
 -- Each committed message waits in its row until it is acknowledged, or it expired.
 abbrev pub AlwaysWaiting : Type 0
 AlwaysWaiting = Always AreWaiting
+
+-- What was offered never expires later.
+abbrev pub AlwaysOffersKept : Type 0
+AlwaysOffersKept = Always AreOffersKept

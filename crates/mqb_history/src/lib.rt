@@ -3,7 +3,7 @@
 //! Each function stands for a law: its contract is the law, and its body is empty.
 #![tactic(auto)]
 
-ghost use Rattle.mqb_history.specs.Laws.{AlwaysCarriedTruly, AlwaysCommittedInOrder, AlwaysDecidedInOrder, AlwaysDecidedTruly, AlwaysExpiredDuly, AlwaysToldCommitments, AlwaysUnskipped, AlwaysWaiting, DecisionsHaveReasons, DownStays, ExpiriesHaveReasons, FailuresAreSettled, HistoriesAreOrderly, LinesTellDecisions, RunsHaveHistories};
+ghost use Rattle.mqb_history.specs.Laws.{AlwaysCarriedTruly, AlwaysCommittedInOrder, AlwaysDecidedInOrder, AlwaysDecidedTruly, AlwaysExpiredDuly, AlwaysOffersKept, AlwaysToldCommitments, AlwaysUnskipped, AlwaysWaiting, DecisionsHaveReasons, DownStays, ExpiriesHaveReasons, FailuresAreSettled, HistoriesAreOrderly, LinesTellDecisions, RunsHaveHistories};
 
 /// Sessions are connections, there is a note for each packet, and managers stay who they are.
 pub fn histories_are_orderly()
@@ -78,4 +78,9 @@ pub fn always_unskipped()
 /// Each committed message waits in its row until that is acknowledged up to it, unless it expires.
 pub fn always_waiting()
     ensures { AlwaysWaiting }
+{}
+
+/// What a manager offered never expires later: only what stands above the mark in its sequence does.
+pub fn always_offers_kept()
+    ensures { AlwaysOffersKept }
 {}
