@@ -1,6 +1,5 @@
 -- What is offered never expires: marks do not fall, and what expires stands above them.
 use Rattle.std.proofs.Common.{refl, ap, sym, subst, ◌∙◌, arith}
-use Rattle.std.proofs.lemmas.Bool.Decides.{nat_tests}
 use Rattle.std.specs.List.{AllByRecursion, cons_option, enumerate_from}
 use Rattle.std.specs.Option.{option_map_or}
 use Rattle.std.specs.Prelude.{[], ◌+◌, ◌++◌, ◌<◌, ◌∷◌, ◌≡◌, ◌≤◌, Bool, List, None, Option, Some, cond, false, filter_map, fold, nat_lt, true, ℕ}
@@ -11,7 +10,6 @@ use Rattle.mqb_base.specs.declared.ledger.Line.TheVariants as line
 use Rattle.mqb_base.specs.declared.ledger.Stream.{Stream}
 use Rattle.mqb_base.specs.declared.message.Message.{Message}
 use Rattle.mqb_entries.specs.declared.members.Mark.{Mark}
-use Rattle.mqb_exactly_once.specs.Words.{In}
 use Rattle.mqb_model.specs.calls.pump.Candidates.{Candidate}
 use Rattle.mqb_model.specs.calls.pump.Pump.{greatest_sent, mark_for}
 use Rattle.mqb_model.specs.declared.target.Target.{Target}
@@ -41,7 +39,7 @@ use Rattle.mqb_history.proofs.Applying.{takes_made_rows}
 use Rattle.mqb_history.proofs.Committing.{OrdinalsRise, all_in, first_changed, is_first_changed}
 use Rattle.mqb_history.proofs.Expiring.{IsReasoned, record_reasoned}
 use Rattle.mqb_history.proofs.Lists.{all_append, all_weaker, apart_numbers, equal_numbers}
-use Rattle.mqb_history.proofs.Marking.{Raise, marks_raise, raise_then}
+use Rattle.mqb_history.proofs.Marking.{Raise, raise_then}
 use Rattle.mqb_history.proofs.Numbering.{AreCounted, changed_all, counted_by_records, made_offers, rise_no_more, rows_no_more}
 use Rattle.mqb_history.proofs.Outside.{CommitsNothing, HasNoMore, HaveNoMore, NoMore, applied_no_more, marks_no_more, raised_no_more}
 use Rattle.mqb_history.proofs.Staying.{HasSameRows, delivered_rows, journalled_rows}
@@ -137,17 +135,23 @@ first_offered mark (row ∷ rows) rise = at (has_ordinal mark.ordinal row) refl 
   where
     at : (b : Bool) → has_ordinal mark.ordinal row ≡ b → AllByRecursion (WasOffered mark) (first_changed (with_offered mark.number) (has_ordinal mark.ordinal) rows)
         → AllByRecursion (WasOffered mark) (cond b (with_offered mark.number row ∷ rows) (row ∷ first_changed (with_offered mark.number) (has_ordinal mark.ordinal) rows))
-    at true e rest = (λ same. omega arith, all_weaker (λ (x : Row). row.sequence.ordinal < x.sequence.ordinal) (WasOffered mark)
-        (λ x less same. let own = equal_numbers row.sequence.ordinal mark.ordinal e in absurd (omega (arith, less, same, own))) rows rise.0)
+    at true e rest = (
+      λ same. omega arith,
+      all_weaker (λ (x : Row). row.sequence.ordinal < x.sequence.ordinal) (WasOffered mark)
+          (λ x less same. let own = equal_numbers row.sequence.ordinal mark.ordinal e in absurd (omega (arith, less, same, own))) rows rise.0,
+    )
     at false e rest = (λ same. absurd (apart_numbers row.sequence.ordinal mark.ordinal e same), rest)
 
 raised_stand : (s : State) (marks : List Mark) → OrdinalsRise s.outs → Raise s.outs marks → AllByRecursion (λ mark. mark.ordinal < s.next_ordinal) marks
     → AllByRecursion (StandsIn (fold mark_raised s marks)) marks
 raised_stand s [] rise h given = tt
-raised_stand s (mark ∷ marks) rise h given = (record {
-  given = let e = later.next_ordinal in let less = given.0 in omega (arith, e, less);
-  offered = offered_no_less mark one.outs (fold mark_raised one marks).outs later.outs (subst (AllByRecursion (WasOffered mark)) same (first_offered mark s.outs rise));
-}, raised_stand one marks (rise_no_more s.outs one.outs (subst (HaveNoMore s.outs) same (raised_no_more mark s.outs h.0.0)) rise) raise given.1)
+raised_stand s (mark ∷ marks) rise h given = (
+  record {
+    given = let e = later.next_ordinal in let less = given.0 in omega (arith, e, less);
+    offered = offered_no_less mark one.outs (fold mark_raised one marks).outs later.outs (subst (AllByRecursion (WasOffered mark)) same (first_offered mark s.outs rise));
+  },
+  raised_stand one marks (rise_no_more s.outs one.outs (subst (HaveNoMore s.outs) same (raised_no_more mark s.outs h.0.0)) rise) raise given.1,
+)
   where
     one : State
     one = mark_raised s mark
