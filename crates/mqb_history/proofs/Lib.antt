@@ -32,6 +32,8 @@ mod Unskipped
 mod Previous
 mod Carrying
 mod Skipping
+mod Rows
+mod Due
 mod Waiting
 mod Stopping
 mod Reasons

@@ -150,7 +150,7 @@ last_leads peer destination o (x ∷ rows) row h e = at (leads_to peer destinati
         ∙ same_name_is x.destination destination (split_and (x.peer == peer) (same_name x.destination destination) f).1) e
     at false f e here behind = behind e
 
-sequence_leads : (s : State) (peer : ℕ) (destination : QueueName) (now : ℕ) → (sequence_for s peer destination now).destination ≡ destination
+pub sequence_leads : (s : State) (peer : ℕ) (destination : QueueName) (now : ℕ) → (sequence_for s peer destination now).destination ≡ destination
 sequence_leads s peer destination now = at (last_sequence s peer destination) refl
   where
     leads : (row : Row) → last_sequence s peer destination ≡ Some row → row.destination ≡ destination

@@ -43,115 +43,7 @@ use Rattle.mqb_history.proofs.Previous.{in_numbers, in_range}
 use Rattle.mqb_history.proofs.Staying.{delivered_rows, journalled_rows}
 use Rattle.mqb_history.proofs.Unskipped.{AreHeld, held_by_records}
 use Rattle.mqb_history.proofs.Written.{IsByRecords, always_by_records}
-
--- Each committed message has a row.
-
--- a row of a sequence is there
-abbrev HasRow : List Row → SequenceId → Type 0
-HasRow rows q = (row : Row) × In row rows × (row.sequence ≡ q)
-
-abbrev HaveRows : List Row → List Commitment → Type 0
-HaveRows rows cs = AllByRecursion (λ c. HasRow rows c.position.sequence) cs
-
-rows_then : (olds news : List Row) → ((q : SequenceId) → HasRow olds q → HasRow news q) → (cs : List Commitment) → HaveRows olds cs → HaveRows news cs
-rows_then olds news keeps cs h = all_weaker (λ (c : Commitment). HasRow olds c.position.sequence) (λ c. HasRow news c.position.sequence) (λ c g. keeps c.position.sequence g) cs h
-
--- a row that has no more than before
-row_after : (olds news : List Row) → HaveNoMore olds news → (q : SequenceId) → HasRow olds q → HasRow news q
-row_after olds news h q g = by olds news h g.1
-  where
-    by : (olds news : List Row) → HaveNoMore olds news → In g.0 olds → HasRow news q
-    by [] news h i = absurd i
-    by (a ∷ olds) [] h i = absurd h
-    by (a ∷ olds) (b ∷ news) h (inl e) = (b, inl refl, h.0.sequence ∙ ap (λ (x : Row). x.sequence) e ∙ g.2)
-    by (a ∷ olds) (b ∷ news) h (inr i) = let r = by olds news h.1 i in (r.0, inr r.1, r.2)
-
--- one that a message joins
-row_joined : (m : Message) (test : Row → Bool) (rows : List Row) (q : SequenceId) → HasRow rows q → HasRow (first_changed (with_kept m) test rows) q
-row_joined m test rows q g = by rows g.1
-  where
-    by : (olds : List Row) → In g.0 olds → HasRow (first_changed (with_kept m) test olds) q
-    by [] i = absurd i
-    by (a ∷ olds) (inl e) = at (test a)
-      where
-        at : (b : Bool) → HasRow (cond b (with_kept m a ∷ olds) (a ∷ first_changed (with_kept m) test olds)) q
-        at true = (with_kept m a, inl refl, ap (λ (x : Row). x.sequence) e ∙ g.2)
-        at false = (a, inl refl, ap (λ (x : Row). x.sequence) e ∙ g.2)
-    by (a ∷ olds) (inr i) = at (test a) (by olds i)
-      where
-        at : (b : Bool) → HasRow (first_changed (with_kept m) test olds) q → HasRow (cond b (with_kept m a ∷ olds) (a ∷ first_changed (with_kept m) test olds)) q
-        at true rest = (g.0, inr i, g.2)
-        at false rest = (rest.0, inr rest.1, rest.2)
-
-join_rows : (s : State) (peer now : ℕ) (m : Message) (cs : List Commitment) → HaveRows s.outs cs
-    → HaveRows (join s peer now m).outs (cs ++ commitment_to (sequence_for s peer m.destination now) m ∷ [])
-join_rows s peer now m cs h = at (sequence_in_use s peer m.destination) refl
-  where
-    new : Row
-    new = new_sequence s peer m.destination now
-
-    at : (o : Option Row) → sequence_in_use s peer m.destination ≡ o
-        → HaveRows (option_map_or (λ row. with_row (with_kept m) s row.sequence.ordinal) o (with_sequence s (with_kept m new))).outs (cs ++ commitment_to (unwrap_or o new) m ∷ [])
-    at None e = all_append (λ (c : Commitment). HasRow (s.outs ++ with_kept m new ∷ []) c.position.sequence) cs (commitment_to new m ∷ [])
-        (rows_then s.outs (s.outs ++ with_kept m new ∷ []) (λ q g. (g.0, in_append s.outs (with_kept m new ∷ []) g.0 g.1, g.2)) cs h)
-        ((with_kept m new, in_end s.outs (with_kept m new), refl), tt)
-    at (Some row) e = subst (λ rows. HaveRows rows (cs ++ commitment_to row m ∷ [])) (sym (is_first_changed (with_kept m) (has_ordinal row.sequence.ordinal) s.outs))
-        (all_append (λ (c : Commitment). HasRow (first_changed (with_kept m) (has_ordinal row.sequence.ordinal) s.outs) c.position.sequence) cs (commitment_to row m ∷ [])
-        (rows_then s.outs (first_changed (with_kept m) (has_ordinal row.sequence.ordinal) s.outs) (row_joined m (has_ordinal row.sequence.ordinal) s.outs) cs h)
-        (row_joined m (has_ordinal row.sequence.ordinal) s.outs row.sequence (row, in_use_in s peer m.destination row e, refl), tt))
-
-same_outs : (a b : List Row) (cs : List Commitment) → b ≡ a → HaveRows a cs → HaveRows b cs
-same_outs a b cs e h = subst (λ rows. HaveRows rows cs) (sym e) h
-
-to_rows : (now : ℕ) (s : State) (t : Target) (m : Message) (cs : List Commitment) → HaveRows s.outs cs
-    → HaveRows (committed_to now s t m).state.outs (cs ++ cons_option (commitment_at now s t m) [])
-to_rows now s (AtPeer k) m cs h = join_rows s k now m cs h
-to_rows now s (Here queue) m cs h = same_outs s.outs _ (cs ++ []) (delivered_rows s (Here queue) m now).outs (subst (HaveRows s.outs) (sym (append_nothing cs)) h)
-to_rows now s Nowhere m cs h = same_outs s.outs _ (cs ++ []) (delivered_rows s Nowhere m now).outs (subst (HaveRows s.outs) (sym (append_nothing cs)) h)
-
-sends_rows : (now : ℕ) (e : Effect) (ms : List Message) (cs : List Commitment) → HaveRows e.state.outs cs
-    → HaveRows (fold (send_made now) e ms).state.outs (cs ++ commitments_of now e ms)
-sends_rows now e [] cs h = subst (HaveRows e.state.outs) (sym (append_nothing cs)) h
-sends_rows now e (m ∷ ms) cs h = let s = journalled e.state m in let place = commitment_at now s (resolved e.state m.destination) m in
-    subst (HaveRows (fold (send_made now) (send_made now e m) ms).state.outs) (cons_behind cs place (commitments_of now (send_made now e m) ms))
-    (sends_rows now (send_made now e m) ms (cs ++ cons_option place [])
-    (to_rows now s (resolved e.state m.destination) m cs (same_outs e.state.outs s.outs cs (journalled_rows e.state m).outs h)))
-
--- what holds of a manager's state and its records
-abbrev AreRowed : State → List Written → Type 0
-AreRowed s ws = AreHeld s ws × HaveRows s.outs (commitments ws)
-
-record_rows : (s : State) (r : Record) (ws : List Written) → IsMade s r → AreRowed s ws → HaveRows (apply s r).outs (commitments ws ++ commitments_in s r)
-record_rows s r ws made h = at r made
-  where
-    quiet : (x : Record) → IsMade s x → CommitsNothing x → commitments_in s x ≡ [] → HaveRows (apply s x).outs (commitments ws ++ commitments_in s x)
-    quiet x made nothing none = subst (λ more. HaveRows (apply s x).outs (commitments ws ++ more)) (sym none)
-        (subst (HaveRows (apply s x).outs) (sym (append_nothing (commitments ws)))
-        (rows_then s.outs (apply s x).outs (row_after s.outs (apply s x).outs (applied_no_more s x nothing (made_offers s x h.0.0.rise made)).outs) (commitments ws) h.1))
-
-    at : (x : Record) → IsMade s x → HaveRows (apply s x).outs (commitments ws ++ commitments_in s x)
-    at (entry.Identity identity) made = quiet (entry.Identity identity) made tt refl
-    at (entry.Peer peer) made = absurd made
-    at (entry.CreateQueue number plan) made = quiet (entry.CreateQueue number plan) made tt refl
-    at (entry.Commit now ops) made = sends_rows now (takes_made s now ops) (sends_of ops) (commitments ws)
-        (same_outs s.outs (takes_made s now ops).state.outs (commitments ws) (takes_made_rows s now ops).outs h.1)
-    at (entry.Plain now p) made = quiet (entry.Plain now p) made tt refl
-    at (entry.Offered marks) made = quiet (entry.Offered marks) made tt refl
-    at (entry.Arrived now numbers part) made = quiet (entry.Arrived now numbers part) made tt refl
-    at (entry.Taken now place id) made = quiet (entry.Taken now place id) made tt refl
-    at (entry.Purged now place) made = quiet (entry.Purged now place) made tt refl
-    at (entry.Ticked now) made = quiet (entry.Ticked now) made tt refl
-    at (entry.Roll count) made = quiet (entry.Roll count) made tt refl
-
-rowed_by_records : IsByRecords AreRowed
-rowed_by_records = record {
-  starts = λ own peers. (held_by_records.starts own peers, tt);
-  quiet = λ a b ws same h. (held_by_records.quiet a b ws same h.0, same_outs a.outs b.outs (commitments ws) same.outs h.1);
-  grows = λ i s r ws made h. (
-    held_by_records.grows i s r ws made h.0,
-    subst (HaveRows (apply s r).outs) (sym (commitments_more ws (record { by = i; before = s; entry = r }))) (record_rows s r ws made h),
-  );
-}
+use Rattle.mqb_history.proofs.Rows.{AreRowed, HasRow, rowed_by_records}
 
 -- No two commitments have one position.
 
@@ -190,13 +82,13 @@ one_of q (x ∷ cs) a b own same (inr i) (inr j) h = at (number_in q x) h (one_o
 -- The law.
 
 waits_or : (s : State) (ws : List Written) (m : Commitment) → AreRowed s ws → In m (commitments ws) → IsInRow s m ⊎ In m.position (expiries_told (lines_written ws))
-waits_or s ws m h i = of_row g.0 g.1 g.2
+waits_or s ws m h i = of_row g.0 g.1 g.2 g.3
   where
     cs : List Commitment
     cs = commitments ws
 
-    g : HasRow s.outs m.position.sequence
-    g = all_in (λ (c : Commitment). HasRow s.outs c.position.sequence) cs m h.1 i
+    g : HasRow s.outs m
+    g = all_in (HasRow s.outs) cs m h.1 i
 
     above : (a n : ℕ) → nat_le n a ≡ false → a < n
     above a n e = grind (arith, nat_tests)
@@ -204,8 +96,8 @@ waits_or s ws m h i = of_row g.0 g.1 g.2
     under : (a n : ℕ) → nat_le n a ≡ true → n ≤ a
     under a n e = grind (arith, nat_tests)
 
-    of_row : (row : Row) → In row s.outs → row.sequence ≡ m.position.sequence → IsInRow s m ⊎ In m.position (expiries_told (lines_written ws))
-    of_row row there same = at (nat_le m.position.number row.acked) refl
+    of_row : (row : Row) → In row s.outs → row.sequence ≡ m.position.sequence → row.destination ≡ m.message.destination → IsInRow s m ⊎ In m.position (expiries_told (lines_written ws))
+    of_row row there same leads = at (nat_le m.position.number row.acked) refl
       where
         counted : IsCounted cs row
         counted = all_in (IsCounted cs) s.outs row h.0.0.rows there
@@ -225,11 +117,11 @@ waits_or s ws m h i = of_row g.0 g.1 g.2
             (counted.kept k inside) i differ)
 
         by : Keeps row m.position.number ⊎ HasExpired (lines_written ws) row.sequence m.position.number → IsInRow s m ⊎ In m.position (expiries_told (lines_written ws))
-        by (inl k) = inl (record { row = row; there = there; sequence = same; waits = inr (subst (λ x. In x row.kept) (kept_is k.0 k.1 k.2) k.1) })
+        by (inl k) = inl (record { row = row; there = there; sequence = same; destination = leads; waits = inr (subst (λ x. In x row.kept) (kept_is k.0 k.1 k.2) k.1) })
         by (inr e) = inr (subst (λ q. In (record { sequence = q; number = m.position.number }) (expiries_told (lines_written ws))) same e)
 
         at : (b : Bool) → nat_le m.position.number row.acked ≡ b → IsInRow s m ⊎ In m.position (expiries_told (lines_written ws))
-        at true e = inl (record { row = row; there = there; sequence = same; waits = inl (under row.acked m.position.number e) })
+        at true e = inl (record { row = row; there = there; sequence = same; destination = leads; waits = inl (under row.acked m.position.number e) })
         at false e = by ((all_in (IsWhole (lines_written ws)) s.outs row h.0.1 there) m.position.number (above row.acked m.position.number e) within)
 
 pub always_waiting : AlwaysWaiting

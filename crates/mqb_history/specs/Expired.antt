@@ -1,5 +1,6 @@
 -- What the lines of the ledger say of messages that expire.
 use Rattle.std.specs.Prelude.{◌++◌, ◌∷◌, None, Option, Some, filter_map, ◌<◌, ◌≡◌, IsTrue, List, ℕ}
+use Rattle.mqb_base.specs.declared.ids.Guid.{Guid}
 use Rattle.mqb_base.specs.declared.ids.MessageId.{MessageId}
 use Rattle.mqb_base.specs.declared.ledger.Line.{Line}
 use Rattle.mqb_base.specs.declared.ledger.Line.TheVariants as line
@@ -12,10 +13,12 @@ use Rattle.mqb_entries.specs.declared.members.Mark.{Mark}
 use Rattle.mqb_model.specs.records.Record as entry
 use Rattle.mqb_network.specs.Courses.{Course, Written}
 use Rattle.mqb_network.specs.Laws.{lines_written}
+use Rattle.mqb_network.specs.Network.{manager_at}
 use Rattle.mqb_orders.specs.Rows.{Row}
 use Rattle.mqb_orders.specs.declared.kept.Kept.{Kept}
 use Rattle.mqb_history.specs.Committed.{commitments}
 use Rattle.mqb_history.specs.Decided.{written_of}
+use Rattle.mqb_history.specs.Told.{joined_by}
 
 -- An outgoing row of a state keeps the message, above the number that it offered last, and its time to reach its queue is over at that moment.
 pub record MayExpire (s : State) (stream : Stream) (number : ℕ) (id : MessageId) (moment : ℕ) : Type 0 where
@@ -29,19 +32,18 @@ pub record MayExpire (s : State) (stream : Stream) (number : ℕ) (id : MessageI
   pub unoffered : row.offered < kept.number
   pub due : IsTrue (due kept.message moment)
 
--- A message was committed with this identifier, under this number of a sequence, and it was due at that moment.
-pub record WasDue (cs : List Commitment) (stream : Stream) (number : ℕ) (id : MessageId) (moment : ℕ) : Type 0 where
+-- A message joined this stream under this number with this identifier, and it was due at that moment.
+pub record WasDue (own : Guid) (cs : List Commitment) (stream : Stream) (number : ℕ) (id : MessageId) (moment : ℕ) : Type 0 where
   pub commitment : Commitment
   pub there : In commitment cs
-  pub position : commitment.position ≡ record { sequence = stream.sequence; number = number }
-  pub names : commitment.message.id ≡ id
+  pub joined : joined_by own commitment ≡ record { stream = stream; number = number; id = id }
   pub due : IsTrue (due commitment.message moment)
 
 -- What a manager lets expire it had committed, and its time to reach its queue was over.
 abbrev pub AreExpiredDuly : Course → Type 0
 AreExpiredDuly c = (i : ℕ) (stream : Stream) (number : ℕ) (id : MessageId) (moment : ℕ)
     → In (line.Expired stream number id moment) (lines_written (written_of i c.written))
-    → WasDue (commitments (written_of i c.written)) stream number id moment
+    → WasDue (manager_at c.network i).state.identity.guid (commitments (written_of i c.written)) stream number id moment
 
 -- where a message stood that a line says expired
 abbrev pub expiry_told : Line → Option Position

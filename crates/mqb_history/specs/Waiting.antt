@@ -11,11 +11,12 @@ use Rattle.mqb_history.specs.Committed.{commitments}
 use Rattle.mqb_history.specs.Decided.{written_of}
 use Rattle.mqb_history.specs.Expired.{expiries_told}
 
--- its row stands, and is acknowledged up to it or keeps it
+-- its row stands and leads to its destination, and is acknowledged up to it or keeps it
 pub record IsInRow (s : State) (c : Commitment) : Type 0 where
   pub row : Row
   pub there : In row s.outs
   pub sequence : row.sequence ≡ c.position.sequence
+  pub destination : row.destination ≡ c.message.destination
   pub waits : (c.position.number ≤ row.acked) ⊎ In (record { number = c.position.number; message = c.message }) row.kept
 
 -- Each message that a manager committed was acknowledged, or waits in its row, or expired.

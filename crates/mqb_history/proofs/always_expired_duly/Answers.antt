@@ -1,5 +1,5 @@
-use Rattle.mqb_history.proofs.Expiring as expiring
+use Rattle.mqb_history.proofs.Due as due
 use Rattle.mqb_history.proofs.always_expired_duly.Goals as goal
 
 pub returns : goal.returns
-returns c = expiring.always_expired_duly
+returns c = due.always_expired_duly
