@@ -1,7 +1,7 @@
 use crate::samples::{ALPHA, REPLIES, SAMPLE, message};
 use mqb_base::{
-    Bytes, Guid, Host, Identity, Line, MachineQueue, Message, MessageId, Name, Place, QueueName,
-    QueuePlan, SequenceId, Stream, Units,
+    Bytes, Host, Identity, Line, Message, MessageId, Name, Place, QueueName, QueuePlan, SequenceId,
+    Stream, Units,
 };
 use mqb_orders::{InKey, InRow, Kept, OutKey};
 use std::alloc::Global;
@@ -14,71 +14,16 @@ fn is_copied<T: Clone + PartialEq + Drop>(value: T) -> Result<bool, Fail> {
     Ok(copy == value)
 }
 
-fn hash_of<T: Hash>(value: &T) -> u64 {
-    let mut hasher = FoldHasher::default();
-    value.hash(&mut hasher);
-    hasher.finish()
-}
-
-const ID: MessageId = MessageId {
-    qm: ALPHA,
-    number: 7,
-};
-
-const MACHINE: QueueName = QueueName::Machine {
-    qm: ALPHA,
-    kind: MachineQueue::DeadXact,
-};
-
-const PRIVATE: QueueName = QueueName::Private {
-    qm: ALPHA,
-    number: 7,
-    journal: true,
-};
-
-const SEQUENCE: SequenceId = SequenceId {
-    ordinal: 1,
-    stamp: 1000,
-};
-
-const STREAM: Stream = Stream {
-    source: ALPHA,
-    destination: REPLIES,
-    sequence: SEQUENCE,
-};
-
-const ROW: InRow = InRow {
-    source: ALPHA,
-    destination: PRIVATE,
-    sequence: SEQUENCE,
-    last: 5,
-};
-
-const INCOMING: InKey = InKey {
-    source: ALPHA,
-    destination: MACHINE,
-};
-
-const OUTGOING: OutKey = OutKey {
-    peer: 0,
-    destination: REPLIES,
-};
-
 fn name(alloc: Global) -> Result<Name, Fail> {
     Ok(Name::new(alloc, b"orders")?)
 }
 
-fn direct(alloc: Global, host: Host) -> Result<QueueName, Fail> {
-    let queue = name(alloc)?;
-    Ok(QueueName::Direct {
-        host,
+fn direct(host: Name, queue: Name) -> QueueName {
+    QueueName::Direct {
+        host: Host::Os(host),
         queue,
         journal: false,
-    })
-}
-
-fn host(alloc: Global) -> Result<Host, Fail> {
-    Ok(Host::Os(name(alloc)?))
+    }
 }
 
 #[test]
@@ -86,22 +31,21 @@ fn values_of_any_length(rt: HostRuntime) -> Result<(), Fail> {
     assert!(rt; is_copied(Bytes::from_slice(rt.alloc(), b"one")?)?);
     assert!(rt; is_copied(Units::from_slice(rt.alloc(), &[0x6F, 0x6E])?)?);
     assert!(rt; is_copied(name(rt.alloc())?)?);
-    assert!(rt; is_copied(host(rt.alloc())?)?);
+    assert!(rt; is_copied(Host::Os(name(rt.alloc())?))?);
     Ok(())
 }
 
 #[test]
 fn names_of_queues(rt: HostRuntime) -> Result<(), Fail> {
-    assert!(rt; is_copied(REPLIES)? && is_copied(PRIVATE)? && is_copied(MACHINE)?);
-    assert!(rt; is_copied(direct(rt.alloc(), Host::Tcp([10, 0, 0, 2]))?)?);
-    assert!(rt; is_copied(direct(rt.alloc(), host(rt.alloc())?)?)?);
+    let host = name(rt.alloc())?;
+    assert!(rt; is_copied(direct(host, name(rt.alloc())?))?);
     Ok(())
 }
 
-fn identity(host: Name, guid: Guid) -> Identity {
+fn identity(host: Name) -> Identity {
     Identity {
         host,
-        guid,
+        guid: ALPHA,
         address: [10, 0, 0, 1],
     }
 }
@@ -118,10 +62,51 @@ fn plan(name: Name) -> QueuePlan {
 
 #[test]
 fn managers_and_queues(rt: HostRuntime) -> Result<(), Fail> {
-    assert!(rt; is_copied(identity(name(rt.alloc())?, ALPHA))?);
+    assert!(rt; is_copied(identity(name(rt.alloc())?))?);
     assert!(rt; is_copied(plan(name(rt.alloc())?))?);
     assert!(rt; is_copied(Place::JournalOf(name(rt.alloc())?))?);
     Ok(())
+}
+
+const SEQUENCE: SequenceId = SequenceId {
+    ordinal: 1,
+    stamp: 1000,
+};
+
+const STREAM: Stream = Stream {
+    source: ALPHA,
+    destination: REPLIES,
+    sequence: SEQUENCE,
+};
+
+const TOOK: Line = Line::Took {
+    id: MessageId {
+        qm: ALPHA,
+        number: 7,
+    },
+};
+
+const ROW: InRow = InRow {
+    source: ALPHA,
+    destination: REPLIES,
+    sequence: SEQUENCE,
+    last: 5,
+};
+
+const INCOMING: InKey = InKey {
+    source: ALPHA,
+    destination: REPLIES,
+};
+
+const OUTGOING: OutKey = OutKey {
+    peer: 0,
+    destination: REPLIES,
+};
+
+fn hash_of<T: Hash>(value: &T) -> u64 {
+    let mut hasher = FoldHasher::default();
+    value.hash(&mut hasher);
+    hasher.finish()
 }
 
 fn is_hashed_alike(key: &OutKey) -> Result<bool, Fail> {
@@ -130,17 +115,10 @@ fn is_hashed_alike(key: &OutKey) -> Result<bool, Fail> {
 }
 
 #[test]
-fn streams(rt: HostRuntime) -> Result<(), Fail> {
-    assert!(rt; is_copied(STREAM)?);
-    assert!(rt; is_copied(Line::Took { id: ID })?);
-    Ok(())
-}
-
-#[test]
-fn rows_and_their_keys(rt: HostRuntime) -> Result<(), Fail> {
+fn streams_and_rows(rt: HostRuntime) -> Result<(), Fail> {
+    assert!(rt; is_copied(STREAM)? && is_copied(TOOK)?);
     assert!(rt; is_copied(ROW)?);
-    assert!(rt; is_copied(INCOMING)?);
-    assert!(rt; is_copied(OUTGOING)?);
+    assert!(rt; is_copied(INCOMING)? && is_copied(OUTGOING)?);
     assert!(rt; is_hashed_alike(&OUTGOING)?);
     Ok(())
 }

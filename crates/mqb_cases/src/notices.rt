@@ -4,283 +4,178 @@ use mqb_base::{
     SequenceId,
 };
 use mqb_fate::{
-    OrderAck, admin_for, final_for, goes_dead, is_final_class, is_order_name, names_order_layer,
+    OrderAck, admin_for, final_for, goes_dead, is_order_name, names_order_layer,
     order_acknowledgement, order_layer,
 };
 use std::alloc::Global;
 use std::test::Fail;
+
+const EXPRESS: Delivery = Delivery::Express;
+
+const RECOVERABLE: Delivery = Delivery::Recoverable;
+
+const TRANSACTIONAL: Delivery = Delivery::Transactional;
 
 /// A dead-letter queue.
 #[derive(Clone, Copy, Debug, PartialEq)]
 enum Dead {
     No,
     Plain,
-    Transactional,
-    Other,
+    Xact,
 }
 
 fn kind_of(place: Option<Place>) -> Dead {
     match place {
-        None => Dead::No,
         Some(Place::Dead) => Dead::Plain,
-        Some(Place::DeadXact) => Dead::Transactional,
-        Some(_) => Dead::Other,
+        Some(Place::DeadXact) => Dead::Xact,
+        _ => Dead::No,
     }
 }
 
-/// How a message of alpha travels, the manager that it meets a class at, its journal bits, the class, and where it goes.
-const DEAD_LETTERS: [(Delivery, Guid, u8, Class, Dead); 6] = [
-    (
-        Delivery::Transactional,
-        BETA,
-        1,
-        Class::REACH_TIMEOUT,
-        Dead::No,
-    ),
-    (
-        Delivery::Transactional,
-        ALPHA,
-        1,
-        Class::REACH_TIMEOUT,
-        Dead::Transactional,
-    ),
-    (
-        Delivery::Transactional,
-        ALPHA,
-        2,
-        Class::REACH_TIMEOUT,
-        Dead::No,
-    ),
-    (
-        Delivery::Recoverable,
-        BETA,
-        1,
-        Class::RECEIVE_TIMEOUT,
-        Dead::Plain,
-    ),
-    (
-        Delivery::Express,
-        ALPHA,
-        3,
-        Class::BAD_DESTINATION,
-        Dead::Plain,
-    ),
-    (Delivery::Express, ALPHA, 3, Class::RECEIVED, Dead::No),
+/// How a message of alpha travels, its journal bits, the manager that it meets a class at, the class, and where it goes.
+type DeadLetter = (Delivery, u8, Guid, Class, Dead);
+
+static DEAD_LETTERS: [DeadLetter; 6] = [
+    (TRANSACTIONAL, 1, BETA, Class::REACH_TIMEOUT, Dead::No),
+    (TRANSACTIONAL, 1, ALPHA, Class::REACH_TIMEOUT, Dead::Xact),
+    (TRANSACTIONAL, 2, ALPHA, Class::REACH_TIMEOUT, Dead::No),
+    (RECOVERABLE, 1, BETA, Class::RECEIVE_TIMEOUT, Dead::Plain),
+    (EXPRESS, 3, ALPHA, Class::BAD_DESTINATION, Dead::Plain),
+    (EXPRESS, 3, ALPHA, Class::RECEIVED, Dead::No),
 ];
 
 /// Where a message goes that meets a class.
-fn fate(alloc: Global, sample: &Sample, class: Class, own: Guid) -> Result<Dead, Memory> {
-    let cause = message(alloc, sample)?;
-    Ok(kind_of(goes_dead(&cause, class, own)))
+fn fate(alloc: Global, row: &DeadLetter) -> Result<Dead, Memory> {
+    let (delivery, journal, own, class, _) = *row;
+    let sample = Sample {
+        delivery,
+        journal,
+        ..SAMPLE
+    };
+    Ok(kind_of(goes_dead(&message(alloc, &sample)?, class, own)))
 }
 
 #[test]
-fn dead_letters(rt: HostRuntime) -> Result<(), Fail> {
-    for (delivery, own, journal, class, place) in DEAD_LETTERS.iter() {
-        let sample = Sample {
-            delivery: *delivery,
-            journal: *journal,
-            ..SAMPLE
-        };
-        assert_eq!(rt; fate(rt.alloc(), &sample, *class, *own)?, *place);
+fn messages_go_to_a_dead_letter_queue(rt: HostRuntime) -> Result<(), Fail> {
+    for row in DEAD_LETTERS.iter() {
+        assert!(rt; fate(rt.alloc(), row)? == row.4, "{row:?}");
     }
     Ok(())
 }
 
-/// How a message travels, its class, of which classes it asks to hear, the class that it meets, and how the notice travels.
-const NOTICES: [(Delivery, Class, u8, Class, Option<Delivery>); 8] = [
-    (
-        Delivery::Express,
-        Class::NORMAL,
-        1,
-        Class::REACHED_QUEUE,
-        Some(Delivery::Express),
-    ),
-    (
-        Delivery::Recoverable,
-        Class::NORMAL,
-        1,
-        Class::RECEIVED,
-        None,
-    ),
-    (
-        Delivery::Transactional,
-        Class::NORMAL,
-        2,
-        Class::RECEIVED,
-        Some(Delivery::Recoverable),
-    ),
-    (
-        Delivery::Recoverable,
-        Class::NORMAL,
-        4,
-        Class::REACH_TIMEOUT,
-        Some(Delivery::Recoverable),
-    ),
-    (
-        Delivery::Recoverable,
-        Class::NORMAL,
-        4,
-        Class::QUEUE_PURGED,
-        None,
-    ),
-    (
-        Delivery::Recoverable,
-        Class::NORMAL,
-        8,
-        Class::QUEUE_PURGED,
-        Some(Delivery::Recoverable),
-    ),
-    (
-        Delivery::Recoverable,
-        Class::RECEIVED,
-        15,
-        Class::QUEUE_PURGED,
-        None,
-    ),
-    (
-        Delivery::Recoverable,
-        Class::NORMAL,
-        15,
-        Class::ORDER_ACKNOWLEDGEMENT,
-        None,
-    ),
+/// How a message travels, of which classes it asks to hear, the class that it meets, and how the notice travels.
+type Notice = (Delivery, u8, Class, Option<Delivery>);
+
+static NOTICES: [Notice; 7] = [
+    (EXPRESS, 1, Class::REACHED_QUEUE, Some(EXPRESS)),
+    (RECOVERABLE, 1, Class::RECEIVED, None),
+    (TRANSACTIONAL, 2, Class::RECEIVED, Some(RECOVERABLE)),
+    (RECOVERABLE, 4, Class::REACH_TIMEOUT, Some(RECOVERABLE)),
+    (RECOVERABLE, 4, Class::QUEUE_PURGED, None),
+    (RECOVERABLE, 8, Class::QUEUE_PURGED, Some(RECOVERABLE)),
+    (RECOVERABLE, 15, Class::ORDER_ACKNOWLEDGEMENT, None),
 ];
 
 fn delivery_of(notice: Option<Message>) -> Option<Delivery> {
-    match notice {
-        Some(notice) => Some(notice.delivery),
-        None => None,
-    }
+    Some(notice?.delivery)
 }
 
-/// How the notice travels that beta makes where a message meets a class.
-fn noticed(alloc: Global, sample: &Sample, class: Class) -> Result<Option<Delivery>, Memory> {
-    let cause = message(alloc, sample)?;
+/// How the notice travels that beta makes where a message of a class meets a class.
+fn noticed(alloc: Global, of: Class, row: &Notice) -> Result<Option<Delivery>, Memory> {
+    let (delivery, ack, class, _) = *row;
+    let sample = Sample {
+        delivery,
+        class: of,
+        ack,
+        ..SAMPLE
+    };
+    let cause = message(alloc, &sample)?;
     Ok(delivery_of(admin_for(alloc, &cause, class, BETA, 9, 1002)?))
 }
 
 #[test]
 fn administration_messages(rt: HostRuntime) -> Result<(), Fail> {
-    for (delivery, of, ack, class, made) in NOTICES.iter() {
-        let sample = Sample {
-            delivery: *delivery,
-            class: *of,
-            ack: *ack,
-            ..SAMPLE
-        };
-        assert_eq!(rt; noticed(rt.alloc(), &sample, *class)?, *made);
+    for row in NOTICES.iter() {
+        assert!(rt;
+            noticed(rt.alloc(), Class::NORMAL, row)? == row.3,
+            "{row:?}"
+        );
+        assert!(rt;
+            noticed(rt.alloc(), Class::RECEIVED, row)? == None,
+            "{row:?}"
+        );
     }
     Ok(())
 }
 
-fn identity(alloc: Global, host: &[u8], guid: Guid) -> Result<Identity, Fail> {
-    Ok(Identity {
-        host: Name::new(alloc, host)?,
+fn identity(host: Name, guid: Guid) -> Identity {
+    Identity {
+        host,
         guid,
         address: [10, 0, 0, 1],
-    })
+    }
 }
 
 /// What beta tells a peer about its message, as beta's message 1.
-fn told_to(
+fn told(
     alloc: Global,
-    peer: &Identity,
-    cause: &Message,
     class: Class,
-) -> Result<Option<Message>, Fail> {
+    beta: &Identity,
+    peer: &Identity,
+) -> Result<Option<Message>, Memory> {
+    let sample = Sample {
+        delivery: TRANSACTIONAL,
+        journal: 1,
+        ..SAMPLE
+    };
+    let cause = message(alloc, &sample)?;
     if peer.guid != cause.id.qm {
         return Ok(None);
     }
-    let beta = identity(alloc, b"beta", BETA)?;
-    Ok(final_for(alloc, cause, class, &beta, peer, 1, 1001)?)
+    final_for(alloc, &cause, class, beta, peer, 1, 1001)
 }
 
-/// What beta tells alpha about a message of alpha.
-fn told(alloc: Global, cause: &Message, class: Class) -> Result<Option<Message>, Fail> {
-    let alpha = identity(alloc, b"alpha", ALPHA)?;
-    told_to(alloc, &alpha, cause, class)
-}
-
-/// The host, and the queue, of a message's destination.
-fn goes_to(message: &Message, host: &[u8], queue: &[u8]) -> bool {
+/// Whether a message goes to the order layer of alpha.
+fn goes_to_alpha(message: &Message) -> bool {
     match &message.destination {
         QueueName::Direct {
             host: Host::Os(at),
             queue: to,
             journal: false,
-        } => at.as_slice() == host && to.as_slice() == queue,
+        } => at.as_slice() == b"alpha".as_slice() && is_order_name(to),
         _ => false,
     }
 }
 
-/// Whether a notice is beta's about a message, and goes to the order layer of alpha.
-fn is_final_about(notice: Option<Message>, id: MessageId) -> bool {
+/// Whether a notice is about the message 7 of alpha, and goes to its order layer.
+fn is_final(notice: Option<Message>) -> bool {
+    let about = MessageId {
+        qm: ALPHA,
+        number: 7,
+    };
     match notice {
-        Some(notice) => { notice.correlation == id && goes_to(&notice, b"alpha", b"order_queue$") }
+        Some(notice) => notice.correlation == about && goes_to_alpha(&notice),
         None => false,
     }
 }
 
 #[test]
 fn final_acknowledgements(rt: HostRuntime) -> Result<(), Fail> {
-    let sample = Sample {
-        delivery: Delivery::Transactional,
-        journal: 1,
-        ..SAMPLE
-    };
-    let cause = message(rt.alloc(), &sample)?;
-    assert!(rt; told(rt.alloc(), &cause, Class::REACHED_QUEUE)?.is_none());
-    let notice = told(rt.alloc(), &cause, Class::BAD_DESTINATION)?;
-    assert!(rt; is_final_about(notice, cause.id));
+    let alloc = rt.alloc();
+    let beta = identity(Name::new(alloc, b"beta")?, BETA);
+    let alpha = identity(Name::new(alloc, b"alpha")?, ALPHA);
+    assert!(rt; told(alloc, Class::REACHED_QUEUE, &beta, &alpha)?.is_none());
+    assert!(rt; is_final(told(alloc, Class::BAD_DESTINATION, &beta, &alpha)?));
     Ok(())
-}
-
-/// A name, and whether it means the order layer.
-const ORDER_NAMES: [(&[u8], bool); 3] = [
-    (b"order_queue$", true),
-    (b"Order_Queue$", true),
-    (b"order_queue", false),
-];
-
-/// Whether a name means the order layer, and whether the order layer's name at a host of this name does.
-fn means_order_layer(alloc: Global, name: &[u8]) -> Result<(bool, bool), Fail> {
-    let name = Name::new(alloc, name)?;
-    let layer = order_layer(alloc, &name)?;
-    Ok((is_order_name(&name), names_order_layer(&layer)))
 }
 
 #[test]
 fn names_of_the_order_layer(rt: HostRuntime) -> Result<(), Fail> {
-    for (name, means) in ORDER_NAMES.iter() {
-        assert_eq!(rt; is_order_name(&Name::new(rt.alloc(), name)?), *means);
-    }
+    assert!(rt; is_order_name(&Name::new(rt.alloc(), b"Order_Queue$")?));
     let host = Name::new(rt.alloc(), b"alpha")?;
     assert!(rt; names_order_layer(&order_layer(rt.alloc(), &host)?));
-    assert!(rt;
-        !names_order_layer(&QueueName::Public {
-            guid: ALPHA,
-            journal: false
-        })
-    );
+    assert!(rt; !names_order_layer(&REPLIES));
     Ok(())
-}
-
-/// A class, and whether it is that of a final acknowledgement.
-const FINAL: [(Class, bool); 6] = [
-    (Class::RECEIVED, true),
-    (Class::MESSAGE_NOT_TRANSACTIONAL, true),
-    (Class::RECEIVE_TIMEOUT, true),
-    (Class(0x800B), false),
-    (Class::REACHED_QUEUE, false),
-    (Class::ORDER_ACKNOWLEDGEMENT, false),
-];
-
-#[test]
-fn classes_of_final_acknowledgements(rt: HostRuntime) {
-    for (class, is_final) in FINAL.iter() {
-        assert_eq!(rt; is_final_class(*class), *is_final, "{class:?}");
-    }
 }
 
 const ACK: OrderAck = OrderAck {
@@ -300,23 +195,22 @@ fn acknowledgement(alloc: Global) -> Result<Message, Fail> {
         number: 0x8000_0000,
     };
     let host = Name::new(alloc, b"alpha")?;
-    let made: Result<Message, Memory> = order_acknowledgement(alloc, ACK, &host, id, 1001);
-    Ok(made?)
+    Ok(order_acknowledgement(alloc, ACK, &host, id, 1001)?)
 }
 
-fn says_ack(message: &Message) -> bool {
-    message.class == Class::ORDER_ACKNOWLEDGEMENT && message.body.as_slice() == ACK_BODY.as_slice()
+fn is_ack_for_alpha(message: &Message) -> bool {
+    message.body.as_slice() == ACK_BODY.as_slice() && goes_to_alpha(message)
 }
 
 #[test]
 fn order_acknowledgements_are_made(rt: HostRuntime) -> Result<(), Fail> {
     let message = acknowledgement(rt.alloc())?;
-    assert!(rt; says_ack(&message) && goes_to(&message, b"alpha", b"order_queue$"));
+    assert!(rt; message.class == Class::ORDER_ACKNOWLEDGEMENT && is_ack_for_alpha(&message));
     Ok(())
 }
 
 #[test]
 fn order_acknowledgements_are_read(rt: HostRuntime) {
-    assert_eq!(rt; OrderAck::read(ACK_BODY), Some(ACK));
-    assert_eq!(rt; OrderAck::read(b"\x01\0\0\0"), None);
+    assert!(rt; OrderAck::read(ACK_BODY) == Some(ACK));
+    assert!(rt; OrderAck::read(b"\x01\0\0\0").is_none());
 }

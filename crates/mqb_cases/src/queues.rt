@@ -3,12 +3,9 @@ use mqb_base::{
     Class, Delivery, EntryPlace, Lane, Memory, Message, MessageId, Name, Place, QueuePlan,
     UNLIMITED,
 };
-use mqb_queue::{NewQueue, Position, Queues};
+use mqb_queue::{NewQueue, Position, Queues, arrival_refusal};
 use std::alloc::Global;
 use std::test::Fail;
-
-/// The queues of a manager, and whether they are transactional.
-const QUEUES: [(&[u8], bool); 2] = [(b"orders", true), (b"notes", false)];
 
 fn plan(name: Name, transactional: bool) -> QueuePlan {
     QueuePlan {
@@ -25,53 +22,18 @@ fn add(queues: &mut Queues, plan: QueuePlan) -> Result<(), Memory> {
     if queues.find(&plan.name).is_some() {
         return Ok(());
     }
-    queues.add_queue(plan).map_err(|refused| refused.1)
-}
-
-fn add_named(queues: &mut Queues, alloc: Global, row: &(&[u8], bool)) -> Result<(), Fail> {
-    let name = Name::new(alloc, row.0)?;
-    Ok(add(queues, plan(name, row.1))?)
-}
-
-fn add_all(queues: &mut Queues, alloc: Global) -> Result<(), Fail> {
-    for row in QUEUES.iter() {
-        add_named(queues, alloc, row)?;
+    match queues.add_queue(plan) {
+        Ok(()) => Ok(()),
+        Err((_, memory)) => Err(memory),
     }
-    Ok(())
 }
 
-/// A manager's queues, each of which takes two messages.
+/// The transactional queue `orders` and the plain queue `notes`, each of which takes two messages.
 fn orders_and_notes(alloc: Global) -> Result<Queues, Fail> {
     let mut queues = Queues::new(alloc);
-    add_all(&mut queues, alloc)?;
+    add(&mut queues, plan(Name::new(alloc, b"orders")?, true))?;
+    add(&mut queues, plan(Name::new(alloc, b"notes")?, false))?;
     Ok(queues)
-}
-
-fn place_of(queues: &Queues, alloc: Global, name: &[u8]) -> Result<Option<u32>, Fail> {
-    let name = Name::new(alloc, name)?;
-    Ok(queues.find(&name))
-}
-
-/// A name, and the place in the list of the queue with it.
-const FOUND: [(&[u8], Option<u32>); 3] = [
-    (b"orders", Some(0)),
-    (b"NOTES", Some(1)),
-    (b"note", None),
-];
-
-fn is_transactional(queues: &Queues, k: u32) -> bool {
-    k < queues.count() && queues.plan(k).transactional
-}
-
-#[test]
-fn queues_are_found_by_name(rt: HostRuntime) -> Result<(), Fail> {
-    let queues = orders_and_notes(rt.alloc())?;
-    for (name, place) in FOUND.iter() {
-        assert_eq!(rt; place_of(&queues, rt.alloc(), name)?, *place);
-    }
-    assert!(rt; is_transactional(&queues, 0) && !is_transactional(&queues, 1));
-    assert!(rt; queues.plan_numbered(0).is_none() && queues.plan_numbered(2).is_some());
-    Ok(())
 }
 
 #[test]
@@ -80,78 +42,17 @@ fn an_added_queue_is_taken_back(rt: HostRuntime) -> Result<(), Fail> {
     let name = Name::new(rt.alloc(), b"orders")?;
     queues.reserve_queue(&name)?;
     queues.push_queue(NewQueue::new(rt.alloc(), plan(name, true)));
-    assert_eq!(rt; queues.count(), 1);
-    assert_eq!(rt; queues.pop_queue().into_plan().quota, 2);
-    assert_eq!(rt; queues.count(), 0);
+    assert!(rt; queues.count() == 1 && queues.plan_numbered(2).is_none());
+    assert_eq!(rt; queues.plan(0).quota, 2);
+    let plan = queues.pop_queue().into_plan();
+    assert_eq!(rt; (plan.quota, queues.count()), (2, 0));
     Ok(())
 }
 
-/// Puts a message into a place that is there.
-fn put(queues: &mut Queues, place: &Place, message: Message) -> Result<(), Memory> {
-    if queues.len(place).is_none() {
-        return Ok(());
-    }
-    let put = match message.delivery {
-        Delivery::Express => queues.put_express(place, message),
-        Delivery::Recoverable | Delivery::Transactional => queues.put(place, message),
-    };
-    put.map_err(|refused| refused.1)
-}
+/// How a message travels, its number, its priority, and its time to be received.
+type Row = (Delivery, u32, u8, u32);
 
-fn reserve(queues: &mut Queues, place: &Place, durable: u32, express: u32) -> Result<(), Memory> {
-    if queues.len(place).is_none() {
-        return Ok(());
-    }
-    queues.reserve(place, durable, express)
-}
-
-fn admit(
-    queues: &Queues,
-    queue: Option<u32>,
-    transactional: bool,
-    recorded: bool,
-    remaining: u32,
-) -> Option<Class> {
-    match queue {
-        Some(k) if k >= queues.count() => None,
-        queue => queues.admit(queue, transactional, recorded, remaining),
-    }
-}
-
-/// A queue, whether a message is transactional and whether it is recorded, its time that is left, and why it is refused.
-const ARRIVALS: [(Option<u32>, bool, bool, u32, Option<Class>); 8] = [
-    (None, true, true, 0, Some(Class::REACH_TIMEOUT)),
-    (None, true, true, 1, Some(Class::BAD_DESTINATION)),
-    (Some(0), true, true, 1, None),
-    (Some(0), true, true, 0, Some(Class::REACH_TIMEOUT)),
-    (
-        Some(0),
-        false,
-        true,
-        1,
-        Some(Class::MESSAGE_NOT_TRANSACTIONAL),
-    ),
-    (Some(1), true, true, 1, Some(Class::QUEUE_NOT_TRANSACTIONAL)),
-    (Some(1), false, true, 1, None),
-    (Some(1), false, false, 1, Some(Class::QUOTA_EXCEEDED)),
-];
-
-#[test]
-fn arrivals_are_refused(rt: HostRuntime) -> Result<(), Fail> {
-    let mut queues = orders_and_notes(rt.alloc())?;
-    let notes = Place::Queue(Name::new(rt.alloc(), b"notes")?);
-    reserve(&mut queues, &notes, 1, 1)?;
-    put_one(&mut queues, rt.alloc(), &notes, &FIVE[0])?;
-    put_one(&mut queues, rt.alloc(), &notes, &FIVE[3])?;
-    for (queue, transactional, recorded, remaining, refusal) in ARRIVALS.iter() {
-        let answer = admit(&queues, *queue, *transactional, *recorded, *remaining);
-        assert_eq!(rt; answer, *refusal);
-    }
-    Ok(())
-}
-
-/// How the messages 1 to 5 travel, their priorities, and their times to be received.
-const FIVE: [(Delivery, u32, u8, u32); 5] = [
+static FIVE: [Row; 5] = [
     (Delivery::Recoverable, 1, 7, 3),
     (Delivery::Recoverable, 2, 3, UNLIMITED),
     (Delivery::Recoverable, 3, 3, UNLIMITED),
@@ -159,7 +60,7 @@ const FIVE: [(Delivery, u32, u8, u32); 5] = [
     (Delivery::Express, 5, 3, 9),
 ];
 
-fn one_of_five(alloc: Global, row: &(Delivery, u32, u8, u32)) -> Result<Message, Memory> {
+fn one_of_five(alloc: Global, row: &Row) -> Result<Message, Memory> {
     let (delivery, number, priority, life) = *row;
     let sample = Sample {
         delivery,
@@ -171,207 +72,75 @@ fn one_of_five(alloc: Global, row: &(Delivery, u32, u8, u32)) -> Result<Message,
     message(alloc, &sample)
 }
 
-fn put_one(
-    queues: &mut Queues,
-    alloc: Global,
-    place: &Place,
-    row: &(Delivery, u32, u8, u32),
-) -> Result<(), Memory> {
-    put(queues, place, one_of_five(alloc, row)?)
-}
-
-fn put_five(queues: &mut Queues, alloc: Global, place: &Place) -> Result<(), Memory> {
-    for row in FIVE.iter() {
-        put_one(queues, alloc, place, row)?;
-    }
-    Ok(())
-}
-
-/// The five messages in a place.
-fn with_five(alloc: Global, place: &Place) -> Result<Queues, Fail> {
-    let mut queues = orders_and_notes(alloc)?;
-    put_five(&mut queues, alloc, place)?;
-    Ok(queues)
-}
-
-fn number_of(message: Option<&Message>) -> Option<u32> {
-    Some(message?.id.number)
-}
-
-/// A kind of place.
-#[derive(Clone, Copy, Debug)]
-enum Kind {
-    Queue,
-    Journal,
-    Dead,
-}
-
-fn place(kind: Kind, name: Name) -> Place {
-    match kind {
-        Kind::Queue => Place::Queue(name),
-        Kind::Journal => Place::JournalOf(name),
-        Kind::Dead => Place::Dead,
-    }
-}
-
-/// A place, a moment, and the first message.
-const FIRST: [(Kind, &[u8], u32, Option<u32>); 6] = [
-    (Kind::Queue, b"Notes", 1000, Some(1)),
-    (Kind::Queue, b"Notes", 1003, Some(4)),
-    (Kind::Queue, b"Notes", 1005, Some(2)),
-    (Kind::Journal, b"notes", 1005, Some(1)),
-    (Kind::Dead, b"notes", 2000, Some(1)),
-    (Kind::Queue, b"other", 1000, None),
-];
-
-/// Which of the five is first in a place.
-fn first_of_five(alloc: Global, place: &Place, now: u32) -> Result<Option<u32>, Fail> {
-    let queues = with_five(alloc, place)?;
-    Ok(number_of(queues.first(place, now)))
-}
-
-fn first_named(alloc: Global, kind: Kind, name: &[u8], now: u32) -> Result<Option<u32>, Fail> {
-    let name = Name::new(alloc, name)?;
-    first_of_five(alloc, &place(kind, name), now)
-}
-
-#[test]
-fn the_first_message_of_a_place(rt: HostRuntime) -> Result<(), Fail> {
-    for (kind, name, now, number) in FIRST.iter() {
-        let first = first_named(rt.alloc(), *kind, name, *now)?;
-        assert_eq!(rt; first, *number, "{kind:?} {name:?} {now}");
-    }
-    Ok(())
-}
-
-fn take(queues: &mut Queues, place: &Place, k: u32) -> Option<u32> {
-    if (k as usize) < queues.durable(place)?.len() {
-        Some(queues.remove(place, k).id.number)
-    } else {
-        None
-    }
-}
-
-fn take_express(queues: &mut Queues, place: &Place, k: u32) -> Option<u32> {
-    if (k as usize) < queues.express(place)?.len() {
-        Some(queues.remove_express(place, k).id.number)
-    } else {
-        None
-    }
-}
-
-/// What the durable message 1, the durable message 2 and then the express message 1 are, and how many are left.
-fn taken(queues: &mut Queues, place: &Place) -> [Option<u32>; 4] {
-    let second = take(queues, place, 1);
-    let third = take(queues, place, 2);
-    let express = take_express(queues, place, 1);
-    [second, third, express, queues.len(place)]
-}
-
-#[test]
-fn messages_are_taken_by_index(rt: HostRuntime) -> Result<(), Fail> {
-    let place = Place::DeadXact;
-    let mut queues = with_five(rt.alloc(), &place)?;
-    assert_eq!(rt;
-        taken(&mut queues, &place),
-        [Some(2), None, Some(5), Some(3)]
-    );
-    Ok(())
-}
-
 /// Puts a message into a place that is there.
-fn put_at(queues: &mut Queues, at: EntryPlace, lane: Lane, message: Message) -> Result<(), Memory> {
+fn put_at(queues: &mut Queues, at: EntryPlace, message: Message) -> Result<(), Memory> {
     if queues.len_at(at).is_none() {
         return Ok(());
     }
-    queues.reserve_at(at, 1, 1)?;
-    queues
-        .put_at(at, lane, message)
-        .map_err(|refused| refused.1)
+    match queues.put_at(at, message.delivery.lane(), message) {
+        Ok(()) => Ok(()),
+        Err((_, memory)) => Err(memory),
+    }
 }
 
-fn put_five_at(queues: &mut Queues, alloc: Global, at: EntryPlace) -> Result<(), Memory> {
+/// Makes room for two messages in a place that is there.
+fn reserve_at(queues: &mut Queues, at: EntryPlace) -> Result<(), Memory> {
+    if queues.len_at(at).is_none() {
+        return Ok(());
+    }
+    queues.reserve_at(at, 1, 1)
+}
+
+fn put_one(queues: &mut Queues, alloc: Global, at: EntryPlace, row: &Row) -> Result<(), Memory> {
+    let message = one_of_five(alloc, row)?;
+    put_at(queues, at, message)
+}
+
+fn put_five(queues: &mut Queues, alloc: Global, at: EntryPlace) -> Result<(), Memory> {
     for row in FIVE.iter() {
-        put_at(queues, at, row.0.lane(), one_of_five(alloc, row)?)?;
+        put_one(queues, alloc, at, row)?;
     }
     Ok(())
 }
 
-/// The five messages in a place by number.
-fn with_five_at(alloc: Global, at: EntryPlace) -> Result<Queues, Fail> {
+/// The five messages in the queue `notes`, in its journal and in the dead-letter queue.
+fn with_five(alloc: Global) -> Result<Queues, Fail> {
     let mut queues = orders_and_notes(alloc)?;
-    put_five_at(&mut queues, alloc, at)?;
+    for at in [
+        EntryPlace::Queue(2),
+        EntryPlace::JournalOf(2),
+        EntryPlace::Dead,
+    ] {
+        reserve_at(&mut queues, at)?;
+        put_five(&mut queues, alloc, at)?;
+    }
     Ok(queues)
 }
 
-const DURABLE_0: Position = Position {
-    lane: Lane::Durable,
-    index: 0,
-};
-
-const DURABLE_1: Position = Position {
-    lane: Lane::Durable,
-    index: 1,
-};
-
-const EXPRESS_0: Position = Position {
-    lane: Lane::Express,
-    index: 0,
-};
+/// A lane and an index in it.
+type Index = (Lane, u32);
 
 /// A place, a moment, and where its first message stands.
-const POSITIONS: [(EntryPlace, u32, Option<Position>); 6] = [
-    (EntryPlace::Queue(2), 1000, Some(DURABLE_0)),
-    (EntryPlace::Queue(2), 1003, Some(EXPRESS_0)),
-    (EntryPlace::Queue(2), 1005, Some(DURABLE_1)),
-    (EntryPlace::JournalOf(2), 1005, Some(DURABLE_0)),
-    (EntryPlace::Dead, 2000, Some(DURABLE_0)),
+static FIRST: [(EntryPlace, u32, Option<Index>); 6] = [
+    (EntryPlace::Queue(2), 1000, Some((Lane::Durable, 0))),
+    (EntryPlace::Queue(2), 1003, Some((Lane::Express, 0))),
+    (EntryPlace::Queue(2), 1005, Some((Lane::Durable, 1))),
+    (EntryPlace::JournalOf(2), 1005, Some((Lane::Durable, 0))),
+    (EntryPlace::Dead, 2000, Some((Lane::Durable, 0))),
     (EntryPlace::Queue(3), 1000, None),
 ];
 
-fn first_at(alloc: Global, at: EntryPlace, now: u32) -> Result<Option<Position>, Fail> {
-    let queues = with_five_at(alloc, at)?;
-    Ok(queues.first_position(at, now))
+fn first_at(queues: &Queues, at: EntryPlace, now: u32) -> Option<Index> {
+    let Position { lane, index } = queues.first_position(at, now)?;
+    Some((lane, index))
 }
 
 #[test]
 fn where_the_first_message_stands(rt: HostRuntime) -> Result<(), Fail> {
-    for (at, now, position) in POSITIONS.iter() {
-        assert_eq!(rt; first_at(rt.alloc(), *at, *now)?, *position, "{at:?} {now}");
+    let queues = with_five(rt.alloc())?;
+    for (at, now, index) in FIRST.iter() {
+        assert!(rt; first_at(&queues, *at, *now) == *index, "{at:?} {now}");
     }
-    Ok(())
-}
-
-/// Takes out the first message of a place, and puts it back.
-fn out_and_back(queues: &mut Queues, at: EntryPlace, now: u32) -> Option<u32> {
-    let position = queues.first_position(at, now)?;
-    let message = queues.remove_at(at, position.lane, position.index);
-    let number = message.id.number;
-    queues.insert_at(at, position.lane, position.index, message);
-    Some(number)
-}
-
-fn number_at(queues: &Queues, at: EntryPlace, lane: Lane, k: usize) -> Option<u32> {
-    number_of(queues.messages_at(at, lane)?.get(k))
-}
-
-/// The first four durable messages of a place, once its first one was taken out and put back.
-fn once_back(queues: &mut Queues, at: EntryPlace) -> [Option<u32>; 5] {
-    [
-        out_and_back(queues, at, 1005),
-        number_at(queues, at, Lane::Durable, 0),
-        number_at(queues, at, Lane::Durable, 1),
-        number_at(queues, at, Lane::Durable, 2),
-        number_at(queues, at, Lane::Durable, 3),
-    ]
-}
-
-#[test]
-fn a_message_is_put_back_at_its_index(rt: HostRuntime) -> Result<(), Fail> {
-    let notes = EntryPlace::Queue(2);
-    let mut queues = with_five_at(rt.alloc(), notes)?;
-    let numbers = [Some(2), Some(1), Some(2), Some(3), None];
-    assert_eq!(rt; once_back(&mut queues, notes), numbers);
     Ok(())
 }
 
@@ -380,17 +149,99 @@ fn index_of(queues: &Queues, number: u32) -> Option<u32> {
     queues.index_named(EntryPlace::Queue(2), id, 1005)
 }
 
+/// The number of a message, and its index among the durable ones that are not due.
+static NAMED: [(u32, Option<u32>); 4] = [(1, None), (2, Some(1)), (3, Some(2)), (4, None)];
+
 #[test]
 fn messages_are_found_by_identifier(rt: HostRuntime) -> Result<(), Fail> {
-    let queues = with_five_at(rt.alloc(), EntryPlace::Queue(2))?;
-    assert_eq!(rt;
-        [index_of(&queues, 1), index_of(&queues, 2)],
-        [None, Some(1)]
-    );
-    assert_eq!(rt;
-        [index_of(&queues, 3), index_of(&queues, 4)],
-        [Some(2), None]
-    );
-    assert_eq!(rt; queues.place(&Place::Dead), Some(EntryPlace::Dead));
+    let queues = with_five(rt.alloc())?;
+    for (number, index) in NAMED.iter() {
+        assert!(rt; index_of(&queues, *number) == *index, "{number}");
+    }
+    Ok(())
+}
+
+/// The queue, where there is one: whether it is transactional, and its length; whether a message is transactional, the time that it has left, and
+/// why it is refused.
+type Arrival = (Option<(bool, u32)>, bool, u32, Option<Class>);
+
+const NOT_TRANSACTIONAL: Class = Class::MESSAGE_NOT_TRANSACTIONAL;
+
+static ARRIVALS: [Arrival; 8] = [
+    (None, true, 0, Some(Class::REACH_TIMEOUT)),
+    (None, true, 1, Some(Class::BAD_DESTINATION)),
+    (Some((true, 1)), true, 1, None),
+    (Some((true, 1)), true, 0, Some(Class::REACH_TIMEOUT)),
+    (Some((true, 1)), false, 1, Some(NOT_TRANSACTIONAL)),
+    (Some((false, 1)), true, 1, Some(QUEUE_NOT_TRANSACTIONAL)),
+    (Some((false, 1)), false, 1, None),
+    (Some((false, 2)), false, 1, Some(Class::QUOTA_EXCEEDED)),
+];
+
+const QUEUE_NOT_TRANSACTIONAL: Class = Class::QUEUE_NOT_TRANSACTIONAL;
+
+fn refusal_of(name: Name, row: &Arrival) -> Option<Class> {
+    let (queue, transactional, remaining, _) = *row;
+    match queue {
+        Some((of_queue, length)) => {
+            let plan = plan(name, of_queue);
+            arrival_refusal(Some(&plan), length, transactional, remaining)
+        }
+        None => arrival_refusal(None, 0, transactional, remaining),
+    }
+}
+
+#[test]
+fn arrivals_are_refused(rt: HostRuntime) -> Result<(), Fail> {
+    for row in ARRIVALS.iter() {
+        let name = Name::new(rt.alloc(), b"orders")?;
+        assert!(rt; refusal_of(name, row) == row.3, "{row:?}");
+    }
+    Ok(())
+}
+
+/// Makes room for two messages in a place that is there.
+fn reserve(queues: &mut Queues, place: &Place) -> Result<(), Memory> {
+    if queues.len(place).is_none() {
+        return Ok(());
+    }
+    queues.reserve(place, 1, 1)
+}
+
+/// Puts a message into a place that is there.
+fn put(queues: &mut Queues, place: &Place, message: Message) -> Result<(), Memory> {
+    if queues.len(place).is_none() {
+        return Ok(());
+    }
+    let put = match message.delivery.lane() {
+        Lane::Durable => queues.put(place, message),
+        Lane::Express => queues.put_express(place, message),
+    };
+    match put {
+        Ok(()) => Ok(()),
+        Err((_, memory)) => Err(memory),
+    }
+}
+
+fn put_named(queues: &mut Queues, alloc: Global, place: &Place, row: &Row) -> Result<(), Memory> {
+    let message = one_of_five(alloc, row)?;
+    put(queues, place, message)
+}
+
+/// How many messages each lane of a place has, and the first one.
+fn told(queues: &Queues, place: &Place) -> Option<(usize, usize, u32)> {
+    let durable = queues.durable(place)?.len();
+    let express = queues.express(place)?.len();
+    Some((durable, express, queues.first(place, 1000)?.id.number))
+}
+
+#[test]
+fn messages_are_put_by_name(rt: HostRuntime) -> Result<(), Fail> {
+    let mut queues = Queues::new(rt.alloc());
+    reserve(&mut queues, &Place::DeadXact)?;
+    for row in FIVE.iter() {
+        put_named(&mut queues, rt.alloc(), &Place::DeadXact, row)?;
+    }
+    assert_eq!(rt; told(&queues, &Place::DeadXact), Some((3, 2, 1)));
     Ok(())
 }

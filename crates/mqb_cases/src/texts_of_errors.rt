@@ -8,7 +8,7 @@ fn is_printed<T: Display>(alloc: Global, error: &T, text: &str) -> Result<bool, 
 }
 
 /// Each fault of a draft, and its text.
-const DRAFTS: [(DraftFault, &str); 7] = [
+static DRAFTS: [(DraftFault, &str); 7] = [
     (
         DraftFault::Destination,
         "the destination is a machine's queue or a journal",
@@ -28,7 +28,7 @@ const DRAFTS: [(DraftFault, &str); 7] = [
 ];
 
 /// Each fault of a name, and its text.
-const NAMES: [(NameError, &str); 3] = [
+static NAMES: [(NameError, &str); 3] = [
     (NameError::Length, "a name has 1 to 64 bytes"),
     (NameError::Byte { at: 7 }, "byte 7 may not stand in a name"),
     (NameError::Memory, "out of memory"),
@@ -37,10 +37,10 @@ const NAMES: [(NameError, &str); 3] = [
 #[test]
 fn errors_are_printed(rt: HostRuntime) -> Result<(), Fail> {
     for (fault, text) in DRAFTS.iter() {
-        assert!(rt; is_printed(rt.alloc(), fault, text)?, "{fault:?}");
+        assert!(rt; is_printed(rt.alloc(), fault, text)?, "{text}");
     }
     for (fault, text) in NAMES.iter() {
-        assert!(rt; is_printed(rt.alloc(), fault, text)?, "{fault:?}");
+        assert!(rt; is_printed(rt.alloc(), fault, text)?, "{text}");
     }
     assert!(rt; is_printed(rt.alloc(), &Memory, "out of memory")?);
     assert!(rt; is_printed(rt.alloc(), &Failed, "the call failed")?);
