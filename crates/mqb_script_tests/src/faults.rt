@@ -10,14 +10,16 @@ fn faulty(number: u32, kind: LineKind) -> Result<usize, ScriptFault> {
     Err(ScriptFault::Line { number, kind })
 }
 
-const SCRIPTS: [(&[u8], usize); 4] = [
+/// A text, and how many lines of it are events.
+static SCRIPTS: [(&[u8], usize); 4] = [
     (b"", 0),
     (b"\n", 0),
     (b"#\xFF\x01 a comment holds any byte\n\npump alpha 0\n", 1),
     (b"pump alpha 0\npump alpha 1", 2),
 ];
 
-const FAULTS: [(&[u8], u32, LineKind); 57] = [
+/// A text, the number of its first faulty line, and what is wrong with it.
+static FAULTS: [(&[u8], u32, LineKind); 57] = [
     (b"disconnect\njump alpha\n", 2, LineKind::Word),
     (b"# one\n\npump alpha 01\n", 3, LineKind::Value),
     (b"pump alpha 01\njump\npump\n", 1, LineKind::Value),
@@ -89,14 +91,9 @@ const FAULTS: [(&[u8], u32, LineKind); 57] = [
     (b"send alpha 1 express 3 take,q", 1, LineKind::Value),
 ];
 
-/// A text, and how many lines of it are events.
-fn scripts() -> &'static [(&'static [u8], usize)] {
-    &SCRIPTS
-}
-
 #[test]
 fn comments_and_empty_lines_are_skipped(rt: HostRuntime) {
-    for (text, events) in scripts() {
+    for (text, events) in SCRIPTS.iter() {
         assert!(rt;
             counted(read(rt.alloc(), text, &[])) == Ok(*events),
             "{text:?}"
@@ -104,20 +101,16 @@ fn comments_and_empty_lines_are_skipped(rt: HostRuntime) {
     }
 }
 
-/// A text, the number of its first faulty line, and what is wrong with it.
-fn faults() -> &'static [(&'static [u8], u32, LineKind)] {
-    &FAULTS
-}
-
 #[test]
 fn the_first_faulty_line_is_named(rt: HostRuntime) {
-    for (text, number, kind) in faults() {
+    for (text, number, kind) in FAULTS.iter() {
         let read = counted(read(rt.alloc(), text, &[]));
         assert!(rt; read == faulty(*number, *kind), "{text:?}");
     }
 }
 
-const SENDS: [&[u8]; 21] = [
+/// Sends of which one field is outside its form.
+static SENDS: [&[u8]; 21] = [
     b"orders,-,-,-,-,-,a",
     b"DIRECT=OS:b\\PRIVATE$\\q;JOURNAL,-,-,-,-,-,a",
     b"MACHINE=0a0b0c0d-1112-1314-1516-1718191a1b1c;JOURNAL,-,-,-,-,-,a",
@@ -141,14 +134,9 @@ const SENDS: [&[u8]; 21] = [
     b"DIRECT=OS:b\\PRIVATE$\\q,-,-,-,-,-,*4194305",
 ];
 
-/// Sends of which one field is outside its form.
-fn sends() -> &'static [&'static [u8]] {
-    &SENDS
-}
-
 #[test]
 fn a_send_outside_its_form(rt: HostRuntime) -> Result<(), Fail> {
-    for fields in sends() {
+    for fields in SENDS.iter() {
         let mut line = Vec::from_slice(rt.alloc(), b"commit beta 1 send,")?;
         line.extend_from_slice(fields)?;
         let read = counted(read(rt.alloc(), line.as_slice(), &[]));
