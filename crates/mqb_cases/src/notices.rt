@@ -169,12 +169,17 @@ fn final_acknowledgements(rt: HostRuntime) -> Result<(), Fail> {
     Ok(())
 }
 
+/// Whether the order layer at a host is named as such.
+fn is_layer_named(alloc: Global, host: Name) -> Result<bool, Memory> {
+    let layer = order_layer(alloc, &host)?;
+    Ok(names_order_layer(&layer))
+}
+
 #[test]
 fn names_of_the_order_layer(rt: HostRuntime) -> Result<(), Fail> {
-    assert!(rt; is_order_name(&Name::new(rt.alloc(), b"Order_Queue$")?));
-    let host = Name::new(rt.alloc(), b"alpha")?;
-    assert!(rt; names_order_layer(&order_layer(rt.alloc(), &host)?));
-    assert!(rt; !names_order_layer(&REPLIES));
+    let name = Name::new(rt.alloc(), b"Order_Queue$")?;
+    assert!(rt; is_order_name(&name) && !names_order_layer(&REPLIES));
+    assert!(rt; is_layer_named(rt.alloc(), name)?);
     Ok(())
 }
 

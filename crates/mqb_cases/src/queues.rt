@@ -28,11 +28,21 @@ fn add(queues: &mut Queues, plan: QueuePlan) -> Result<(), Memory> {
     }
 }
 
+fn add_named(
+    queues: &mut Queues,
+    alloc: Global,
+    name: &[u8],
+    transactional: bool,
+) -> Result<(), Fail> {
+    let name = Name::new(alloc, name)?;
+    Ok(add(queues, plan(name, transactional))?)
+}
+
 /// The transactional queue `orders` and the plain queue `notes`, each of which takes two messages.
 fn orders_and_notes(alloc: Global) -> Result<Queues, Fail> {
     let mut queues = Queues::new(alloc);
-    add(&mut queues, plan(Name::new(alloc, b"orders")?, true))?;
-    add(&mut queues, plan(Name::new(alloc, b"notes")?, false))?;
+    add_named(&mut queues, alloc, b"orders", true)?;
+    add_named(&mut queues, alloc, b"notes", false)?;
     Ok(queues)
 }
 
