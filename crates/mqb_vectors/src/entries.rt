@@ -18,7 +18,7 @@ const ID: MessageId = MessageId {
 };
 
 /// A record, and where each of its fields begins.
-const RECORDS: [(&[u8], &[usize]); 18] = [
+static RECORDS: [(&[u8], &[usize]); 18] = [
     (
         b"\x01\x05alpha\x0D\x0C\x0B\x0A\x12\x11\x14\x13\x15\x16\x17\x18\x19\x1A\x1B\x1C\x0A\0\0\x01",
         &[0, 1, 7, 23],
@@ -67,7 +67,7 @@ const RECORDS: [(&[u8], &[usize]); 18] = [
 ];
 
 /// Bytes that are no entry, and the start of the first field that is none.
-const FAULTS: [(&[u8], usize); 22] = [
+static FAULTS: [(&[u8], usize); 22] = [
     (b"\0", 0),
     (b"\x0C\xE8\x03\0\0", 0),
     (b"\x01\0", 1),
@@ -96,23 +96,54 @@ const FAULTS: [(&[u8], usize); 22] = [
 ];
 
 fn fault_of(bytes: &[u8]) -> Option<usize> {
-    entry_view(bytes).err().map(|fault| fault.at)
+    Some(entry_view(bytes).err()?.at)
+}
+
+/// Whether bytes are read as an entry that is put as these bytes.
+fn is_put_back(alloc: Global, bytes: &[u8]) -> Result<bool, Fail> {
+    let entry = entry_view(bytes)?;
+    let mut out = b"to".to_vec(alloc)?;
+    put_entry(&entry, &mut out)?;
+    Ok(out.as_slice().strip_prefix(b"to") == Some(bytes))
+}
+
+/// The start of the last field that begins at a place or before it.
+fn field_at(starts: &[usize], place: usize) -> Option<usize> {
+    let mut last = None;
+    for start in starts {
+        if *start <= place {
+            last = Some(*start);
+        }
+    }
+    last
+}
+
+/// Whether the front of a record of each length has the fault of the field that it ends in.
+fn is_cut_in_its_fields(bytes: &[u8], starts: &[usize]) -> bool {
+    for len in 0..bytes.len() {
+        if fault_of(&bytes[..len]) != field_at(starts, len) {
+            return false;
+        }
+    }
+    true
+}
+
+/// The fault of a record with a byte behind it.
+fn fault_behind(alloc: Global, bytes: &[u8]) -> Result<Option<usize>, Fail> {
+    let mut longer = bytes.to_vec(alloc)?;
+    longer.push(0)?;
+    Ok(fault_of(longer.as_slice()))
 }
 
 #[test]
 fn records_are_read_and_put(rt: HostRuntime) -> Result<(), Fail> {
     for (bytes, starts) in RECORDS.iter() {
-        let entry = entry_view(bytes)?;
-        let mut out = b"to".to_vec(rt.alloc())?;
-        put_entry(&entry, &mut out)?;
-        assert_eq!(rt; &out.as_slice()[..2], b"to".as_slice());
-        assert_eq!(rt; &out.as_slice()[2..], *bytes);
-        out.push(0)?;
-        assert_eq!(rt; fault_of(&out.as_slice()[2..]), Some(bytes.len()));
-        for len in 0..bytes.len() {
-            let field = starts.iter().copied().filter(|start| *start <= len).max();
-            assert_eq!(rt; fault_of(&bytes[..len]), field);
-        }
+        assert!(rt; is_put_back(rt.alloc(), bytes)?, "{bytes:?}");
+        assert!(rt; is_cut_in_its_fields(bytes, starts), "{bytes:?}");
+        assert!(rt;
+            fault_behind(rt.alloc(), bytes)? == Some(bytes.len()),
+            "{bytes:?}"
+        );
     }
     Ok(())
 }
@@ -120,7 +151,7 @@ fn records_are_read_and_put(rt: HostRuntime) -> Result<(), Fail> {
 #[test]
 fn the_first_field_outside_the_grammar_is_told(rt: HostRuntime) {
     for (bytes, at) in FAULTS.iter() {
-        assert_eq!(rt; fault_of(bytes), Some(*at));
+        assert!(rt; fault_of(bytes) == Some(*at), "{bytes:?}");
     }
 }
 
@@ -135,57 +166,71 @@ fn is_put_as(alloc: Global, entry: &Entry<'_>, row: usize) -> bool
     }
 }
 
-#[test]
-fn managers_and_queues_are_put(rt: HostRuntime) -> Result<(), Fail> {
-    let name = Name::new(rt.alloc(), b"alpha")?;
-    let identity = Entry::Identity(IdentityView {
-        host: NameSlice::of(&name),
+fn identity(host: &Name) -> Entry<'_>
+    ensures { Fits result }
+{
+    Entry::Identity(IdentityView {
+        host: NameSlice::of(host),
         guid: GUID,
         address: [10, 0, 0, 1],
-    });
-    assert!(rt; is_put_as(rt.alloc(), &identity, 0));
-    let name = Name::new(rt.alloc(), b"n")?;
-    let queue = Entry::CreateQueue(QueueView {
-        name: NameSlice::of(&name),
+    })
+}
+
+fn queue(name: &Name) -> Entry<'_>
+    ensures { Fits result }
+{
+    Entry::CreateQueue(QueueView {
+        name: NameSlice::of(name),
         number: 258,
         public: Some(GUID),
         transactional: false,
         quota: 100,
         journal: true,
-    });
-    assert!(rt; is_put_as(rt.alloc(), &queue, 3));
-    Ok(())
+    })
 }
 
 #[test]
-fn lists_of_values_are_put(rt: HostRuntime) {
+fn managers_and_queues_are_put(rt: HostRuntime) -> Result<(), Fail> {
+    let name = Name::new(rt.alloc(), b"alpha")?;
+    assert!(rt; is_put_as(rt.alloc(), &identity(&name), 0));
+    let name = Name::new(rt.alloc(), b"n")?;
+    assert!(rt; is_put_as(rt.alloc(), &queue(&name), 3));
+    Ok(())
+}
+
+const MARK: Mark = Mark {
+    ordinal: 1,
+    number: 2,
+};
+
+#[test]
+fn ops_and_marks_are_put(rt: HostRuntime) {
     let ops = [
         OpView::Take { queue: 7, id: ID },
         OpView::Send(PacketSlice::new(b"")),
     ];
     let ops = Ops::of(&ops);
     assert!(rt; is_put_as(rt.alloc(), &Entry::Commit { now: 1000, ops }, 5));
-    let marks = [Mark {
-        ordinal: 1,
-        number: 2,
-    }];
-    assert!(rt; is_put_as(rt.alloc(), &Entry::Offered(Marks::of(&marks)), 7));
+    assert!(rt; is_put_as(rt.alloc(), &Entry::Offered(Marks::of(&[MARK])), 7));
+}
+
+#[test]
+fn arrivals_are_put(rt: HostRuntime) {
     let arrived = Entry::Arrived {
         now: 1000,
         released: Numbers::of(&[5, 6]),
         part: ArrivedPart::Decided(PacketSlice::new(b"\x10")),
     };
     assert!(rt; is_put_as(rt.alloc(), &arrived, 9));
+    let packet = PacketSlice::new(b"\x10\0");
+    assert!(rt; is_put_as(rt.alloc(), &Entry::Plain { now: 1000, packet }, 6));
 }
 
 #[test]
 fn moments_and_counts_are_put(rt: HostRuntime) {
-    let packet = PacketSlice::new(b"\x10\0");
-    assert!(rt; is_put_as(rt.alloc(), &Entry::Plain { now: 1000, packet }, 6));
-    let place = EntryPlace::JournalOf(7);
     let taken = Entry::Taken {
         now: 1000,
-        place,
+        place: EntryPlace::JournalOf(7),
         id: ID,
     };
     assert!(rt; is_put_as(rt.alloc(), &taken, 13));
@@ -195,66 +240,39 @@ fn moments_and_counts_are_put(rt: HostRuntime) {
     assert!(rt; is_put_as(rt.alloc(), &Entry::Roll { count: 65_535 }, 17));
 }
 
-#[test]
-fn lists_are_walked(rt: HostRuntime) -> Result<(), Fail> {
-    let Entry::Commit { now, ops } = entry_view(RECORDS[5].0)? else {
-        return Err(Fail::from("a commit stands there"));
+/// The moment of a commit, how many ops it has, and the queue and the message of its first take.
+fn taken_in(bytes: &[u8]) -> Option<(u32, u16, u32, MessageId)> {
+    let Ok(Entry::Commit { now, ops }) = entry_view(bytes) else {
+        return None;
     };
-    assert_eq!(rt; (now, ops.len()), (1000, 2));
     for op in ops.iter() {
-        match op {
-            OpView::Send(packet) => assert!(rt; packet.as_slice().is_empty()),
-            OpView::Take { queue, id } => assert_eq!(rt; (queue, id), (7, ID)),
+        if let OpView::Take { queue, id } = op {
+            return Some((now, ops.len(), queue, id));
         }
     }
-    let Entry::Arrived { released, .. } = entry_view(RECORDS[9].0)? else {
-        return Err(Fail::from("an arrival stands there"));
+    None
+}
+
+/// The first number of an arrival, how many stand behind it, and the next one.
+fn released_in(bytes: &[u8]) -> Option<(u32, u16, Option<u32>)> {
+    let Ok(Entry::Arrived { released, .. }) = entry_view(bytes) else {
+        return None;
     };
-    let (first, others) = released.split_first().ok_or("there is a number")?;
-    assert_eq!(rt; (first, others.len()), (5, 1));
-    assert_eq!(rt; others.iter().next(), Some(6));
-    let Entry::Offered(mut marks) = entry_view(RECORDS[7].0)? else {
-        return Err(Fail::from("marks stand there"));
-    };
-    let mark = Mark {
-        ordinal: 1,
-        number: 2,
-    };
-    assert_eq!(rt; marks.next(), Some(mark));
-    assert_eq!(rt; marks.next(), None);
-    Ok(())
+    let (first, others) = released.split_first()?;
+    Some((first, others.len(), others.iter().next()))
+}
+
+/// The first two marks of an entry of marks.
+fn marks_in(bytes: &[u8]) -> Option<[Option<Mark>; 2]> {
+    match entry_view(bytes) {
+        Ok(Entry::Offered(mut marks)) => Some([marks.next(), marks.next()]),
+        _ => None,
+    }
 }
 
 #[test]
-fn the_longest_lists_are_put_and_read(rt: HostRuntime) -> Result<(), Fail> {
-    let numbers = vec![in rt.alloc(); 9; 65_535]?;
-    let entry = Entry::Arrived {
-        now: 7,
-        released: Numbers::of(numbers.as_slice()),
-        part: ArrivedPart::Nothing,
-    };
-    let mut bytes = Vec::new(rt.alloc());
-    put_entry(&entry, &mut bytes)?;
-    let Entry::Arrived { released, .. } = entry_view(bytes.as_slice())? else {
-        return Err(Fail::from("an arrival was put"));
-    };
-    assert_eq!(rt; released.len(), 65_535);
-    assert_eq!(rt; released.iter().last(), Some(9));
-    Ok(())
-}
-
-#[test]
-fn fields_have_their_values(rt: HostRuntime) -> Result<(), Fail> {
-    let Entry::CreateQueue(queue) = entry_view(RECORDS[3].0)? else {
-        return Err(Fail::from("a queue stands there"));
-    };
-    assert_eq!(rt; queue.name.as_slice(), b"n".as_slice());
-    assert_eq!(rt; (queue.number, queue.quota), (258, 100));
-    assert_eq!(rt; queue.public, Some(GUID));
-    assert!(rt; !queue.transactional && queue.journal);
-    let Entry::Taken { now, place, id } = entry_view(RECORDS[13].0)? else {
-        return Err(Fail::from("a message was taken"));
-    };
-    assert_eq!(rt; (now, place, id), (1000, EntryPlace::JournalOf(7), ID));
-    Ok(())
+fn lists_are_walked(rt: HostRuntime) {
+    assert_eq!(rt; taken_in(RECORDS[5].0), Some((1000, 2, 7, ID)));
+    assert_eq!(rt; released_in(RECORDS[9].0), Some((5, 1, Some(6))));
+    assert_eq!(rt; marks_in(RECORDS[7].0), Some([Some(MARK), None]));
 }

@@ -2,10 +2,16 @@ use mqb_fields::{HeadFault, HeadKind, Short};
 use mqb_names::{NameFault, NameKind, WireFault};
 use mqb_packet::{PutFault, TooLarge};
 use mqb_stream::Full;
+use std::alloc::{AllocError, Global};
+use std::fmt::Display;
 use std::test::Fail;
 
+fn is_printed<T: Display>(alloc: Global, error: &T, text: &str) -> Result<bool, AllocError> {
+    Ok(error.to_string(alloc)?.as_str() == text)
+}
+
 /// Each fault of a header, and its word.
-const KINDS: [(HeadKind, &str); 11] = [
+static KINDS: [(HeadKind, &str); 11] = [
     (HeadKind::Short, "the header has the fault Short at 8"),
     (HeadKind::Version, "the header has the fault Version at 8"),
     (HeadKind::Debug, "the header has the fault Debug at 8"),
@@ -25,45 +31,36 @@ const KINDS: [(HeadKind, &str); 11] = [
 #[test]
 fn faults_of_headers_are_printed(rt: HostRuntime) -> Result<(), Fail> {
     for (kind, text) in KINDS.iter() {
-        let fault = HeadFault::new(8, *kind);
-        assert_eq!(rt; fault.to_string(rt.alloc())?.as_str(), *text);
+        assert!(rt;
+            is_printed(rt.alloc(), &HeadFault::new(8, *kind), text)?,
+            "{text}"
+        );
     }
-    let short = Short { at: 9 }.to_string(rt.alloc())?;
-    assert_eq!(rt; short.as_str(), "the bytes end in the field at 9");
     Ok(())
 }
+
+const BAD: NameFault = NameFault::Bad {
+    at: 7,
+    kind: NameKind::Protocol,
+};
 
 #[test]
 fn faults_of_names_are_printed(rt: HostRuntime) -> Result<(), Fail> {
-    let bad = NameFault::Bad {
-        at: 7,
-        kind: NameKind::Protocol,
-    };
-    for (fault, text) in [
-        (bad, "no name: Protocol at 7"),
-        (NameFault::Memory, "out of memory"),
-    ] {
-        assert_eq!(rt; fault.to_string(rt.alloc())?.as_str(), text);
-    }
-    for (fault, text) in [
-        (WireFault::Short, "the bytes end in a name"),
-        (WireFault::Bad, "no name"),
-    ] {
-        assert_eq!(rt; fault.to_string(rt.alloc())?.as_str(), text);
-    }
+    let alloc = rt.alloc();
+    assert!(rt; is_printed(alloc, &BAD, "no name: Protocol at 7")?);
+    assert!(rt; is_printed(alloc, &NameFault::Memory, "out of memory")?);
+    assert!(rt; is_printed(alloc, &WireFault::Short, "the bytes end in a name")?);
+    assert!(rt; is_printed(alloc, &WireFault::Bad, "no name")?);
     Ok(())
 }
 
 #[test]
-fn refusals_of_packets_are_printed(rt: HostRuntime) -> Result<(), Fail> {
-    for (fault, text) in [
-        (PutFault::TooLarge, "the packet is too large"),
-        (PutFault::Memory, "out of memory"),
-    ] {
-        assert_eq!(rt; fault.to_string(rt.alloc())?.as_str(), text);
-    }
-    let too_large = TooLarge.to_string(rt.alloc())?;
-    assert_eq!(rt; too_large.as_str(), "the packet is too large");
-    assert_eq!(rt; Full.to_string(rt.alloc())?.as_str(), "a packet waits");
+fn refusals_are_printed(rt: HostRuntime) -> Result<(), Fail> {
+    let alloc = rt.alloc();
+    assert!(rt; is_printed(alloc, &PutFault::TooLarge, "the packet is too large")?);
+    assert!(rt; is_printed(alloc, &PutFault::Memory, "out of memory")?);
+    assert!(rt; is_printed(alloc, &TooLarge, "the packet is too large")?);
+    assert!(rt; is_printed(alloc, &Full, "a packet waits")?);
+    assert!(rt; is_printed(alloc, &Short { at: 9 }, "the bytes end in the field at 9")?);
     Ok(())
 }

@@ -1,4 +1,4 @@
-use crate::samples::{BETA, EXPRESS, TRANSACTIONAL, user_packet};
+use crate::samples::{BETA, EXPRESS, TRANSACTIONAL, between, changed, user_packet};
 use mqb_base::{SequenceId, TxHead, UNLIMITED};
 use mqb_fields::Cursor;
 use mqb_heads::{
@@ -16,11 +16,6 @@ const PROPS: usize = 132;
 
 const END: usize = 192;
 
-/// The bytes of `TRANSACTIONAL` from one place to another.
-fn between(from: usize, to: usize) -> &'static [u8] {
-    TRANSACTIONAL.get(from..to).unwrap_or_default()
-}
-
 fn told(fault: HeadFault) -> (usize, HeadKind) {
     (fault.at, fault.kind)
 }
@@ -34,7 +29,7 @@ fn the_base_header_both_ways(rt: HostRuntime) {
         size: 208,
         reach: UNLIMITED,
     };
-    assert_eq!(rt; read_base(TRANSACTIONAL), Ok(head));
+    assert_eq!(rt; read_base(&TRANSACTIONAL), Ok(head));
     let mut bytes = [0xAA; 18];
     assert_eq!(rt; put_base(&head, &mut bytes), 16);
     assert_eq!(rt; &bytes[..16], &TRANSACTIONAL[..16]);
@@ -63,7 +58,7 @@ fn the_transaction_header_both_ways(rt: HostRuntime) {
 #[test]
 #[tactic(auto, using(mqb_packet::specs::lemmas::Fits::fits_props))]
 fn headers_of_a_message_are_written(rt: HostRuntime) -> Result<(), Fail> {
-    let user = user_packet(rt.alloc(), TRANSACTIONAL)?;
+    let user = user_packet(rt.alloc(), &TRANSACTIONAL)?;
     assert_eq!(rt; user.message.extension.as_slice().len(), 0);
     assert_eq!(rt; user.message.body.as_slice().len(), 3);
     assert_eq!(rt; user_len(&user.message), TX - USER);
@@ -77,30 +72,38 @@ fn headers_of_a_message_are_written(rt: HostRuntime) -> Result<(), Fail> {
     Ok(())
 }
 
+/// The bytes of `EXPRESS` from a place on.
+fn express_from(at: usize) -> &'static [u8] {
+    EXPRESS.get(at..).unwrap_or_default()
+}
+
 #[test]
-fn headers_of_a_message_are_read(rt: HostRuntime) -> Result<(), Fail> {
-    let mut cursor = Cursor::new(EXPRESS.get(USER..).unwrap_or_default());
+fn a_user_header_is_read(rt: HostRuntime) -> Result<(), Fail> {
+    let mut cursor = Cursor::new(express_from(USER));
     let user = read_user(&mut cursor)?;
     assert_eq!(rt; cursor.at(), 132);
     assert_eq!(rt; [user.life, user.sent, user.number], [20, 1001, 2]);
-    assert_eq!(rt; [user.recoverable, user.transaction], [false, false]);
-    assert_eq!(rt; (user.source, user.journal), (BETA, 2));
-    assert_eq!(rt; user.destination.part.len(), 48);
+    assert!(rt; !user.recoverable && !user.transaction && user.journal == 2);
+    assert!(rt; user.source == BETA && user.destination.part.len() == 48);
     assert_eq!(rt; user.admin.map(|name| name.kind), Some(1));
-    assert_eq!(rt; user.response.map(|name| name.part.len()), Some(20));
+    assert_eq!(rt; user.response.map(|name| name.kind), Some(2));
+    Ok(())
+}
+
+#[test]
+fn a_properties_header_is_read(rt: HostRuntime) -> Result<(), Fail> {
+    let mut cursor = Cursor::new(express_from(148));
     let props = read_props(&mut cursor)?;
-    assert_eq!(rt; cursor.at(), 200);
-    assert_eq!(rt; (props.ack, props.class.0), (5, 0xC002));
-    assert_eq!(rt; (props.correlation.qm, props.correlation.number), (BETA, 9));
+    assert_eq!(rt; (cursor.at(), props.ack, props.class.0), (68, 5, 0xC002));
+    assert!(rt; props.correlation.qm == BETA && props.correlation.number == 9);
     assert_eq!(rt; [props.body_type, props.tag], [3, 4]);
-    assert_eq!(rt; props.label, b"h\0\xAC\x20".as_slice());
-    assert_eq!(rt; props.extension, b"ext".as_slice());
-    assert_eq!(rt; props.body, b"one".as_slice());
+    assert!(rt; props.label == b"h\0\xAC\x20".as_slice());
+    assert!(rt; props.extension == b"ext".as_slice() && props.body == b"one".as_slice());
     Ok(())
 }
 
 /// The base header with one byte changed, and its fault.
-const BASE_FAULTS: [(usize, u8, Option<(usize, HeadKind)>); 10] = [
+static BASE_FAULTS: [(usize, u8, Option<(usize, HeadKind)>); 10] = [
     (0, 0x11, Some((0, HeadKind::Version))),
     (1, 0xFF, None),
     (2, 0x30, Some((2, HeadKind::Debug))),
@@ -114,7 +117,7 @@ const BASE_FAULTS: [(usize, u8, Option<(usize, HeadKind)>); 10] = [
 ];
 
 /// The user header with one byte changed, and its fault.
-const USER_FAULTS: [(usize, u8, Option<(usize, HeadKind)>); 10] = [
+static USER_FAULTS: [(usize, u8, Option<(usize, HeadKind)>); 10] = [
     (60, 0x03, Some((60, HeadKind::Name))),
     (60, 0x13, Some((60, HeadKind::Name))),
     (60, 0x8F, Some((60, HeadKind::Name))),
@@ -128,7 +131,7 @@ const USER_FAULTS: [(usize, u8, Option<(usize, HeadKind)>); 10] = [
 ];
 
 /// The properties header with one byte changed, and its fault.
-const PROPS_FAULTS: [(usize, u8, Option<(usize, HeadKind)>); 11] = [
+static PROPS_FAULTS: [(usize, u8, Option<(usize, HeadKind)>); 11] = [
     (132, 0xFF, None),
     (133, 251, Some((133, HeadKind::Label))),
     (133, 250, Some((8, HeadKind::Size))),
@@ -142,24 +145,44 @@ const PROPS_FAULTS: [(usize, u8, Option<(usize, HeadKind)>); 11] = [
     (191, 0xFF, None),
 ];
 
-/// `TRANSACTIONAL` with one byte changed.
-fn changed(at: usize, byte: u8) -> [u8; 208] {
-    let mut bytes = *TRANSACTIONAL;
-    if let Some(place) = bytes.get_mut(at) {
-        *place = byte;
-    }
-    bytes
+fn base_fault(bytes: &[u8]) -> Option<(usize, HeadKind)> {
+    Some(told(read_base(bytes).err()?))
 }
 
 #[test]
 fn the_first_fault_of_a_base_header_is_told(rt: HostRuntime) {
     for (at, byte, wanted) in BASE_FAULTS.iter() {
-        let fault = read_base(&changed(*at, *byte)).err().map(told);
-        assert_eq!(rt; fault, *wanted);
+        assert!(rt; base_fault(&changed(*at, *byte)) == *wanted, "{at} {byte}");
     }
     for len in [0, 15] {
-        let fault = read_base(&TRANSACTIONAL[..len]).err().map(told);
-        assert_eq!(rt; fault, Some((len, HeadKind::Short)));
+        assert!(rt;
+            base_fault(between(0, len)) == Some((len, HeadKind::Short)),
+            "{len}"
+        );
+    }
+}
+
+/// The fault of the user header in bytes. A cursor stays where it is at a fault.
+fn user_fault(bytes: &[u8]) -> Option<(usize, HeadKind)> {
+    let mut cursor = Cursor::new(bytes);
+    if cursor.skip(USER).is_err() {
+        return None;
+    }
+    match read_user(&mut cursor) {
+        Err(fault) if cursor.at() == USER => Some(told(fault)),
+        _ => None,
+    }
+}
+
+/// The fault of the properties header in bytes.
+fn props_fault(bytes: &[u8]) -> Option<(usize, HeadKind)> {
+    let mut cursor = Cursor::new(bytes);
+    if cursor.skip(PROPS).is_err() {
+        return None;
+    }
+    match read_props(&mut cursor) {
+        Err(fault) if cursor.at() == PROPS => Some(told(fault)),
+        _ => None,
     }
 }
 
@@ -167,10 +190,8 @@ fn the_first_fault_of_a_base_header_is_told(rt: HostRuntime) {
 fn the_first_fault_of_a_user_header_is_told(rt: HostRuntime) {
     for (at, byte, wanted) in USER_FAULTS.iter() {
         let bytes = changed(*at, *byte);
-        let mut cursor = Cursor::new(bytes.get(..TX).unwrap_or_default());
-        assert_eq!(rt; cursor.skip(USER), Ok(()));
-        assert_eq!(rt; read_user(&mut cursor).err().map(told), *wanted);
-        assert!(rt; wanted.is_none() || cursor.at() == USER);
+        let fault = user_fault(bytes.get(..TX).unwrap_or_default());
+        assert!(rt; fault == *wanted, "{at} {byte}");
     }
 }
 
@@ -178,23 +199,18 @@ fn the_first_fault_of_a_user_header_is_told(rt: HostRuntime) {
 fn the_first_fault_of_a_properties_header_is_told(rt: HostRuntime) {
     for (at, byte, wanted) in PROPS_FAULTS.iter() {
         let bytes = changed(*at, *byte);
-        let mut cursor = Cursor::new(bytes.get(..END).unwrap_or_default());
-        assert_eq!(rt; cursor.skip(PROPS), Ok(()));
-        assert_eq!(rt; read_props(&mut cursor).err().map(told), *wanted);
-        assert!(rt; wanted.is_none() || cursor.at() == PROPS);
+        let fault = props_fault(bytes.get(..END).unwrap_or_default());
+        assert!(rt; fault == *wanted, "{at} {byte}");
     }
 }
 
 #[test]
 fn a_header_that_passes_the_end_is_a_fault_of_the_size(rt: HostRuntime) {
+    let size = Some((8, HeadKind::Size));
     for len in [0, 15, 31, 43, 47, 49, 95] {
-        let mut cursor = Cursor::new(between(USER, USER + len));
-        let fault = read_user(&mut cursor).err();
-        assert_eq!(rt; fault, Some(HeadFault::PAST_END));
+        assert!(rt; user_fault(between(0, USER + len)) == size, "{len}");
     }
     for len in [0, 1, 23, 55, 58, 59] {
-        let mut cursor = Cursor::new(between(PROPS, PROPS + len));
-        let fault = read_props(&mut cursor).err();
-        assert_eq!(rt; fault, Some(HeadFault::PAST_END));
+        assert!(rt; props_fault(between(0, PROPS + len)) == size, "{len}");
     }
 }

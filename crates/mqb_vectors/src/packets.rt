@@ -1,17 +1,28 @@
+ghost use Rattle.mqb_packet.specs.Plain.{IsWellFormedUser};
+
 use crate::samples::{
-    ACK, EXPRESS, PARAMETERS, STORED, TRANSACTIONAL, order, order_with, packet, user_packet,
+    ACK, EXPRESS, PARAMETERS, STORED, TRANSACTIONAL, between, changed, order, order_with, packet,
+    user_packet,
 };
 use mqb_packet::{
-    Carriage, HeadFault, HeadKind, Headers, Packet, PacketView, Parameters, PutFault, TooLarge,
+    Carriage, HeadKind, Headers, Packet, PacketView, Parameters, PutFault, TooLarge, UserPacket,
     message_size, put_message, put_packet, size_of, view,
 };
+use std::alloc::Global;
 use std::test::Fail;
+
+/// Whether bytes are read as a packet of their size, and the packet is put as these bytes.
+fn is_put_back(alloc: Global, bytes: &[u8]) -> Result<bool, Fail> {
+    let read = packet(alloc, bytes)?;
+    let mut out = b"=".to_vec(alloc)?;
+    put_packet(&read, &mut out)?;
+    let size = size_of(&read)? as usize;
+    Ok(size == bytes.len() && out.as_slice().strip_prefix(b"=") == Some(bytes))
+}
 
 #[test]
 fn packets_both_ways(rt: HostRuntime) -> Result<(), Fail> {
-    let alloc = rt.alloc();
-    let large = order(alloc)?;
-    assert_eq!(rt; large.len(), 1248);
+    let large = order(rt.alloc())?;
     for bytes in [
         TRANSACTIONAL.as_slice(),
         EXPRESS.as_slice(),
@@ -19,31 +30,28 @@ fn packets_both_ways(rt: HostRuntime) -> Result<(), Fail> {
         ACK.as_slice(),
         large.as_slice(),
     ] {
-        let read = packet(alloc, bytes)?;
-        assert_eq!(rt; size_of(&read).map(|size| size as usize), Ok(bytes.len()));
-        let mut out = b"=".to_vec(alloc)?;
-        put_packet(&read, &mut out)?;
-        assert_eq!(rt; out.as_slice().strip_prefix(b"="), Some(bytes));
-        assert_eq!(rt; packet(alloc, &out.as_slice()[1..])?, read);
+        assert!(rt; is_put_back(rt.alloc(), bytes)?, "{bytes:?}");
     }
     Ok(())
 }
 
+const WINDOW_OF_64: Packet = Packet::Parameters(Parameters {
+    storage_time: 10000,
+    ack_time: 20000,
+    window: 64,
+});
+
 #[test]
 fn internal_packets_are_read(rt: HostRuntime) -> Result<(), Fail> {
-    let parameters = Packet::Parameters(Parameters {
-        storage_time: 10000,
-        ack_time: 20000,
-        window: 64,
-    });
-    assert_eq!(rt; packet(rt.alloc(), PARAMETERS)?, parameters);
-    assert_eq!(rt; packet(rt.alloc(), ACK)?, Packet::Ack(STORED));
+    assert!(rt; packet(rt.alloc(), &PARAMETERS)? == WINDOW_OF_64);
+    assert!(rt; packet(rt.alloc(), &ACK)? == Packet::Ack(STORED));
     Ok(())
 }
 
-#[test]
-fn a_lent_message_has_the_time_that_is_left(rt: HostRuntime) -> Result<(), Fail> {
-    let mut user = user_packet(rt.alloc(), TRANSACTIONAL)?;
+/// Puts the message of a user packet, whose own time to reach its queue is another one.
+fn put_lent(mut user: UserPacket, out: &mut Vec<u8>) -> Result<(), PutFault>
+    requires { IsWellFormedUser user }
+{
     let carriage = Carriage {
         to: user.to,
         remaining: user.remaining,
@@ -51,22 +59,32 @@ fn a_lent_message_has_the_time_that_is_left(rt: HostRuntime) -> Result<(), Fail>
         session: user.session,
     };
     user.message.reach = 10;
+    put_message(&user.message, &carriage, out)
+}
+
+#[test]
+fn a_lent_message_has_the_time_that_is_left(rt: HostRuntime) -> Result<(), Fail> {
     let mut out = Vec::new(rt.alloc());
-    put_message(&user.message, &carriage, &mut out)?;
-    assert_eq!(rt; out.as_slice(), TRANSACTIONAL.as_slice());
+    put_lent(user_packet(rt.alloc(), &TRANSACTIONAL)?, &mut out)?;
+    assert!(rt; out.as_slice() == TRANSACTIONAL.as_slice());
     Ok(())
+}
+
+/// The size of a message with each set of headers.
+fn sizes(user: &UserPacket) -> [Result<u32, TooLarge>; 3]
+    requires { IsWellFormedUser user.now }
+{
+    [
+        message_size(&user.message, Headers::Bare),
+        message_size(&user.message, Headers::Session),
+        message_size(&user.message, Headers::TxAndSession),
+    ]
 }
 
 #[test]
 fn a_message_is_counted_with_headers(rt: HostRuntime) -> Result<(), Fail> {
-    let user = user_packet(rt.alloc(), TRANSACTIONAL)?;
-    for (headers, size) in [
-        (Headers::Bare, 172),
-        (Headers::Session, 188),
-        (Headers::TxAndSession, 208),
-    ] {
-        assert_eq!(rt; message_size(&user.message, headers), Ok(size));
-    }
+    let user = user_packet(rt.alloc(), &TRANSACTIONAL)?;
+    assert_eq!(rt; sizes(&user), [Ok(172), Ok(188), Ok(208)]);
     Ok(())
 }
 
@@ -91,7 +109,7 @@ fn parts_are_lent_at_their_places(rt: HostRuntime) -> Result<(), Fail> {
 }
 
 /// The transactional packet with one byte changed, and its fault.
-const FORGED: [(usize, u8, Option<(usize, HeadKind)>); 20] = [
+static FORGED: [(usize, u8, Option<(usize, HeadKind)>); 20] = [
     (0, 0x11, Some((0, HeadKind::Version))),
     (1, 0xFF, None),
     (2, 0x30, Some((2, HeadKind::Debug))),
@@ -114,49 +132,58 @@ const FORGED: [(usize, u8, Option<(usize, HeadKind)>); 20] = [
     (172, 1, Some((172, HeadKind::Secured))),
 ];
 
+fn fault_of(bytes: &[u8]) -> Option<(usize, HeadKind)> {
+    let fault = view(bytes).err()?;
+    Some((fault.at, fault.kind))
+}
+
 #[test]
 fn the_first_fault_of_a_forged_packet_is_told(rt: HostRuntime) {
     for (at, byte, wanted) in FORGED.iter() {
-        let mut bytes = *TRANSACTIONAL;
-        if let Some(place) = bytes.get_mut(*at) {
-            *place = *byte;
-        }
-        let fault = view(&bytes).err().map(|fault| (fault.at, fault.kind));
-        assert_eq!(rt; fault, *wanted);
+        assert!(rt; fault_of(&changed(*at, *byte)) == *wanted, "{at} {byte}");
     }
 }
 
 #[test]
 fn a_packet_is_all_of_its_bytes(rt: HostRuntime) {
-    for len in [16, 20, 63, 112, 191, 207] {
-        let fault = view(&TRANSACTIONAL[..len]).err();
-        assert_eq!(rt; fault, Some(HeadFault::PAST_END));
-    }
     for len in [0, 1, 15] {
-        let fault = view(&TRANSACTIONAL[..len]).err();
-        assert_eq!(rt; fault, Some(HeadFault::new(len, HeadKind::Short)));
+        assert!(rt;
+            fault_of(between(0, len)) == Some((len, HeadKind::Short)),
+            "{len}"
+        );
     }
-    let mut large = *TRANSACTIONAL;
+    for len in [16, 20, 63, 112, 191, 207] {
+        assert!(rt;
+            fault_of(between(0, len)) == Some((8, HeadKind::Size)),
+            "{len}"
+        );
+    }
+}
+
+#[test]
+fn a_size_is_that_of_the_parts(rt: HostRuntime) {
+    let mut large = TRANSACTIONAL;
     large[8..12].copy_from_slice(b"\x01\0\x40\0");
-    assert_eq!(rt; view(&large).err(), Some(HeadFault::PAST_END));
-    let mut cut = *PARAMETERS;
+    assert_eq!(rt; fault_of(&large), Some((8, HeadKind::Size)));
+    let mut cut = PARAMETERS;
     cut[8] = 28;
-    assert_eq!(rt; view(&cut[..28]).err(), Some(HeadFault::PAST_END));
+    assert_eq!(rt; fault_of(&cut[..28]), Some((8, HeadKind::Size)));
+}
+
+/// The size of a packet with a body of so many bytes, whether it is put, and how many bytes there are then behind one.
+fn size_with(alloc: Global, len: usize) -> Result<(Result<u32, TooLarge>, bool, usize), Fail> {
+    let body = vec![in alloc; 0x78; len]?;
+    let packet = Packet::User(order_with(alloc, body.as_slice())?);
+    let mut out = b"=".to_vec(alloc)?;
+    let put = put_packet(&packet, &mut out).is_ok();
+    Ok((size_of(&packet), put, out.len()))
 }
 
 #[test]
 fn the_greatest_packet_has_4194304_bytes(rt: HostRuntime) -> Result<(), Fail> {
-    let alloc = rt.alloc();
-    for (len, size) in [(4_194_058, Ok(4_194_304)), (4_194_059, Err(TooLarge))] {
-        let body = vec![in alloc; 0x78; len]?;
-        let user = order_with(alloc, body.as_slice())?;
-        assert_eq!(rt; message_size(&user.message, Headers::Session), size);
-        let packet = Packet::User(user);
-        assert_eq!(rt; size_of(&packet), size);
-        let mut out = b"=".to_vec(alloc)?;
-        let put = put_packet(&packet, &mut out);
-        assert_eq!(rt; put, size.map(|_| ()).map_err(PutFault::from));
-        assert_eq!(rt; out.len(), 1 + size.unwrap_or(0) as usize);
-    }
+    let greatest = size_with(rt.alloc(), 4_194_058)?;
+    assert_eq!(rt; greatest, (Ok(4_194_304), true, 4_194_305));
+    let larger = size_with(rt.alloc(), 4_194_059)?;
+    assert_eq!(rt; larger, (Err(TooLarge), false, 1));
     Ok(())
 }

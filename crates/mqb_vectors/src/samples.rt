@@ -27,15 +27,15 @@ pub(crate) const STORED: SessionHead = SessionHead {
 };
 
 /// The Parameters of a window of 64.
-pub(crate) const PARAMETERS: &[u8; 32] =
-    b"\x10\0\x08\0LIOR\x20\0\0\0\xFF\xFF\xFF\xFF\x03\0\0\0\x10\x27\0\0\x20\x4E\0\0\0\0\x40\0";
+pub(crate) static PARAMETERS: [u8; 32] =
+    *b"\x10\0\x08\0LIOR\x20\0\0\0\xFF\xFF\xFF\xFF\x03\0\0\0\x10\x27\0\0\x20\x4E\0\0\0\0\x40\0";
 
 /// A session acknowledgement of one packet, which was stored.
-pub(crate) const ACK: &[u8; 36] =
-    b"\x10\0\x18\0LIOR\x24\0\0\0\xFF\xFF\xFF\xFF\x01\0\0\0\x01\0\x01\0\0\0\0\0\0\0\0\0\x40\0\0\0";
+pub(crate) static ACK: [u8; 36] =
+    *b"\x10\0\x18\0LIOR\x24\0\0\0\xFF\xFF\xFF\xFF\x01\0\0\0\x01\0\x01\0\0\0\0\0\0\0\0\0\x40\0\0\0";
 
 /// A transactional packet from alpha to beta whose body is `one`. Its headers begin at 0, 16, 112, 132 and 192.
-pub(crate) const TRANSACTIONAL: &[u8; 208] = b"\x10\0\x10\0LIOR\xD0\0\0\0\xFF\xFF\xFF\xFF\
+pub(crate) static TRANSACTIONAL: [u8; 208] = *b"\x10\0\x10\0LIOR\xD0\0\0\0\xFF\xFF\xFF\xFF\
 \x0D\x0C\x0B\x0A\x12\x11\x14\x13\x15\x16\x17\x18\x19\x1A\x1B\x1C\
 \x2D\x2C\x2B\x2A\x32\x31\x34\x33\x35\x36\x37\x38\x39\x3A\x3B\x3C\
 \xFF\xFF\xFF\xFF\xE8\x03\0\0\x01\0\0\0\x0F\0\0\0\
@@ -45,8 +45,22 @@ pub(crate) const TRANSACTIONAL: &[u8; 208] = b"\x10\0\x10\0LIOR\xD0\0\0\0\xFF\xF
 \x03\0\0\0\x03\0\0\0\0\0\0\0\0\0\0\0\0\0\0\0\0\0\0\0one\0\
 \0\0\0\0\0\0\0\0\x01\0\0\0\x40\0\0\0";
 
+/// The bytes of `TRANSACTIONAL` from one place to another.
+pub(crate) fn between(from: usize, to: usize) -> &'static [u8] {
+    TRANSACTIONAL.get(from..to).unwrap_or_default()
+}
+
+/// `TRANSACTIONAL` with one byte changed.
+pub(crate) fn changed(at: usize, byte: u8) -> [u8; 208] {
+    let mut bytes = TRANSACTIONAL;
+    if let Some(place) = bytes.get_mut(at) {
+        *place = byte;
+    }
+    bytes
+}
+
 /// An express packet from beta to alpha with each kind of name, a label, an extension and the body `one`. Its headers begin at 0, 16 and 148.
-pub(crate) const EXPRESS: &[u8; 216] = b"\x10\0\x07\0LIOR\xD8\0\0\0\x0A\0\0\0\
+pub(crate) static EXPRESS: [u8; 216] = *b"\x10\0\x07\0LIOR\xD8\0\0\0\x0A\0\0\0\
 \x2D\x2C\x2B\x2A\x32\x31\x34\x33\x35\x36\x37\x38\x39\x3A\x3B\x3C\
 \x0D\x0C\x0B\x0A\x12\x11\x14\x13\x15\x16\x17\x18\x19\x1A\x1B\x1C\
 \x14\0\0\0\xE9\x03\0\0\x02\0\0\0\x2C\x12\0\0\
@@ -58,7 +72,7 @@ pub(crate) const EXPRESS: &[u8; 216] = b"\x10\0\x07\0LIOR\xD8\0\0\0\x0A\0\0\0\
 h\0\xAC\x20extone\0\0";
 
 /// A recoverable packet of 1,248 bytes to `orders` at beta, with an admin name, the label `hello` and a session header, up to its body of 1,000 bytes.
-const ORDER: &[u8; 230] = b"\x10\0\x13\0LIOR\xE0\x04\0\0\x3C\0\0\0\
+static ORDER: [u8; 230] = *b"\x10\0\x13\0LIOR\xE0\x04\0\0\x3C\0\0\0\
 \x0D\x0C\x0B\x0A\x12\x11\x14\x13\x15\x16\x17\x18\x19\x1A\x1B\x1C\
 \x2D\x2C\x2B\x2A\x32\x31\x34\x33\x35\x36\x37\x38\x39\x3A\x3B\x3C\
 \xFF\xFF\xFF\xFF\xE8\x03\0\0\x02\0\0\0\x6D\x08\0\0\
