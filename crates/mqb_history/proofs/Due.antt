@@ -1,36 +1,15 @@
 -- What expired was committed, and was due.
-use Rattle.std.proofs.Common.{refl, ap, sym, subst, ◌∙◌, arith, inl, inr}
-use Rattle.std.proofs.lemmas.Bool.Decides.{nat_tests}
+use Rattle.std.proofs.Common.{ap, sym, subst, ◌∙◌, arith, inl, inr}
 use Rattle.std.specs.List.{AllByRecursion}
-use Rattle.std.specs.Option.{option_map_or}
-use Rattle.std.specs.Prelude.{[], ◌++◌, ◌<◌, ◌∷◌, ◌≡◌, Bool, List, None, Option, Some, cond, false, find, fold, length, nat_lt, slice_get, suc, true, zero, ℕ}
-use Rattle.mqb_base.specs.declared.class.Class.{Class}
-use Rattle.mqb_base.specs.declared.heads.TxHead.{TxHead}
+use Rattle.std.specs.Prelude.{[], ◌++◌, ◌<◌, ◌∷◌, ◌≡◌, List, ℕ}
 use Rattle.mqb_base.specs.declared.ids.Identity.{Identity}
 use Rattle.mqb_base.specs.declared.ids.MessageId.{MessageId}
 use Rattle.mqb_base.specs.declared.ledger.Line.{Line}
 use Rattle.mqb_base.specs.declared.ledger.Line.TheVariants as line
 use Rattle.mqb_base.specs.declared.ledger.Stream.{Stream}
-use Rattle.mqb_base.specs.declared.message.Lane.TheVariants as lane
-use Rattle.mqb_base.specs.declared.message.Message.{Message}
 use Rattle.mqb_exactly_once.specs.Words.{In}
 use Rattle.mqb_exactly_once.specs.World.{Commitment}
-use Rattle.mqb_model.specs.Loops.{for_each_below, repeated}
-use Rattle.mqb_model.specs.declared.target.Target.{Target}
-use Rattle.mqb_model.specs.declared.target.Target.TheVariants.{AtPeer, Here, Nowhere}
-use Rattle.mqb_model.specs.records.Applying.{apply, effect_of, lines_of}
-use Rattle.mqb_model.specs.records.Commit.{send_made, sends_numbered, sends_of, takes_made}
-use Rattle.mqb_model.specs.records.Decisions.{decided_line, message_decided, message_stored, stored_line}
-use Rattle.mqb_model.specs.records.Finals.{final_stored}
-use Rattle.mqb_model.specs.records.Record.{Record}
-use Rattle.mqb_model.specs.records.Record as entry
-use Rattle.mqb_model.specs.records.Releases.{releases_made}
-use Rattle.mqb_model.specs.rules.Arrivals.{refusal_of, storing_refusal}
-use Rattle.mqb_model.specs.rules.Effects.{Effect, begun, joined}
-use Rattle.mqb_model.specs.rules.Sends.{committed_to, journalled, message_sent}
-use Rattle.mqb_model.specs.rules.Timeouts.{cannot_reach, expires, expiring, expiring_in, message_expired, next_expired, row_expired, rows_expired}
-use Rattle.mqb_model.specs.state.Resolving.{is_here, resolved}
-use Rattle.mqb_model.specs.state.Rows.{stream_of}
+use Rattle.mqb_model.specs.records.Applying.{apply, lines_of}
 use Rattle.mqb_model.specs.state.State.{State}
 use Rattle.mqb_network.specs.Courses.{Course, Written}
 use Rattle.mqb_network.specs.Doubts.{settled}
@@ -38,19 +17,13 @@ use Rattle.mqb_network.specs.Laws.{lines_written}
 use Rattle.mqb_network.specs.Network.{manager_at}
 use Rattle.mqb_network.specs.Runs.{after_run}
 use Rattle.mqb_orders.specs.Rows.{Row}
-use Rattle.mqb_orders.specs.declared.kept.Kept.{Kept}
-use Rattle.mqb_packet.specs.declared.packet.UserPacket.{UserPacket}
 use Rattle.mqb_history.specs.Committed.{commitments, commitments_in}
 use Rattle.mqb_history.specs.Decided.{written_of}
 use Rattle.mqb_history.specs.Expired.{AreExpiredDuly, MayExpire, WasDue}
-use Rattle.mqb_history.specs.Laws.{AlwaysExpiredDuly, ExpiriesHaveReasons}
-use Rattle.mqb_history.proofs.Applying.{expired_manager}
+use Rattle.mqb_history.specs.Laws.{AlwaysExpiredDuly}
 use Rattle.mqb_history.proofs.Committing.{IsCounted, all_in, in_append, kept_at}
-use Rattle.mqb_history.proofs.Deciding.{first_is_found}
-use Rattle.mqb_history.proofs.Lines.{Adds, IsOther, ops_add, purged_adds, releases_add, taken_adds, ticked_adds}
-use Rattle.mqb_history.proofs.Lists.{all_append, all_weaker, get_in, none_some, some_is, split_and}
-use Rattle.mqb_history.proofs.Numbering.{AreCounted, commitments_more, counted_by_records}
-use Rattle.mqb_history.proofs.Outside.{HasNoMore, HaveNoMore, NoMore, more_then, next_no_more, nothing_more}
+use Rattle.mqb_history.proofs.Lists.{all_append, all_weaker}
+use Rattle.mqb_history.proofs.Numbering.{commitments_more}
 use Rattle.mqb_history.proofs.Telling.{lines_more}
 use Rattle.mqb_history.proofs.Written.{IsByRecords, always_by_records}
 use Rattle.mqb_history.proofs.Rows.{AreRowed, HasRow, rowed_by_records}

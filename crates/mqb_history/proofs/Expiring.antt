@@ -3,18 +3,15 @@ use Rattle.std.proofs.Common.{refl, ap, sym, subst, ◌∙◌, arith, inl, inr}
 use Rattle.std.proofs.lemmas.Bool.Decides.{nat_tests}
 use Rattle.std.specs.List.{AllByRecursion}
 use Rattle.std.specs.Option.{option_map_or}
-use Rattle.std.specs.Prelude.{[], ◌++◌, ◌<◌, ◌∷◌, ◌≡◌, Bool, List, None, Option, Some, cond, false, find, fold, length, nat_lt, slice_get, suc, true, zero, ℕ}
+use Rattle.std.specs.Prelude.{[], ◌<◌, ◌∷◌, ◌≡◌, Bool, List, None, Option, Some, cond, false, find, fold, length, nat_lt, slice_get, suc, true, zero, ℕ}
 use Rattle.mqb_base.specs.declared.class.Class.{Class}
 use Rattle.mqb_base.specs.declared.heads.TxHead.{TxHead}
 use Rattle.mqb_base.specs.declared.ids.Identity.{Identity}
-use Rattle.mqb_base.specs.declared.ids.MessageId.{MessageId}
 use Rattle.mqb_base.specs.declared.ledger.Line.{Line}
 use Rattle.mqb_base.specs.declared.ledger.Line.TheVariants as line
-use Rattle.mqb_base.specs.declared.ledger.Stream.{Stream}
 use Rattle.mqb_base.specs.declared.message.Lane.TheVariants as lane
 use Rattle.mqb_base.specs.declared.message.Message.{Message}
 use Rattle.mqb_exactly_once.specs.Words.{In}
-use Rattle.mqb_exactly_once.specs.World.{Commitment}
 use Rattle.mqb_model.specs.Loops.{for_each_below, repeated}
 use Rattle.mqb_model.specs.declared.target.Target.{Target}
 use Rattle.mqb_model.specs.declared.target.Target.TheVariants.{AtPeer, Here, Nowhere}
@@ -32,27 +29,17 @@ use Rattle.mqb_model.specs.rules.Timeouts.{cannot_reach, expires, expiring, expi
 use Rattle.mqb_model.specs.state.Resolving.{is_here, resolved}
 use Rattle.mqb_model.specs.state.Rows.{stream_of}
 use Rattle.mqb_model.specs.state.State.{State}
-use Rattle.mqb_network.specs.Courses.{Course, Written}
-use Rattle.mqb_network.specs.Doubts.{settled}
-use Rattle.mqb_network.specs.Laws.{lines_written}
-use Rattle.mqb_network.specs.Network.{manager_at}
-use Rattle.mqb_network.specs.Runs.{after_run}
 use Rattle.mqb_orders.specs.Rows.{Row}
 use Rattle.mqb_orders.specs.declared.kept.Kept.{Kept}
 use Rattle.mqb_packet.specs.declared.packet.UserPacket.{UserPacket}
-use Rattle.mqb_history.specs.Committed.{commitments, commitments_in}
-use Rattle.mqb_history.specs.Decided.{written_of}
-use Rattle.mqb_history.specs.Expired.{AreExpiredDuly, MayExpire, WasDue}
-use Rattle.mqb_history.specs.Laws.{AlwaysExpiredDuly, ExpiriesHaveReasons}
+use Rattle.mqb_history.specs.Expired.{MayExpire}
+use Rattle.mqb_history.specs.Laws.{ExpiriesHaveReasons}
 use Rattle.mqb_history.proofs.Applying.{expired_manager}
-use Rattle.mqb_history.proofs.Committing.{IsCounted, all_in, in_append, kept_at}
+use Rattle.mqb_history.proofs.Committing.{all_in}
 use Rattle.mqb_history.proofs.Deciding.{first_is_found}
 use Rattle.mqb_history.proofs.Lines.{Adds, IsOther, ops_add, purged_adds, releases_add, taken_adds, ticked_adds}
 use Rattle.mqb_history.proofs.Lists.{all_append, all_weaker, get_in, none_some, some_is, split_and}
-use Rattle.mqb_history.proofs.Numbering.{AreCounted, commitments_more, counted_by_records}
 use Rattle.mqb_history.proofs.Outside.{HasNoMore, HaveNoMore, NoMore, more_then, next_no_more, nothing_more}
-use Rattle.mqb_history.proofs.Telling.{lines_more}
-use Rattle.mqb_history.proofs.Written.{IsByRecords, always_by_records}
 
 -- what a line says of an expiry is so
 abbrev pub IsReasoned : State → Line → Type 0

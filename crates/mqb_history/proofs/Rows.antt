@@ -1,13 +1,11 @@
 -- Each message that a manager committed has its row, which leads to its destination.
-use Rattle.std.proofs.Common.{refl, ap, sym, subst, ◌∙◌, arith, inl, inr}
-use Rattle.std.proofs.lemmas.Bool.Decides.{nat_tests}
-use Rattle.std.specs.List.{AllByRecursion, cons_option, range_with_len}
+use Rattle.std.proofs.Common.{refl, ap, sym, subst, ◌∙◌, inl, inr}
+use Rattle.std.specs.List.{AllByRecursion, cons_option}
 use Rattle.std.specs.Option.{option_map_or}
-use Rattle.std.specs.Prelude.{[], ◌+◌, ◌++◌, ◌<◌, ◌∷◌, ◌≡◌, ◌≤◌, ◌⊎◌, Bool, List, None, Option, Some, cond, false, fold, length, nat_le, suc, true, unwrap_or, zero, ℕ}
-use Rattle.mqb_base.specs.declared.ids.SequenceId.{SequenceId}
+use Rattle.std.specs.Prelude.{[], ◌++◌, ◌∷◌, ◌≡◌, Bool, List, None, Option, Some, cond, false, fold, true, unwrap_or, ℕ}
 use Rattle.mqb_base.specs.declared.message.Message.{Message}
 use Rattle.mqb_exactly_once.specs.Words.{In}
-use Rattle.mqb_exactly_once.specs.World.{Commitment, Position}
+use Rattle.mqb_exactly_once.specs.World.{Commitment}
 use Rattle.mqb_model.specs.declared.target.Target.{Target}
 use Rattle.mqb_model.specs.declared.target.Target.TheVariants.{AtPeer, Here, Nowhere}
 use Rattle.mqb_model.specs.records.Applying.{apply}
@@ -20,29 +18,18 @@ use Rattle.mqb_model.specs.rules.Sequences.{join, new_sequence, sequence_for, se
 use Rattle.mqb_model.specs.state.Resolving.{resolved}
 use Rattle.mqb_model.specs.state.Rows.{has_ordinal, with_row}
 use Rattle.mqb_model.specs.state.State.{State}
-use Rattle.mqb_network.specs.Courses.{Course, Written}
-use Rattle.mqb_network.specs.Doubts.{settled}
-use Rattle.mqb_network.specs.Laws.{lines_written}
-use Rattle.mqb_network.specs.Network.{manager_at}
-use Rattle.mqb_network.specs.Runs.{after_run}
+use Rattle.mqb_network.specs.Courses.{Written}
 use Rattle.mqb_orders.specs.Rows.{Row}
-use Rattle.mqb_orders.specs.declared.kept.Kept.{Kept}
-use Rattle.mqb_history.specs.Committed.{commitment_at, commitment_to, commitments, commitments_in, commitments_of, number_in, numbers_in}
-use Rattle.mqb_history.specs.Decided.{written_of}
-use Rattle.mqb_history.specs.Expired.{expiries_told}
-use Rattle.mqb_history.specs.Laws.{AlwaysWaiting}
+use Rattle.mqb_history.specs.Committed.{commitment_at, commitment_to, commitments, commitments_in, commitments_of}
 use Rattle.mqb_history.specs.Made.{IsMade}
-use Rattle.mqb_history.specs.Waiting.{AreWaiting, IsInRow}
 use Rattle.mqb_history.proofs.Applying.{takes_made_rows}
-use Rattle.mqb_history.proofs.Committing.{IsCounted, all_in, first_changed, in_append, in_end, is_first_changed, itself, kept_at}
-use Rattle.mqb_history.proofs.Holding.{HasExpired, IsWhole, Keeps}
+use Rattle.mqb_history.proofs.Committing.{first_changed, in_append, in_end, is_first_changed}
 use Rattle.mqb_history.proofs.Lists.{all_append, all_weaker, append_nothing}
 use Rattle.mqb_history.proofs.Numbering.{commitments_more, cons_behind, in_use_in, made_offers}
 use Rattle.mqb_history.proofs.Outside.{CommitsNothing, HaveNoMore, applied_no_more}
-use Rattle.mqb_history.proofs.Previous.{in_numbers, in_range}
 use Rattle.mqb_history.proofs.Staying.{delivered_rows, journalled_rows}
 use Rattle.mqb_history.proofs.Unskipped.{AreHeld, held_by_records}
-use Rattle.mqb_history.proofs.Written.{IsByRecords, always_by_records}
+use Rattle.mqb_history.proofs.Written.{IsByRecords}
 use Rattle.mqb_history.proofs.Telling.{sequence_leads}
 
 -- the row of a commitment's sequence is there, and leads to its destination
@@ -96,9 +83,15 @@ join_rows s peer now m cs h = at (sequence_in_use s peer m.destination) refl
         ((with_kept m new, in_end s.outs (with_kept m new), refl, refl), tt)
     at (Some row) e = subst (λ rows. HaveRows rows (cs ++ commitment_to row m ∷ [])) (sym (is_first_changed (with_kept m) (has_ordinal row.sequence.ordinal) s.outs))
         (all_append (HasRow (first_changed (with_kept m) (has_ordinal row.sequence.ordinal) s.outs)) cs (commitment_to row m ∷ [])
-        (rows_then s.outs (first_changed (with_kept m) (has_ordinal row.sequence.ordinal) s.outs) (row_joined m (has_ordinal row.sequence.ordinal) s.outs) cs h)
-        (row_joined m (has_ordinal row.sequence.ordinal) s.outs (commitment_to row m) (row, in_use_in s peer m.destination row e, refl,
-        sym (ap (λ o. (unwrap_or o new).destination) e) ∙ sequence_leads s peer m.destination now), tt))
+        (rows_then s.outs (first_changed (with_kept m) (has_ordinal row.sequence.ordinal) s.outs) (row_joined m (has_ordinal row.sequence.ordinal) s.outs) cs h) (
+          row_joined m (has_ordinal row.sequence.ordinal) s.outs (commitment_to row m) (
+            row,
+            in_use_in s peer m.destination row e,
+            refl,
+            sym (ap (λ o. (unwrap_or o new).destination) e) ∙ sequence_leads s peer m.destination now,
+          ),
+          tt,
+        ))
 
 same_outs : (a b : List Row) (cs : List Commitment) → b ≡ a → HaveRows a cs → HaveRows b cs
 same_outs a b cs e h = subst (λ rows. HaveRows rows cs) (sym e) h

@@ -1,24 +1,11 @@
 -- Each message that a manager committed was acknowledged, waits in its row, or expired.
 use Rattle.std.proofs.Common.{refl, ap, sym, subst, ◌∙◌, arith, inl, inr}
 use Rattle.std.proofs.lemmas.Bool.Decides.{nat_tests}
-use Rattle.std.specs.List.{AllByRecursion, cons_option, range_with_len}
-use Rattle.std.specs.Option.{option_map_or}
-use Rattle.std.specs.Prelude.{[], ◌+◌, ◌++◌, ◌<◌, ◌∷◌, ◌≡◌, ◌≤◌, ◌⊎◌, Bool, List, None, Option, Some, cond, false, fold, length, nat_le, suc, true, unwrap_or, zero, ℕ}
+use Rattle.std.specs.List.{cons_option, range_with_len}
+use Rattle.std.specs.Prelude.{[], ◌+◌, ◌<◌, ◌∷◌, ◌≡◌, ◌≤◌, ◌⊎◌, Bool, List, None, Option, Some, cond, false, length, nat_le, suc, true, zero, ℕ}
 use Rattle.mqb_base.specs.declared.ids.SequenceId.{SequenceId}
-use Rattle.mqb_base.specs.declared.message.Message.{Message}
 use Rattle.mqb_exactly_once.specs.Words.{In}
 use Rattle.mqb_exactly_once.specs.World.{Commitment, Position}
-use Rattle.mqb_model.specs.declared.target.Target.{Target}
-use Rattle.mqb_model.specs.declared.target.Target.TheVariants.{AtPeer, Here, Nowhere}
-use Rattle.mqb_model.specs.records.Applying.{apply}
-use Rattle.mqb_model.specs.records.Commit.{send_made, sends_of, takes_made}
-use Rattle.mqb_model.specs.records.Record.{Record}
-use Rattle.mqb_model.specs.records.Record as entry
-use Rattle.mqb_model.specs.rules.Effects.{Effect}
-use Rattle.mqb_model.specs.rules.Sends.{committed_to, journalled}
-use Rattle.mqb_model.specs.rules.Sequences.{join, new_sequence, sequence_for, sequence_in_use, with_kept, with_sequence}
-use Rattle.mqb_model.specs.state.Resolving.{resolved}
-use Rattle.mqb_model.specs.state.Rows.{has_ordinal, with_row}
 use Rattle.mqb_model.specs.state.State.{State}
 use Rattle.mqb_network.specs.Courses.{Course, Written}
 use Rattle.mqb_network.specs.Doubts.{settled}
@@ -27,22 +14,15 @@ use Rattle.mqb_network.specs.Network.{manager_at}
 use Rattle.mqb_network.specs.Runs.{after_run}
 use Rattle.mqb_orders.specs.Rows.{Row}
 use Rattle.mqb_orders.specs.declared.kept.Kept.{Kept}
-use Rattle.mqb_history.specs.Committed.{commitment_at, commitment_to, commitments, commitments_in, commitments_of, number_in, numbers_in}
+use Rattle.mqb_history.specs.Committed.{commitments, number_in, numbers_in}
 use Rattle.mqb_history.specs.Decided.{written_of}
 use Rattle.mqb_history.specs.Expired.{expiries_told}
 use Rattle.mqb_history.specs.Laws.{AlwaysWaiting}
-use Rattle.mqb_history.specs.Made.{IsMade}
 use Rattle.mqb_history.specs.Waiting.{AreWaiting, IsInRow}
-use Rattle.mqb_history.proofs.Applying.{takes_made_rows}
-use Rattle.mqb_history.proofs.Committing.{IsCounted, all_in, first_changed, in_append, in_end, is_first_changed, itself, kept_at}
+use Rattle.mqb_history.proofs.Committing.{IsCounted, all_in, itself, kept_at}
 use Rattle.mqb_history.proofs.Holding.{HasExpired, IsWhole, Keeps}
-use Rattle.mqb_history.proofs.Lists.{all_append, all_weaker, append_nothing}
-use Rattle.mqb_history.proofs.Numbering.{commitments_more, cons_behind, in_use_in, made_offers}
-use Rattle.mqb_history.proofs.Outside.{CommitsNothing, HaveNoMore, applied_no_more}
 use Rattle.mqb_history.proofs.Previous.{in_numbers, in_range}
-use Rattle.mqb_history.proofs.Staying.{delivered_rows, journalled_rows}
-use Rattle.mqb_history.proofs.Unskipped.{AreHeld, held_by_records}
-use Rattle.mqb_history.proofs.Written.{IsByRecords, always_by_records}
+use Rattle.mqb_history.proofs.Written.{always_by_records}
 use Rattle.mqb_history.proofs.Rows.{AreRowed, HasRow, rowed_by_records}
 
 -- No two commitments have one position.
