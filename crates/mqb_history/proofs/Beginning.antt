@@ -64,7 +64,7 @@ begun_orderly known n m a b o connections connected count apart_a apart_b same c
 
 -- A manager where another one is put.
 
-there : (n : Network) (i : ℕ) (m : Manager) → is_down (manager_at n i) ≡ false → manager_at (with_manager n i m) i ≡ m
+pub there : (n : Network) (i : ℕ) (m : Manager) → is_down (manager_at n i) ≡ false → manager_at (with_manager n i m) i ≡ m
 there n i m up = at (slice_get n.managers i) refl
   where
     at : (o : Option Manager) → slice_get n.managers i ≡ o → manager_at (with_manager n i m) i ≡ m

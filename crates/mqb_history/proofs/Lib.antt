@@ -37,3 +37,17 @@ mod Due
 mod Waiting
 mod Stopping
 mod Reasons
+mod Unreleased
+mod Lasting
+mod Heard
+mod Pumped
+mod Pumping
+mod Flowing
+mod Between
+mod Storing
+mod Serving
+mod Hearing
+mod Passing
+mod Sessions
+mod Released
+mod Storage

@@ -12,3 +12,4 @@ pub mod Expired
 pub mod Skipped
 pub mod Waiting
 pub mod Laws
+pub mod Stored

@@ -4,6 +4,7 @@
 #![tactic(auto)]
 
 ghost use Rattle.mqb_history.specs.Laws.{AlwaysCarriedTruly, AlwaysCommittedInOrder, AlwaysDecidedInOrder, AlwaysDecidedTruly, AlwaysExpiredDuly, AlwaysOffersKept, AlwaysToldCommitments, AlwaysUnskipped, AlwaysWaiting, DecisionsHaveReasons, DownStays, ExpiriesHaveReasons, FailuresAreSettled, HistoriesAreOrderly, LinesTellDecisions, RunsHaveHistories};
+ghost use Rattle.mqb_history.specs.Stored.{StorageIsAlwaysKept};
 
 /// Sessions are connections, there is a note for each packet, and managers stay who they are.
 pub fn histories_are_orderly()
@@ -83,4 +84,9 @@ pub fn always_waiting()
 /// What a manager offered never expires later: only what stands above the mark in its sequence does.
 pub fn always_offers_kept()
     ensures { AlwaysOffersKept }
+{}
+
+/// Each plain message that leaves its sender as released was stored, or refused, where it arrived before, and a line says so.
+pub fn storage_is_always_kept()
+    ensures { StorageIsAlwaysKept }
 {}

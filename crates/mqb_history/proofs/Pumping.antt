@@ -1,0 +1,189 @@
+-- What a manager knows behind a pump of its session, whatever went.
+use Rattle.std.proofs.Common.{refl, ap, sym, subst, ◌∙◌, arith}
+use Rattle.std.specs.List.{AllByRecursion}
+use Rattle.std.specs.Option.{option_map_or}
+use Rattle.std.specs.Prelude.{[], ◌&&◌, ◌++◌, ◌==◌, ◌∷◌, ◌≡◌, ◌≤◌, Bool, Err, IfSome, List, None, Ok, Option, Some, cond, filter_map, fold, length, not, slice_get, suc, true, false, zero, ℕ}
+use Rattle.mqb_base.specs.declared.ids.Guid.{Guid}
+use Rattle.mqb_base.specs.declared.ids.Identity.{Identity}
+use Rattle.mqb_base.specs.declared.ids.MessageId.{MessageId}
+use Rattle.mqb_base.specs.declared.message.Message.{Message}
+use Rattle.mqb_entries.specs.declared.members.Mark.{Mark}
+use Rattle.mqb_packet.specs.declared.packet.Packet.{Packet}
+use Rattle.mqb_packet.specs.declared.packet.Packet.TheVariants as packet
+use Rattle.mqb_plain.specs.Plain.{PlainLists}
+use Rattle.mqb_session.specs.Hearing.{after_owed}
+use Rattle.mqb_session.specs.Phases.{owed_by}
+use Rattle.mqb_session.specs.Sending.{is_ready, is_spent, stamped}
+use Rattle.mqb_session.specs.State as one_end
+use Rattle.mqb_session.specs.declared.phase.Phase.{Phase}
+use Rattle.mqb_session.specs.declared.phase.Phase.TheVariants as phase
+use Rattle.mqb_session.specs.declared.heads.Kind.TheVariants as kind
+use Rattle.mqb_setup.specs.declared.internal.Internal.{Internal}
+use Rattle.mqb_setup.specs.declared.internal.Internal.TheVariants as internal
+use Rattle.mqb_model.specs.calls.pump.Candidates.{Candidate, candidates}
+use Rattle.mqb_model.specs.calls.pump.Choosing.{chosen, session_behind}
+use Rattle.mqb_model.specs.calls.pump.Pump.{PumpOutcome, marks_for, offered_entry, pump_at, pump_linked, pump_owed, pump_to, pump_with, sending_all, sending_chosen, sending_one, set_up_packet}
+use Rattle.mqb_model.specs.declared.faults.PumpFault.TheVariants as fault
+use Rattle.mqb_model.specs.managers.Manager.{Manager, linked_peer}
+use Rattle.mqb_model.specs.managers.Outcomes.{answering, recorded, state_after}
+use Rattle.mqb_model.specs.records.Offered.{mark_raised}
+use Rattle.mqb_model.specs.records.Record.{Record}
+use Rattle.mqb_model.specs.records.Record as entry
+use Rattle.mqb_model.specs.state.State.{State}
+use Rattle.mqb_history.proofs.Heard.{stored_told}
+use Rattle.mqb_history.proofs.Lists.{append_nothing}
+use Rattle.mqb_history.proofs.Pumped.{AreThese, IsNumberOf, Sends, all_left, all_noted, all_sent, all_told, candidates_these, chosen_first, filter_append, none_more, recoverable_in, storable_ids, unsent_at, unsent_in, users_of}
+use Rattle.mqb_history.proofs.Lasting.{applied_waits}
+use Rattle.mqb_history.proofs.Unreleased.{PlainWaits, Waits}
+
+-- a record of marks alone
+abbrev pub IsOfMarks : Record → Type 0
+IsOfMarks (entry.Offered marks) = Unit {0}
+IsOfMarks _ = ⊥
+
+-- What a manager of these messages knows behind a pump.
+pub record Pumps (own : Guid) (ids : List MessageId) (m : Manager) (before : one_end.State) (outcome : PumpOutcome) : Type 0 where
+  pub after : one_end.State
+  pub session : outcome.rest.session ≡ Some after
+  pub sends : Sends before after (users_of outcome.packets)
+  pub told : AllByRecursion (λ x. stored_told x ≤ before.stored) outcome.packets
+  pub entry : IfSome outcome.entry IsOfMarks
+  pub waits : Waits own (IsNumberOf (ids ++ storable_ids (users_of outcome.packets))) (state_after m outcome)
+
+module _ (own : Guid) (ids : List MessageId) (m : Manager) (waits : Waits own (IsNumberOf ids) m.state) where
+  -- nothing of the state changes
+  same_state : Waits own (IsNumberOf (ids ++ [])) m.state
+  same_state = subst (λ xs. Waits own (IsNumberOf xs) m.state) (sym (append_nothing ids)) waits
+
+  nothing_pumped : (before : one_end.State) → m.rest.session ≡ Some before → Pumps own ids m before (answering m (Ok 0))
+  nothing_pumped before e = record { after = before; session = e; sends = none_more before before refl refl refl refl refl; told = tt; entry = tt; waits = same_state }
+
+  one_pumped : (before after : one_end.State) (x : Packet) → users_of (x ∷ []) ≡ [] → stored_told x ≤ before.stored → Sends before after [] → Pumps own ids m before (sending_one m x after)
+  one_pumped before after x none told sends = record {
+    after = after;
+    session = refl;
+    sends = subst (Sends before after) (sym none) sends;
+    told = (told, tt);
+    entry = tt;
+    waits = subst (λ ps. Waits own (IsNumberOf (ids ++ storable_ids ps)) m.state) (sym none) same_state;
+  }
+
+  owed_pumped : (now : ℕ) (before : one_end.State) (owed : Internal) → (stored_told (set_up_packet owed) ≤ before.stored) → Pumps own ids m before (sending_one m (set_up_packet owed) (after_owed now before))
+  owed_pumped now before owed told = one_pumped before (after_owed now before) (set_up_packet owed) (none owed) told (none_more before (after_owed now before) refl refl refl refl refl)
+    where
+      none : (owed : Internal) → users_of (set_up_packet owed ∷ []) ≡ []
+      none (internal.Establish e) = refl
+      none (internal.Parameters p) = refl
+      none (internal.Ack h) = refl
+
+  ack_pumped : (before : one_end.State) → m.rest.session ≡ Some before
+      → Pumps own ids m before (cond before.owes (sending_one m (packet.Ack (stamped kind.Ack before).0) (stamped kind.Ack before).1) (answering m (Ok 0)))
+  ack_pumped before e = at before.owes
+    where
+      at : (b : Bool) → Pumps own ids m before (cond b (sending_one m (packet.Ack (stamped kind.Ack before).0) (stamped kind.Ack before).1) (answering m (Ok 0)))
+      at true = one_pumped before (stamped kind.Ack before).1 (packet.Ack (stamped kind.Ack before).0) refl (omega arith) (none_more before (stamped kind.Ack before).1 refl refl refl refl refl)
+      at false = nothing_pumped before e
+
+  marks_plain : (s : State) (marks : List Mark) → (fold mark_raised s marks).plain ≡ s.plain
+  marks_plain s [] = refl
+  marks_plain s (mark ∷ marks) = marks_plain (mark_raised s mark) marks
+
+  marks_identity : (s : State) (marks : List Mark) → (fold mark_raised s marks).identity ≡ s.identity
+  marks_identity s [] = refl
+  marks_identity s (mark ∷ marks) = marks_identity (mark_raised s mark) marks
+
+  offered_plain : (cs : List Candidate) → (recorded m.state (offered_entry m.state cs)).plain ≡ m.state.plain
+  offered_plain cs = at (length (marks_for m.state cs) == 0)
+    where
+      at : (b : Bool) → (recorded m.state (cond b None (Some (entry.Offered (marks_for m.state cs))))).plain ≡ m.state.plain
+      at true = refl
+      at false = marks_plain m.state (marks_for m.state cs)
+
+  offered_waits : (cs : List Candidate) → Waits own (IsNumberOf ids) (recorded m.state (offered_entry m.state cs))
+  offered_waits cs = at (length (marks_for m.state cs) == 0)
+    where
+      at : (b : Bool) → Waits own (IsNumberOf ids) (recorded m.state (cond b None (Some (entry.Offered (marks_for m.state cs)))))
+      at true = waits
+      at false = applied_waits own (IsNumberOf ids) m.state (entry.Offered (marks_for m.state cs)) tt waits
+
+  offered_only : (cs : List Candidate) → IfSome (offered_entry m.state cs) IsOfMarks
+  offered_only cs = at (length (marks_for m.state cs) == 0)
+    where
+      at : (b : Bool) → IfSome (cond b None (Some (entry.Offered (marks_for m.state cs)))) IsOfMarks
+      at true = tt
+      at false = tt
+
+  all_pumped : (now : ℕ) (before : one_end.State) (k : ℕ) (to : Guid) (cs others : List Candidate) (ms : List Message) → before.recoverable_sent ≡ length ids
+      → AreThese ms (cs ++ others) → unsent_at m.state.plain k ≡ ms → Pumps own ids m before (sending_all m now before k to cs)
+  all_pumped now before k to cs others ms e these unsent = record {
+    after = session_behind before cs;
+    session = refl;
+    sends = all_sent to now before cs (all_left cs others these.right);
+    told = all_told to now before.stored before cs refl;
+    entry = offered_only cs;
+    waits = all_noted own to now k ids before cs (filter_map recoverable_in others) (recorded m.state (offered_entry m.state cs)) (all_left cs others these.right) e (record {
+      waits = offered_waits cs;
+      unsent = ap (λ ps. unsent_at ps k) (offered_plain cs) ∙ unsent ∙ sym these.recoverable ∙ filter_append recoverable_in cs others;
+    });
+  }
+
+  chosen_pumped : (now : ℕ) (before : one_end.State) (k : ℕ) (to : Guid) (cs others : List Candidate) (ms : List Message) → m.rest.session ≡ Some before → before.recoverable_sent ≡ length ids
+      → AreThese ms (cs ++ others) → unsent_at m.state.plain k ≡ ms → Pumps own ids m before (sending_chosen m now before k to cs)
+  chosen_pumped now before k to [] others ms linked e these unsent = ack_pumped before linked
+  chosen_pumped now before k to (c ∷ cs) others ms linked e these unsent = all_pumped now before k to (c ∷ cs) others ms e these unsent
+
+  spent_pumped : (before : one_end.State) → m.rest.session ≡ Some before → Pumps own ids m before (answering m (Err fault.Spent))
+  spent_pumped before e = record { after = before; session = e; sends = none_more before before refl refl refl refl refl; told = tt; entry = tt; waits = same_state }
+
+  with_pumped : (now : ℕ) (before : one_end.State) (k : ℕ) (to : Guid) (cs : List Candidate) (ms : List Message) → m.rest.session ≡ Some before → before.recoverable_sent ≡ length ids
+      → AreThese ms cs → unsent_at m.state.plain k ≡ ms → Pumps own ids m before (pump_with m now before k to cs)
+  with_pumped now before k to cs ms linked e these unsent = at (is_spent before && not (length cs == 0))
+    where
+      at : (b : Bool) → Pumps own ids m before (cond b (answering m (Err fault.Spent)) (sending_chosen m now before k to (chosen before 0 0 cs)))
+      at true = spent_pumped before linked
+      at false = let first = chosen_first before 0 0 cs in
+          chosen_pumped now before k to (chosen before 0 0 cs) first.0 ms linked e (subst (AreThese ms) first.1 these) unsent
+
+  lists_waits : (k : ℕ) → IfSome (slice_get m.state.plain k) (PlainWaits own (IsNumberOf ids))
+  lists_waits k = get m.state.plain k waits.plain
+    where
+      get : (ps : List PlainLists) (j : ℕ) → AllByRecursion (PlainWaits own (IsNumberOf ids)) ps → IfSome (slice_get ps j) (PlainWaits own (IsNumberOf ids))
+      get [] j g = tt
+      get (p ∷ ps) zero g = g.0
+      get (p ∷ ps) (suc j) g = get ps j g.1
+
+  peer_pumped : (now : ℕ) (before : one_end.State) (k : ℕ) → m.rest.session ≡ Some before → before.recoverable_sent ≡ length ids → Pumps own ids m before (pump_at m now before k)
+  peer_pumped now before k linked e = at (slice_get m.state.peers k)
+    where
+      to : (peer : Identity) (o : Option PlainLists) → slice_get m.state.plain k ≡ o → IfSome o (PlainWaits own (IsNumberOf ids))
+          → Pumps own ids m before (option_map_or (pump_to m now before k peer) o (answering m (Ok 0)))
+      to peer None f g = nothing_pumped before linked
+      to peer (Some p) f g = with_pumped now before k peer.guid (candidates m.state m.rest now k peer p) (filter_map unsent_in p.recoverable) linked e
+          (candidates_these own (IsNumberOf ids) m.state m.rest now k peer p g)
+          (ap (λ (o : Option PlainLists). option_map_or (λ (q : PlainLists). filter_map unsent_in q.recoverable) o []) f)
+
+      at : (o : Option Identity) → Pumps own ids m before (option_map_or (λ peer. option_map_or (pump_to m now before k peer) (slice_get m.state.plain k) (answering m (Ok 0))) o (answering m (Ok 0)))
+      at None = nothing_pumped before linked
+      at (Some peer) = to peer (slice_get m.state.plain k) refl (lists_waits k)
+
+  owed_or_pumped : (now : ℕ) (before : one_end.State) (o : Option Internal) → m.rest.session ≡ Some before → before.recoverable_sent ≡ length ids
+      → IfSome o (λ owed. stored_told (set_up_packet owed) ≤ before.stored) → Pumps own ids m before (pump_owed m now before o)
+  owed_or_pumped now before (Some owed) linked e told = owed_pumped now before owed told
+  owed_or_pumped now before None linked e told = at (is_ready before.phase)
+    where
+      at : (b : Bool) → Pumps own ids m before (cond b (pump_at m now before (linked_peer m.state before)) (answering m (Ok 0)))
+      at true = peer_pumped now before (linked_peer m.state before) linked e
+      at false = nothing_pumped before linked
+
+  pub linked_pumped : (now : ℕ) (before : one_end.State) → m.rest.session ≡ Some before → before.recoverable_sent ≡ length ids → Pumps own ids m before (pump_linked m now before)
+  linked_pumped now before linked e = owed_or_pumped now before (owed_by before.phase now before) linked e (told before.phase)
+    where
+      told : (f : Phase) → IfSome (owed_by f now before) (λ owed. stored_told (set_up_packet owed) ≤ before.stored)
+      told phase.Start = omega arith
+      told phase.OweEstablish = omega arith
+      told phase.OweRefusal = omega arith
+      told phase.OweParameters = omega arith
+      told phase.WaitEstablish = tt
+      told phase.WaitParameters = tt
+      told phase.Ready = tt
+      told (phase.Closed why) = tt

@@ -1,0 +1,188 @@
+-- Calls that have nothing to do with packets, and packets that are heard, keep what is stored.
+use Rattle.std.proofs.Common.{refl, ap, sym, subst}
+use Rattle.std.specs.Option.{option_map_or}
+use Rattle.std.specs.Prelude.{◌++◌, ◌==◌, ◌≡◌, Bool, Err, IfSome, List, None, Ok, Option, Result, Some, cond, false, is_some, length, true, ℕ}
+use Rattle.mqb_base.specs.declared.ids.Guid.{Guid}
+use Rattle.mqb_base.specs.declared.ids.MessageId.{MessageId}
+use Rattle.mqb_base.specs.declared.message.Lane.{Lane}
+use Rattle.mqb_base.specs.declared.message.Lane.TheVariants as lane
+use Rattle.mqb_base.specs.declared.message.Message.{Message}
+use Rattle.mqb_base.specs.declared.queues.EntryPlace.{EntryPlace}
+use Rattle.mqb_packet.specs.declared.packet.Packet.{Packet}
+use Rattle.mqb_queue.specs.Places.{lists_at, place_named}
+use Rattle.mqb_session.specs.State as one_end
+use Rattle.mqb_model.specs.calls.Commit.{commit_tried, ops_refusal, trial_of, try_ops, whole_refusal}
+use Rattle.mqb_model.specs.calls.CreateQueue.{create_refusal}
+use Rattle.mqb_model.specs.calls.Link.{rewound}
+use Rattle.mqb_model.specs.calls.Messages.{plain_message}
+use Rattle.mqb_model.specs.calls.Purge.{purge_at, purge_refusal, purging}
+use Rattle.mqb_model.specs.calls.Send.{send_refusal, sending}
+use Rattle.mqb_model.specs.calls.SetRoll.{store_refusal}
+use Rattle.mqb_model.specs.calls.Take.{first_in, take_at, take_position, take_refusal, taking}
+use Rattle.mqb_model.specs.managers.Manager.{Manager, linked_peer}
+use Rattle.mqb_model.specs.managers.Outcomes.{Outcome, answering, succeeded, unless}
+use Rattle.mqb_model.specs.records.Record.{Record}
+use Rattle.mqb_model.specs.records.Record as entry
+use Rattle.mqb_model.specs.rules.Takes.{message_at}
+use Rattle.mqb_model.specs.state.State.{State}
+use Rattle.mqb_network.specs.Choices.{Failure}
+use Rattle.mqb_network.specs.Courses.{Course, Written, written_by}
+use Rattle.mqb_network.specs.Network.{Network, manager_at, with_manager}
+use Rattle.mqb_history.specs.Calls.{Call, Commit, CreateQueue, Hear, Pump, Purge, Resend, Send, SetRoll, Take, Tick, answerless, outcome_of}
+use Rattle.mqb_history.specs.Changes.{calling, is_of_packets}
+use Rattle.mqb_history.specs.Orderly.{AreAllDisjoint}
+use Rattle.mqb_history.proofs.Between.{from_sender}
+use Rattle.mqb_history.proofs.Flowing.{Flows, flows_more, source_works, target_works}
+use Rattle.mqb_history.proofs.Lists.{clash}
+use Rattle.mqb_history.proofs.Ordering.{with_at}
+use Rattle.mqb_history.proofs.Storing.{FlowsIn, KeepsStorage, ReleasesStored, call_waits, called_rests, failing_keeps, well_keeps}
+use Rattle.mqb_history.proofs.Unreleased.{IsOfOwn, IsPlainBeside, Waits}
+
+-- What a call that has nothing to do with packets does: it leaves the session, and its record releases nothing.
+
+abbrev IsWork : Guid → Record → Type 0
+IsWork own (entry.Plain now p) = p.message.id.qm ≡ own
+IsWork own (entry.Arrived now numbers part) = ⊥
+IsWork own _ = Unit {0}
+
+pub record Works {A : Type 0} (own : Guid) (m : Manager) (outcome : Outcome A) : Type 0 where
+  pub session : outcome.rest.session ≡ m.rest.session
+  pub entry : IfSome outcome.entry (IsWork own)
+  pub beside : IsPlainBeside outcome.beside
+
+nothing_works : {A : Type 0} (own : Guid) (m : Manager) (answer : A) → Works own m (answering m answer)
+nothing_works own m answer = record { session = refl; entry = tt; beside = tt }
+
+unless_works : {V E : Type 0} (own : Guid) (m : Manager) (refusal : Option E) (outcome : Outcome (Result V E)) → Works own m outcome → Works own m (unless m refusal outcome)
+unless_works own m (Some fault) outcome h = nothing_works own m (Err fault)
+unless_works own m None outcome h = h
+
+or_works : {X A : Type 0} (own : Guid) (m : Manager) (f : X → Outcome A) (o : Option X) (other : A) → ((x : X) → Works own m (f x)) → Works own m (option_map_or f o (answering m other))
+or_works own m f None other some = nothing_works own m other
+or_works own m f (Some x) other some = some x
+
+pub same_works : {A : Type 0} (own : Guid) (m : Manager) (outcome : Outcome A) → Works own m outcome → Works own m (answerless outcome)
+same_works own m outcome h = record { session = h.session; entry = h.entry; beside = h.beside }
+
+some_or : (own : Guid) (b : Bool) (r : Record) → IsWork own r → IfSome (cond b None (Some r)) (IsWork own)
+some_or own true r h = tt
+some_or own false r h = h
+
+send_works : (own : Guid) (m : Manager) (recoverable : Bool) (now : ℕ) (p : _) → m.state.identity.guid ≡ own → Works own m (sending m recoverable (plain_message m.state recoverable now p) now)
+send_works own m true now p e = record { session = refl; entry = e; beside = tt }
+send_works own m false now p e = record { session = refl; entry = tt; beside = refl }
+
+take_works : (own : Guid) (m : Manager) (at : EntryPlace) (now : ℕ) (kind : Lane) (k : ℕ) (message : Message) → Works own m (taking m at now kind k message)
+take_works own m at now lane.Durable k message = record { session = refl; entry = tt; beside = tt }
+take_works own m at now lane.Express k message = record { session = refl; entry = tt; beside = tt }
+
+commit_works : (own : Guid) (m : Manager) (now : ℕ) (tried : Result _ _) → Works own m (commit_tried m now tried)
+commit_works own m now (Err why) = nothing_works own m (Err why)
+commit_works own m now (Ok t) = unless_works own m (whole_refusal t) _ (record { session = refl; entry = tt; beside = tt })
+
+resend_works : (own : Guid) (m : Manager) → Works own m (outcome_of m Resend)
+resend_works own m = record { session = at m.rest.session refl; entry = tt; beside = tt }
+  where
+    at : (o : Option one_end.State) → m.rest.session ≡ o → (option_map_or (λ session. rewound m.state (linked_peer m.state session) m.rest) o m.rest).session ≡ m.rest.session
+    at None e = refl
+    at (Some session) e = refl
+
+calls_work : (own : Guid) (m : Manager) (call : Call) → m.state.identity.guid ≡ own → is_of_packets call ≡ false → Works own m (outcome_of m call)
+calls_work own m (CreateQueue plan) e f = same_works own m _ (unless_works own m (create_refusal m plan) _ (record { session = refl; entry = tt; beside = tt }))
+calls_work own m (SetRoll count) e f = same_works own m _ (unless_works own m (store_refusal m) _ (record { session = refl; entry = tt; beside = tt }))
+calls_work own m (Commit now ops) e f = same_works own m _ (unless_works own m (ops_refusal m ops) _ (commit_works own m now (try_ops now 0 (trial_of m.state) ops)))
+calls_work own m (Send now recoverable p) e f = same_works own m _ (unless_works own m (send_refusal m recoverable (plain_message m.state recoverable now p)) _ (send_works own m recoverable now p e))
+calls_work own m (Take now p) e f = same_works own m _ (unless_works own m (take_refusal m) _ (or_works own m (take_at m now) (place_named m.state.places.queues p) _
+    (λ at. or_works own m (take_position m at now) (first_in m.state at now) _ (λ q. or_works own m (taking m at now q.lane q.index) (message_at q.lane m.state at q.index) _ (take_works own m at now q.lane q.index)))))
+calls_work own m (Purge now p) e f = same_works own m _ (unless_works own m (purge_refusal m) _ (or_works own m (purge_at m now) (place_named m.state.places.queues p) _
+    (λ at. or_works own m (purging m now at) (lists_at m.state.places at) _ (λ l. record { session = refl; entry = some_or own (length l.durable == 0) (entry.Purged now at) tt; beside = tt }))))
+calls_work own m (Tick now) e f = same_works own m _ (unless_works own m (store_refusal m) _ (record { session = refl; entry = some_or own _ (entry.Ticked now) tt; beside = tt }))
+calls_work own m Resend e f = resend_works own m
+calls_work own m (Pump now) e f = absurd (clash f)
+calls_work own m (Hear now p) e f = absurd (clash f)
+
+work_own : (own : Guid) (r : Record) → IsWork own r → IsOfOwn own r
+work_own own (entry.Identity identity) h = tt
+work_own own (entry.Peer peer) h = tt
+work_own own (entry.CreateQueue number plan) h = tt
+work_own own (entry.Commit now ops) h = tt
+work_own own (entry.Plain now p) h = h
+work_own own (entry.Offered marks) h = tt
+work_own own (entry.Arrived now numbers part) h = tt
+work_own own (entry.Taken now place id) h = tt
+work_own own (entry.Purged now place) h = tt
+work_own own (entry.Ticked now) h = tt
+work_own own (entry.Roll count) h = tt
+
+work_stored : (own : Guid) (ws : List Written) (s : State) (r : Record) → IsWork own r → ReleasesStored ws s r
+work_stored own ws s (entry.Identity identity) h = tt
+work_stored own ws s (entry.Peer peer) h = tt
+work_stored own ws s (entry.CreateQueue number plan) h = tt
+work_stored own ws s (entry.Commit now ops) h = tt
+work_stored own ws s (entry.Plain now p) h = tt
+work_stored own ws s (entry.Offered marks) h = tt
+work_stored own ws s (entry.Arrived now numbers part) h = absurd h
+work_stored own ws s (entry.Taken now place id) h = tt
+work_stored own ws s (entry.Purged now place) h = tt
+work_stored own ws s (entry.Ticked now) h = tt
+work_stored own ws s (entry.Roll count) h = tt
+
+pub if_some : {X : Type 0} (P Q : X → Type 0) (o : Option X) → ((x : X) → P x → Q x) → IfSome o P → IfSome o Q
+if_some P Q None f h = tt
+if_some P Q (Some x) f h = f x h
+
+-- Flows go on where one of two managers makes a call.
+pub flows_call : (c : Course) (x : ℕ) (call : Call) (i j d : ℕ) → ((own : Guid) → (manager_at c.network x).state.identity.guid ≡ own → Works own (manager_at c.network x) (outcome_of (manager_at c.network x) call))
+    → FlowsIn c.network c.sent c.written i j d
+    → FlowsIn (with_manager c.network x (succeeded (manager_at c.network x) (outcome_of (manager_at c.network x) call))) c.sent
+    (c.written ++ written_by x (manager_at c.network x) (outcome_of (manager_at c.network x) call).entry) i j d
+flows_call c x call i j d works h = with_at (λ y. Flows (manager_at (with_manager n x next) i) y xs ys ws) n x j next first
+    (λ e. target_works (manager_at (with_manager n x next) i) (manager_at n j) next xs ys ws first (subst (λ k. next.rest.session ≡ (manager_at n k).rest.session) e (works m.state.identity.guid refl).session))
+  where
+    n : Network
+    n = c.network
+
+    m : Manager
+    m = manager_at n x
+
+    outcome : Outcome (Unit {0})
+    outcome = outcome_of m call
+
+    next : Manager
+    next = succeeded m outcome
+
+    xs : List Packet
+    xs = from_sender d i n.notes c.sent
+
+    ys : List Packet
+    ys = from_sender d j n.notes c.sent
+
+    ws : List Written
+    ws = c.written ++ written_by x m outcome.entry
+
+    more : Flows (manager_at n i) (manager_at n j) xs ys ws
+    more = flows_more (manager_at n i) (manager_at n j) xs ys c.written (written_by x m outcome.entry) h
+
+    keeps : (e : x ≡ i) (Bears : ℕ → MessageId → Type 0) → Waits more.own Bears (manager_at n i).state → Waits more.own Bears next.state
+    keeps e Bears w = let here = subst (λ k. Waits more.own Bears (manager_at n k).state) (sym e) w in let work = works more.own here.identity in
+        call_waits more.own Bears m outcome (if_some (IsWork more.own) (IsOfOwn more.own) outcome.entry (work_own more.own) work.entry) work.beside here
+
+    first : Flows (manager_at (with_manager n x next) i) (manager_at n j) xs ys ws
+    first = with_at (λ y. Flows y (manager_at n j) xs ys ws) n x i next more
+        (λ e. source_works (manager_at n i) (manager_at n j) next xs ys ws more (subst (λ k. next.rest.session ≡ (manager_at n k).rest.session) e (works m.state.identity.guid refl).session) (keeps e))
+
+pub works_keep : (c : Course) (x : ℕ) (call : Call) (failure : Option Failure) → AreAllDisjoint c.network.connections
+    → ((own : Guid) → (manager_at c.network x).state.identity.guid ≡ own → Works own (manager_at c.network x) (outcome_of (manager_at c.network x) call))
+    → KeepsStorage c → KeepsStorage (calling x call failure c)
+works_keep c x call None disjoint works k = let m = manager_at c.network x in let outcome = outcome_of m call in let work = works (k.rests x).own (k.rests x).waits.identity in
+    well_keeps c x call k
+    (called_rests m outcome (k.rests x) (ap is_some work.session) (if_some (IsWork (k.rests x).own) (IsOfOwn (k.rests x).own) outcome.entry (work_own (k.rests x).own) work.entry) work.beside)
+    (if_some (IsWork (k.rests x).own) (ReleasesStored c.written m.state) outcome.entry (work_stored (k.rests x).own c.written m.state) work.entry)
+    (λ d inside i j e. flows_call c x call i j d.number works (k.flows d inside i j e))
+works_keep c x call (Some how) disjoint works k = let m = manager_at c.network x in let outcome = outcome_of m call in let work = works (k.rests x).own (k.rests x).waits.identity in
+    failing_keeps c x call how disjoint k
+    (if_some (IsWork (k.rests x).own) (IsOfOwn (k.rests x).own) outcome.entry (work_own (k.rests x).own) work.entry)
+    (if_some (IsWork (k.rests x).own) (ReleasesStored c.written m.state) outcome.entry (work_stored (k.rests x).own c.written m.state) work.entry)
+
+pub calls_keep : (c : Course) (x : ℕ) (call : Call) (failure : Option Failure) → AreAllDisjoint c.network.connections → is_of_packets call ≡ false → KeepsStorage c → KeepsStorage (calling x call failure c)
+calls_keep c x call failure disjoint apart k = works_keep c x call failure disjoint (λ own e. calls_work own (manager_at c.network x) call e apart) k
