@@ -85,4 +85,4 @@ module _ (w : Kept) (at : EntryPlace) (l : Lists) (r : ListRooms) (l_is : lists_
       (subst (λ (o : Option Lists). option_map_or (λ x. length (messages_in kind x)) o 0 < place_room (with_more_room w at (room_for durable express)) at kind) (sym l_is)
       (subst (λ (p : PlaceRooms). length (messages_in kind l) < place_room p at kind) (sym reserved)
       (subst (λ (o : Option ListRooms). length (messages_in kind l) < option_map_or (room_in kind) o 0)
-        (sym (rooms_given w.rooms at r (room_for durable express l r) r_is)) fits)))
+      (sym (rooms_given w.rooms at r (room_for durable express l r) r_is)) fits)))
