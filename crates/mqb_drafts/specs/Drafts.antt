@@ -1,0 +1,30 @@
+-- What contracts see of a state in which changes are tried.
+use Rattle.std.specs.Prelude.{[], ◌++◌, ◌+◌, ◌<◌, ◌^◌, ◌∷◌, ◌≡◌, ◌≤◌, length, ℕ}
+use Rattle.mqb_base.specs.Rooms.{Room, WithRooms}
+use Rattle.mqb_base.specs.declared.ledger.Line.{Line}
+use Rattle.mqb_model.specs.rules.Effects.{Effect}
+use Rattle.mqb_model.specs.state.State.{State}
+use Rattle.mqb_contents.specs.Changes.{AllReady}
+use Rattle.mqb_contents.specs.Rooms.{StateRooms}
+use Rattle.mqb_contents.specs.declared.change.Change.{Change}
+
+-- what was done so far, the state before it, the rooms that this has by now, and how many messages came in since
+pub record Drafted : Type 0 where
+  pub effect : Effect
+  pub start : State
+  pub rooms : StateRooms
+  pub held : ℕ
+
+-- one line more
+abbrev pub noted : Effect → Line → Effect
+noted e entry = record e { lines = e.lines ++ entry ∷ [] }
+
+-- a number is not the last that there is
+abbrev pub HasNext : ℕ → Type 0
+HasNext number = number + 1 < 2 ^ 32
+
+-- The changes of a log can be made, and there is room for as many changes back.
+pub record IsUndoable (contents : WithRooms State StateRooms) (log turned : Room Change) : Type 0 where
+  pub ready : AllReady contents log.items
+  pub room : length log.items ≤ turned.room
+  pub empty : turned.items ≡ []

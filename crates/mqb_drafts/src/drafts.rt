@@ -1,0 +1,201 @@
+ghost use Rattle.std.specs.Prelude.{◌≡◌, ◌+◌, ◌<◌, ◌≤◌, [], ◌∷◌, IsSome, IsSomeAnd, OnOk, length, slice_get};
+ghost use Rattle.mqb_contents.specs.Changes.{AllReady, Can, HasRoom, changed, held, inverse, lists_after, messages, redone};
+ghost use Rattle.mqb_contents.specs.Rooms.{IsGrown};
+ghost use Rattle.mqb_model.specs.rules.Effects.{begun, without_line};
+ghost use Rattle.mqb_model.specs.state.Places.{put_at, with_plain, without_at};
+ghost use Rattle.mqb_plain.specs.Plain.{outgoing_in, without};
+ghost use Rattle.mqb_queue.specs.Lists.{messages_in};
+ghost use Rattle.mqb_queue.specs.Places.{lists_at};
+
+use crate::logs::Log;
+use crate::turns::turn;
+use mqb_base::{EntryPlace, Lane, Line, Memory, Message, Roomed};
+use mqb_contents::{Change, Contents};
+use std::alloc::Global;
+use std::marker::Model;
+
+/// A state in which changes are tried, and the lines of what was done so far.
+#[derive(Debug, Drop)]
+pub struct Draft {
+    pub(crate) contents: Contents,
+    pub(crate) log: Log,
+    pub(crate) turned: Log,
+    pub(crate) lines: Roomed<Line>,
+    pub(crate) alloc: Global,
+}
+
+impl Model for Draft {
+    ghost use Rattle.mqb_contents.specs.Changes.{messages_back, redone, rooms_redone};
+    ghost use Rattle.mqb_drafts.specs.Drafts.{Drafted, IsUndoable};
+
+    ghost Value = { Drafted };
+
+    ghost view = { λ d. record {
+      effect = record { state = d.contents.lists; lines = d.lines.items };
+      start = redone d.contents.lists d.log.items;
+      rooms = rooms_redone d.contents.rooms d.log.items;
+      held = messages_back d.log.items;
+    } };
+
+    ghost invariant = { λ d. IsUndoable d.contents d.log d.turned };
+}
+
+/// Makes room for a change, and for the change back.
+fn make_room(
+    contents: &mut Contents,
+    log: &mut Log,
+    turned: &mut Log,
+    change: &Change,
+) -> Result<(), Memory>
+    requires { Can contents.old.lists change.now }
+    ensures lists { contents.new.lists ≡ contents.old.lists }
+    ensures grown { IsGrown contents.old.rooms contents.new.rooms }
+    ensures log { log.new.items ≡ log.old.items }
+    ensures turned { turned.new.items ≡ turned.old.items }
+    ensures turned_grows { turned.old.room ≤ turned.new.room }
+    ensures room { OnOk result (HasRoom contents.new change.now) }
+    ensures logged { OnOk result (length log.old.items + 1 ≤ log.new.room) }
+    ensures back { OnOk result (length log.old.items + 1 ≤ turned.new.room) }
+{
+    log.make_room(1)?;
+    turned.make_room(log.room())?;
+    contents.make_room(change)
+}
+
+/// Makes a change, and notes the change back.
+fn make(contents: &mut Contents, log: &mut Log, change: Change)
+    requires can { Can contents.old.lists change }
+    requires room { HasRoom contents.old change }
+    requires logged { length log.old.items < log.old.room }
+    ensures made { contents.new ≡ changed contents.old change }
+    ensures log { log.new.items ≡ inverse contents.old change ∷ log.old.items }
+    ensures can_back { Can contents.new.lists (inverse contents.old change) }
+    ensures room_back { HasRoom contents.new (inverse contents.old change) }
+{
+    let back = contents.change(change);
+    log.push(back);
+}
+
+impl Draft {
+    /// Nothing was done yet.
+    pub fn new(alloc: Global, contents: Contents) -> Draft
+        ensures { result ≡ record {
+          effect = begun contents.lists;
+          start = contents.lists;
+          rooms = contents.rooms;
+          held = 0;
+        } }
+    {
+        Draft {
+            contents,
+            log: Log::new(alloc),
+            turned: Log::new(alloc),
+            lines: Roomed::new(alloc),
+            alloc,
+        }
+    }
+
+    /// What the state has become so far.
+    pub fn contents(&self) -> &Contents
+        ensures { result.now.lists ≡ self.now.effect.state }
+    {
+        &self.contents
+    }
+
+    /// The state as it was, the changes that make it what it became, and the lines.
+    pub fn finish(mut self) -> (Contents, Log, Roomed<Line>)
+        ensures start { result.0.lists ≡ self.start }
+        ensures rooms { result.0.rooms ≡ self.rooms }
+        ensures redone { redone result.0.lists result.1.items ≡ self.effect.state }
+        ensures ready { AllReady result.0 result.1.items }
+        ensures messages { messages result.1.items ≡ self.held }
+        ensures lines { result.2.items ≡ self.effect.lines }
+    {
+        turn(&mut self.contents, &mut self.log, &mut self.turned);
+        let Draft {
+            contents,
+            log: _,
+            turned,
+            lines,
+            alloc: _,
+        } = self;
+        (contents, turned, lines)
+    }
+
+    /// The state as it became, and the lines.
+    pub fn keep(self) -> (Contents, Roomed<Line>)
+        ensures state { result.0.lists ≡ self.effect.state }
+        ensures lines { result.1.items ≡ self.effect.lines }
+    {
+        let Draft {
+            contents,
+            log: _,
+            turned: _,
+            lines,
+            alloc: _,
+        } = self;
+        (contents, lines)
+    }
+
+    /// Makes a change.
+    pub fn change(&mut self, change: Change) -> Result<(), Memory>
+        requires { Can self.old.effect.state change }
+        ensures ok { OnOk result (self.new.effect ≡ without_line self.old.effect
+            (lists_after self.old.effect.state change)) }
+        ensures start { self.new.start ≡ self.old.start }
+        ensures grown { IsGrown self.old.rooms self.new.rooms }
+        ensures held { OnOk result (self.new.held ≡ self.old.held + held change) }
+    {
+        make_room(&mut self.contents, &mut self.log, &mut self.turned, &change)?;
+        make(&mut self.contents, &mut self.log, change);
+        Ok(())
+    }
+}
+
+/// Messages.
+impl Draft {
+    /// A message joins its lane of a place at the end.
+    pub fn put(&mut self, at: EntryPlace, message: Message) -> Result<(), Memory>
+        requires { IsSome (lists_at self.old.effect.state.places at) }
+        ensures ok { OnOk result (self.new.effect ≡ without_line self.old.effect
+            (put_at self.old.effect.state at message)) }
+        ensures start { self.new.start ≡ self.old.start }
+        ensures grown { IsGrown self.old.rooms self.new.rooms }
+        ensures held { OnOk result (self.new.held ≤ self.old.held + 1) }
+    {
+        let lane = message.delivery.lane();
+        let index = self.contents.count_at(at, lane);
+        self.change(Change::Insert {
+            at,
+            lane,
+            index,
+            message,
+        })
+    }
+
+    /// The message of a lane of a place at an index leaves.
+    pub fn take_out(&mut self, at: EntryPlace, lane: Lane, index: u32) -> Result<(), Memory>
+        requires { IsSomeAnd (lists_at self.old.effect.state.places at)
+            (λ l. index < length (messages_in lane l)) }
+        ensures ok { OnOk result (self.new.effect ≡ without_line self.old.effect
+            (without_at lane self.old.effect.state at index)) }
+        ensures start { self.new.start ≡ self.old.start }
+        ensures grown { IsGrown self.old.rooms self.new.rooms }
+        ensures held { OnOk result (self.new.held ≤ self.old.held) }
+    {
+        self.change(Change::Remove { at, lane, index })
+    }
+
+    /// The plain message of a lane for a peer at an index leaves.
+    pub fn take_out_plain(&mut self, peer: u32, lane: Lane, index: u32) -> Result<(), Memory>
+        requires { IsSomeAnd (slice_get self.old.effect.state.plain peer)
+            (λ p. index < length (outgoing_in lane p)) }
+        ensures ok { OnOk result (self.new.effect ≡ without_line self.old.effect
+            (with_plain (without lane index) self.old.effect.state peer)) }
+        ensures start { self.new.start ≡ self.old.start }
+        ensures grown { IsGrown self.old.rooms self.new.rooms }
+        ensures held { OnOk result (self.new.held ≤ self.old.held) }
+    {
+        self.change(Change::RemovePlain { peer, lane, index })
+    }
+}

@@ -1,0 +1,15 @@
+//! A state in which changes are tried.
+//!
+//! Rules change a `Draft` by a few calls, each of which may want memory. `finish` takes all of it back, and answers the changes: `redo` makes them
+//! again, and takes none. Contracts see what was done so far, the state before it, and how many messages came in since.
+#![tactic(auto)]
+
+mod drafts;
+mod logs;
+mod peers;
+mod rows;
+mod turns;
+
+pub use drafts::Draft;
+pub use logs::Log;
+pub use turns::redo;
