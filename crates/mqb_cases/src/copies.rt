@@ -1,7 +1,7 @@
-use crate::samples::{ALPHA, REPLIES, SAMPLE, message};
+use crate::samples::{ALPHA, REPLIES, SAMPLE, SEQUENCE, message};
 use mqb_base::{
-    Bytes, Host, Identity, Line, Message, MessageId, Name, Place, QueueName, QueuePlan, SequenceId,
-    Stream, Units,
+    Bytes, Host, Identity, Line, Message, MessageId, Name, Place, QueueName, QueuePlan, Stream,
+    Units,
 };
 use mqb_orders::{InKey, InRow, Kept, OutKey};
 use std::alloc::Global;
@@ -67,11 +67,6 @@ fn managers_and_queues(rt: HostRuntime) -> Result<(), Fail> {
     assert!(rt; is_copied(Place::JournalOf(name(rt.alloc())?))?);
     Ok(())
 }
-
-const SEQUENCE: SequenceId = SequenceId {
-    ordinal: 1,
-    stamp: 1000,
-};
 
 const STREAM: Stream = Stream {
     source: ALPHA,

@@ -13,4 +13,6 @@ mod plain;
 #[cfg(test)]
 mod queues;
 #[cfg(test)]
+mod rows;
+#[cfg(test)]
 mod samples;

@@ -1,10 +1,9 @@
-use crate::samples::{ALPHA, BETA, REPLIES, SAMPLE, Sample, message};
+use crate::samples::{ALPHA, BETA, REPLIES, SAMPLE, SEQUENCE, Sample, message};
 use mqb_base::{
     Class, Delivery, Guid, Host, Identity, Memory, Message, MessageId, Name, Place, QueueName,
-    SequenceId,
 };
 use mqb_fate::{
-    OrderAck, admin_for, final_for, goes_dead, is_order_name, names_order_layer,
+    OrderAck, admin_for, final_for, goes_dead, is_final_class, is_order_name, names_order_layer,
     order_acknowledgement, order_layer,
 };
 use std::alloc::Global;
@@ -169,6 +168,11 @@ fn final_acknowledgements(rt: HostRuntime) -> Result<(), Fail> {
     Ok(())
 }
 
+#[test]
+fn classes_of_final_acknowledgements(rt: HostRuntime) {
+    assert!(rt; is_final_class(Class::RECEIVED) && !is_final_class(Class::REACHED_QUEUE));
+}
+
 /// Whether the order layer at a host is named as such.
 fn is_layer_named(alloc: Global, host: Name) -> Result<bool, Memory> {
     let layer = order_layer(alloc, &host)?;
@@ -184,14 +188,11 @@ fn names_of_the_order_layer(rt: HostRuntime) -> Result<(), Fail> {
 }
 
 const ACK: OrderAck = OrderAck {
-    sequence: SequenceId {
-        ordinal: 1,
-        stamp: 1000,
-    },
+    sequence: SEQUENCE,
     number: 2,
 };
 
-const ACK_BODY: &[u8; 16] = b"\x01\0\0\0\xE8\x03\0\0\x02\0\0\0\0\0\0\0";
+const ACK_BODY: &[u8; 16] = b"\x03\0\0\0\xE8\x03\0\0\x02\0\0\0\0\0\0\0";
 
 /// Beta's acknowledgement for alpha.
 fn acknowledgement(alloc: Global) -> Result<Message, Fail> {

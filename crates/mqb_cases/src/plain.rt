@@ -82,6 +82,34 @@ fn number_of(message: Option<&Message>) -> u32 {
     }
 }
 
+fn take_recoverable(plain: &mut PlainOut) -> u32 {
+    if plain.recoverable().is_empty() {
+        return 0;
+    }
+    plain.remove_recoverable(0).id.number
+}
+
+fn take_express(plain: &mut PlainOut) -> u32 {
+    if plain.express().is_empty() {
+        return 0;
+    }
+    plain.remove_express(0).id.number
+}
+
+#[test]
+fn a_recoverable_message_is_taken_out(rt: HostRuntime) -> Result<(), Fail> {
+    let mut plain = one_recoverable(rt.alloc())?;
+    assert!(rt; take_recoverable(&mut plain) == 1 && plain.is_empty());
+    Ok(())
+}
+
+#[test]
+fn an_express_message_is_taken_out(rt: HostRuntime) -> Result<(), Fail> {
+    let mut plain = one_express(rt.alloc())?;
+    assert!(rt; take_express(&mut plain) == 0x8000_0000 && plain.is_empty());
+    Ok(())
+}
+
 #[test]
 fn a_recoverable_message_is_released_when_it_is_stored(rt: HostRuntime) -> Result<(), Fail> {
     let mut plain = one_recoverable(rt.alloc())?;

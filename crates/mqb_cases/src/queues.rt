@@ -3,7 +3,7 @@ use mqb_base::{
     Class, Delivery, EntryPlace, Lane, Memory, Message, MessageId, Name, Place, QueuePlan,
     UNLIMITED,
 };
-use mqb_queue::{NewQueue, Position, Queues, arrival_refusal};
+use mqb_queue::{NewQueue, Position, Queues, arrival_refusal, queue_refusal};
 use std::alloc::Global;
 use std::test::Fail;
 
@@ -38,11 +38,20 @@ fn add_named(
     Ok(add(queues, plan(name, transactional))?)
 }
 
-/// The transactional queue `orders` and the plain queue `notes`, each of which takes two messages.
+/// The names of queues, and whether each is transactional.
+static QUEUES: [(&[u8], bool); 2] = [(b"orders", true), (b"notes", false)];
+
+fn add_all(queues: &mut Queues, alloc: Global) -> Result<(), Fail> {
+    for (name, transactional) in QUEUES.iter() {
+        add_named(queues, alloc, name, *transactional)?;
+    }
+    Ok(())
+}
+
+/// The queues, each of which takes two messages.
 fn orders_and_notes(alloc: Global) -> Result<Queues, Fail> {
     let mut queues = Queues::new(alloc);
-    add_named(&mut queues, alloc, b"orders", true)?;
-    add_named(&mut queues, alloc, b"notes", false)?;
+    add_all(&mut queues, alloc)?;
     Ok(queues)
 }
 
@@ -113,17 +122,25 @@ fn put_five(queues: &mut Queues, alloc: Global, at: EntryPlace) -> Result<(), Me
     Ok(())
 }
 
-/// The five messages in the queue `notes`, in its journal and in the dead-letter queue.
+/// The queue `notes`, its journal and the dead-letter queue.
+static PLACES: [EntryPlace; 3] = [
+    EntryPlace::Queue(2),
+    EntryPlace::JournalOf(2),
+    EntryPlace::Dead,
+];
+
+fn fill(queues: &mut Queues, alloc: Global) -> Result<(), Memory> {
+    for at in PLACES.iter() {
+        reserve_at(queues, *at)?;
+        put_five(queues, alloc, *at)?;
+    }
+    Ok(())
+}
+
+/// The five messages in each of these places.
 fn with_five(alloc: Global) -> Result<Queues, Fail> {
     let mut queues = orders_and_notes(alloc)?;
-    for at in [
-        EntryPlace::Queue(2),
-        EntryPlace::JournalOf(2),
-        EntryPlace::Dead,
-    ] {
-        reserve_at(&mut queues, at)?;
-        put_five(&mut queues, alloc, at)?;
-    }
+    fill(&mut queues, alloc)?;
     Ok(queues)
 }
 
@@ -207,6 +224,31 @@ fn arrivals_are_refused(rt: HostRuntime) -> Result<(), Fail> {
         let name = Name::new(rt.alloc(), b"orders")?;
         assert!(rt; refusal_of(name, row) == row.3, "{row:?}");
     }
+    let orders = plan(Name::new(rt.alloc(), b"orders")?, true);
+    assert!(rt; queue_refusal(&orders, 2, true) == Some(Class::QUOTA_EXCEEDED));
+    Ok(())
+}
+
+/// Puts a durable and an express message into `notes`.
+fn put_two(queues: &mut Queues, alloc: Global) -> Result<(), Memory> {
+    put_one(queues, alloc, EntryPlace::Queue(2), &FIVE[0])?;
+    put_one(queues, alloc, EntryPlace::Queue(2), &FIVE[3])
+}
+
+/// Why `notes` refuses a plain message, which is recorded or not.
+fn met(queues: &Queues, recorded: bool) -> Option<Class> {
+    if queues.count() < 2 {
+        return None;
+    }
+    queues.admit(Some(1), false, recorded, 1)
+}
+
+#[test]
+fn what_is_recorded_does_not_count_express_messages(rt: HostRuntime) -> Result<(), Fail> {
+    let mut queues = orders_and_notes(rt.alloc())?;
+    put_two(&mut queues, rt.alloc())?;
+    assert!(rt; met(&queues, true).is_none());
+    assert!(rt; met(&queues, false) == Some(Class::QUOTA_EXCEEDED));
     Ok(())
 }
 
@@ -245,13 +287,36 @@ fn told(queues: &Queues, place: &Place) -> Option<(usize, usize, u32)> {
     Some((durable, express, queues.first(place, 1000)?.id.number))
 }
 
-#[test]
-fn messages_are_put_by_name(rt: HostRuntime) -> Result<(), Fail> {
-    let mut queues = Queues::new(rt.alloc());
-    reserve(&mut queues, &Place::DeadXact)?;
+fn put_five_named(queues: &mut Queues, alloc: Global, place: &Place) -> Result<(), Memory> {
+    reserve(queues, place)?;
     for row in FIVE.iter() {
-        put_named(&mut queues, rt.alloc(), &Place::DeadXact, row)?;
+        put_named(queues, alloc, place, row)?;
     }
+    Ok(())
+}
+
+fn take(queues: &mut Queues, place: &Place, k: u32) -> Option<u32> {
+    if k as usize >= queues.durable(place)?.len() {
+        return None;
+    }
+    Some(queues.remove(place, k).id.number)
+}
+
+fn take_express(queues: &mut Queues, place: &Place, k: u32) -> Option<u32> {
+    if k as usize >= queues.express(place)?.len() {
+        return None;
+    }
+    Some(queues.remove_express(place, k).id.number)
+}
+
+#[test]
+fn messages_are_put_and_taken_by_name(rt: HostRuntime) -> Result<(), Fail> {
+    let mut queues = Queues::new(rt.alloc());
+    put_five_named(&mut queues, rt.alloc(), &Place::DeadXact)?;
+    assert!(rt; queues.place(&Place::DeadXact) == Some(EntryPlace::DeadXact));
     assert_eq!(rt; told(&queues, &Place::DeadXact), Some((3, 2, 1)));
+    assert_eq!(rt; take(&mut queues, &Place::DeadXact, 0), Some(1));
+    assert_eq!(rt; take_express(&mut queues, &Place::DeadXact, 1), Some(5));
+    assert_eq!(rt; told(&queues, &Place::DeadXact), Some((2, 1, 4)));
     Ok(())
 }

@@ -1,6 +1,7 @@
-//! Messages that differ in a few fields.
+//! Messages that differ in a few fields, and the names in them.
 use mqb_base::{
-    Bytes, Class, Delivery, Guid, Memory, Message, MessageId, QueueName, UNLIMITED, Units,
+    Bytes, Class, Delivery, Guid, Memory, Message, MessageId, QueueName, SequenceId, UNLIMITED,
+    Units,
 };
 use std::alloc::Global;
 
@@ -12,6 +13,11 @@ pub(crate) const BETA: Guid = Guid([2; 16]);
 pub(crate) const REPLIES: QueueName = QueueName::Public {
     guid: ALPHA,
     journal: false,
+};
+
+pub(crate) const SEQUENCE: SequenceId = SequenceId {
+    ordinal: 3,
+    stamp: 1000,
 };
 
 /// What samples differ in.

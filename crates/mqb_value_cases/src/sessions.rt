@@ -175,7 +175,7 @@ fn each_phase_hears_each_packet(rt: HostRuntime) {
     }
     let mut beta = Session::acceptor(BETA, 64);
     beta.hear_establish(&ASKS, false);
-    assert!(rt; phases_after(&beta) == DECLINING);
+    assert!(rt; phases_after(&beta) == DECLINING && beta.peer().is_none());
 }
 
 /// The headers of two packets, the second one recoverable, and the header that acknowledges both.
@@ -210,6 +210,7 @@ fn packets_are_numbered(rt: HostRuntime) {
 #[test]
 fn packets_are_acknowledged(rt: HostRuntime) {
     let mut beta = acceptor_after(4);
+    assert_eq!(rt; beta.peer(), Some(ALPHA));
     assert_eq!(rt; beta.hear_head(&SECOND), HeadHeard::OutOfOrder);
     assert!(rt; !beta.owes_ack());
     assert_eq!(rt; beta.hear_head(&FIRST), HeadHeard::InOrder);
