@@ -262,6 +262,21 @@ fn released_in(bytes: &[u8]) -> Option<(u32, u16, Option<u32>)> {
     Some((first, others.len(), others.iter().next()))
 }
 
+#[test]
+fn the_longest_list_is_put_and_read(rt: HostRuntime) -> Result<(), Fail> {
+    let numbers = vec![in rt.alloc(); 9; 65_535]?;
+    let arrived = Entry::Arrived {
+        now: 7,
+        released: Numbers::of(numbers.as_slice()),
+        part: ArrivedPart::Nothing,
+    };
+    let mut out = Vec::new(rt.alloc());
+    put_entry(&arrived, &mut out)?;
+    assert!(rt; released_in(out.as_slice()) == Some((9, 65_534, Some(9))));
+    assert!(rt; is_put_back(rt.alloc(), out.as_slice())?);
+    Ok(())
+}
+
 /// The first two marks of an entry of marks.
 fn marks_in(bytes: &[u8]) -> Option<[Option<Mark>; 2]> {
     match entry_view(bytes) {

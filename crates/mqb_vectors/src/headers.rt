@@ -16,10 +16,6 @@ const PROPS: usize = 132;
 
 const END: usize = 192;
 
-fn told(fault: HeadFault) -> (usize, HeadKind) {
-    (fault.at, fault.kind)
-}
-
 #[test]
 fn the_base_header_both_ways(rt: HostRuntime) {
     let head = BaseHead {
@@ -146,7 +142,8 @@ static PROPS_FAULTS: [(usize, u8, Option<(usize, HeadKind)>); 11] = [
 ];
 
 fn base_fault(bytes: &[u8]) -> Option<(usize, HeadKind)> {
-    Some(told(read_base(bytes).err()?))
+    let fault = read_base(bytes).err()?;
+    Some((fault.at, fault.kind))
 }
 
 #[test]
@@ -162,44 +159,31 @@ fn the_first_fault_of_a_base_header_is_told(rt: HostRuntime) {
     }
 }
 
-/// The fault of the user header in bytes. A cursor stays where it is at a fault.
-fn user_fault(bytes: &[u8]) -> Option<(usize, HeadKind)> {
+/// The fault of the header that begins at a place of bytes: the user header, or that of properties. A cursor stays where it is at a fault.
+fn fault_from(start: usize, bytes: &[u8]) -> Option<(usize, HeadKind)> {
     let mut cursor = Cursor::new(bytes);
-    if cursor.skip(USER).is_err() {
+    if cursor.skip(start).is_err() {
         return None;
     }
-    match read_user(&mut cursor) {
-        Err(fault) if cursor.at() == USER => Some(told(fault)),
-        _ => None,
-    }
-}
-
-/// The fault of the properties header in bytes.
-fn props_fault(bytes: &[u8]) -> Option<(usize, HeadKind)> {
-    let mut cursor = Cursor::new(bytes);
-    if cursor.skip(PROPS).is_err() {
+    let fault = if start == USER {
+        read_user(&mut cursor).err()?
+    } else {
+        read_props(&mut cursor).err()?
+    };
+    if cursor.at() != start {
         return None;
     }
-    match read_props(&mut cursor) {
-        Err(fault) if cursor.at() == PROPS => Some(told(fault)),
-        _ => None,
-    }
+    Some((fault.at, fault.kind))
 }
 
 #[test]
-fn the_first_fault_of_a_user_header_is_told(rt: HostRuntime) {
+fn the_first_fault_of_a_header_is_told(rt: HostRuntime) {
     for (at, byte, wanted) in USER_FAULTS.iter() {
-        let bytes = changed(*at, *byte);
-        let fault = user_fault(bytes.get(..TX).unwrap_or_default());
+        let fault = fault_from(USER, changed(*at, *byte).get(..TX).unwrap_or_default());
         assert!(rt; fault == *wanted, "{at} {byte}");
     }
-}
-
-#[test]
-fn the_first_fault_of_a_properties_header_is_told(rt: HostRuntime) {
     for (at, byte, wanted) in PROPS_FAULTS.iter() {
-        let bytes = changed(*at, *byte);
-        let fault = props_fault(bytes.get(..END).unwrap_or_default());
+        let fault = fault_from(PROPS, changed(*at, *byte).get(..END).unwrap_or_default());
         assert!(rt; fault == *wanted, "{at} {byte}");
     }
 }
@@ -208,9 +192,9 @@ fn the_first_fault_of_a_properties_header_is_told(rt: HostRuntime) {
 fn a_header_that_passes_the_end_is_a_fault_of_the_size(rt: HostRuntime) {
     let size = Some((8, HeadKind::Size));
     for len in [0, 15, 31, 43, 47, 49, 95] {
-        assert!(rt; user_fault(between(0, USER + len)) == size, "{len}");
+        assert!(rt; fault_from(USER, between(0, USER + len)) == size, "{len}");
     }
     for len in [0, 1, 23, 55, 58, 59] {
-        assert!(rt; props_fault(between(0, PROPS + len)) == size, "{len}");
+        assert!(rt; fault_from(PROPS, between(0, PROPS + len)) == size, "{len}");
     }
 }

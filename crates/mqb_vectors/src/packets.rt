@@ -1,11 +1,11 @@
-ghost use Rattle.mqb_packet.specs.Plain.{IsWellFormedUser};
+ghost use Rattle.mqb_packet.specs.Plain.{IsWellFormedUser, carriage_of, carried_user};
 
 use crate::samples::{
     ACK, EXPRESS, PARAMETERS, STORED, TRANSACTIONAL, between, changed, order, order_with, packet,
     user_packet,
 };
 use mqb_packet::{
-    Carriage, HeadKind, Headers, Packet, PacketView, Parameters, PutFault, TooLarge, UserPacket,
+    Carriage, HeadKind, Headers, Packet, PacketView, Parameters, TooLarge, UserPacket,
     message_size, put_message, put_packet, size_of, view,
 };
 use std::alloc::Global;
@@ -48,9 +48,9 @@ fn internal_packets_are_read(rt: HostRuntime) -> Result<(), Fail> {
     Ok(())
 }
 
-/// Puts the message of a user packet, whose own time to reach its queue is another one.
-fn put_lent(mut user: UserPacket, out: &mut Vec<u8>) -> Result<(), PutFault>
-    requires { IsWellFormedUser user }
+/// Whether the message of a user packet is put as `TRANSACTIONAL`.
+fn is_lent(user: &UserPacket, out: &mut Vec<u8>) -> bool
+    requires { IsWellFormedUser (carried_user user.now.message (carriage_of user.now)) }
 {
     let carriage = Carriage {
         to: user.to,
@@ -58,15 +58,15 @@ fn put_lent(mut user: UserPacket, out: &mut Vec<u8>) -> Result<(), PutFault>
         tx: user.tx,
         session: user.session,
     };
-    user.message.reach = 10;
-    put_message(&user.message, &carriage, out)
+    put_message(&user.message, &carriage, out).is_ok() && out.as_slice() == TRANSACTIONAL.as_slice()
 }
 
 #[test]
 fn a_lent_message_has_the_time_that_is_left(rt: HostRuntime) -> Result<(), Fail> {
+    let mut user = user_packet(rt.alloc(), &TRANSACTIONAL)?;
+    user.message.reach = 10;
     let mut out = Vec::new(rt.alloc());
-    put_lent(user_packet(rt.alloc(), &TRANSACTIONAL)?, &mut out)?;
-    assert!(rt; out.as_slice() == TRANSACTIONAL.as_slice());
+    assert!(rt; is_lent(&user, &mut out));
     Ok(())
 }
 
