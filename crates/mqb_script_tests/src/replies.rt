@@ -43,12 +43,63 @@ const PUT: Heard = Heard::Put {
     number: 9,
 };
 
-/// The ledger line of a packet that was put.
-const PUT_LINE: Line = Line::Put {
-    stream: STREAM,
-    number: 9,
-    id: KNOWN,
-};
+/// A kind of ledger line.
+#[derive(Clone, Copy)]
+enum Kind {
+    Committed,
+    Expired,
+    Put,
+    Refused,
+    Local,
+    Stored,
+    Bounced,
+    Released,
+    Took,
+    Emptied,
+    Purged,
+    Lapsed,
+    Swept,
+}
+
+/// The ledger line of a kind about `KNOWN`.
+fn line(kind: Kind) -> Line {
+    match kind {
+        Kind::Committed => Line::Committed {
+            stream: STREAM,
+            number: 9,
+            id: KNOWN,
+        },
+        Kind::Expired => Line::Expired {
+            stream: STREAM,
+            number: 9,
+            id: KNOWN,
+            moment: 5,
+        },
+        Kind::Put => Line::Put {
+            stream: STREAM,
+            number: 9,
+            id: KNOWN,
+        },
+        Kind::Refused => Line::Refused {
+            stream: STREAM,
+            number: 9,
+            class: Class::QUOTA_EXCEEDED,
+            id: KNOWN,
+        },
+        Kind::Local => Line::Local { id: KNOWN },
+        Kind::Stored => Line::Stored { id: KNOWN },
+        Kind::Bounced => Line::Bounced {
+            class: Class::QUOTA_EXCEEDED,
+            id: KNOWN,
+        },
+        Kind::Released => Line::Released { id: KNOWN },
+        Kind::Took => Line::Took { id: KNOWN },
+        Kind::Emptied => Line::Emptied { id: KNOWN },
+        Kind::Purged => Line::Purged { id: KNOWN },
+        Kind::Lapsed => Line::Lapsed { id: KNOWN },
+        Kind::Swept => Line::Swept { id: KNOWN },
+    }
+}
 
 /// A reply of a record.
 #[derive(Clone, Copy)]
@@ -79,70 +130,120 @@ const FATES: &[(u32, Fate)] = &[
     (14, Fate::Gone),
 ];
 
+/// A reply without a list.
+#[derive(Clone, Copy)]
+enum Bare {
+    Done,
+    Down,
+    Stopped,
+    Failed,
+    QueueThere,
+    TooManyQueues,
+    TooManyOps,
+    TooLarge,
+    NumbersSpent,
+    NoQueue(Option<u32>),
+    NotTransactional(u32),
+    QueueEmpty(Option<u32>),
+    UnknownPeer(Option<u32>),
+    QueueFull(Option<u32>),
+    SequenceSpent(u32),
+    Transactional,
+    Connected([u32; 4]),
+    Linked,
+    Disconnected,
+    Unlinked,
+    Spent,
+    NoPacket,
+    Gone,
+    Dropped,
+    Armed,
+    Opened,
+    OpenedLost,
+}
+
+fn reply_without_list(bare: Bare) -> Reply {
+    match bare {
+        Bare::Done => Reply::Done,
+        Bare::Down => Reply::Down,
+        Bare::Stopped => Reply::Stopped,
+        Bare::Failed => Reply::Failed,
+        Bare::QueueThere => Reply::QueueThere,
+        Bare::TooManyQueues => Reply::TooManyQueues,
+        Bare::TooManyOps => Reply::TooManyOps,
+        Bare::TooLarge => Reply::TooLarge,
+        Bare::NumbersSpent => Reply::NumbersSpent,
+        Bare::NoQueue(op) => Reply::NoQueue { op },
+        Bare::NotTransactional(op) => Reply::NotTransactional { op },
+        Bare::QueueEmpty(op) => Reply::QueueEmpty { op },
+        Bare::UnknownPeer(op) => Reply::UnknownPeer { op },
+        Bare::QueueFull(op) => Reply::QueueFull { op },
+        Bare::SequenceSpent(op) => Reply::SequenceSpent { op },
+        Bare::Transactional => Reply::Transactional,
+        Bare::Connected(packets) => Reply::Connected { packets },
+        Bare::Linked => Reply::Linked,
+        Bare::Disconnected => Reply::Disconnected,
+        Bare::Unlinked => Reply::Unlinked,
+        Bare::Spent => Reply::Spent,
+        Bare::NoPacket => Reply::NoPacket,
+        Bare::Gone => Reply::Gone,
+        Bare::Dropped => Reply::Dropped,
+        Bare::Armed => Reply::Armed,
+        Bare::Opened => Reply::Opened,
+        Bare::OpenedLost => Reply::OpenedLost,
+    }
+}
+
 /// A reply, its list told apart.
-#[derive(Drop)]
+#[derive(Clone, Copy)]
 enum Row {
-    /// a reply without a list
-    Bare(Reply),
+    Bare(Bare),
     /// a reply of a record, with a ledger line or without one
-    Record(Record, Option<Line>),
+    Record(Record, Option<Kind>),
     /// what a manager made of a packet, without a ledger line
     Heard(Heard),
     /// a packet that was put, with this ledger line
-    Put(Line),
+    Put(Kind),
     Pumped(&'static [u32]),
     Flowed(&'static [(u32, Fate)]),
 }
 
-const REPLIES: [(Row, &str); 80] = [
-    (Row::Bare(Reply::Done), "ok\n"),
-    (Row::Bare(Reply::Down), "down\n"),
-    (Row::Bare(Reply::Stopped), "stopped\n"),
-    (Row::Bare(Reply::Failed), "failed\n"),
-    (Row::Bare(Reply::QueueThere), "queuethere\n"),
-    (Row::Bare(Reply::TooManyQueues), "toomanyqueues\n"),
-    (Row::Bare(Reply::TooManyOps), "toomanyops\n"),
-    (Row::Bare(Reply::TooLarge), "toolarge\n"),
-    (Row::Bare(Reply::NumbersSpent), "numbersspent\n"),
-    (Row::Bare(Reply::NoQueue { op: None }), "noqueue\n"),
-    (Row::Bare(Reply::NoQueue { op: Some(0) }), "noqueue 0\n"),
+/// Each reply and each ledger line, and its text.
+static REPLIES: [(Row, &str); 80] = [
+    (Row::Bare(Bare::Done), "ok\n"),
+    (Row::Bare(Bare::Down), "down\n"),
+    (Row::Bare(Bare::Stopped), "stopped\n"),
+    (Row::Bare(Bare::Failed), "failed\n"),
+    (Row::Bare(Bare::QueueThere), "queuethere\n"),
+    (Row::Bare(Bare::TooManyQueues), "toomanyqueues\n"),
+    (Row::Bare(Bare::TooManyOps), "toomanyops\n"),
+    (Row::Bare(Bare::TooLarge), "toolarge\n"),
+    (Row::Bare(Bare::NumbersSpent), "numbersspent\n"),
+    (Row::Bare(Bare::NoQueue(None)), "noqueue\n"),
+    (Row::Bare(Bare::NoQueue(Some(0))), "noqueue 0\n"),
+    (Row::Bare(Bare::NotTransactional(1)), "nottransactional 1\n"),
+    (Row::Bare(Bare::QueueEmpty(None)), "queueempty\n"),
+    (Row::Bare(Bare::QueueEmpty(Some(10))), "queueempty 10\n"),
+    (Row::Bare(Bare::UnknownPeer(None)), "unknownpeer\n"),
+    (Row::Bare(Bare::UnknownPeer(Some(63))), "unknownpeer 63\n"),
+    (Row::Bare(Bare::QueueFull(None)), "queuefull\n"),
+    (Row::Bare(Bare::QueueFull(Some(2))), "queuefull 2\n"),
+    (Row::Bare(Bare::SequenceSpent(0)), "sequencespent 0\n"),
+    (Row::Bare(Bare::Transactional), "transactional\n"),
     (
-        Row::Bare(Reply::NotTransactional { op: 1 }),
-        "nottransactional 1\n",
-    ),
-    (Row::Bare(Reply::QueueEmpty { op: None }), "queueempty\n"),
-    (
-        Row::Bare(Reply::QueueEmpty { op: Some(10) }),
-        "queueempty 10\n",
-    ),
-    (Row::Bare(Reply::UnknownPeer { op: None }), "unknownpeer\n"),
-    (
-        Row::Bare(Reply::UnknownPeer { op: Some(63) }),
-        "unknownpeer 63\n",
-    ),
-    (Row::Bare(Reply::QueueFull { op: None }), "queuefull\n"),
-    (Row::Bare(Reply::QueueFull { op: Some(2) }), "queuefull 2\n"),
-    (
-        Row::Bare(Reply::SequenceSpent { op: 0 }),
-        "sequencespent 0\n",
-    ),
-    (Row::Bare(Reply::Transactional), "transactional\n"),
-    (
-        Row::Bare(Reply::Connected {
-            packets: [1, 20, 300, 4294967295],
-        }),
+        Row::Bare(Bare::Connected([1, 20, 300, 4294967295])),
         "connected 1 20 300 4294967295\n",
     ),
-    (Row::Bare(Reply::Linked), "linked\n"),
-    (Row::Bare(Reply::Disconnected), "disconnected\n"),
-    (Row::Bare(Reply::Unlinked), "unlinked\n"),
-    (Row::Bare(Reply::Spent), "spent\n"),
-    (Row::Bare(Reply::NoPacket), "none\n"),
-    (Row::Bare(Reply::Gone), "gone\n"),
-    (Row::Bare(Reply::Dropped), "dropped\n"),
-    (Row::Bare(Reply::Armed), "armed\n"),
-    (Row::Bare(Reply::Opened), "opened\n"),
-    (Row::Bare(Reply::OpenedLost), "opened lost\n"),
+    (Row::Bare(Bare::Linked), "linked\n"),
+    (Row::Bare(Bare::Disconnected), "disconnected\n"),
+    (Row::Bare(Bare::Unlinked), "unlinked\n"),
+    (Row::Bare(Bare::Spent), "spent\n"),
+    (Row::Bare(Bare::NoPacket), "none\n"),
+    (Row::Bare(Bare::Gone), "gone\n"),
+    (Row::Bare(Bare::Dropped), "dropped\n"),
+    (Row::Bare(Bare::Armed), "armed\n"),
+    (Row::Bare(Bare::Opened), "opened\n"),
+    (Row::Bare(Bare::OpenedLost), "opened lost\n"),
     (Row::Record(Record::Sent(KNOWN), None), "sent alpha.7\n"),
     (
         Row::Record(Record::Took(UNKNOWN), None),
@@ -156,27 +257,27 @@ const REPLIES: [(Row, &str); 80] = [
         "ticked 18446744073709551615\n",
     ),
     (
-        Row::Record(Record::Committed, Some(Line::Local { id: KNOWN })),
+        Row::Record(Record::Committed, Some(Kind::Local)),
         "committed [local alpha.7]\n",
     ),
     (
-        Row::Record(Record::Sent(KNOWN), Some(Line::Stored { id: KNOWN })),
+        Row::Record(Record::Sent(KNOWN), Some(Kind::Stored)),
         "sent alpha.7 [stored alpha.7]\n",
     ),
     (
-        Row::Record(Record::Took(KNOWN), Some(Line::Took { id: KNOWN })),
+        Row::Record(Record::Took(KNOWN), Some(Kind::Took)),
         "took alpha.7 [took alpha.7]\n",
     ),
     (
-        Row::Record(Record::Purged(0), Some(Line::Purged { id: KNOWN })),
+        Row::Record(Record::Purged(0), Some(Kind::Purged)),
         "purged 0 [purged alpha.7]\n",
     ),
     (
-        Row::Record(Record::Ticked(1), Some(Line::Swept { id: KNOWN })),
+        Row::Record(Record::Ticked(1), Some(Kind::Swept)),
         "ticked 1 [swept alpha.7]\n",
     ),
     (
-        Row::Record(Record::Kept, Some(Line::Emptied { id: KNOWN })),
+        Row::Record(Record::Kept, Some(Kind::Emptied)),
         "opened kept [emptied alpha.7]\n",
     ),
     (Row::Pumped(&[]), "pumped\n"),
@@ -258,82 +359,25 @@ const REPLIES: [(Row, &str); 80] = [
         Row::Heard(Heard::Closed(Cause::Foreign)),
         "closed foreign\n",
     ),
-    (
-        Row::Put(Line::Committed {
-            stream: STREAM,
-            number: 9,
-            id: KNOWN,
-        }),
-        "put [committed 3 9 alpha.7]\n",
-    ),
-    (
-        Row::Put(Line::Expired {
-            stream: STREAM,
-            number: 9,
-            id: KNOWN,
-            moment: 5,
-        }),
-        "put [expired 3 9 alpha.7]\n",
-    ),
-    (
-        Row::Put(Line::Put {
-            stream: STREAM,
-            number: 9,
-            id: KNOWN,
-        }),
-        "put [put 3 9 alpha.7]\n",
-    ),
-    (
-        Row::Put(Line::Refused {
-            stream: STREAM,
-            number: 9,
-            class: Class::QUOTA_EXCEEDED,
-            id: KNOWN,
-        }),
-        "put [refused 3 9 8003 alpha.7]\n",
-    ),
-    (Row::Put(Line::Local { id: KNOWN }), "put [local alpha.7]\n"),
-    (
-        Row::Put(Line::Stored { id: KNOWN }),
-        "put [stored alpha.7]\n",
-    ),
-    (
-        Row::Put(Line::Bounced {
-            class: Class::QUOTA_EXCEEDED,
-            id: KNOWN,
-        }),
-        "put [bounced 8003 alpha.7]\n",
-    ),
-    (
-        Row::Put(Line::Released { id: KNOWN }),
-        "put [released alpha.7]\n",
-    ),
-    (Row::Put(Line::Took { id: KNOWN }), "put [took alpha.7]\n"),
-    (
-        Row::Put(Line::Emptied { id: KNOWN }),
-        "put [emptied alpha.7]\n",
-    ),
-    (
-        Row::Put(Line::Purged { id: KNOWN }),
-        "put [purged alpha.7]\n",
-    ),
-    (
-        Row::Put(Line::Lapsed { id: KNOWN }),
-        "put [lapsed alpha.7]\n",
-    ),
-    (Row::Put(Line::Swept { id: KNOWN }), "put [swept alpha.7]\n"),
+    (Row::Put(Kind::Committed), "put [committed 3 9 alpha.7]\n"),
+    (Row::Put(Kind::Expired), "put [expired 3 9 alpha.7]\n"),
+    (Row::Put(Kind::Put), "put [put 3 9 alpha.7]\n"),
+    (Row::Put(Kind::Refused), "put [refused 3 9 8003 alpha.7]\n"),
+    (Row::Put(Kind::Local), "put [local alpha.7]\n"),
+    (Row::Put(Kind::Stored), "put [stored alpha.7]\n"),
+    (Row::Put(Kind::Bounced), "put [bounced 8003 alpha.7]\n"),
+    (Row::Put(Kind::Released), "put [released alpha.7]\n"),
+    (Row::Put(Kind::Took), "put [took alpha.7]\n"),
+    (Row::Put(Kind::Emptied), "put [emptied alpha.7]\n"),
+    (Row::Put(Kind::Purged), "put [purged alpha.7]\n"),
+    (Row::Put(Kind::Lapsed), "put [lapsed alpha.7]\n"),
+    (Row::Put(Kind::Swept), "put [swept alpha.7]\n"),
 ];
 
-/// Each reply and each ledger line, and its text.
-fn replies() -> [(Row, &'static str); 80] {
-    REPLIES
-}
-
-fn listed(alloc: Global, line: Option<&Line>) -> Result<Listed<Line>, Memory> {
+fn listed(alloc: Global, kind: Option<Kind>) -> Result<Listed<Line>, Memory> {
     let mut lines = Listed::new(alloc);
-    if let Some(line) = line {
-        let line = line.clone()?;
-        lines.push(line)?;
+    if let Some(kind) = kind {
+        lines.push(line(kind))?;
     }
     Ok(lines)
 }
@@ -349,13 +393,13 @@ fn of_record(record: Record, lines: Listed<Line>) -> Reply {
     }
 }
 
-fn recorded(alloc: Global, record: Record, line: Option<&Line>) -> Result<Reply, Memory> {
-    let lines = listed(alloc, line)?;
+fn recorded(alloc: Global, record: Record, kind: Option<Kind>) -> Result<Reply, Memory> {
+    let lines = listed(alloc, kind)?;
     Ok(of_record(record, lines))
 }
 
-fn heard(alloc: Global, heard: Heard, line: Option<&Line>) -> Result<Reply, Memory> {
-    let lines = listed(alloc, line)?;
+fn heard(alloc: Global, heard: Heard, kind: Option<Kind>) -> Result<Reply, Memory> {
+    let lines = listed(alloc, kind)?;
     Ok(Reply::Heard { heard, lines })
 }
 
@@ -368,14 +412,14 @@ fn pumped(alloc: Global, numbers: &[u32]) -> Result<Reply, Memory> {
 }
 
 /// The outcome of a packet that was heard, with a ledger line or without one.
-fn outcome_of(alloc: Global, heard: Heard, line: Option<&Line>) -> Result<Outcome, Memory> {
-    let lines = listed(alloc, line)?;
+fn outcome_of(alloc: Global, heard: Heard, kind: Option<Kind>) -> Result<Outcome, Memory> {
+    let lines = listed(alloc, kind)?;
     Ok(Outcome::Heard { heard, lines })
 }
 
 fn outcome(alloc: Global, fate: Fate) -> Result<Outcome, Memory> {
     match fate {
-        Fate::Put => outcome_of(alloc, PUT, Some(&PUT_LINE)),
+        Fate::Put => outcome_of(alloc, PUT, Some(Kind::Put)),
         Fate::SetUp => outcome_of(alloc, Heard::SetUp, None),
         Fate::Stopped => Ok(Outcome::Stopped),
         Fate::Failed => Ok(Outcome::Failed),
@@ -393,13 +437,12 @@ fn flowed(alloc: Global, fates: &[(u32, Fate)]) -> Result<Reply, Memory> {
     Ok(Reply::Flowed { arrivals })
 }
 
-/// The reply of a row that has a list.
-fn reply_of(alloc: Global, row: &Row) -> Result<Reply, Memory> {
+fn reply_of(alloc: Global, row: Row) -> Result<Reply, Memory> {
     match row {
-        Row::Bare(_) => Ok(Reply::Done),
-        Row::Record(record, line) => recorded(alloc, *record, line.as_ref()),
-        Row::Heard(told) => heard(alloc, *told, None),
-        Row::Put(line) => heard(alloc, PUT, Some(line)),
+        Row::Bare(bare) => Ok(reply_without_list(bare)),
+        Row::Record(record, kind) => recorded(alloc, record, kind),
+        Row::Heard(told) => heard(alloc, told, None),
+        Row::Put(kind) => heard(alloc, PUT, Some(kind)),
         Row::Pumped(numbers) => pumped(alloc, numbers),
         Row::Flowed(fates) => flowed(alloc, fates),
     }
@@ -440,18 +483,15 @@ fn is_printed(alloc: Global, reply: &Reply, text: &str) -> Result<bool, Memory> 
     )
 }
 
-fn row_is_printed(alloc: Global, row: &Row, text: &str) -> Result<bool, Memory> {
-    if let Row::Bare(reply) = row {
-        return is_printed(alloc, reply, text);
-    }
+fn row_is_printed(alloc: Global, row: Row, text: &str) -> Result<bool, Memory> {
     let reply = reply_of(alloc, row)?;
     is_printed(alloc, &reply, text)
 }
 
 #[test]
 fn each_reply_is_printed(rt: HostRuntime) -> Result<(), Fail> {
-    for (row, text) in replies().iter() {
-        assert!(rt; row_is_printed(rt.alloc(), row, text)?, "{text}");
+    for (row, text) in REPLIES.iter() {
+        assert!(rt; row_is_printed(rt.alloc(), *row, text)?, "{text}");
     }
     Ok(())
 }
