@@ -1,6 +1,6 @@
 -- Rows and peers that join a state, and what is written in a row.
 use Rattle.std.specs.Option.{option_map_or}
-use Rattle.std.specs.Prelude.{[], ◌≡◌, ◌≤◌, All, List, insert, length, slice_get, ℕ}
+use Rattle.std.specs.Prelude.{[], ◌≡◌, ◌≤◌, All, List, None, Option, Some, if◌then◌else◌, insert, length, nat_lt, slice_get, ℕ}
 use Rattle.mqb_base.specs.declared.ids.Identity.{Identity}
 use Rattle.mqb_base.specs.declared.ids.SequenceId.{SequenceId}
 use Rattle.mqb_base.specs.declared.message.Lane.{Lane}
@@ -63,6 +63,10 @@ kept_count rows k = option_map_or (λ r. length r.kept) (slice_get rows k) 0
 -- how many plain messages of a lane wait for the peer at an index
 abbrev pub plain_count : List PlainLists → ℕ → Lane → ℕ
 plain_count plain peer kind = option_map_or (λ p. length (outgoing_in kind p)) (slice_get plain peer) 0
+
+-- the row, if it is not full: it has less than so many messages
+abbrev pub unless_full : ℕ → Row → Option Row
+unless_full roll row = if nat_lt row.committed roll then Some row else None
 
 abbrev pub marks_of : Row → RowMarks
 marks_of row = record { committed = row.committed; offered = row.offered; acked = row.acked }

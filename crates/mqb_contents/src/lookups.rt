@@ -1,11 +1,14 @@
-ghost use Rattle.std.specs.Prelude.{◌≡◌, ◌<◌, IfSome, None, filter, length, map, option_and_then, position, slice_get};
+ghost use Rattle.std.specs.Prelude.{◌≡◌, ◌+◌, ◌<◌, ◌^◌, IfSome, IsSomeAnd, None, filter, length, map, option_and_then, position, slice_get};
 ghost use Rattle.std.specs.List.{last_or};
 ghost use Rattle.mqb_base.specs.Same.{same_guid};
-ghost use Rattle.mqb_contents.specs.Rows.{plain_count};
+ghost use Rattle.mqb_contents.specs.Rows.{plain_count, unless_full};
 ghost use Rattle.mqb_model.specs.rules.Purges.{count_at};
+ghost use Rattle.mqb_model.specs.rules.Sequences.{sequence_in_use};
 ghost use Rattle.mqb_model.specs.state.Resolving.{peer_known};
 ghost use Rattle.mqb_model.specs.state.Rows.{has_ordinal, is_row_of, last_sequence};
 ghost use Rattle.mqb_orders.specs.Rows.{leads_to, row_of};
+ghost use Rattle.mqb_plain.specs.Lists.{InOrder};
+ghost use Rattle.mqb_plain.specs.Plain.{outgoing_in};
 
 use crate::contents::Contents;
 use mqb_base::{EntryPlace, Guid, Identity, Lane, QueueName};
@@ -72,6 +75,35 @@ impl Contents {
         Some(k as u32)
     }
 
+    /// The index of the outgoing row that the next message to a destination at a peer joins. Where there is none, it begins a new one.
+    pub fn sequence_in_use(&self, peer: u32, destination: &QueueName) -> Option<u32>
+        ensures row { option_and_then (slice_get self.now.lists.outs) result ≡
+            sequence_in_use self.now.lists peer destination.now }
+        ensures within { IfSome result (λ k. k < length self.now.lists.outs) }
+        ensures next { IfSome result (λ k. IsSomeAnd (slice_get self.now.lists.outs k)
+            (λ r. r.committed + 1 < 2 ^ 32)) }
+    {
+        match self.last_sequence(peer, destination) {
+            Some(row) => self.unless_full(row),
+            None => None,
+        }
+    }
+
+    fn unless_full(&self, row: u32) -> Option<u32>
+        requires { row < length self.now.lists.outs }
+        ensures row { option_and_then (slice_get self.now.lists.outs) result ≡
+            option_and_then (unless_full self.now.lists.roll) (slice_get self.now.lists.outs row) }
+        ensures within { IfSome result (λ k. k < length self.now.lists.outs) }
+        ensures next { IfSome result (λ k. IsSomeAnd (slice_get self.now.lists.outs k)
+            (λ r. r.committed + 1 < 2 ^ 32)) }
+    {
+        if self.out(row).committed < self.roll() {
+            Some(row)
+        } else {
+            None
+        }
+    }
+
     /// The index of the incoming row of a source and a destination.
     pub fn in_index(&self, source: Guid, destination: &QueueName) -> Option<u32>
         ensures index { result ≡ position (is_row_of source destination.now) self.now.lists.ins }
@@ -103,7 +135,9 @@ impl Contents {
     /// How many plain messages of a lane wait for the peer at an index.
     pub fn plain_count(&self, peer: u32, lane: Lane) -> u32
         requires { peer < length self.now.lists.plain }
-        ensures { result ≡ plain_count self.now.lists.plain peer lane }
+        ensures count { result ≡ plain_count self.now.lists.plain peer lane }
+        ensures in_order { IsSomeAnd (slice_get self.now.lists.plain peer)
+            (λ p. InOrder (outgoing_in lane p)) }
     {
         self.plain.count_in(peer, lane)
     }

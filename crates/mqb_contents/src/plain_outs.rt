@@ -43,7 +43,8 @@ fn messages(plain: &PlainOut, lane: Lane) -> &[Message]
 }
 
 fn count_in(plain: &PlainOut, lane: Lane) -> u32
-    ensures { result ≡ length (outgoing_in lane plain.now.lists) }
+    ensures count { result ≡ length (outgoing_in lane plain.now.lists) }
+    ensures in_order { InOrder (outgoing_in lane plain.now.lists) }
 {
     let _count = plain.len();
     messages(plain, lane).len() as u32
@@ -101,7 +102,9 @@ impl PlainOuts {
     /// How many messages of a lane wait for a peer.
     pub(crate) fn count_in(&self, peer: u32, lane: Lane) -> u32
         requires { peer < length self.now.lists }
-        ensures { result ≡ plain_count self.now.lists peer lane }
+        ensures count { result ≡ plain_count self.now.lists peer lane }
+        ensures in_order { IsSomeAnd (slice_get self.now.lists peer)
+            (λ p. InOrder (outgoing_in lane p)) }
     {
         count_in(self.get(peer), lane)
     }
