@@ -1,5 +1,5 @@
 -- What contracts see of a state in which changes are tried.
-use Rattle.std.specs.Prelude.{[], ◌++◌, ◌+◌, ◌<◌, ◌^◌, ◌∷◌, ◌≡◌, ◌≤◌, length, ℕ}
+use Rattle.std.specs.Prelude.{[], ◌++◌, ◌+◌, ◌<◌, ◌^◌, ◌∷◌, ◌≡◌, ◌≤◌, AllPairs, length, ℕ}
 use Rattle.mqb_base.specs.Rooms.{Room, WithRooms}
 use Rattle.mqb_base.specs.declared.ledger.Line.{Line}
 use Rattle.mqb_model.specs.rules.Effects.{Effect}
@@ -22,6 +22,10 @@ noted e entry = record e { lines = e.lines ++ entry ∷ [] }
 -- a number is not the last that there is
 abbrev pub HasNext : ℕ → Type 0
 HasNext number = number + 1 < 2 ^ 32
+
+-- ordinals rise from row to row
+abbrev pub OrdinalsRise : State → Type 0
+OrdinalsRise s = AllPairs (λ a b. a.sequence.ordinal < b.sequence.ordinal) s.outs
 
 -- The changes of a log can be made, and there is room for as many changes back.
 pub record IsUndoable (contents : WithRooms State StateRooms) (log turned : Room Change) : Type 0 where

@@ -3,7 +3,8 @@ ghost use Rattle.mqb_contents.specs.Changes.{AllReady, Can, HasRoom, changed, he
 ghost use Rattle.mqb_contents.specs.Rooms.{IsGrown};
 ghost use Rattle.mqb_model.specs.rules.Effects.{begun, without_line};
 ghost use Rattle.mqb_model.specs.state.Places.{put_at, with_plain, without_at};
-ghost use Rattle.mqb_plain.specs.Plain.{outgoing_in, without};
+ghost use Rattle.mqb_base.specs.Lanes.{lane_of};
+ghost use Rattle.mqb_plain.specs.Plain.{outgoing_in, pushed, without};
 ghost use Rattle.mqb_queue.specs.Lists.{messages_in};
 ghost use Rattle.mqb_queue.specs.Places.{lists_at};
 
@@ -11,6 +12,7 @@ use crate::logs::Log;
 use crate::turns::turn;
 use mqb_base::{EntryPlace, Lane, Line, Memory, Message, Roomed};
 use mqb_contents::{Change, Contents};
+use mqb_plain::Outgoing;
 use std::alloc::Global;
 use std::marker::Model;
 
@@ -93,6 +95,11 @@ impl Draft {
             lines: Roomed::new(alloc),
             alloc,
         }
+    }
+
+    /// The allocator of the state's lists.
+    pub fn alloc(&self) -> Global {
+        self.alloc
     }
 
     /// What the state has become so far.
@@ -197,5 +204,28 @@ impl Draft {
         ensures held { OnOk result (self.new.held ≤ self.old.held) }
     {
         self.change(Change::RemovePlain { peer, lane, index })
+    }
+
+    /// A message joins the plain messages for a peer at the end of its lane, unsent.
+    pub fn push_plain(&mut self, peer: u32, message: Message) -> Result<(), Memory>
+        requires { peer < length self.old.effect.state.plain }
+        ensures ok { OnOk result (self.new.effect ≡ without_line self.old.effect
+            (with_plain (pushed (lane_of message.delivery) message) self.old.effect.state peer)) }
+        ensures start { self.new.start ≡ self.old.start }
+        ensures grown { IsGrown self.old.rooms self.new.rooms }
+        ensures held { OnOk result (self.new.held ≤ self.old.held + 1) }
+    {
+        let lane = message.delivery.lane();
+        let index = self.contents.plain_count(peer, lane);
+        let outgoing = Outgoing {
+            message,
+            mark: None,
+        };
+        self.change(Change::InsertPlain {
+            peer,
+            lane,
+            index,
+            outgoing,
+        })
     }
 }

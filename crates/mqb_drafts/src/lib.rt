@@ -4,7 +4,9 @@
 //! again, and takes none. Contracts see what was done so far, the state before it, and how many messages came in since.
 #![tactic(auto)]
 
+mod acknowledging;
 mod drafts;
+mod joining;
 mod logs;
 mod peers;
 mod rows;

@@ -1,8 +1,7 @@
-use Rattle.std.proofs.Common.{◌≡◌, ◌≤◌, ◌∷◌, List, length, ap, sym, ◌∙◌, subst, refl, arith}
-use Rattle.mqb_base.specs.Rooms.{WithRooms}
+use Rattle.std.proofs.Common.{◌≡◌, ◌∷◌, List, length, ap, sym, ◌∙◌, subst, refl, arith}
 use Rattle.mqb_model.specs.state.State.{State}
 use Rattle.mqb_contents.specs.Changes.{Can, inverse, rooms_redone}
-use Rattle.mqb_contents.specs.Rooms.{IsGrown, StateRooms}
+use Rattle.mqb_contents.specs.Rooms.{IsGrown}
 use Rattle.mqb_contents.specs.declared.change.Change.{Change}
 use Rattle.mqb_contents.proofs.Ready.{IsChanged, held_more, ready_as, ready_grown, same_grown, start_grown, start_stays, still_ready}
 use Rattle.mqb_drafts.specs.Drafts.{Drafted}

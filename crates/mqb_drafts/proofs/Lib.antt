@@ -1,0 +1,4 @@
+pub mod Ends
+pub mod Unsent
+pub mod Outs
+pub mod Releasing
