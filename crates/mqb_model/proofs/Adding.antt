@@ -71,6 +71,8 @@ added_peer_is_valid s peer v told f = record {
   ordinals_given = v.ordinals_given;
   rows = λ k d lt. still_in_order (length s.peers) (length (s.peers ++ peer ∷ [])) (let counted = more in omega (arith, counted)) _ (v.rows k d lt);
   sources_differ = v.sources_differ;
+  outs_to_queues = v.outs_to_queues;
+  ins_to_queues = v.ins_to_queues;
   kept = v.kept;
   plain = subst (λ ms. All (IsCarried headers.Session) ms) (sym plain) v.plain;
   placed = v.placed;
@@ -109,6 +111,8 @@ made_queue_is_valid s number plan v f = record {
   ordinals_given = v.ordinals_given;
   rows = v.rows;
   sources_differ = v.sources_differ;
+  outs_to_queues = v.outs_to_queues;
+  ins_to_queues = v.ins_to_queues;
   kept = v.kept;
   plain = v.plain;
   placed = subst (λ ms. All (IsCarried headers.Bare) ms) (sym placed) v.placed;

@@ -1,13 +1,15 @@
 -- A state stays valid where messages are released and something arrives.
 use Rattle.std.proofs.Common.{refl, ap, sym, subst, ◌∙◌, length, arith}
 use Rattle.std.proofs.lemmas.Bool.Decides.{nat_tests}
-use Rattle.std.proofs.lemmas.List.Elements.{recursion_from_All}
+use Rattle.std.proofs.lemmas.List.Elements.{All-from_recursion, recursion_from_All}
 use Rattle.std.proofs.lemmas.List.Quantifiers.{position-Some}
 use Rattle.std.proofs.lemmas.Option.{slice_get-get_or}
+use Rattle.std.specs.List.{AllByRecursion}
 use Rattle.std.specs.Option.{option_map_or}
-use Rattle.std.specs.Prelude.{◌&&◌, ◌++◌, ◌||◌, ◌∷◌, ◌≡◌, ◌≤◌, [], Bool, IfSome, List, None, Option, Some, cond, false, fold, is_some, map, max, nat_le, nat_lt, not, option_and_then, position, slice_get, slice_set, true, ℕ}
+use Rattle.std.specs.Prelude.{◌&&◌, ◌++◌, ◌||◌, ◌∷◌, ◌≡◌, ◌≤◌, [], Bool, IfSome, IsTrue, List, None, Option, Some, cond, false, fold, is_some, map, max, nat_le, nat_lt, not, option_and_then, position, slice_get, slice_set, true, ℕ}
 use Rattle.mqb_base.specs.Bits.{keeps_dead}
 use Rattle.mqb_base.specs.Classes.{is_negative}
+use Rattle.mqb_base.specs.QueueNames.{names_queue}
 use Rattle.mqb_base.specs.Same.{same_guid, same_name}
 use Rattle.mqb_base.specs.declared.class.Class.{Class}
 use Rattle.mqb_base.specs.declared.heads.TxHead.{TxHead}
@@ -39,13 +41,13 @@ use Rattle.mqb_model.specs.state.Places.{put_at}
 use Rattle.mqb_model.specs.state.Resolving.{peer_known, resolved}
 use Rattle.mqb_model.specs.state.Rows.{has_ordinal, in_index, is_row_of, row_of_ordinal, with_row}
 use Rattle.mqb_model.specs.state.State.{State}
-use Rattle.mqb_model.specs.state.Valid.{IsGivenOrdinal, IsInOrder, IsValidState}
+use Rattle.mqb_model.specs.state.Valid.{IsInOrder, IsValidState}
 use Rattle.mqb_model.proofs.Accepting.{IsHere, arrived_stands, refusal_here, refusal_known, stored_stands}
 use Rattle.mqb_model.proofs.Departing.{RowKeeps, if_some, less_in_order, rows_keep, valid_stands}
 use Rattle.mqb_model.proofs.Holding.{get_holds, not_express, transactional_durable}
-use Rattle.mqb_model.proofs.Members.{Fewer, PairsByRecursion, all_pairs, all_weaker, changed_all, changed_fewer, changed_pairs, fewer_filter, fewer_filtered, fewer_map, fewer_without, first_all, first_fewer, first_holds, first_length, first_pairs, first_passes, none_passes, pairs_of, pairs_push, set_pairs, split_and}
+use Rattle.mqb_model.proofs.Members.{Fewer, PairsByRecursion, all_append, all_pairs, all_weaker, changed_all, changed_fewer, changed_pairs, fewer_filter, fewer_filtered, fewer_map, fewer_without, first_all, first_fewer, first_holds, first_length, first_pairs, first_passes, none_passes, pairs_of, pairs_push, set_one, set_pairs, split_and}
 use Rattle.mqb_model.proofs.Names.{same_guid_is, same_guid_refl, same_name_is, same_name_refl}
-use Rattle.mqb_model.proofs.Offering.{Precedes}
+use Rattle.mqb_model.proofs.Offering.{IsHeaded, Precedes, all_headed}
 use Rattle.mqb_model.proofs.Remaining.{IsPlaced, Stands, plain_stands, put_stands, rows_stand}
 
 -- Releases.
@@ -62,8 +64,8 @@ releases_stand whose low high e (number ∷ numbers) h = releases_stand whose lo
 
 -- Order acknowledgements.
 
-given : (next : ℕ) (row : Row) (acked : ℕ) (ks : List Kept) → IsGivenOrdinal next row → IsGivenOrdinal next (record row { acked = acked; kept = ks })
-given next row acked ks g = record { first = g.first; below = g.below }
+given : (next : ℕ) (row : Row) (acked : ℕ) (ks : List Kept) → IsHeaded next row → IsHeaded next (record row { acked = acked; kept = ks })
+given next row acked ks g = (record { first = (g.0).first; below = (g.0).below }, g.1)
 
 at_most : (a b : ℕ) → nat_le a b ≡ true → a ≤ b
 at_most a b h = grind (arith, nat_tests)
@@ -75,14 +77,14 @@ acked_stands : (whose : Guid) (low high : ℕ) (s : State) (ordinal number : ℕ
     → Stands whose low high (with_row (acknowledged number) s ordinal)
 acked_stands whose low high s ordinal number f h = rows_stand whose low high s (with_first_changed (acknowledged number) (has_ordinal ordinal) s.outs)
     (first_all Given (acknowledged number) (has_ordinal ordinal) s.outs (if_some (λ row. Given row → Given (acknowledged number row)) (row_of_ordinal s ordinal)
-    (λ row g. given s.next_ordinal row (max row.acked number) (released (max row.acked number) row.kept) g)) (recursion_from_All Given s.outs h.valid.ordinals_given))
+    (λ row g. given s.next_ordinal row (max row.acked number) (released (max row.acked number) row.kept) g)) (all_headed s h.valid))
     (first_pairs Precedes (acknowledged number) (has_ordinal ordinal) s.outs (λ x z r. r) (λ x z r. r) (pairs_of Precedes s.outs h.valid.ordinals_rise))
     (first_all Order (acknowledged number) (has_ordinal ordinal) s.outs (raised (row_of_ordinal s ordinal) f) (recursion_from_All Order s.outs h.valid.rows))
     (first_fewer (λ row. map (λ k. k.message) row.kept) (acknowledged number) (has_ordinal ordinal) s.outs
     (λ row. fewer_map (λ k. k.message) (fewer_filter (λ k. nat_lt (max row.acked number) k.number || keeps_dead k.message) row.kept))) h
   where
     Given : Row → Type 0
-    Given row = IsGivenOrdinal s.next_ordinal row
+    Given row = IsHeaded s.next_ordinal row
 
     Order : Row → Type 0
     Order row = IsInOrder (length s.peers) row
@@ -109,7 +111,7 @@ with_finished_stands : (whose : Guid) (low high : ℕ) (s : State) (m : Message)
     → Stands whose low high s → Stands whose low high (with_finished m.correlation s index k)
 with_finished_stands whose low high s m index k offered h = rows_stand whose low high s (with_changed change s.outs index)
     (changed_all Given change s.outs index (if_some (λ row. Given row → Given (change row)) (slice_get s.outs index)
-    (λ row g. given s.next_ordinal row (max row.acked k.number) (change row).kept g)) (recursion_from_All Given s.outs h.valid.ordinals_given))
+    (λ row g. given s.next_ordinal row (max row.acked k.number) (change row).kept g)) (all_headed s h.valid))
     (changed_pairs Precedes change s.outs index (λ x z r. r) (λ x z r. r) (pairs_of Precedes s.outs h.valid.ordinals_rise))
     (changed_all Order change s.outs index (done (slice_get s.outs index) offered) (recursion_from_All Order s.outs h.valid.rows))
     (changed_fewer (λ row. map (λ k. k.message) row.kept) change s.outs index (λ row. fewer_map (λ k. k.message) (fewer_finished m k.number row))) h
@@ -118,7 +120,7 @@ with_finished_stands whose low high s m index k offered h = rows_stand whose low
     change row = finished_row m.correlation k.number row
 
     Given : Row → Type 0
-    Given row = IsGivenOrdinal s.next_ordinal row
+    Given row = IsHeaded s.next_ordinal row
 
     Order : Row → Type 0
     Order row = IsInOrder (length s.peers) row
@@ -161,8 +163,13 @@ final_stands whose low high s m h = at (peer_known s m.id.qm)
 abbrev Sources : InRow → InRow → Type 0
 Sources a b = is_row_of a.source a.destination b ≡ false
 
-ins_stand : (whose : Guid) (low high : ℕ) (s : State) (rows : List InRow) → PairsByRecursion Sources rows → Stands whose low high s → Stands whose low high (record s { ins = rows })
-ins_stand whose low high s rows differ h = let v = h.valid in record {
+-- a row for a queue
+abbrev IsToQueue : InRow → Type 0
+IsToQueue row = IsTrue (names_queue row.destination)
+
+ins_stand : (whose : Guid) (low high : ℕ) (s : State) (rows : List InRow) → PairsByRecursion Sources rows → AllByRecursion IsToQueue rows → Stands whose low high s
+    → Stands whose low high (record s { ins = rows })
+ins_stand whose low high s rows differ to_queues h = let v = h.valid in record {
   valid = record {
     few_peers = v.few_peers;
     few_queues = v.few_queues;
@@ -174,6 +181,8 @@ ins_stand whose low high s rows differ h = let v = h.valid in record {
     ordinals_given = v.ordinals_given;
     rows = v.rows;
     sources_differ = all_pairs Sources rows differ;
+    outs_to_queues = v.outs_to_queues;
+    ins_to_queues = All-from_recursion IsToQueue rows to_queues;
     kept = v.kept;
     plain = v.plain;
     placed = v.placed;
@@ -228,6 +237,19 @@ decided_differ s m tx v = at (in_index s m) refl
         (λ row other. other_way m.id.qm m.destination row new refl refl other) s.ins (none_passes passes s.ins e)) rows
     at (Some k) e = let found = position-Some passes s.ins k new e in replaced k _ (slice_get-get_or s.ins k new found.0) found.1
 
+decided_to_queues : (s : State) (m : Message) (tx : TxHead) → IsTrue (names_queue m.destination) → IsValidState s → AllByRecursion IsToQueue (with_decided s m tx).ins
+decided_to_queues s m tx named v = at (in_index s m)
+  where
+    new : InRow
+    new = decided_row m tx
+
+    rows : AllByRecursion IsToQueue s.ins
+    rows = recursion_from_All IsToQueue s.ins v.ins_to_queues
+
+    at : (o : Option ℕ) → AllByRecursion IsToQueue (option_map_or (λ k. slice_set s.ins k new) o (s.ins ++ new ∷ []))
+    at None = all_append IsToQueue s.ins (new ∷ []) rows (named, tt)
+    at (Some k) = set_one IsToQueue s.ins k new named rows
+
 -- where names lead does not depend on incoming rows
 pub resolved_stays : (s : State) (rows : List InRow) (name : QueueName) → resolved (record s { ins = rows }) name ≡ resolved s name
 resolved_stays s rows (Public guid true) = refl
@@ -241,7 +263,7 @@ resolved_stays s rows (Machine qm kind) = refl
 decided_stands : (whose : Guid) (low high now : ℕ) (s : State) (p : UserPacket) (tx : TxHead) → IsPlaced p.message → Stands whose low high s → Stands whose low high (message_decided now s p tx).state
 decided_stands whose low high now s p tx placed h = arrived_stands whose low high after p.message now (refusal_of s p) (refusal_known s p)
     (λ e. subst IsHere (sym (resolved_stays s after.ins p.message.destination)) (refusal_here s p e)) placed
-    (ins_stand whose low high s after.ins (decided_differ s p.message tx h.valid) h)
+    (ins_stand whose low high s after.ins (decided_differ s p.message tx h.valid) (decided_to_queues s p.message tx (placed.0).well_formed.destination h.valid) h)
   where
     after : State
     after = with_decided s p.message tx

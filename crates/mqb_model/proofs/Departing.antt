@@ -34,12 +34,12 @@ use Rattle.mqb_model.specs.rules.Takes.{after_take, copied, message_at, message_
 use Rattle.mqb_model.specs.rules.Timeouts.{expires, expiring, expiring_in, lapsing, lapsing_in, message_expired, message_lapsed, message_swept, next_expired, next_lapsed, next_swept, peer_lapsed, queue_swept, row_expired, rows_expired, sweeping, sweeping_in, with_expired, without_expired}
 use Rattle.mqb_model.specs.state.Places.{put_at, with_plain, without_at}
 use Rattle.mqb_model.specs.state.State.{State}
-use Rattle.mqb_model.specs.state.Valid.{IsCarried, IsGivenOrdinal, IsInOrder, IsKeptBy, IsOwn, IsValidState, kept_messages, recoverable_messages}
+use Rattle.mqb_model.specs.state.Valid.{IsCarried, IsInOrder, IsKeptBy, IsOwn, IsValidState, kept_messages, recoverable_messages}
 use Rattle.mqb_model.proofs.Followed.{bare_carried, meets_stands}
 use Rattle.mqb_model.proofs.Having.{QueueHas, lists_have}
 use Rattle.mqb_model.proofs.Holding.{get_holds, item_holds, not_express, transactional_durable}
 use Rattle.mqb_model.proofs.Members.{Fewer, all_left, all_pairs, all_right, all_weaker, changed_all, changed_fewer, changed_length, changed_pairs, fewer_all, fewer_map, fewer_pairs, fewer_remove, fewer_without, first_holds, pairs_of}
-use Rattle.mqb_model.proofs.Offering.{Precedes, kept_in}
+use Rattle.mqb_model.proofs.Offering.{IsHeaded, Precedes, all_headed, kept_in}
 use Rattle.mqb_model.proofs.Remaining.{IsApart, IsPlaced, PlacedIn, Stands, places_are, plain_in, plain_stands, put_stands, rows_stand, waiting, without_stands}
 
 -- every valid state stands beside no range
@@ -176,8 +176,8 @@ if_some Q (Some x) f = f x
 
 with_expired_stands : (whose : Guid) (low high now : ℕ) (s : State) (k : ℕ) → Stands whose low high s → Stands whose low high (with_expired now s k)
 with_expired_stands whose low high now s k h = rows_stand whose low high s (with_changed (without_expired now) s.outs k)
-    (changed_all Given (without_expired now) s.outs k (if_some (λ row. Given row → Given (without_expired now row)) (slice_get s.outs k) (λ row g. record { first = g.first; below = g.below }))
-    (recursion_from_All Given s.outs h.valid.ordinals_given))
+    (changed_all Given (without_expired now) s.outs k (if_some (λ row. Given row → Given (without_expired now row)) (slice_get s.outs k) (λ row g. (record { first = (g.0).first; below = (g.0).below }, g.1)))
+    (all_headed s h.valid))
     (changed_pairs Precedes (without_expired now) s.outs k (λ x z r. r) (λ x z r. r) (pairs_of Precedes s.outs h.valid.ordinals_rise))
     (changed_all Order (without_expired now) s.outs k (if_some (λ row. Order row → Order (without_expired now row)) (slice_get s.outs k)
     (λ row o. less_in_order (length s.peers) row (without_first (expires now row) row.kept) row.acked o.acked (fewer_without (expires now row) row.kept) o))
@@ -185,7 +185,7 @@ with_expired_stands whose low high now s k h = rows_stand whose low high s (with
     (changed_fewer (λ row. map (λ k. k.message) row.kept) (without_expired now) s.outs k (λ row. fewer_map (λ k. k.message) (fewer_without (expires now row) row.kept))) h
   where
     Given : Row → Type 0
-    Given row = IsGivenOrdinal s.next_ordinal row
+    Given row = IsHeaded s.next_ordinal row
 
     Order : Row → Type 0
     Order row = IsInOrder (length s.peers) row

@@ -5,7 +5,7 @@ use Rattle.std.proofs.lemmas.List.Elements.{All-from_recursion, recursion_from_A
 use Rattle.std.proofs.lemmas.List.Quantifiers.{position-Some}
 use Rattle.std.specs.List.{AllByRecursion}
 use Rattle.std.specs.Option.{option_map_or}
-use Rattle.std.specs.Prelude.{◌+◌, ◌++◌, ◌<◌, ◌==◌, ◌||◌, ◌∷◌, ◌≡◌, ◌≤◌, [], Bool, IfSome, List, None, Option, Some, cond, false, filter, is_some, map, nat_le, nat_lt, option_and_then, position, true, ℕ}
+use Rattle.std.specs.Prelude.{◌+◌, ◌++◌, ◌<◌, ◌==◌, ◌||◌, ◌∷◌, ◌≡◌, ◌≤◌, [], All, Bool, IfSome, List, None, Option, Some, cond, false, filter, is_some, map, nat_le, nat_lt, option_and_then, position, true, ℕ}
 use Rattle.mqb_base.specs.Same.{same_guid}
 use Rattle.mqb_base.specs.declared.ids.Guid.{Guid}
 use Rattle.mqb_base.specs.declared.ids.Identity.{Identity}
@@ -23,10 +23,10 @@ use Rattle.mqb_model.specs.rules.Sequences.{join, may_join, new_sequence, sequen
 use Rattle.mqb_model.specs.state.Resolving.{at_peer, is_host_of, is_own_host, peer_at, peer_known, queue_named, queue_numbered, queue_registered, resolved}
 use Rattle.mqb_model.specs.state.Rows.{has_ordinal, last_sequence, row_of_ordinal, with_row}
 use Rattle.mqb_model.specs.state.State.{State}
-use Rattle.mqb_model.specs.state.Valid.{IsCarried, IsGivenOrdinal, IsInOrder, IsKeptBy, IsOwn, IsValidState, kept_messages, recoverable_messages}
+use Rattle.mqb_model.specs.state.Valid.{IsCarried, IsInOrder, IsKeptBy, IsOwn, IsValidState, kept_messages, recoverable_messages}
 use Rattle.mqb_model.proofs.Departing.{if_some}
 use Rattle.mqb_model.proofs.Members.{Gains, PairsByRecursion, all_append, all_pairs, all_weaker, fewer_all, fewer_filter, first_all, first_gains, first_holds, first_pairs, first_passes, gains_all, gains_before, gains_behind, gains_end, gains_pairs, here, last_holds, pairs_of, pairs_push, split_and}
-use Rattle.mqb_model.proofs.Offering.{Differ, Precedes, kept_in}
+use Rattle.mqb_model.proofs.Offering.{Differ, IsHeaded, Precedes, all_headed, kept_in}
 use Rattle.mqb_model.proofs.Remaining.{IsApart, IsFresh, Stands, waiting}
 
 -- A name leads to a peer that is there.
@@ -62,10 +62,10 @@ led_within s (Machine qm kind) k e = absurd (let none : ⊥ = cc in none)
 -- A message joins rows.
 
 pub gained_stands : (whose : Guid) (low high : ℕ) (s : State) (rows : List Row) (next : ℕ) (m : Message) → (1 ≤ next) × (next ≤ MAX_ORDINAL + 1)
-    → AllByRecursion (IsGivenOrdinal next) rows → PairsByRecursion Precedes rows → AllByRecursion (IsInOrder (length s.peers)) rows
+    → AllByRecursion (IsHeaded next) rows → PairsByRecursion Precedes rows → AllByRecursion (IsInOrder (length s.peers)) rows
     → Gains m (kept_messages s) (kept_in rows) → IsCarried headers.TxAndSession m → IsFresh whose low high s m → Stands whose low high s
     → Stands whose low high (record s { outs = rows; next_ordinal = next })
-gained_stands whose low high s rows next m left given rise order gains carried fresh h = let v = h.valid in record {
+gained_stands whose low high s rows next m left headed rise order gains carried fresh h = let v = h.valid in record {
   valid = record {
     few_peers = v.few_peers;
     few_queues = v.few_queues;
@@ -74,9 +74,11 @@ gained_stands whose low high s rows next m left given rise order gains carried f
     plain_lists = v.plain_lists;
     hosts = v.hosts;
     ordinals_rise = all_pairs Precedes rows rise;
-    ordinals_given = All-from_recursion (IsGivenOrdinal next) rows given;
+    ordinals_given = λ k d lt. (heads k d lt).0;
     rows = All-from_recursion (IsInOrder (length s.peers)) rows order;
     sources_differ = v.sources_differ;
+    outs_to_queues = λ k d lt. (heads k d lt).1;
+    ins_to_queues = v.ins_to_queues;
     kept = All-from_recursion (IsCarried headers.TxAndSession) (kept_in rows)
         (gains_all (IsCarried headers.TxAndSession) m gains carried (recursion_from_All (IsCarried headers.TxAndSession) (kept_messages s) v.kept));
     plain = v.plain;
@@ -95,6 +97,9 @@ gained_stands whose low high s rows next m left given rise order gains carried f
   apart = gains_all (IsApart low high) m whole fresh.apart h.apart;
 }
   where
+    heads : All (IsHeaded next) rows
+    heads = All-from_recursion (IsHeaded next) rows headed
+
     own : Message → Type 0
     own o = IsOwn s.identity.guid s.next_number o
 
@@ -188,8 +193,8 @@ join_stands whose low high s peer now m within may transactional carried fresh h
 
     old : (row : Row) → IsOnly s.outs row → row.committed < MAX_ROLL → Stands whose low high (with_row (with_kept m) s row.sequence.ordinal)
     old row only room = gained_stands whose low high s (with_first_changed (with_kept m) passes s.outs) s.next_ordinal m h.valid.next_ordinal
-        (first_all (IsGivenOrdinal s.next_ordinal) (with_kept m) passes s.outs (if_some (λ r. IsGivenOrdinal s.next_ordinal r → IsGivenOrdinal s.next_ordinal (with_kept m r))
-        (row_of_ordinal s row.sequence.ordinal) (λ r g. record { first = g.first; below = g.below })) (recursion_from_All (IsGivenOrdinal s.next_ordinal) s.outs h.valid.ordinals_given))
+        (first_all (IsHeaded s.next_ordinal) (with_kept m) passes s.outs (if_some (λ r. IsHeaded s.next_ordinal r → IsHeaded s.next_ordinal (with_kept m r))
+        (row_of_ordinal s row.sequence.ordinal) (λ r g. (record { first = (g.0).first; below = (g.0).below }, g.1))) (all_headed s h.valid))
         (first_pairs Precedes (with_kept m) passes s.outs (λ x z r. r) (λ x z r. r) (pairs_of Precedes s.outs h.valid.ordinals_rise))
         (first_all Order (with_kept m) passes s.outs (each (row_of_ordinal s row.sequence.ordinal)
         (first_holds (λ r. (r.sequence.ordinal ≡ row.sequence.ordinal) → r ≡ row) passes s.outs only) (first_passes passes s.outs)) (recursion_from_All Order s.outs h.valid.rows))
@@ -207,16 +212,16 @@ join_stands whose low high s peer now m within may transactional carried fresh h
     new : s.next_ordinal ≤ MAX_ORDINAL → Stands whose low high (with_sequence s (with_kept m (new_sequence s peer m.destination now)))
     new left = let first : 1 ≤ s.next_ordinal = h.valid.next_ordinal.0 in let row = with_kept m (new_sequence s peer m.destination now) in
         gained_stands whose low high s (s.outs ++ row ∷ []) (s.next_ordinal + 1) m (omega arith, omega arith)
-        (all_append (IsGivenOrdinal (s.next_ordinal + 1)) s.outs (row ∷ [])
-        (all_weaker (IsGivenOrdinal s.next_ordinal) (IsGivenOrdinal (s.next_ordinal + 1)) (λ r g. let below : r.sequence.ordinal < s.next_ordinal = g.below in record { first = g.first; below = omega arith }) s.outs givens)
-        (record { first = first; below = omega arith }, tt))
-        (pairs_push Precedes s.outs row (all_weaker (IsGivenOrdinal s.next_ordinal) (λ r. Precedes r row) (λ r g. g.below) s.outs givens) (pairs_of Precedes s.outs h.valid.ordinals_rise))
+        (all_append (IsHeaded (s.next_ordinal + 1)) s.outs (row ∷ [])
+        (all_weaker (IsHeaded s.next_ordinal) (IsHeaded (s.next_ordinal + 1)) (λ r g. let below : r.sequence.ordinal < s.next_ordinal = (g.0).below in (record { first = (g.0).first; below = omega arith }, g.1)) s.outs headed)
+        ((record { first = first; below = omega arith }, carried.well_formed.destination), tt))
+        (pairs_push Precedes s.outs row (all_weaker (IsHeaded s.next_ordinal) (λ r. Precedes r row) (λ r g. (g.0).below) s.outs headed) (pairs_of Precedes s.outs h.valid.ordinals_rise))
         (all_append Order s.outs (row ∷ []) (recursion_from_All Order s.outs h.valid.rows)
         (with_kept_in_order (length s.peers) m (new_sequence s peer m.destination now) transactional (omega arith) begins, tt))
         (pushed_gains s.outs row m refl) carried fresh h
       where
-        givens : AllByRecursion (IsGivenOrdinal s.next_ordinal) s.outs
-        givens = recursion_from_All (IsGivenOrdinal s.next_ordinal) s.outs h.valid.ordinals_given
+        headed : AllByRecursion (IsHeaded s.next_ordinal) s.outs
+        headed = all_headed s h.valid
 
         begins : Order (new_sequence s peer m.destination now)
         begins = record {

@@ -90,6 +90,12 @@ set_all P [] k x y e f h = tt
 set_all P (z ∷ zs) zero x y e f h = (f (subst P (some_is z x e) h.0), h.1)
 set_all P (z ∷ zs) (suc k) x y e f h = (h.0, set_all P zs k x y e f h.1)
 
+-- whatever the member was
+pub set_one : {X : Type 0} (P : X → Type 0) (xs : List X) (k : ℕ) (y : X) → P y → AllByRecursion P xs → AllByRecursion P (slice_set xs k y)
+set_one P [] k y p h = tt
+set_one P (z ∷ zs) zero y p h = (p, h.1)
+set_one P (z ∷ zs) (suc k) y p h = (h.0, set_one P zs k y p h.1)
+
 pub set_pairs : {X : Type 0} (R : X → X → Type 0) (xs : List X) (k : ℕ) (x y : X) → slice_get xs k ≡ Some x → ((z : X) → R z x → R z y)
     → ((z : X) → R x z → R y z) → PairsByRecursion R xs → PairsByRecursion R (slice_set xs k y)
 set_pairs R [] k x y e before behind h = tt

@@ -4,7 +4,8 @@ use Rattle.std.proofs.lemmas.Bool.Decides.{nat_tests}
 use Rattle.std.proofs.lemmas.List.Elements.{All-from_recursion, recursion_from_All}
 use Rattle.std.specs.List.{AllByRecursion, flat_map, list_any}
 use Rattle.std.specs.Option.{option_map_or}
-use Rattle.std.specs.Prelude.{◌++◌, ◌<◌, ◌==◌, ◌||◌, ◌∷◌, ◌≡◌, ◌≤◌, [], Bool, IfSome, List, None, Option, Some, false, map, nat_lt, true, ℕ}
+use Rattle.std.specs.Prelude.{◌++◌, ◌<◌, ◌==◌, ◌||◌, ◌∷◌, ◌≡◌, ◌≤◌, [], All, Bool, IfSome, IsTrue, List, None, Option, Some, false, map, nat_lt, true, ℕ}
+use Rattle.mqb_base.specs.QueueNames.{names_queue}
 use Rattle.mqb_base.specs.Same.{same_id}
 use Rattle.mqb_base.specs.declared.message.Message.{Message}
 use Rattle.mqb_entries.specs.declared.members.Mark.{Mark}
@@ -26,14 +27,21 @@ kept_in rows = flat_map (λ row. map (λ k. k.message) row.kept) rows
 abbrev pub Precedes : Row → Row → Type 0
 Precedes a b = a.sequence.ordinal < b.sequence.ordinal
 
+-- a row of an ordinal that was given, to a queue
+abbrev pub IsHeaded : ℕ → Row → Type 0
+IsHeaded next row = IsGivenOrdinal next row × IsTrue (names_queue row.destination)
+
+pub all_headed : (s : State) → IsValidState s → AllByRecursion (IsHeaded s.next_ordinal) s.outs
+all_headed s v = recursion_from_All (IsHeaded s.next_ordinal) s.outs (λ k d lt. (v.ordinals_given k d lt, v.outs_to_queues k d lt))
+
 -- messages with different identifiers
 abbrev pub Differ : Message → Message → Type 0
 Differ a b = same_id a.id b.id ≡ false
 
 -- other rows stand in the state, which keep no message more
-pub rows_valid : (s : State) (rows : List Row) → IsValidState s → AllByRecursion (IsGivenOrdinal s.next_ordinal) rows → PairsByRecursion Precedes rows
+pub rows_valid : (s : State) (rows : List Row) → IsValidState s → AllByRecursion (IsHeaded s.next_ordinal) rows → PairsByRecursion Precedes rows
     → AllByRecursion (IsInOrder (length s.peers)) rows → Fewer (kept_in rows) (kept_messages s) → IsValidState (record s { outs = rows })
-rows_valid s rows v given rise order fewer = record {
+rows_valid s rows v headed rise order fewer = record {
   few_peers = v.few_peers;
   few_queues = v.few_queues;
   peers_differ = v.peers_differ;
@@ -41,9 +49,11 @@ rows_valid s rows v given rise order fewer = record {
   plain_lists = v.plain_lists;
   hosts = v.hosts;
   ordinals_rise = all_pairs Precedes rows rise;
-  ordinals_given = All-from_recursion (IsGivenOrdinal s.next_ordinal) rows given;
+  ordinals_given = λ k d lt. (heads k d lt).0;
   rows = All-from_recursion (IsInOrder (length s.peers)) rows order;
   sources_differ = v.sources_differ;
+  outs_to_queues = λ k d lt. (heads k d lt).1;
+  ins_to_queues = v.ins_to_queues;
   kept = All-from_recursion (IsCarried headers.TxAndSession) (kept_in rows)
       (fewer_all (IsCarried headers.TxAndSession) fewer (recursion_from_All (IsCarried headers.TxAndSession) (kept_messages s) v.kept));
   plain = v.plain;
@@ -59,6 +69,9 @@ rows_valid s rows v given rise order fewer = record {
       (fewer_pairs Differ whole (pairs_of Differ (kept_messages s ++ recoverable_messages s) v.ids_differ));
 }
   where
+    heads : All (IsHeaded s.next_ordinal) rows
+    heads = All-from_recursion (IsHeaded s.next_ordinal) rows headed
+
     own : Message → Type 0
     own m = IsOwn s.identity.guid s.next_number m
 
@@ -93,7 +106,7 @@ offered_in_order peers mark row f h = record {
 
 mark_valid : (s : State) (mark : Mark) → IsValidState s → option_map_or (raises_offer mark) (row_of_ordinal s mark.ordinal) false ≡ true → IsValidState (mark_raised s mark)
 mark_valid s mark v f = rows_valid s (mark_raised s mark).outs v
-    (first_all (IsGivenOrdinal s.next_ordinal) change passes s.outs (any (row_of_ordinal s mark.ordinal)) (recursion_from_All (IsGivenOrdinal s.next_ordinal) s.outs v.ordinals_given))
+    (first_all (IsHeaded s.next_ordinal) change passes s.outs (any (row_of_ordinal s mark.ordinal)) (all_headed s v))
     (first_pairs Precedes change passes s.outs (λ x z h. h) (λ x z h. h) (pairs_of Precedes s.outs v.ordinals_rise))
     (first_all (IsInOrder (length s.peers)) change passes s.outs (raised (row_of_ordinal s mark.ordinal) f) (recursion_from_All (IsInOrder (length s.peers)) s.outs v.rows))
     (first_fewer (λ row. map (λ k. k.message) row.kept) change passes s.outs (λ row. same (map (λ k. k.message) row.kept)))
@@ -104,9 +117,9 @@ mark_valid s mark v f = rows_valid s (mark_raised s mark).outs v
     passes : Row → Bool
     passes row = has_ordinal mark.ordinal row
 
-    any : (o : Option Row) → IfSome o (λ row. IsGivenOrdinal s.next_ordinal row → IsGivenOrdinal s.next_ordinal (change row))
+    any : (o : Option Row) → IfSome o (λ row. IsHeaded s.next_ordinal row → IsHeaded s.next_ordinal (change row))
     any None = tt
-    any (Some row) = λ h. record { first = h.first; below = h.below }
+    any (Some row) = λ h. (record { first = (h.0).first; below = (h.0).below }, h.1)
 
     raised : (o : Option Row) → option_map_or (raises_offer mark) o false ≡ true → IfSome o (λ row. IsInOrder (length s.peers) row → IsInOrder (length s.peers) (change row))
     raised None e = tt

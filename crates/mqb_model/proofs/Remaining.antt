@@ -27,12 +27,12 @@ use Rattle.mqb_model.specs.declared.limits.TheConstants.{MAX_NUMBER, MAX_QUEUES}
 use Rattle.mqb_model.specs.records.Packets.{is_recoverable}
 use Rattle.mqb_model.specs.state.Places.{is_express, put_at, with_place, with_plain, without_at}
 use Rattle.mqb_model.specs.state.State.{State}
-use Rattle.mqb_model.specs.state.Valid.{AreNew, IsCarried, IsGivenOrdinal, IsInOrder, IsOwn, IsValidState, kept_messages, placed_messages, recoverable_messages, taken_among}
+use Rattle.mqb_model.specs.state.Valid.{AreNew, IsCarried, IsInOrder, IsOwn, IsValidState, kept_messages, placed_messages, recoverable_messages, taken_among}
 use Rattle.mqb_model.proofs.Having.{PlacesHave, changed_have, join_places, split_places, weaker_have}
 use Rattle.mqb_model.proofs.Holding.{removed_holds}
 use Rattle.mqb_model.proofs.Mapped.{any_mapped}
 use Rattle.mqb_model.proofs.Members.{Fewer, Gains, PairsByRecursion, all_pairs, changed_gains, changed_length, fewer_all, fewer_append, fewer_pairs, gains_all, gains_behind, gains_end, gains_pairs, pairs_of, same, set_same}
-use Rattle.mqb_model.proofs.Offering.{Differ, Precedes, kept_in, rows_valid}
+use Rattle.mqb_model.proofs.Offering.{Differ, IsHeaded, Precedes, kept_in, rows_valid}
 
 -- a number below a range, or behind it
 abbrev pub IsApart : ℕ → ℕ → Message → Type 0
@@ -111,6 +111,8 @@ places_stand whose low high s p h plans are = let v = h.valid in record {
     ordinals_given = v.ordinals_given;
     rows = v.rows;
     sources_differ = v.sources_differ;
+    outs_to_queues = v.outs_to_queues;
+    ins_to_queues = v.ins_to_queues;
     kept = v.kept;
     plain = v.plain;
     placed = λ k d lt. (all_placed (record s { places = p }) are k d lt).0;
@@ -193,6 +195,8 @@ number_stands whose low high s left h = let v = h.valid in record {
     ordinals_given = v.ordinals_given;
     rows = v.rows;
     sources_differ = v.sources_differ;
+    outs_to_queues = v.outs_to_queues;
+    ins_to_queues = v.ins_to_queues;
     kept = v.kept;
     plain = v.plain;
     placed = v.placed;
@@ -239,6 +243,8 @@ pushed_stands whose low high s k m carried recoverable fresh h = let v = h.valid
     ordinals_given = v.ordinals_given;
     rows = v.rows;
     sources_differ = v.sources_differ;
+    outs_to_queues = v.outs_to_queues;
+    ins_to_queues = v.ins_to_queues;
     kept = v.kept;
     plain = All-from_recursion (IsCarried headers.Session) (plain_in after)
         (gains_all (IsCarried headers.Session) m gained carried (recursion_from_All (IsCarried headers.Session) (recoverable_messages s) v.plain));
@@ -288,6 +294,8 @@ plain_stands whose low high s ps counted fewer h = let v = h.valid in record {
     ordinals_given = v.ordinals_given;
     rows = v.rows;
     sources_differ = v.sources_differ;
+    outs_to_queues = v.outs_to_queues;
+    ins_to_queues = v.ins_to_queues;
     kept = v.kept;
     plain = All-from_recursion (IsCarried headers.Session) (plain_in ps)
         (fewer_all (IsCarried headers.Session) fewer (recursion_from_All (IsCarried headers.Session) (recoverable_messages s) v.plain));
@@ -316,7 +324,7 @@ plain_stands whose low high s ps counted fewer h = let v = h.valid in record {
 
 -- Rows.
 
-pub rows_stand : (whose : Guid) (low high : ℕ) (s : State) (rows : List Row) → AllByRecursion (IsGivenOrdinal s.next_ordinal) rows → PairsByRecursion Precedes rows
+pub rows_stand : (whose : Guid) (low high : ℕ) (s : State) (rows : List Row) → AllByRecursion (IsHeaded s.next_ordinal) rows → PairsByRecursion Precedes rows
     → AllByRecursion (IsInOrder (length s.peers)) rows → Fewer (kept_in rows) (kept_messages s) → Stands whose low high s → Stands whose low high (record s { outs = rows })
 rows_stand whose low high s rows given rise order fewer h = record {
   valid = rows_valid s rows h.valid given rise order fewer;

@@ -1,7 +1,8 @@
 -- Which states are valid.
 use Rattle.std.specs.List.{list_any}
-use Rattle.std.specs.Prelude.{[], ◌++◌, ◌+◌, ◌<◌, ◌||◌, ◌∷◌, ◌≡◌, ◌≤◌, All, AllPairs, Bool, IfSome, List, false, flat_map, length, map, true, ℕ}
+use Rattle.std.specs.Prelude.{[], ◌++◌, ◌+◌, ◌<◌, ◌||◌, ◌∷◌, ◌≡◌, ◌≤◌, All, AllPairs, Bool, IfSome, IsTrue, List, false, flat_map, length, map, true, ℕ}
 use Rattle.mqb_base.specs.Messages.{IsWellFormed}
+use Rattle.mqb_base.specs.QueueNames.{names_queue}
 use Rattle.mqb_base.specs.Same.{same_guid, same_id}
 use Rattle.mqb_base.specs.declared.ids.Guid.{Guid}
 use Rattle.mqb_base.specs.declared.ids.Identity.{Identity}
@@ -104,6 +105,9 @@ pub record IsValidState (s : State) : Type 0 where
   pub rows : All (IsInOrder (length s.peers)) s.outs
   -- one incoming row for each source and destination
   pub sources_differ : AllPairs (λ a b. is_row_of a.source a.destination b ≡ false) s.ins
+  -- the destinations of rows name queues
+  pub outs_to_queues : All (λ row. IsTrue (names_queue row.destination)) s.outs
+  pub ins_to_queues : All (λ row. IsTrue (names_queue row.destination)) s.ins
   -- messages can be carried: kept ones in a transaction, plain ones in a session
   pub kept : All (IsCarried headers.TxAndSession) (kept_messages s)
   pub plain : All (IsCarried headers.Session) (recoverable_messages s)
