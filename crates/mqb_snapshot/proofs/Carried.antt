@@ -80,6 +80,8 @@ spellable s v = record {
   };
   plain = λ k d lt j e less. in_session _ (each_of (IsCarried Session) (λ p. messages_of p.recoverable) s.plain v.plain k d lt j e less);
   kept = kept_at;
+  outs = v.outs_to_queues;
+  ins = v.ins_to_queues;
 }
   where
     in_queues : List Message

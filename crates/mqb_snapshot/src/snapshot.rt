@@ -7,7 +7,7 @@ ghost use Rattle.mqb_orders.specs.Rows.{row_of};
 ghost use Rattle.mqb_plain.specs.Lists.{messages_of};
 ghost use Rattle.mqb_queue.specs.Places.{lists_at};
 ghost use Rattle.mqb_snapshot.specs.Snapshot.{snapshot, spelled_counters};
-ghost use Rattle.mqb_snapshot.specs.Spellable.{AreSized, IsNamed, IsSpellable};
+ghost use Rattle.mqb_snapshot.specs.Spellable.{AreSized, IsSpellable};
 ghost use Rattle.mqb_snapshot.specs.Spelled.{IsSized, counted, spelled_in, spelled_messages, spelled_out, spelled_places, spelled_plain, spelled_plan, spelled_queue};
 
 use crate::tail::Tail;
@@ -151,8 +151,7 @@ impl Tail {
 
     /// What a store stands for.
     fn contents(&mut self, alloc: Global, contents: &Contents) -> Result<(), Memory>
-        requires sized { IsSpellable contents.now.lists }
-        requires named { IsNamed contents.now.lists }
+        requires { IsSpellable contents.now.lists }
         ensures added { OnOk result (self.new.text ≡ self.old.text ++ snapshot contents.now.lists) }
         ensures front { self.new.front ≡ self.old.front }
     {
@@ -170,8 +169,7 @@ impl Tail {
 
 /// Adds the bytes of what a store stands for at the end.
 pub fn spell(alloc: Global, contents: &Contents, out: &mut Vec<u8>) -> Result<(), Memory>
-    requires valid { IsValidState contents.now.lists }
-    requires named { IsNamed contents.now.lists }
+    requires { IsValidState contents.now.lists }
     ensures spelled { OnOk result (out.new.items ≡
         out.old.items ++ snapshot contents.now.lists) }
     ensures refused { OnErr result (out.new.items ≡ out.old.items) }
