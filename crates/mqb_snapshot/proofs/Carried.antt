@@ -14,21 +14,21 @@ use Rattle.mqb_plain.specs.Lists.{messages_of}
 use Rattle.mqb_snapshot.specs.Spellable.{IsSpellable}
 use Rattle.mqb_snapshot.specs.Spelled.{IsSized}
 
-append_left : {X : Type 0} (P : X → Type 0) (xs ys : List X) → All P (xs ++ ys) → All P xs
+pub append_left : {X : Type 0} (P : X → Type 0) (xs ys : List X) → All P (xs ++ ys) → All P xs
 append_left P [] ys h = All-nil P
 append_left P (x ∷ xs) ys h = All-cons P x xs (All-head P x (xs ++ ys) h) (append_left P xs ys (All-tail P x (xs ++ ys) h))
 
-append_right : {X : Type 0} (P : X → Type 0) (xs ys : List X) → All P (xs ++ ys) → All P ys
+pub append_right : {X : Type 0} (P : X → Type 0) (xs ys : List X) → All P (xs ++ ys) → All P ys
 append_right P [] ys h = h
 append_right P (x ∷ xs) ys h = append_right P xs ys (All-tail P x (xs ++ ys) h)
 
 -- what holds of all members of lists holds of those of each
-each_of : {X Y : Type 0} (P : Y → Type 0) (f : X → List Y) (xs : List X) → All P (flat_map f xs) → All (λ x. All P (f x)) xs
+pub each_of : {X Y : Type 0} (P : Y → Type 0) (f : X → List Y) (xs : List X) → All P (flat_map f xs) → All (λ x. All P (f x)) xs
 each_of P f [] h = All-nil (λ x. All P (f x))
 each_of P f (x ∷ xs) h =
     All-cons (λ x. All P (f x)) x xs (append_left P (f x) (flat_map f xs) h) (each_of P f xs (append_right P (f x) (flat_map f xs) h))
 
-unmapped : {X Y : Type 0} (P : Y → Type 0) (f : X → Y) (xs : List X) → All P (map f xs) → All (λ x. P (f x)) xs
+pub unmapped : {X Y : Type 0} (P : Y → Type 0) (f : X → Y) (xs : List X) → All P (map f xs) → All (λ x. P (f x)) xs
 unmapped P f [] h = All-nil (λ x. P (f x))
 unmapped P f (x ∷ xs) h = All-cons (λ x. P (f x)) x xs (All-head P (f x) (map f xs) h) (unmapped P f xs (All-tail P (f x) (map f xs) h))
 
@@ -56,14 +56,14 @@ all_there {X} P xs i all within = at (slice_get xs i) refl
 pub item_of : {X Y : Type 0} (P : Y → Type 0) (f : X → Y) (xs : List X) (i : ℕ) (x : X) → All P (map f xs) → i < length xs → x ≡ get_or xs i x → P (f x)
 item_of P f xs i x all within is = subst (λ y. P (f y)) (sym is) (unmapped P f xs all i x within)
 
-bare : (m : Message) → IsCarried Bare m → IsSized m
+pub bare : (m : Message) → IsCarried Bare m → IsSized m
 bare m c = record { well_formed = c.well_formed; size = ltb-false MAX_PACKET (message_size Bare m) c.size }
 
-in_session : (m : Message) → IsCarried Session m → IsSized m
+pub in_session : (m : Message) → IsCarried Session m → IsSized m
 in_session m c = let most : message_size Session m ≤ MAX_PACKET = ltb-false MAX_PACKET (message_size Session m) c.size in
     record { well_formed = c.well_formed; size = omega (arith, most) }
 
-in_transaction : (m : Message) → IsCarried TxAndSession m → IsSized m
+pub in_transaction : (m : Message) → IsCarried TxAndSession m → IsSized m
 in_transaction m c = let most : message_size TxAndSession m ≤ MAX_PACKET = ltb-false MAX_PACKET (message_size TxAndSession m) c.size in
     record { well_formed = c.well_formed; size = omega (arith, most) }
 

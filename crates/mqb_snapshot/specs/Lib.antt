@@ -5,3 +5,5 @@ pub mod Spellable
 pub mod Parts
 pub mod Fields
 pub mod Reading
+pub mod Values
+pub mod Laws

@@ -17,5 +17,5 @@ mod stored;
 mod tail;
 
 pub use faults::BackFault;
-pub use laws::one_peer_is_spelled;
+pub use laws::{one_peer_is_spelled, snapshots_are_read_back};
 pub use snapshot::spell;
