@@ -71,7 +71,8 @@ use Rattle.mqb_model.specs.rules.Timeouts.{durable_due}
 use Rattle.mqb_queue.specs.Lists.{Lists}
 use Rattle.std.proofs.Common.{sym, ap, ◌∙◌}
 use Rattle.mqb_history.specs.Calls.{Call, answerless, CreateQueue, SetRoll, Commit, Send, Take, Purge, Tick, Resend, Pump, Hear, outcome_of}
-use Rattle.mqb_history.specs.Made.{IsFrom, IsMade}
+use Rattle.mqb_history.specs.Made.{IsFrom, IsMade, IsOfRows}
+use Rattle.mqb_history.proofs.Opening.{AreOfRows, candidates_open, chosen_all}
 use Rattle.mqb_history.proofs.Trying.{IfTried, ops_tried}
 use Rattle.mqb_model.specs.calls.hear.Plain.{express_answer}
 use Rattle.mqb_history.proofs.Applying.{beside_rows, recorded_manager}
@@ -248,23 +249,24 @@ storage_modest : (m : Manager) (session : one_end.State) → is_some m.rest.sess
 storage_modest m session linked = either m.state session.owes (sending_one m (packet.Ack (stamped kind.Ack session).0) (stamped kind.Ack session).1) (answering m (Ok 0))
     (record { session = refl; entry = tt }) (nothing_modest m linked)
 
-chosen_modest : (m : Manager) (now : ℕ) (session : one_end.State) (k : ℕ) (to : Guid) (cs : List Candidate) → is_some m.rest.session ≡ true
+chosen_modest : (m : Manager) (now : ℕ) (session : one_end.State) (k : ℕ) (to : Guid) (cs : List Candidate) → AreOfRows m.state.outs cs → is_some m.rest.session ≡ true
     → IsModestLinked None m.state (sending_chosen m now session k to cs)
-chosen_modest m now session k to [] linked = storage_modest m session linked
-chosen_modest m now session k to (c ∷ cs) linked = record {
+chosen_modest m now session k to [] rows linked = storage_modest m session linked
+chosen_modest m now session k to (c ∷ cs) rows linked = record {
   session = refl;
-  entry = none_or None m.state (length (marks_for m.state (c ∷ cs)) == 0) (entry.Offered (marks_for m.state (c ∷ cs))) (c ∷ cs, refl) tt;
+  entry = none_or None m.state (length (marks_for m.state (c ∷ cs)) == 0) (entry.Offered (marks_for m.state (c ∷ cs))) (c ∷ cs, refl, rows) tt;
 }
 
-pump_modest : (m : Manager) (now : ℕ) (session : one_end.State) (k : ℕ) (to : Guid) (cs : List Candidate) → is_some m.rest.session ≡ true
+pump_modest : (m : Manager) (now : ℕ) (session : one_end.State) (k : ℕ) (to : Guid) (cs : List Candidate) → AreOfRows m.state.outs cs → is_some m.rest.session ≡ true
     → IsModestLinked None m.state (pump_with m now session k to cs)
-pump_modest m now session k to cs linked = either m.state (is_spent session && not (length cs == 0)) (answering m (Err pump_fault.Spent))
-    (sending_chosen m now session k to (chosen session 0 0 cs)) (record { session = linked; entry = tt }) (chosen_modest m now session k to (chosen session 0 0 cs) linked)
+pump_modest m now session k to cs rows linked = either m.state (is_spent session && not (length cs == 0)) (answering m (Err pump_fault.Spent))
+    (sending_chosen m now session k to (chosen session 0 0 cs)) (record { session = linked; entry = tt })
+    (chosen_modest m now session k to (chosen session 0 0 cs) (chosen_all (λ c. IsOfRows m.state.outs c c.origin) session 0 0 cs rows) linked)
 
 peer_modest : (m : Manager) (now : ℕ) (session : one_end.State) (k : ℕ) (peer : Identity) → is_some m.rest.session ≡ true
     → IsModestLinked None m.state (option_map_or (pump_to m now session k peer) (slice_get m.state.plain k) (answering m (Ok 0)))
 peer_modest m now session k peer linked = or_linked m.state (pump_to m now session k peer) (slice_get m.state.plain k) (answering m (Ok 0))
-    (λ p. pump_modest m now session k peer.guid (candidates m.state m.rest now k peer p) linked) (nothing_modest m linked)
+    (λ p. pump_modest m now session k peer.guid (candidates m.state m.rest now k peer p) (candidates_open m.state m.rest now k peer p) linked) (nothing_modest m linked)
 
 to_peer_modest : (m : Manager) (now : ℕ) (session : one_end.State) (k : ℕ) → is_some m.rest.session ≡ true → IsModestLinked None m.state (pump_at m now session k)
 to_peer_modest m now session k linked = or_linked m.state (λ peer. option_map_or (pump_to m now session k peer) (slice_get m.state.plain k) (answering m (Ok 0)))

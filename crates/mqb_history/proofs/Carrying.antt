@@ -42,7 +42,12 @@ use Rattle.mqb_history.proofs.Keeping.{IsClosed}
 use Rattle.mqb_history.proofs.Lists.{append_nothing, clash, get_in, get_within, none_some, not_true, set_get, other_numbers, some_is, split_and}
 use Rattle.mqb_history.proofs.Holding.{HasExpired, expired_more}
 use Rattle.mqb_history.proofs.Previous.{IsKnownTo, rows_known}
-use Rattle.mqb_history.proofs.Unskipped.{AreHeld, held_by_records}
+use Rattle.mqb_entries.specs.declared.members.Mark.{Mark}
+use Rattle.mqb_exactly_once.specs.World.{Position}
+use Rattle.mqb_history.specs.Offered.{IsOffered}
+use Rattle.mqb_history.proofs.Departing.{GoesFrom, IsMarkedBy, IsSentFrom, pump_goes}
+use Rattle.mqb_history.proofs.Marked.{AreMarked, IsMarked, marked_by_records, offered_more}
+use Rattle.mqb_history.proofs.Sparing.{IsTidy}
 use Rattle.mqb_network.specs.Laws.{lines_written}
 use Rattle.mqb_model.specs.records.Applying.{lines_of}
 use Rattle.mqb_exactly_once.specs.Words.{position_of}
@@ -50,16 +55,16 @@ use Rattle.mqb_history.proofs.Ordering.{with_at}
 use Rattle.mqb_history.proofs.Orderly.{change_orderly, map_get}
 use Rattle.mqb_history.proofs.Runs.{always_kept}
 use Rattle.mqb_history.proofs.Sending.{IsPacketOf, pump_carries}
-use Rattle.mqb_history.proofs.Written.{IsOrderlyWith, begins_with, change_keeps, noted_managers, of_append}
+use Rattle.mqb_history.proofs.Written.{IsOrderlyWith, begins_with, change_keeps, noted_managers, of_append, own_more}
 
 -- What was committed stays committed.
 
-commitments_append : (xs ys : List Written) → commitments (xs ++ ys) ≡ commitments xs ++ commitments ys
+pub commitments_append : (xs ys : List Written) → commitments (xs ++ ys) ≡ commitments xs ++ commitments ys
 commitments_append [] ys = refl
 commitments_append (x ∷ xs) ys = ap (λ cs. commitments_in x.before x.entry ++ cs) (commitments_append xs ys)
     ∙ sym (append_assoc (commitments_in x.before x.entry) (commitments xs) (commitments ys))
 
-lines_append : (xs ys : List Written) → lines_written (xs ++ ys) ≡ lines_written xs ++ lines_written ys
+pub lines_append : (xs ys : List Written) → lines_written (xs ++ ys) ≡ lines_written xs ++ lines_written ys
 lines_append [] ys = refl
 lines_append (x ∷ xs) ys = ap (λ ls. lines_of x.before x.entry ++ ls) (lines_append xs ys)
     ∙ sym (append_assoc (lines_of x.before x.entry) (lines_written xs) (lines_written ys))
@@ -72,6 +77,7 @@ grown i ws more moment p tx h = record {
   position = h.position;
   message = h.message;
   late = h.late;
+  offered = subst (λ xs. IsOffered xs (position_of tx)) (sym (of_append i ws more)) (offered_more (written_of i ws) (written_of i more) (position_of tx) h.offered);
   between = λ n low high. subst (λ ls. HasExpired ls tx.sequence n) (sym (ap lines_written (of_append i ws more) ∙ lines_append (written_of i ws) (written_of i more)))
       (expired_more (lines_written (written_of i ws)) (lines_written (written_of i more)) tx.sequence n (h.between n low high));
 }
@@ -287,30 +293,60 @@ posted_true i now packets c noted_all new h = record {
   doubts = λ j. subst (λ ms. IfSome (doubt_of (unwrap_or (slice_get ms j) nobody).condition) (DecidesTruly c.written)) (sym (noted_managers i now (length packets) c.network)) (h.doubts j);
 }
 
--- what a manager's records committed, a packet of its rows carries
-packet_true : (i : ℕ) (ws : List Written) (moment : ℕ) (x : Packet) → IsPacketOf (IsKnownTo (written_of i ws)) moment x
-    → (p : UserPacket) (tx : TxHead) → x ≡ packet.User p → p.tx ≡ Some tx → IsCommittedBy i ws moment p tx
-packet_true i ws moment x h p tx e t = let g = h p tx e t in record {
+-- what a manager's records committed, a packet of its rows carries, once it is offered
+packet_true : (i : ℕ) (ws more : List Written) (moment : ℕ) (x : Packet) → IsPacketOf (IsKnownTo (written_of i ws)) moment x
+    → (p : UserPacket) (tx : TxHead) → x ≡ packet.User p → p.tx ≡ Some tx → IsOffered (written_of i (ws ++ more)) (position_of tx) → IsCommittedBy i (ws ++ more) moment p tx
+packet_true i ws more moment x h p tx e t offered = let g = h p tx e t in record {
   commitment = record { position = position_of tx; message = g.source };
-  there = g.known.0;
+  there = subst (In (record { position = position_of tx; message = g.source })) (sym (ap commitments (of_append i ws more) ∙ commitments_append (written_of i ws) (written_of i more)))
+      (in_append (commitments (written_of i ws)) (commitments (written_of i more)) (record { position = position_of tx; message = g.source }) g.known.0);
   position = refl;
   message = g.message;
   late = g.late;
-  between = g.known.1;
+  offered = offered;
+  between = λ n low high. subst (λ ls. HasExpired ls tx.sequence n) (sym (ap lines_written (of_append i ws more) ∙ lines_append (written_of i ws) (written_of i more)))
+      (expired_more (lines_written (written_of i ws)) (lines_written (written_of i more)) tx.sequence n (g.known.1 n low high));
 }
 
-given_true : (i now : ℕ) (failure : Option Failure) (c : Course) → AreHeld (manager_at c.network i).state (written_of i c.written)
-    → (x : Packet) → In x (given_out (outcome_of (manager_at c.network i) (Pump now)) failure) → (p : UserPacket) (tx : TxHead) → x ≡ packet.User p → p.tx ≡ Some tx
-    → IsCommittedBy i c.written now p tx
-given_true i now None c held x inside = let known = IsKnownTo (written_of i c.written) in packet_true i c.written now x
-    (all_in (IsPacketOf known now) (outcome_of (manager_at c.network i) (Pump now)).packets x
-    (pump_carries known (manager_at c.network i) now (rows_known (manager_at c.network i).state (written_of i c.written) held)) inside)
-given_true i now (Some how) c held x inside = absurd inside
+-- what a pump sends was offered, by its own record or before
+sent_offered : (i : ℕ) (m : Manager) (o : Option Record) (ws : List Written) (tx : TxHead) → AreMarked m.state (written_of i ws) → IsSentFrom m.state o tx
+    → IsOffered (written_of i (ws ++ written_by i m o)) (position_of tx)
+sent_offered i m o ws tx held g = subst (λ xs. IsOffered xs (position_of tx)) (sym (own_more i m o ws)) (subst (λ h. IsOffered (written_of i ws ++ written_by i m o) (position_of h)) (sym g.head) (at g.marked))
+  where
+    inside : In g.row m.state.outs
+    inside = get_in m.state.outs g.index g.row g.there
 
-calling_grows : (i : ℕ) (call : Call) (failure : Option Failure) (c : Course) → (k moment : ℕ) (p : UserPacket) (tx : TxHead) → IsCommittedBy k c.written moment p tx
-    → IsCommittedBy k (calling i call failure c).written moment p tx
-calling_grows i call None c k moment p tx h = grown k c.written (written_by i (manager_at c.network i) (outcome_of (manager_at c.network i) call).entry) moment p tx h
-calling_grows i call (Some how) c k moment p tx h = h
+    place : Position
+    place = record { sequence = g.row.sequence; number = g.kept.number }
+
+    by : (marks : List Mark) (mark : Mark) → o ≡ Some (entry.Offered marks) → In mark marks → mark.ordinal ≡ g.row.sequence.ordinal → g.kept.number ≤ mark.number
+        → IsOffered (written_of i ws ++ written_by i m o) place
+    by marks mark offers there ordinal enough = subst (λ x. IsOffered (written_of i ws ++ written_by i m x) place) (sym offers) (record {
+      before = written_of i ws;
+      offering = record { by = i; before = m.state; entry = entry.Offered marks };
+      behind = [];
+      split = refl;
+      marks = marks;
+      offers = refl;
+      mark = mark;
+      there = there;
+      ordinal = ordinal;
+      enough = enough;
+      unexpired = (all_in (IsTidy (lines_written (written_of i ws))) m.state.outs g.row held.0.1 inside).spared g.kept g.inside;
+    })
+
+    at : (g.kept.number ≤ g.row.offered) ⊎ IsMarkedBy o g.row g.kept.number → IsOffered (written_of i ws ++ written_by i m o) place
+    at (inl le) = offered_more (written_of i ws) (written_by i m o) place ((all_in (IsMarked (written_of i ws)) m.state.outs g.row held.1 inside).kept g.kept g.inside le)
+    at (inr k) = by k.marks k.mark k.offers k.there k.ordinal k.enough
+
+given_true : (i now : ℕ) (failure : Option Failure) (c : Course) → AreMarked (manager_at c.network i).state (written_of i c.written)
+    → (x : Packet) → In x (given_out (outcome_of (manager_at c.network i) (Pump now)) failure) → (p : UserPacket) (tx : TxHead) → x ≡ packet.User p → p.tx ≡ Some tx
+    → IsCommittedBy i (calling i (Pump now) failure c).written now p tx
+given_true i now None c held x inside p tx e t = let m = manager_at c.network i in let known = IsKnownTo (written_of i c.written) in let outcome = outcome_of m (Pump now) in
+    packet_true i c.written (written_by i m outcome.entry) now x
+    (all_in (IsPacketOf known now) outcome.packets x (pump_carries known m now (rows_known m.state (written_of i c.written) held.0.0.0.0)) inside) p tx e t
+    (sent_offered i m outcome.entry c.written tx held (all_in (GoesFrom m.state outcome.entry) outcome.packets x (pump_goes m now) inside p tx e t))
+given_true i now (Some how) c held x inside p tx e t = absurd inside
 
 calling_noted : (i : ℕ) (call : Call) (failure : Option Failure) (c : Course) → length c.network.notes ≡ length c.sent
     → length (calling i call failure c).network.notes ≡ length (calling i call failure c).sent
@@ -364,7 +400,7 @@ with_condition : (n : Network) (ws : List Written) (i : ℕ) (m : Manager) → (
     → IfSome (doubt_of m.condition) (DecidesTruly ws) → (j : ℕ) → IfSome (doubt_of (manager_at (with_manager n i m) j).condition) (DecidesTruly ws)
 with_condition n ws i m h new j = with_at (λ x. IfSome (doubt_of x.condition) (DecidesTruly ws)) n i j m (h j) (λ e. new)
 
-change_true : (c : Course) (x : Change) → may_change c x ≡ true → length c.network.notes ≡ length c.sent → ((i : ℕ) → AreHeld (manager_at c.network i).state (written_of i c.written))
+change_true : (c : Course) (x : Change) → may_change c x ≡ true → length c.network.notes ≡ length c.sent → ((i : ℕ) → AreMarked (manager_at c.network i).state (written_of i c.written))
     → IsTruthful c → IsTruthful (changed x c)
 change_true c (Calls i call failure) may noted_all held h = calling_true i call failure c
     (from_none c.written (outcome_of (manager_at c.network i) call).entry
@@ -372,7 +408,7 @@ change_true c (Calls i call failure) may noted_all held h = calling_true i call 
     (from_only _ (manager_at c.network i).state (outcome_of (manager_at c.network i) call).entry (calls_are_modest (manager_at c.network i) call).entry))) h
 change_true c (Pumps i now failure) may noted_all held h = posted_true i now (given_out (outcome_of (manager_at c.network i) (Pump now)) failure) (calling i (Pump now) failure c)
     (calling_noted i (Pump now) failure c noted_all)
-    (λ x inside p tx e t. calling_grows i (Pump now) failure c i now p tx (given_true i now failure c (held i) x inside p tx e t))
+    (given_true i now failure c (held i))
     (calling_true i (Pump now) failure c (from_none c.written (outcome_of (manager_at c.network i) (Pump now)).entry
     (from_only _ (manager_at c.network i).state (outcome_of (manager_at c.network i) (Pump now)).entry (calls_are_modest (manager_at c.network i) (Pump now)).entry)) h)
 change_true c (Hears k now failure) may noted_all held h = hearing_true k now failure c (numbered c.network.notes k) (numbered c.sent k) refl refl h
@@ -415,20 +451,20 @@ change_true c (Fails i) may noted_all held h = record {
 
 -- what holds of each course
 abbrev IsCarrying : List Identity → Course → Type 0
-IsCarrying known c = IsOrderlyWith known AreHeld c × IsTruthful c
+IsCarrying known c = IsOrderlyWith known AreMarked c × IsTruthful c
 
 carrying_closed : (known : List Identity) → AreApart known → IsClosed known (IsCarrying known)
 carrying_closed known apart = record {
   orderly = λ c h. h.0.0;
   keeps = λ c x may h. (
-    (change_orderly known c x apart may h.0.0, change_keeps known AreHeld held_by_records c x may h.0.0 h.0.1),
+    (change_orderly known c x apart may h.0.0, change_keeps known AreMarked marked_by_records c x may h.0.0 h.0.1),
     change_true c x may h.0.0.noted h.0.1 h.1,
   );
 }
 
 carrying_begins : (known : List Identity) → IsCarrying known (beginning known)
 carrying_begins known = (
-  begins_with known AreHeld held_by_records,
+  begins_with known AreMarked marked_by_records,
   record {
     carried = λ k note p tx e f t. absurd (nothing_numbered k note e);
     written = tt;
@@ -457,7 +493,7 @@ always_decided_truly known ms apart run kept = from_source (settled kept (after_
         let all = subst (λ ws. IsCommittedBy g.0 ws g.1 p tx) (sym split) (grown g.0 before (w ∷ behind) g.1 p tx g.2) in record {
           source = g.0;
           own = sym ((all_in (IsOwnBelow (manager_at c.network g.0).state.identity.guid (manager_at c.network g.0).state.next_number) (commitments (written_of g.0 c.written))
-              all.commitment (h.0.1 g.0).0.own_ids all.there).0) ∙ ap (λ (m : Message). m.id.qm) (sym all.message);
+              all.commitment (h.0.1 g.0).0.0.0.0.0.own_ids all.there).0) ∙ ap (λ (m : Message). m.id.qm) (sym all.message);
           moment = g.1;
           committed = g.2;
         }

@@ -34,7 +34,7 @@ use Rattle.mqb_base.specs.declared.ids.Guid.{Guid}
 use Rattle.mqb_base.specs.declared.ids.SequenceId.{SequenceId}
 
 -- what a line says of an expiry was committed by a manager and was due
-abbrev IsDue : Guid → List Commitment → Line → Type 0
+abbrev pub IsDue : Guid → List Commitment → Line → Type 0
 IsDue own cs (line.Expired stream number id moment) = WasDue own cs stream number id moment
 IsDue own cs _ = Unit {0}
 
@@ -59,7 +59,7 @@ due_more own cs more (line.Lapsed id) h = tt
 due_more own cs more (line.Emptied id) h = tt
 
 -- rows of one ordinal are one
-one_row : (rows : List Row) (a b : Row) → OrdinalsRise rows → In a rows → In b rows → a.sequence.ordinal ≡ b.sequence.ordinal → a ≡ b
+pub one_row : (rows : List Row) (a b : Row) → OrdinalsRise rows → In a rows → In b rows → a.sequence.ordinal ≡ b.sequence.ordinal → a ≡ b
 one_row [] a b rise i j same = absurd i
 one_row (x ∷ rows) a b rise (inl e) (inl f) same = sym e ∙ f
 one_row (x ∷ rows) a b rise (inl e) (inr j) same = let less = all_in (λ y. x.sequence.ordinal < y.sequence.ordinal) rows b rise.0 j in
@@ -109,13 +109,13 @@ line_due s ws rowed (line.Swept id) h = tt
 line_due s ws rowed (line.Lapsed id) h = tt
 line_due s ws rowed (line.Emptied id) h = tt
 
-abbrev AreDue : State → List Written → Type 0
+abbrev pub AreDue : State → List Written → Type 0
 AreDue s ws = AreRowed s ws × AllByRecursion (IsDue s.identity.guid (commitments ws)) (lines_written ws)
 
 due_of : (a b : Identity) (cs : List Commitment) (ls : List Line) → b ≡ a → AllByRecursion (IsDue a.guid cs) ls → AllByRecursion (IsDue b.guid cs) ls
 due_of a b cs ls e h = subst (λ (i : Identity). AllByRecursion (IsDue i.guid cs) ls) (sym e) h
 
-due_by_records : IsByRecords AreDue
+pub due_by_records : IsByRecords AreDue
 due_by_records = record {
   starts = λ own peers. (rowed_by_records.starts own peers, tt);
   quiet = λ a b ws same h. (rowed_by_records.quiet a b ws same h.0, due_of a.identity b.identity (commitments ws) (lines_written ws) same.manager.identity h.1);

@@ -51,7 +51,7 @@ whole_more ls more row h = λ n low high. at n (h n low high)
 
 -- Lists.
 
-in_filter : {X : Type 0} (test : X → Bool) (xs : List X) (x : X) → test x ≡ true → In x xs → In x (filter test xs)
+pub in_filter : {X : Type 0} (test : X → Bool) (xs : List X) (x : X) → test x ≡ true → In x xs → In x (filter test xs)
 in_filter test [] x e i = absurd i
 in_filter test (y ∷ ys) x e (inl same) = at (test y) (ap test same ∙ e)
   where
@@ -65,11 +65,11 @@ in_filter test (y ∷ ys) x e (inr i) = at (test y) (in_filter test ys x e i)
     at false rest = rest
 
 -- the others stay where the first that passes leaves
-abbrev others_of : {X : Type 0} → (X → Bool) → List X → List X
+abbrev pub others_of : {X : Type 0} → (X → Bool) → List X → List X
 others_of p [] = []
 others_of p (x ∷ xs) = cond (p x) xs (x ∷ others_of p xs)
 
-without_is : {X : Type 0} (p : X → Bool) (xs : List X) → without_first p xs ≡ others_of p xs
+pub without_is : {X : Type 0} (p : X → Bool) (xs : List X) → without_first p xs ≡ others_of p xs
 without_is p [] = refl
 without_is p (x ∷ xs) = at (p x) (without_is p xs)
   where
@@ -107,7 +107,7 @@ stays_or p xs x i = at (by xs i)
     at (inl j) = inl (subst (In x) (sym (without_is p xs)) j)
     at (inr f) = inr (first_is_found p xs ∙ f)
 
-set_all : (P : Row → Type 0) (rows : List Row) (k : ℕ) (row : Row) → P row → AllByRecursion P rows → AllByRecursion P (slice_set rows k row)
+pub set_all : (P : Row → Type 0) (rows : List Row) (k : ℕ) (row : Row) → P row → AllByRecursion P rows → AllByRecursion P (slice_set rows k row)
 set_all P [] k row new h = tt
 set_all P (x ∷ rows) zero row new h = (new, h.1)
 set_all P (x ∷ rows) (suc k) row new h = (h.0, set_all P rows k row new h.1)

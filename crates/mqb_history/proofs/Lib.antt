@@ -2,6 +2,7 @@ mod Lists
 mod Staying
 mod Applying
 mod Trying
+mod Opening
 mod Calling
 mod Refusing
 mod Connections
@@ -51,3 +52,8 @@ mod Passing
 mod Sessions
 mod Released
 mod Storage
+mod Rowwise
+mod Sparing
+mod Marked
+mod Departing
+mod Undecided

@@ -145,7 +145,7 @@ removed_in (y ∷ ys) zero x h = inr h
 removed_in (y ∷ ys) (suc k) x (inl e) = inl e
 removed_in (y ∷ ys) (suc k) x (inr h) = inr (removed_in ys k x h)
 
-without_in : {X : Type 0} (test : X → Bool) (xs : List X) (x : X) → In x (without_first test xs) → In x xs
+pub without_in : {X : Type 0} (test : X → Bool) (xs : List X) (x : X) → In x (without_first test xs) → In x xs
 without_in test xs x h = at (position test xs) h
   where
     at : (o : Option ℕ) → In x (option_map_or (remove xs) o xs) → In x xs

@@ -115,7 +115,7 @@ following_by_records = record {
 -- Sources.
 
 -- what a record decides comes from its source
-abbrev IsSourced : Course → Written → Type 0
+abbrev pub IsSourced : Course → Written → Type 0
 IsSourced c w = (now : ℕ) (numbers : List ℕ) (p : UserPacket) (tx : TxHead) → w.entry ≡ entry.Arrived now numbers (entry.Decided p) → p.tx ≡ Some tx
     → ComesFromItsSource c c.written p tx
 
@@ -129,7 +129,7 @@ split_at [] w i = absurd i
 split_at (x ∷ ws) w (inl e) = record { before = []; behind = ws; all = ap (λ y. y ∷ ws) e }
 split_at (x ∷ ws) w (inr i) = let s = split_at ws w i in record { before = x ∷ s.before; behind = s.behind; all = ap (λ ys. x ∷ ys) s.all }
 
-sourced : (c : Course) → AreDecidedTruly c → (w : Written) → In w c.written → IsSourced c w
+pub sourced : (c : Course) → AreDecidedTruly c → (w : Written) → In w c.written → IsSourced c w
 sourced c truly w i = λ now numbers p tx e there. let s = split_at c.written w i in let h = truly s.before s.behind w now numbers p tx s.all e there in record {
   source = h.source;
   own = h.own;
@@ -140,7 +140,7 @@ sourced c truly w i = λ now numbers p tx e there. let s = split_at c.written w 
 -- None is skipped.
 
 -- a record decides a position
-record Decides (channel : Channel) (r : Record) (q : Position) : Type 0 where
+pub record Decides (channel : Channel) (r : Record) (q : Position) : Type 0 where
   pub now : ℕ
   pub numbers : List ℕ
   pub packet : UserPacket
@@ -159,7 +159,7 @@ decides_packet channel now numbers p q (Some tx) there e = at (is_in_channel cha
     at true f e = record { now = now; numbers = numbers; packet = p; head = tx; entry = refl; there = there; inside = f; position = some_is (position_of tx) q e }
     at false f e = absurd (none_some e)
 
-decides : (channel : Channel) (r : Record) (q : Position) → decided_in channel r ≡ Some q → Decides channel r q
+pub decides : (channel : Channel) (r : Record) (q : Position) → decided_in channel r ≡ Some q → Decides channel r q
 decides channel (entry.Identity identity) q e = absurd (none_some e)
 decides channel (entry.Peer peer) q e = absurd (none_some e)
 decides channel (entry.CreateQueue number plan) q e = absurd (none_some e)

@@ -63,7 +63,7 @@ of_append i (x ∷ xs) ys = at (x.by == i) (of_append i xs ys)
     at false rest = rest
 
 -- a record of its own joins them, and one of another does not
-own_more : (i : ℕ) (m : Manager) (o : Option Record) (ws : List Written) → written_of i (ws ++ written_by i m o) ≡ written_of i ws ++ written_by i m o
+pub own_more : (i : ℕ) (m : Manager) (o : Option Record) (ws : List Written) → written_of i (ws ++ written_by i m o) ≡ written_of i ws ++ written_by i m o
 own_more i m None ws = of_append i ws []
 own_more i m (Some r) ws = of_append i ws (record { by = i; before = m.state; entry = r } ∷ [])
     ∙ ap (λ b. written_of i ws ++ cond b (record { by = i; before = m.state; entry = r } ∷ []) []) (same_number i)

@@ -13,9 +13,11 @@ use Rattle.mqb_queue.specs.Places.{numbered}
 use Rattle.mqb_history.specs.Committed.{commitments}
 use Rattle.mqb_history.specs.Decided.{written_of}
 use Rattle.mqb_history.specs.Expired.{expiries_told}
+use Rattle.mqb_history.specs.Offered.{IsOffered}
 
 -- A manager committed what a packet carries that it sends at a moment: at the place that its header names, and the same in every field but the time
--- to reach its queue, which is what is left of it then. Whatever stands between this place and the previous one that the header names expired.
+-- to reach its queue, which is what is left of it then. It offered this place before, and whatever stands between it and the previous one that the
+-- header names expired.
 pub record IsCommittedBy (i : ℕ) (written : List Written) (moment : ℕ) (p : UserPacket) (tx : TxHead) : Type 0 where
   pub commitment : Commitment
   pub there : In commitment (commitments (written_of i written))
@@ -23,6 +25,7 @@ pub record IsCommittedBy (i : ℕ) (written : List Written) (moment : ℕ) (p : 
   pub message : p.message ≡ carried commitment.message moment
   -- no time is left where it is due
   pub late : (p.remaining == 0) ≡ due commitment.message moment
+  pub offered : IsOffered (written_of i written) (position_of tx)
   pub between : (n : ℕ) → tx.previous < n → n < tx.number
       → In (record { sequence = tx.sequence; number = n }) (expiries_told (lines_written (written_of i written)))
 

@@ -14,6 +14,7 @@ use Rattle.mqb_history.specs.Orderly.{IsOrderly}
 use Rattle.mqb_history.specs.Skipped.{AreUnskipped}
 use Rattle.mqb_history.specs.Waiting.{AreWaiting}
 use Rattle.mqb_history.specs.Expired.{AreExpiredDuly, AreOffersKept, MayExpire}
+use Rattle.mqb_history.specs.Offered.{AreUndecided}
 use Rattle.mqb_base.specs.declared.ids.MessageId.{MessageId}
 use Rattle.mqb_base.specs.declared.ledger.Line.TheVariants as line
 use Rattle.mqb_base.specs.declared.ledger.Stream.{Stream}
@@ -106,3 +107,7 @@ AlwaysWaiting = Always AreWaiting
 -- What was offered never expires later.
 abbrev pub AlwaysOffersKept : Type 0
 AlwaysOffersKept = Always AreOffersKept
+
+-- What expired is decided nowhere, before or later.
+abbrev pub AlwaysUndecided : Type 0
+AlwaysUndecided = Always AreUndecided

@@ -6,6 +6,7 @@ pub mod Doubts
 pub mod Orderly
 pub mod Decided
 pub mod Committed
+pub mod Offered
 pub mod Carried
 pub mod Told
 pub mod Expired

@@ -1,21 +1,24 @@
 -- What is known of a record that a call made, as long as its manager's rows and numbers stay.
-use Rattle.std.specs.List.{enumerate_from}
-use Rattle.std.specs.Prelude.{[], ◌+◌, ◌∷◌, ◌≡◌, List, Option, Some, filter_map, ℕ}
+use Rattle.std.specs.List.{AllByRecursion, enumerate_from}
+use Rattle.std.specs.Prelude.{[], ◌+◌, ◌∷◌, ◌≡◌, List, None, Option, Some, filter_map, slice_get, true, ℕ}
 use Rattle.mqb_base.specs.declared.heads.TxHead.{TxHead}
 use Rattle.mqb_base.specs.declared.ids.Guid.{Guid}
 use Rattle.mqb_base.specs.declared.message.Message.{Message}
 use Rattle.mqb_entries.specs.declared.members.Mark.{Mark}
+use Rattle.mqb_exactly_once.specs.Words.{In}
 use Rattle.mqb_model.specs.Lists.{first_where}
-use Rattle.mqb_model.specs.calls.pump.Candidates.{Candidate}
+use Rattle.mqb_model.specs.calls.pump.Candidates.{Candidate, tx_of}
 use Rattle.mqb_model.specs.calls.pump.Pump.{mark_for}
+use Rattle.mqb_model.specs.managers.Beside.{OfRow, Origin}
 use Rattle.mqb_model.specs.records.Commit.{sends_of}
 use Rattle.mqb_model.specs.records.Record.{Record}
 use Rattle.mqb_model.specs.records.Record as entry
 use Rattle.mqb_model.specs.state.Rows.{is_row_of}
 use Rattle.mqb_model.specs.state.State.{State}
 use Rattle.mqb_orders.specs.Judging.{verdict_of}
-use Rattle.mqb_orders.specs.Rows.{Row}
+use Rattle.mqb_orders.specs.Rows.{Row, is_open}
 use Rattle.mqb_orders.specs.declared.judging.Verdict.TheVariants.{Next}
+use Rattle.mqb_orders.specs.declared.kept.Kept.{Kept}
 use Rattle.mqb_orders.specs.declared.rows.InRow.{InRow}
 use Rattle.mqb_packet.specs.declared.packet.Packet.{Packet}
 use Rattle.mqb_packet.specs.declared.packet.Packet.TheVariants as packet
@@ -36,9 +39,26 @@ pub record IsNext (ins : List InRow) (p : UserPacket) : Type 0 where
   pub there : p.tx ≡ Some head
   pub next : verdict_of (row_heard ins p.message) head ≡ Next
 
+-- a message goes from a row: it is kept there, under the header that names what stands before it, and the row is open
+pub record IsOfOpenRow (outs : List Row) (index number : ℕ) (c : Candidate) : Type 0 where
+  pub row : Row
+  pub there : slice_get outs index ≡ Some row
+  pub kept : Kept
+  pub inside : In kept row.kept
+  pub numbered : number ≡ kept.number
+  pub message : c.message ≡ kept.message
+  pub head : c.tx ≡ Some (tx_of row kept)
+  pub open_ : is_open outs index ≡ true
+
+-- what could go is of an open row, or of no stream
+abbrev pub IsOfRows : List Row → Candidate → Origin → Type 0
+IsOfRows outs c (OfRow index number) = IsOfOpenRow outs index number c
+IsOfRows outs c _ = c.tx ≡ None
+
 -- marks are those of candidates that a pump sends from these rows
 abbrev pub AreSent : List Row → List Mark → Type 0
 AreSent outs marks = (cs : List Candidate) × (marks ≡ filter_map (mark_for cs) (enumerate_from 0 outs))
+    × AllByRecursion (λ c. IsOfRows outs c c.origin) cs
 
 -- A record adds no peer, the messages that a transaction sends bear the next numbers, what is offered is sent, and what is decided is next.
 abbrev pub IsMadeBy : Guid → List Row → List InRow → ℕ → Record → Type 0
