@@ -57,3 +57,4 @@ mod Sparing
 mod Marked
 mod Departing
 mod Undecided
+mod Begun

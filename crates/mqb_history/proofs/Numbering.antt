@@ -52,7 +52,7 @@ changed_all P change test (row ∷ rows) keeps h = at (test row) (changed_all P 
     at true rest = (keeps row h.0, h.1)
     at false rest = (h.0, rest)
 
-rise_kept : (m : Message) (test : Row → Bool) (rows : List Row) → OrdinalsRise rows → OrdinalsRise (first_changed (with_kept m) test rows)
+pub rise_kept : (m : Message) (test : Row → Bool) (rows : List Row) → OrdinalsRise rows → OrdinalsRise (first_changed (with_kept m) test rows)
 rise_kept m test [] h = tt
 rise_kept m test (row ∷ rows) h = at (test row) (rise_kept m test rows h.1)
   where
@@ -60,7 +60,7 @@ rise_kept m test (row ∷ rows) h = at (test row) (rise_kept m test rows h.1)
     at true rest = (h.0, h.1)
     at false rest = (changed_all (λ b. row.sequence.ordinal < b.sequence.ordinal) (with_kept m) test rows (λ b less. less) h.0, rest)
 
-rise_new : (rows : List Row) (row : Row) → OrdinalsRise rows → AllByRecursion (λ b. b.sequence.ordinal < row.sequence.ordinal) rows → OrdinalsRise (rows ++ row ∷ [])
+pub rise_new : (rows : List Row) (row : Row) → OrdinalsRise rows → AllByRecursion (λ b. b.sequence.ordinal < row.sequence.ordinal) rows → OrdinalsRise (rows ++ row ∷ [])
 rise_new [] row h low = (tt, tt)
 rise_new (a ∷ rows) row h low = (all_append (λ b. a.sequence.ordinal < b.sequence.ordinal) rows (row ∷ []) h.0 (low.0, tt), rise_new rows row h.1 low.1)
 
@@ -158,7 +158,7 @@ joins_new own rows next low cs row m ordinal zero_of empty_of id h = record {
     others (x ∷ xs) low h = (counted_apart cs (commitment_to row m) x (λ same. let less = low.0 in omega (arith, less, ordinal, same)) h.0, others xs low.1 h.1)
 
 -- the row to which a message goes
-last_in : {X : Type 0} (test : X → Bool) (o : Option X) (xs : List X) (x : X) → last_or o (filter test xs) ≡ Some x → (o ≡ Some x) ⊎ In x xs
+pub last_in : {X : Type 0} (test : X → Bool) (o : Option X) (xs : List X) (x : X) → last_or o (filter test xs) ≡ Some x → (o ≡ Some x) ⊎ In x xs
 last_in test o [] x e = inl e
 last_in test o (y ∷ ys) x e = at (test y) e (last_in test (Some y) ys x) (last_in test o ys x)
   where

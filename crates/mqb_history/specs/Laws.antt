@@ -15,6 +15,7 @@ use Rattle.mqb_history.specs.Skipped.{AreUnskipped}
 use Rattle.mqb_history.specs.Waiting.{AreWaiting}
 use Rattle.mqb_history.specs.Expired.{AreExpiredDuly, AreOffersKept, MayExpire}
 use Rattle.mqb_history.specs.Offered.{AreUndecided}
+use Rattle.mqb_history.specs.Begun.{AreBegunInOrder}
 use Rattle.mqb_base.specs.declared.ids.MessageId.{MessageId}
 use Rattle.mqb_base.specs.declared.ledger.Line.TheVariants as line
 use Rattle.mqb_base.specs.declared.ledger.Stream.{Stream}
@@ -111,3 +112,7 @@ AlwaysOffersKept = Always AreOffersKept
 -- What expired is decided nowhere, before or later.
 abbrev pub AlwaysUndecided : Type 0
 AlwaysUndecided = Always AreUndecided
+
+-- Sequences of one destination follow one another.
+abbrev pub AlwaysBegunInOrder : Type 0
+AlwaysBegunInOrder = Always AreBegunInOrder

@@ -12,5 +12,6 @@ pub mod Told
 pub mod Expired
 pub mod Skipped
 pub mod Waiting
+pub mod Begun
 pub mod Laws
 pub mod Stored

@@ -3,7 +3,7 @@
 //! Each function stands for a law: its contract is the law, and its body is empty.
 #![tactic(auto)]
 
-ghost use Rattle.mqb_history.specs.Laws.{AlwaysCarriedTruly, AlwaysCommittedInOrder, AlwaysDecidedInOrder, AlwaysDecidedTruly, AlwaysExpiredDuly, AlwaysOffersKept, AlwaysToldCommitments, AlwaysUndecided, AlwaysUnskipped, AlwaysWaiting, DecisionsHaveReasons, DownStays, ExpiriesHaveReasons, FailuresAreSettled, HistoriesAreOrderly, LinesTellDecisions, RunsHaveHistories};
+ghost use Rattle.mqb_history.specs.Laws.{AlwaysBegunInOrder, AlwaysCarriedTruly, AlwaysCommittedInOrder, AlwaysDecidedInOrder, AlwaysDecidedTruly, AlwaysExpiredDuly, AlwaysOffersKept, AlwaysToldCommitments, AlwaysUndecided, AlwaysUnskipped, AlwaysWaiting, DecisionsHaveReasons, DownStays, ExpiriesHaveReasons, FailuresAreSettled, HistoriesAreOrderly, LinesTellDecisions, RunsHaveHistories};
 ghost use Rattle.mqb_history.specs.Stored.{StorageIsAlwaysKept};
 
 /// Sessions are connections, there is a note for each packet, and managers stay who they are.
@@ -94,4 +94,9 @@ pub fn storage_is_always_kept()
 /// What expired at its source is decided nowhere: nothing that was decided expires later, and nothing that expired is decided.
 pub fn expired_is_never_decided()
     ensures { AlwaysUndecided }
+{}
+
+/// Of two sequences to one destination nothing of the later one is offered before all of the earlier one is acknowledged or expired.
+pub fn sequences_always_in_order()
+    ensures { AlwaysBegunInOrder }
 {}
