@@ -11,7 +11,6 @@ use Rattle.mqb_base.specs.declared.message.Message.{Message}
 use Rattle.mqb_base.specs.declared.queue_names.QueueName.{QueueName}
 use Rattle.mqb_entries.specs.declared.members.Mark.{Mark}
 use Rattle.mqb_exactly_once.specs.Words.{In}
-use Rattle.mqb_exactly_once.specs.World.{Commitment}
 use Rattle.mqb_model.specs.Lists.{without_first}
 use Rattle.mqb_model.specs.declared.target.Target.{Target}
 use Rattle.mqb_model.specs.declared.target.Target.TheVariants.{AtPeer, Here, Nowhere}
@@ -34,8 +33,7 @@ use Rattle.mqb_network.specs.Network.{manager_at}
 use Rattle.mqb_network.specs.Runs.{after_run}
 use Rattle.mqb_orders.specs.Rows.{Row, has_unacknowledged, is_open, leads_to}
 use Rattle.mqb_orders.specs.declared.kept.Kept.{Kept}
-use Rattle.mqb_history.specs.Begun.{AreBegunInOrder, IsDoneWith}
-use Rattle.mqb_history.specs.Committed.{commitments}
+use Rattle.mqb_history.specs.Begun.{AreBegunInOrder}
 use Rattle.mqb_history.specs.Decided.{written_of}
 use Rattle.mqb_history.specs.Expired.{expiries_told}
 use Rattle.mqb_history.specs.Laws.{AlwaysBegunInOrder}
@@ -45,8 +43,8 @@ use Rattle.mqb_history.proofs.Applying.{applied_manager, made_of_no_peer, takes_
 use Rattle.mqb_history.proofs.Between.{in_any}
 use Rattle.mqb_history.proofs.Committing.{OrdinalsRise, all_in, first_changed, in_split, is_first_changed}
 use Rattle.mqb_history.proofs.Due.{one_row}
-use Rattle.mqb_history.proofs.Lists.{all_append, all_weaker, clash, equal_numbers, get_in, join_and, none_some, not_true, same_number, some_is, split_and, true_not_false}
-use Rattle.mqb_history.proofs.Marked.{IsMarkOf, made_marks}
+use Rattle.mqb_history.proofs.Lists.{all_append, all_weaker, equal_numbers, get_in, join_and, none_some, not_true, same_number, some_is, split_and, true_not_false}
+use Rattle.mqb_history.proofs.Marked.{made_marks}
 use Rattle.mqb_history.proofs.Names.{same_name_is, same_name_refl}
 use Rattle.mqb_history.proofs.Numbering.{AreCounted, changed_all, counted_by_records, in_use_in, joined_outs, last_in, rise_kept, rise_new}
 use Rattle.mqb_history.proofs.Outside.{filtered_in, without_in}
@@ -347,7 +345,7 @@ sends_roll now e (m ∷ ms) h = sends_roll now (send_made now e m) ms
 -- Records.
 
 -- what holds of a manager's rows: they begin in order, and lead where their destinations lead
-record AreRolling (s : State) (ws : List Written) : Type 0 where
+pub record AreRolling (s : State) (ws : List Written) : Type 0 where
   pub counted : AreCounted s ws
   pub begun : AreBegun s.outs
   pub led : AllByRecursion (λ row. resolved s row.destination ≡ AtPeer row.peer) s.outs
@@ -382,7 +380,7 @@ record_led s r made h = all_weaker (λ (row : Row). resolved s row.destination �
       expires = λ now row g. g;
     }) h)
 
-rolling_by_records : IsByRecords AreRolling
+pub rolling_by_records : IsByRecords AreRolling
 rolling_by_records = record {
   starts = λ own peers. record {
     counted = counted_by_records.starts own peers;

@@ -1,5 +1,15 @@
 -- What each call of a manager keeps: whether it is linked, and who it is and who its peers are.
-use Rattle.std.proofs.Common.{refl}
+use Rattle.std.proofs.Common.{arith, refl}
+use Rattle.std.proofs.lemmas.Bool.Decides.{nat_tests}
+use Rattle.std.specs.Prelude.{◌+◌, ◌≤◌, nat_lt}
+use Rattle.mqb_base.specs.declared.draft.Parts.{Parts}
+use Rattle.mqb_packet.specs.declared.packet.Headers.TheVariants as headers
+use Rattle.mqb_model.specs.declared.faults.CommitFault.TheVariants as commit_fault
+use Rattle.mqb_model.specs.declared.faults.SendFault.{SendFault}
+use Rattle.mqb_model.specs.declared.faults.SendFault.TheVariants as send_fault
+use Rattle.mqb_model.specs.declared.limits.TheConstants.{MAX_NUMBER}
+use Rattle.mqb_model.specs.records.Packets.{is_too_large}
+use Rattle.mqb_model.specs.state.Resolving.{resolved}
 use Rattle.mqb_base.specs.declared.heads.TxHead.{TxHead}
 use Rattle.mqb_base.specs.declared.heard.Heard.{Heard}
 use Rattle.mqb_base.specs.declared.ids.Guid.{Guid}
@@ -19,7 +29,7 @@ use Rattle.mqb_session.specs.declared.heads.HeadHeard.TheVariants as head
 use Rattle.mqb_setup.specs.declared.internal.Internal.{Internal}
 use Rattle.mqb_model.specs.declared.faults.CommitFault.{CommitFault}
 use Rattle.std.specs.List.{list_any}
-use Rattle.std.specs.Option.{option_map_or}
+use Rattle.std.specs.Option.{option_map_or, option_or}
 use Rattle.std.specs.Prelude.{◌==◌, ◌&&◌, ◌∷◌, [], Bool, Err, List, None, Ok, Option, Result, Some, cond, false, length, not, slice_get, true, ℕ}
 use Rattle.mqb_base.specs.declared.heard.Heard.TheVariants as heard
 use Rattle.mqb_base.specs.declared.message.Lane.{Lane}
@@ -30,11 +40,11 @@ use Rattle.mqb_queue.specs.Places.{lists_at, place_named}
 use Rattle.mqb_session.specs.Phases.{owed_by}
 use Rattle.mqb_session.specs.Sending.{is_ready, is_spent, stamped}
 use Rattle.mqb_session.specs.declared.heads.Kind.TheVariants as kind
-use Rattle.mqb_model.specs.calls.Commit.{Trial, commit_tried, ops_refusal, trial_of, try_ops, whole_refusal}
+use Rattle.mqb_model.specs.calls.Commit.{Trial, commit_tried, has_too_large, ops_refusal, trial_of, try_ops, whole_refusal}
 use Rattle.mqb_model.specs.calls.CreateQueue.{create_refusal}
 use Rattle.mqb_model.specs.calls.Messages.{plain_message}
 use Rattle.mqb_model.specs.calls.Purge.{purge_at, purge_refusal, purging}
-use Rattle.mqb_model.specs.calls.Send.{send_refusal, sending}
+use Rattle.mqb_model.specs.calls.Send.{message_fault, send_refusal, sending, target_fault}
 use Rattle.mqb_model.specs.calls.SetRoll.{store_refusal}
 use Rattle.mqb_model.specs.calls.Take.{first_in, take_at, take_position, take_refusal, taking}
 use Rattle.mqb_model.specs.calls.Tick.{ticking}
@@ -50,7 +60,7 @@ use Rattle.mqb_model.specs.declared.faults.PumpFault.{PumpFault}
 use Rattle.mqb_model.specs.declared.faults.PumpFault.TheVariants as pump_fault
 use Rattle.mqb_model.specs.declared.faults.PurgeFault.TheVariants as purge_fault
 use Rattle.mqb_model.specs.declared.faults.TakeFault.TheVariants as take_fault
-use Rattle.mqb_model.specs.managers.Manager.{Manager, linked_peer}
+use Rattle.mqb_model.specs.managers.Manager.{Manager, is_down, linked_peer}
 use Rattle.mqb_model.specs.managers.Outcomes.{Outcome, answering, recording, unless}
 use Rattle.mqb_model.specs.records.Finals.{is_final}
 use Rattle.mqb_model.specs.records.Peer.{next_queue}
@@ -93,6 +103,11 @@ unless_modest : {V E : Type 0} {a : Option Packet} (m : Manager) (refusal : Opti
 unless_modest m (Some fault) outcome h = record { session = refl; entry = tt }
 unless_modest m None outcome h = h
 
+-- a call that is not refused
+unless_when : {V E : Type 0} {a : Option Packet} (m : Manager) (refusal : Option E) (outcome : Outcome (Result V E)) → (refusal ≡ None → IsModest a m outcome) → IsModest a m (unless m refusal outcome)
+unless_when m (Some fault) outcome h = record { session = refl; entry = tt }
+unless_when m None outcome h = h refl
+
 or_modest : {X V E : Type 0} {a : Option Packet} (m : Manager) (f : X → Outcome (Result V E)) (o : Option X) (other : Outcome (Result V E))
     → ((x : X) → IsModest a m (f x)) → IsModest a m other → IsModest a m (option_map_or f o other)
 or_modest m f None other some none = none
@@ -122,13 +137,46 @@ none_or a s false r h g = (h, g)
 
 -- Calls on a store.
 
+-- a transaction that is not refused has its numbers
+numbers_left : (t : Trial) → whole_refusal t ≡ None → t.sending.next_number ≤ MAX_NUMBER + 1
+numbers_left t e = at (nat_lt (MAX_NUMBER + 1) t.sending.next_number) refl e
+  where
+    low : nat_lt (MAX_NUMBER + 1) t.sending.next_number ≡ false → t.sending.next_number ≤ MAX_NUMBER + 1
+    low f = grind (arith, nat_tests)
+
+    at : (b : Bool) → nat_lt (MAX_NUMBER + 1) t.sending.next_number ≡ b → cond b (Some commit_fault.NumbersSpent) (cond (has_too_large t.ops) (Some commit_fault.TooLarge) None) ≡ None
+        → t.sending.next_number ≤ MAX_NUMBER + 1
+    at true f g = absurd (let none : ⊥ = cc in none)
+    at false f g = low f
+
 commit_modest : (m : Manager) (now : ℕ) (tried : Result Trial CommitFault) → IfTried m.state tried → IsModest None m (commit_tried m now tried)
 commit_modest m now (Err fault) h = record { session = refl; entry = tt }
-commit_modest m now (Ok t) h = unless_modest m (whole_refusal t) (recording m (entry.Commit now t.ops) (Ok t.done)) (record { session = refl; entry = (h.numbered, tt) })
+commit_modest m now (Ok t) h = unless_when m (whole_refusal t) (recording m (entry.Commit now t.ops) (Ok t.done)) (λ e. record {
+  session = refl;
+  entry = (record { numbered = h.numbered; left = let low = numbers_left t e in let next = h.next in omega (arith, low, next) }, tt);
+})
 
-sending_modest : (m : Manager) (recoverable : Bool) (message : Message) (now : ℕ) → IsModest None m (sending m recoverable message now)
-sending_modest m true message now = record { session = refl; entry = (tt, tt) }
-sending_modest m false message now = record { session = refl; entry = tt }
+-- a plain message that is not refused has a number
+number_left_so : (m : Manager) (message : Message) → send_refusal m true message ≡ None → m.state.next_number ≤ MAX_NUMBER
+number_left_so m message e = at (is_down m) (target_fault m.state (resolved m.state message.destination)) e
+  where
+    low : nat_lt MAX_NUMBER m.state.next_number ≡ false → m.state.next_number ≤ MAX_NUMBER
+    low f = grind (arith, nat_tests)
+
+    left : (b : Bool) → nat_lt MAX_NUMBER m.state.next_number ≡ b
+        → cond b (Some send_fault.NumbersSpent) (cond (is_too_large headers.Session message) (Some send_fault.TooLarge) None) ≡ None → m.state.next_number ≤ MAX_NUMBER
+    left true f g = absurd (let none : ⊥ = cc in none)
+    left false f g = low f
+
+    at : (down : Bool) (o : Option SendFault) → cond down (Some send_fault.Down) (option_or o (message_fault m.state true message)) ≡ None → m.state.next_number ≤ MAX_NUMBER
+    at true o f = absurd (let none : ⊥ = cc in none)
+    at false (Some why) f = absurd (let none : ⊥ = cc in none)
+    at false None f = left (nat_lt MAX_NUMBER m.state.next_number) refl f
+
+sending_modest : (m : Manager) (recoverable : Bool) (now : ℕ) (p : Parts) → send_refusal m recoverable (plain_message m.state recoverable now p) ≡ None
+    → IsModest None m (sending m recoverable (plain_message m.state recoverable now p) now)
+sending_modest m true now p e = record { session = refl; entry = (record { id = refl; left = number_left_so m (plain_message m.state true now p) e; ordinary = refl }, tt) }
+sending_modest m false now p e = record { session = refl; entry = tt }
 
 taking_modest : (m : Manager) (at : EntryPlace) (now : ℕ) (kind : Lane) (k : ℕ) (message : Message) → IsModest None m (taking m at now kind k message)
 taking_modest m at now lane.Durable k message = record { session = refl; entry = (tt, tt) }
@@ -298,7 +346,7 @@ calls_are_modest m (SetRoll count) = without_answer None m _ (unless_modest m (s
 calls_are_modest m (Commit now ops) = without_answer None m _ (unless_modest m (ops_refusal m ops) (commit_tried m now (try_ops now 0 (trial_of m.state) ops))
     (commit_modest m now (try_ops now 0 (trial_of m.state) ops) (ops_tried m.state ops now)))
 calls_are_modest m (Send now recoverable p) = let message = plain_message m.state recoverable now p in
-    without_answer None m _ (unless_modest m (send_refusal m recoverable message) (sending m recoverable message now) (sending_modest m recoverable message now))
+    without_answer None m _ (unless_when m (send_refusal m recoverable message) (sending m recoverable message now) (sending_modest m recoverable now p))
 calls_are_modest m (Take now p) = without_answer None m _ (unless_modest m (take_refusal m)
     (option_map_or (take_at m now) (place_named m.state.places.queues p) (answering m (Err take_fault.NoQueue)))
     (or_modest m (take_at m now) (place_named m.state.places.queues p) (answering m (Err take_fault.NoQueue)) (take_modest m now) (refusing m take_fault.NoQueue)))

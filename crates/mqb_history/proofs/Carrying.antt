@@ -83,7 +83,7 @@ grown i ws more moment p tx h = record {
 }
 
 -- a record decides nothing that some manager has not committed
-abbrev DecidesTruly : List Written → Record → Type 0
+abbrev pub DecidesTruly : List Written → Record → Type 0
 DecidesTruly ws (entry.Arrived now numbers (entry.Decided p)) = (tx : TxHead) → p.tx ≡ Some tx → (i : ℕ) × (moment : ℕ) × IsCommittedBy i ws moment p tx
 DecidesTruly ws _ = Unit {0}
 
@@ -109,7 +109,7 @@ some_true_grown ws more None h = tt
 some_true_grown ws more (Some r) h = true_grown ws more r h
 
 -- each of these records decides nothing but what those before it committed
-abbrev DecideTruly : List Written → List Written → Type 0
+abbrev pub DecideTruly : List Written → List Written → Type 0
 DecideTruly before [] = Unit {0}
 DecideTruly before (w ∷ ws) = DecidesTruly before w.entry × DecideTruly (before ++ w ∷ []) ws
 
@@ -122,7 +122,7 @@ truly_at first [] behind w h = subst (λ xs. DecidesTruly xs w.entry) (sym (appe
 truly_at first (x ∷ before) behind w h = subst (λ xs. DecidesTruly xs w.entry) (append_assoc first (x ∷ []) before) (truly_at (first ++ x ∷ []) before behind w h.1)
 
 -- What holds of a course beside its order and its counts.
-record IsTruthful (c : Course) : Type 0 where
+pub record IsTruthful (c : Course) : Type 0 where
   pub carried : AreCarriedTruly c
   pub written : DecideTruly [] c.written
   pub doubts : (j : ℕ) → IfSome (doubt_of (manager_at c.network j).condition) (DecidesTruly c.written)
@@ -226,11 +226,11 @@ none_heard (Hear now p) e = absurd (clash e)
 
 -- Pumps.
 
-numbered_suc : {X : Type 0} (xs : List X) (k : ℕ) → numbered xs (suc k) ≡ slice_get xs k
+pub numbered_suc : {X : Type 0} (xs : List X) (k : ℕ) → numbered xs (suc k) ≡ slice_get xs k
 numbered_suc xs k = ap (λ b. cond b None (slice_get xs (suc k - 1))) (other_numbers (suc k) 0 (λ e. omega (arith, e)))
     ∙ ap (slice_get xs) (let e : suc k - 1 ≡ k = omega arith in e)
 
-numbered_within : {X : Type 0} (xs : List X) (k : ℕ) (x : X) → numbered xs k ≡ Some x → k ≤ length xs
+pub numbered_within : {X : Type 0} (xs : List X) (k : ℕ) (x : X) → numbered xs k ≡ Some x → k ≤ length xs
 numbered_within xs zero x e = absurd (none_some e)
 numbered_within xs (suc k) x e = let less = get_within xs k x (sym (numbered_suc xs k) ∙ e) in omega (arith, less)
 
@@ -244,7 +244,7 @@ get_split (x ∷ xs) ys (suc k) y e = by (get_split xs ys k y e)
     by (inr g) = inr (let le = g.0 in omega (arith, le), g.1)
 
 -- the packet of a number was there, or is one of those that were sent now
-numbered_split : {X : Type 0} (xs ys : List X) (k : ℕ) (y : X) → numbered (xs ++ ys) k ≡ Some y → (numbered xs k ≡ Some y) ⊎ ((length xs < k) × In y ys)
+pub numbered_split : {X : Type 0} (xs ys : List X) (k : ℕ) (y : X) → numbered (xs ++ ys) k ≡ Some y → (numbered xs k ≡ Some y) ⊎ ((length xs < k) × In y ys)
 numbered_split xs ys zero y e = absurd (none_some e)
 numbered_split xs ys (suc k) y e = by (get_split xs ys k y (sym (numbered_suc (xs ++ ys) k) ∙ e))
   where
@@ -252,7 +252,7 @@ numbered_split xs ys (suc k) y e = by (get_split xs ys k y (sym (numbered_suc (x
     by (inl f) = inl (numbered_suc xs k ∙ f)
     by (inr g) = inr (let le = g.0 in omega (arith, le), g.1)
 
-replicated : {X : Type 0} (n : ℕ) (x y : X) → In y (replicate n x) → x ≡ y
+pub replicated : {X : Type 0} (n : ℕ) (x y : X) → In y (replicate n x) → x ≡ y
 replicated zero x y h = absurd h
 replicated (suc n) x y (inl e) = e
 replicated (suc n) x y (inr h) = replicated n x y h
@@ -348,7 +348,7 @@ given_true i now None c held x inside p tx e t = let m = manager_at c.network i 
     (sent_offered i m outcome.entry c.written tx held (all_in (GoesFrom m.state outcome.entry) outcome.packets x (pump_goes m now) inside p tx e t))
 given_true i now (Some how) c held x inside p tx e t = absurd inside
 
-calling_noted : (i : ℕ) (call : Call) (failure : Option Failure) (c : Course) → length c.network.notes ≡ length c.sent
+pub calling_noted : (i : ℕ) (call : Call) (failure : Option Failure) (c : Course) → length c.network.notes ≡ length c.sent
     → length (calling i call failure c).network.notes ≡ length (calling i call failure c).sent
 calling_noted i call None c e = e
 calling_noted i call (Some how) c e = ap (λ (notes : List Note). length notes)
@@ -373,7 +373,7 @@ same_doubts : (c : Course) (n : Network) (ws : List Written) → ((j : ℕ) → 
 same_doubts c n ws same h j = subst (λ x. IfSome (doubt_of x) (DecidesTruly ws)) (sym (same j)) (h j)
 
 -- the sender of a packet of a number
-abbrev HasSender : List Note → ℕ → Note → Type 0
+abbrev pub HasSender : List Note → ℕ → Note → Type 0
 HasSender notes k note = (old : Note) × (numbered notes k ≡ Some old) × (old.sender ≡ note.sender) × (old.moment ≡ note.moment)
 
 place_there : {X : Type 0} (xs : List X) (d : ℕ) (x : X) → numbered xs d ≡ Some x → slice_get xs (d - 1) ≡ Some x
@@ -387,7 +387,7 @@ set_sender notes d (suc k) x note place e = set_get (λ o. o ≡ Some note → H
     (λ same lt f. (x, numbered_suc notes k ∙ ap (slice_get notes) (sym same) ∙ place, ap (λ (y : Note). y.sender) (some_is (as_dropped x) note f), ap (λ (y : Note). y.moment) (some_is (as_dropped x) note f)))
     (sym (numbered_suc (slice_set notes (d - 1) (as_dropped x)) k) ∙ e)
 
-dropped_note : (notes : List Note) (d k : ℕ) (note : Note) → numbered (with_numbered notes d as_dropped) k ≡ Some note → HasSender notes k note
+pub dropped_note : (notes : List Note) (d k : ℕ) (note : Note) → numbered (with_numbered notes d as_dropped) k ≡ Some note → HasSender notes k note
 dropped_note notes d k note e = at (numbered notes d) refl e
   where
     at : (o : Option Note) → numbered notes d ≡ o → numbered (option_map_or (λ x. slice_set notes (d - 1) (as_dropped x)) o notes) k ≡ Some note → HasSender notes k note
@@ -450,10 +450,10 @@ change_true c (Fails i) may noted_all held h = record {
 -- The laws.
 
 -- what holds of each course
-abbrev IsCarrying : List Identity → Course → Type 0
+abbrev pub IsCarrying : List Identity → Course → Type 0
 IsCarrying known c = IsOrderlyWith known AreMarked c × IsTruthful c
 
-carrying_closed : (known : List Identity) → AreApart known → IsClosed known (IsCarrying known)
+pub carrying_closed : (known : List Identity) → AreApart known → IsClosed known (IsCarrying known)
 carrying_closed known apart = record {
   orderly = λ c h. h.0.0;
   keeps = λ c x may h. (
@@ -462,7 +462,7 @@ carrying_closed known apart = record {
   );
 }
 
-carrying_begins : (known : List Identity) → IsCarrying known (beginning known)
+pub carrying_begins : (known : List Identity) → IsCarrying known (beginning known)
 carrying_begins known = (
   begins_with known AreMarked marked_by_records,
   record {
@@ -483,17 +483,17 @@ carrying_begins known = (
 pub always_carried_truly : AlwaysCarriedTruly
 always_carried_truly known ms apart run kept = (always_kept known (IsCarrying known) (carrying_closed known apart) ms run kept (carrying_begins known)).1.carried
 
+pub carrying_decided : (known : List Identity) (c : Course) → IsCarrying known c → AreDecidedTruly c
+carrying_decided known c h before behind w now numbers p tx split e t =
+    let g = (subst (DecidesTruly before) e (truly_at [] before behind w (subst (DecideTruly []) split h.1.written))) tx t in
+    let all = subst (λ ws. IsCommittedBy g.0 ws g.1 p tx) (sym split) (grown g.0 before (w ∷ behind) g.1 p tx g.2) in record {
+      source = g.0;
+      own = sym ((all_in (IsOwnBelow (manager_at c.network g.0).state.identity.guid (manager_at c.network g.0).state.next_number) (commitments (written_of g.0 c.written))
+          all.commitment (h.0.1 g.0).0.0.0.0.0.own_ids all.there).0) ∙ ap (λ (m : Message). m.id.qm) (sym all.message);
+      moment = g.1;
+      committed = g.2;
+    }
+
 pub always_decided_truly : AlwaysDecidedTruly
-always_decided_truly known ms apart run kept = from_source (settled kept (after_run known ms))
+always_decided_truly known ms apart run kept = carrying_decided known (settled kept (after_run known ms))
     (always_kept known (IsCarrying known) (carrying_closed known apart) ms run kept (carrying_begins known))
-  where
-    from_source : (c : Course) → IsCarrying known c → AreDecidedTruly c
-    from_source c h before behind w now numbers p tx split e t =
-        let g = (subst (DecidesTruly before) e (truly_at [] before behind w (subst (DecideTruly []) split h.1.written))) tx t in
-        let all = subst (λ ws. IsCommittedBy g.0 ws g.1 p tx) (sym split) (grown g.0 before (w ∷ behind) g.1 p tx g.2) in record {
-          source = g.0;
-          own = sym ((all_in (IsOwnBelow (manager_at c.network g.0).state.identity.guid (manager_at c.network g.0).state.next_number) (commitments (written_of g.0 c.written))
-              all.commitment (h.0.1 g.0).0.0.0.0.0.own_ids all.there).0) ∙ ap (λ (m : Message). m.id.qm) (sym all.message);
-          moment = g.1;
-          committed = g.2;
-        }

@@ -4,7 +4,6 @@ use Rattle.std.proofs.lemmas.Bool.Decides.{nat_tests}
 use Rattle.std.specs.List.{AllByRecursion}
 use Rattle.std.specs.Option.{option_map_or}
 use Rattle.std.specs.Prelude.{[], ◌&&◌, ◌+◌, ◌==◌, ◌∷◌, ◌≡◌, ◌≤◌, ◌⊎◌, Bool, Err, List, None, Ok, Option, Some, cond, false, length, map, nat_lt, not, slice_get, true, ℕ}
-use Rattle.mqb_base.specs.declared.heads.SessionHead.{SessionHead}
 use Rattle.mqb_base.specs.declared.heads.TxHead.{TxHead}
 use Rattle.mqb_base.specs.declared.ids.Guid.{Guid}
 use Rattle.mqb_base.specs.declared.ids.Identity.{Identity}
@@ -37,7 +36,7 @@ use Rattle.mqb_setup.specs.declared.internal.Internal.TheVariants as internal
 use Rattle.mqb_history.specs.Calls.{Pump, outcome_of}
 use Rattle.mqb_history.specs.Made.{IsOfRows}
 use Rattle.mqb_history.proofs.Committing.{all_in}
-use Rattle.mqb_history.proofs.Lists.{get_in, none_some, other_numbers, some_is}
+use Rattle.mqb_history.proofs.Lists.{none_some, other_numbers, some_is}
 use Rattle.mqb_history.proofs.Marked.{mark_in, sent_below}
 use Rattle.mqb_history.proofs.Opening.{AreOfRows, candidates_open, chosen_all}
 

@@ -37,7 +37,7 @@ any_position p (x ∷ xs) = at (p x) (any_position p xs)
 one_less : (k n : ℕ) → nat_lt (suc k) (suc n) ≡ true → nat_lt k n ≡ true
 one_less k n h = grind (arith, nat_tests)
 
-get_at : {X : Type 0} (xs : List X) (k : ℕ) → nat_lt k (length xs) ≡ true → is_some (slice_get xs k) ≡ true
+pub get_at : {X : Type 0} (xs : List X) (k : ℕ) → nat_lt k (length xs) ≡ true → is_some (slice_get xs k) ≡ true
 get_at [] k h = absurd (let none : ⊥ = grind (arith, nat_tests, h) in none)
 get_at (x ∷ xs) zero h = refl
 get_at (x ∷ xs) (suc k) h = get_at xs k (one_less k (length xs) h)

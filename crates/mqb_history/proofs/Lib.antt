@@ -58,3 +58,17 @@ mod Marked
 mod Departing
 mod Undecided
 mod Begun
+mod Naming
+mod Named
+mod Recalling
+mod Fresh
+mod Later
+mod Spelling
+mod Acting
+mod Heeding
+mod Believing
+mod Crediting
+mod Trusting
+mod Honest
+mod Answering
+mod Acknowledged

@@ -5,7 +5,6 @@ use Rattle.std.proofs.lemmas.List.{append_assoc}
 use Rattle.std.specs.List.{AllByRecursion, cons_option, enumerate_from}
 use Rattle.std.specs.Prelude.{[], ◌+◌, ◌++◌, ◌<◌, ◌==◌, ◌||◌, ◌∷◌, ◌≡◌, ◌≤◌, ◌⊎◌, Bool, List, None, Option, Some, cond, false, filter_map, fold, max, nat_lt, slice_get, suc, true, zero, ℕ}
 use Rattle.mqb_base.specs.Bits.{keeps_dead}
-use Rattle.mqb_base.specs.declared.ids.SequenceId.{SequenceId}
 use Rattle.mqb_base.specs.declared.message.Message.{Message}
 use Rattle.mqb_entries.specs.declared.members.Mark.{Mark}
 use Rattle.mqb_exactly_once.specs.Words.{In}
@@ -28,8 +27,7 @@ use Rattle.mqb_history.specs.Made.{IsMade, IsOfRows}
 use Rattle.mqb_history.specs.Offered.{IsOffered}
 use Rattle.mqb_history.proofs.Committing.{all_in, in_split}
 use Rattle.mqb_history.proofs.Due.{one_row}
-use Rattle.mqb_history.proofs.Holding.{HasExpired}
-use Rattle.mqb_history.proofs.Lists.{all_weaker, append_nothing, equal_numbers, get_in, none_some, same_number, some_is}
+use Rattle.mqb_history.proofs.Lists.{all_weaker, equal_numbers, get_in, none_some, same_number, some_is}
 use Rattle.mqb_history.proofs.Numbering.{joined_outs}
 use Rattle.mqb_history.proofs.Opening.{AreOfRows}
 use Rattle.mqb_history.proofs.Outside.{filtered_in, without_in}

@@ -277,7 +277,7 @@ to_numbers now s (AtPeer k) m = let e = join_numbers s k now m in omega (arith, 
 to_numbers now s (Here queue) m = (delivered_rows s (Here queue) m now).numbers
 to_numbers now s Nowhere m = (delivered_rows s Nowhere m now).numbers
 
-sends_numbers : (now : ℕ) (e : Effect) (ms : List Message) → e.state.next_number ≤ (fold (send_made now) e ms).state.next_number
+pub sends_numbers : (now : ℕ) (e : Effect) (ms : List Message) → e.state.next_number ≤ (fold (send_made now) e ms).state.next_number
 sends_numbers now e [] = omega arith
 sends_numbers now e (m ∷ ms) = let a = (journalled_rows e.state m).numbers in let b = to_numbers now (journalled e.state m) (resolved e.state m.destination) m in
     let c = sends_numbers now (send_made now e m) ms in omega (arith, a, b, c)
@@ -374,7 +374,7 @@ record_commits s r cs made h = at r made (applied_manager s r (made_of_no_peer s
     at (entry.Identity identity) made same = nothing (entry.Identity identity) tt made refl same
     at (entry.Peer peer) made same = absurd made
     at (entry.CreateQueue number plan) made same = nothing (entry.CreateQueue number plan) tt made refl same
-    at (entry.Commit now ops) made same = commit_commits s now ops cs made h
+    at (entry.Commit now ops) made same = commit_commits s now ops cs made.numbered h
     at (entry.Plain now p) made same = nothing (entry.Plain now p) tt made refl same
     at (entry.Offered marks) made same = nothing (entry.Offered marks) tt made refl same
     at (entry.Arrived now numbers part) made same = nothing (entry.Arrived now numbers part) tt made refl same

@@ -47,15 +47,15 @@ use Rattle.mqb_history.proofs.Telling.{lines_more}
 use Rattle.mqb_history.proofs.Written.{IsByRecords, always_by_records}
 
 -- a row that has a mark's ordinal was offered no less
-abbrev WasOffered : Mark → Row → Type 0
+abbrev pub WasOffered : Mark → Row → Type 0
 WasOffered mark row = row.sequence.ordinal ≡ mark.ordinal → mark.number ≤ row.offered
 
 -- a mark stands: its ordinal is given, and its row was offered no less
-record Stands (next : ℕ) (rows : List Row) (mark : Mark) : Type 0 where
+pub record Stands (next : ℕ) (rows : List Row) (mark : Mark) : Type 0 where
   pub given : mark.ordinal < next
   pub offered : AllByRecursion (WasOffered mark) rows
 
-abbrev StandsIn : State → Mark → Type 0
+abbrev pub StandsIn : State → Mark → Type 0
 StandsIn s mark = Stands s.next_ordinal s.outs mark
 
 offered_no_less : (mark : Mark) (olds news : List Row) → HaveNoMore olds news → AllByRecursion (WasOffered mark) olds → AllByRecursion (WasOffered mark) news
@@ -124,7 +124,7 @@ record_stands s r rise made mark h = at r made
     at (entry.Roll count) made = quiet (entry.Roll count) made tt
 
 -- the marks of a record
-abbrev marks_in : Record → List Mark
+abbrev pub marks_in : Record → List Mark
 marks_in (entry.Offered marks) = marks
 marks_in _ = []
 
@@ -233,7 +233,7 @@ above_more s r (mark ∷ marks) ls stand h = (
 )
 
 -- the marks of these records stand
-abbrev AllStand : State → List Written → Type 0
+abbrev pub AllStand : State → List Written → Type 0
 AllStand s [] = Unit {0}
 AllStand s (w ∷ ws) = AllByRecursion (StandsIn s) (marks_in w.entry) × AllStand s ws
 
@@ -259,12 +259,12 @@ stand_same a b [] keeps h = tt
 stand_same a b (x ∷ ws) keeps h = (all_weaker (StandsIn a) (StandsIn b) keeps (marks_in x.entry) h.0, stand_same a b ws keeps h.1)
 
 -- what holds of a manager's state and its records
-record AreOffered (s : State) (ws : List Written) : Type 0 where
+pub record AreOffered (s : State) (ws : List Written) : Type 0 where
   pub counted : AreCounted s ws
   pub stand : AllStand s ws
   pub none : NoneExpires ws
 
-offered_by_records : IsByRecords AreOffered
+pub offered_by_records : IsByRecords AreOffered
 offered_by_records = record {
   starts = λ own peers. record { counted = counted_by_records.starts own peers; stand = tt; none = tt };
   quiet = λ a b ws same h. record {

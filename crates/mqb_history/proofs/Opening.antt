@@ -1,7 +1,7 @@
 -- What could go from a manager's rows is kept there, and the rows are open.
 use Rattle.std.proofs.Common.{arith, refl, subst, inr, inl}
 use Rattle.std.specs.List.{AllByRecursion, cons_option, enumerate_from, flat_map}
-use Rattle.std.specs.Prelude.{[], ◌&&◌, ◌+◌, ◌++◌, ◌==◌, ◌∷◌, ◌≡◌, Bool, List, None, Some, cond, drop, filter_map, is_none, map, max, nat_lt, slice_get, true, zip, false, suc, zero, ℕ}
+use Rattle.std.specs.Prelude.{[], ◌&&◌, ◌+◌, ◌++◌, ◌==◌, ◌∷◌, ◌≡◌, Bool, List, None, Some, cond, filter_map, is_none, map, max, nat_lt, slice_get, true, zip, false, suc, ℕ}
 use Rattle.mqb_base.specs.declared.ids.Identity.{Identity}
 use Rattle.mqb_exactly_once.specs.Words.{In}
 use Rattle.mqb_model.specs.calls.pump.Candidates.{Candidate, acks, candidates, of_row, plain_candidates, row_candidates, rows_owing, unsent_from, unsent_of, waiting}
@@ -17,7 +17,7 @@ use Rattle.mqb_plain.specs.Plain.{PlainLists}
 use Rattle.mqb_plain.specs.declared.outgoing.Outgoing.{Outgoing}
 use Rattle.mqb_session.specs.State as one_end
 use Rattle.mqb_history.specs.Made.{IsOfRows}
-use Rattle.mqb_history.proofs.Lists.{all_append, get_behind, split_and}
+use Rattle.mqb_history.proofs.Lists.{all_append, split_and}
 use Rattle.mqb_history.proofs.Outside.{filtered_in}
 
 -- candidates of these rows

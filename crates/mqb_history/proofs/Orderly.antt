@@ -166,7 +166,7 @@ joined_identity : (s : State) (peers : List Identity) → (fold apply s (map (λ
 joined_identity s [] = refl
 joined_identity s (p ∷ ps) = joined_identity (apply s (entry.Peer p)) ps
 
-formatted_itself : (known : List Identity) (own : Identity) → IsItself known own (formatted own (others known own)).state
+pub formatted_itself : (known : List Identity) (own : Identity) → IsItself known own (formatted own (others known own)).state
 formatted_itself known own = record { identity = joined_identity (empty own) (others known own); peers = joined_peers (empty own) (others known own) }
 
 pub map_get : {X Y : Type 0} (f : X → Y) (xs : List X) (k : ℕ) → slice_get (map f xs) k ≡ option_map f (slice_get xs k)

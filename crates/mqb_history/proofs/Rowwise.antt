@@ -2,7 +2,7 @@
 use Rattle.std.proofs.Common.{refl, ap, sym, subst, ◌∙◌, arith, inl, inr}
 use Rattle.std.specs.List.{AllByRecursion}
 use Rattle.std.specs.Option.{option_map_or}
-use Rattle.std.specs.Prelude.{[], ◌++◌, ◌==◌, ◌∷◌, ◌≡◌, ◌≤◌, Bool, List, None, Option, Some, cond, find, fold, length, option_and_then, position, slice_get, suc, true, false, zero, ℕ}
+use Rattle.std.specs.Prelude.{[], ◌==◌, ◌∷◌, ◌≡◌, ◌≤◌, Bool, List, None, Option, Some, cond, fold, length, option_and_then, position, slice_get, suc, true, false, zero, ℕ}
 use Rattle.mqb_base.specs.Same.{same_guid}
 use Rattle.mqb_base.specs.declared.class.TheConstants.Class.{REACH_TIMEOUT}
 use Rattle.mqb_base.specs.declared.heads.TxHead.{TxHead}
@@ -13,13 +13,12 @@ use Rattle.mqb_base.specs.declared.queue_names.QueueName.{QueueName}
 use Rattle.mqb_base.specs.declared.queue_names.QueueName.TheVariants as name
 use Rattle.mqb_entries.specs.declared.members.Mark.{Mark}
 use Rattle.mqb_exactly_once.specs.Words.{In}
-use Rattle.mqb_model.specs.Lists.{first_where}
 use Rattle.mqb_model.specs.Loops.{for_each_below, repeated}
 use Rattle.mqb_model.specs.declared.target.Target.{Target}
 use Rattle.mqb_model.specs.declared.target.Target.TheVariants.{AtPeer, Here, Nowhere}
 use Rattle.mqb_model.specs.records.Applying.{apply}
 use Rattle.mqb_model.specs.records.Arrived.{part_made}
-use Rattle.mqb_model.specs.records.Commit.{send_made, sends_numbered, sends_of, takes_made}
+use Rattle.mqb_model.specs.records.Commit.{send_made, sends_of, takes_made}
 use Rattle.mqb_model.specs.records.Decisions.{message_decided, with_decided}
 use Rattle.mqb_model.specs.records.Finals.{dead_for, final_stored, finished_at, finished_by, finished_row, has_named, index_finished, kept_named, with_finished}
 use Rattle.mqb_model.specs.records.Offered.{mark_raised, with_offered}
@@ -42,7 +41,7 @@ use Rattle.mqb_history.proofs.Committing.{all_in, first_changed, is_first_change
 use Rattle.mqb_history.proofs.Deciding.{first_is_found}
 use Rattle.mqb_history.proofs.Connections.{found_passes}
 use Rattle.mqb_history.proofs.Holding.{changed_at}
-use Rattle.mqb_history.proofs.Lists.{all_append, equal_numbers, get_in, some_is, split_and}
+use Rattle.mqb_history.proofs.Lists.{all_append, equal_numbers, get_in, split_and}
 use Rattle.mqb_history.proofs.Numbering.{changed_all}
 use Rattle.mqb_history.proofs.Staying.{HasSameRows, IsSameManager, arrived_rows, delivered_rows, journalled_rows, manager_then, meets_rows, plain_sent_rows, purged_rows, taken_rows, ticked_rows}
 

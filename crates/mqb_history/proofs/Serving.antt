@@ -40,7 +40,7 @@ use Rattle.mqb_history.proofs.Unreleased.{IsOfOwn, IsPlainBeside, Waits}
 
 -- What a call that has nothing to do with packets does: it leaves the session, and its record releases nothing.
 
-abbrev IsWork : Guid → Record → Type 0
+abbrev pub IsWork : Guid → Record → Type 0
 IsWork own (entry.Plain now p) = p.message.id.qm ≡ own
 IsWork own (entry.Arrived now numbers part) = ⊥
 IsWork own _ = Unit {0}
@@ -87,7 +87,7 @@ resend_works own m = record { session = at m.rest.session refl; entry = tt; besi
     at None e = refl
     at (Some session) e = refl
 
-calls_work : (own : Guid) (m : Manager) (call : Call) → m.state.identity.guid ≡ own → is_of_packets call ≡ false → Works own m (outcome_of m call)
+pub calls_work : (own : Guid) (m : Manager) (call : Call) → m.state.identity.guid ≡ own → is_of_packets call ≡ false → Works own m (outcome_of m call)
 calls_work own m (CreateQueue plan) e f = same_works own m _ (unless_works own m (create_refusal m plan) _ (record { session = refl; entry = tt; beside = tt }))
 calls_work own m (SetRoll count) e f = same_works own m _ (unless_works own m (store_refusal m) _ (record { session = refl; entry = tt; beside = tt }))
 calls_work own m (Commit now ops) e f = same_works own m _ (unless_works own m (ops_refusal m ops) _ (commit_works own m now (try_ops now 0 (trial_of m.state) ops)))

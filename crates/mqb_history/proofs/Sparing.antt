@@ -3,7 +3,7 @@ use Rattle.std.proofs.Common.{refl, ap, sym, subst, ◌∙◌, arith, inl, inr}
 use Rattle.std.proofs.lemmas.List.{append_assoc}
 use Rattle.std.specs.List.{AllByRecursion, cons_option}
 use Rattle.std.specs.Option.{option_map_or}
-use Rattle.std.specs.Prelude.{[], ◌+◌, ◌++◌, ◌<◌, ◌||◌, ◌∷◌, ◌≡◌, ◌≤◌, ◌⊎◌, Bool, List, None, Option, Some, cond, false, filter, filter_map, find, fold, length, max, nat_lt, slice_get, slice_set, suc, true, zero, ℕ}
+use Rattle.std.specs.Prelude.{[], ◌+◌, ◌++◌, ◌<◌, ◌||◌, ◌∷◌, ◌≡◌, ◌≤◌, ◌⊎◌, Bool, List, None, Option, Some, cond, false, filter, find, fold, length, max, nat_lt, slice_get, slice_set, suc, true, zero, ℕ}
 use Rattle.mqb_base.specs.Bits.{keeps_dead}
 use Rattle.mqb_base.specs.declared.class.TheConstants.Class.{REACH_TIMEOUT}
 use Rattle.mqb_base.specs.declared.heads.TxHead.{TxHead}
@@ -42,7 +42,6 @@ use Rattle.mqb_orders.specs.declared.kept.Kept.{Kept}
 use Rattle.mqb_packet.specs.declared.packet.UserPacket.{UserPacket}
 use Rattle.mqb_history.specs.Committed.{commitments}
 use Rattle.mqb_history.specs.Expired.{WasDue, expiries_told, expiry_told}
-use Rattle.mqb_history.specs.Made.{IsMade}
 use Rattle.mqb_history.proofs.Committing.{OrdinalsRise, all_in, in_split}
 use Rattle.mqb_history.proofs.Deciding.{first_is_found}
 use Rattle.mqb_history.proofs.Due.{AreDue, IsDue, due_by_records}

@@ -87,7 +87,7 @@ IsPlainBeside _ = Unit {0}
 
 -- lists that lost a member
 
-removed_all : {X : Type 0} (P : X → Type 0) (xs : List X) (k : ℕ) → AllByRecursion P xs → AllByRecursion P (remove xs k)
+pub removed_all : {X : Type 0} (P : X → Type 0) (xs : List X) (k : ℕ) → AllByRecursion P xs → AllByRecursion P (remove xs k)
 removed_all P xs k h = all_append P (take k xs) (drop (suc k) xs) (taken xs k h) (dropped xs (suc k) h)
   where
     taken : (ys : List _) (n : ℕ) → AllByRecursion P ys → AllByRecursion P (take n ys)

@@ -31,7 +31,7 @@ abbrev AllDiffer : List ℕ → Type 0
 AllDiffer [] = Unit {0}
 AllDiffer (n ∷ ns) = (In n ns → ⊥) × AllDiffer ns
 
-range_from : (a len n : ℕ) → In n (range_with_len a len) → a ≤ n
+pub range_from : (a len n : ℕ) → In n (range_with_len a len) → a ≤ n
 range_from a zero n i = absurd i
 range_from a (suc len) n (inl e) = omega (arith, e)
 range_from a (suc len) n (inr i) = let less = range_from (a + 1) len n i in omega (arith, less)

@@ -4,6 +4,7 @@ use Rattle.mqb_base.specs.declared.ids.Identity.{Identity}
 use Rattle.mqb_network.specs.Doubts.{settled}
 use Rattle.mqb_network.specs.Laws.{AreApart}
 use Rattle.mqb_network.specs.Runs.{IsRun, Move, after_run}
+use Rattle.mqb_history.specs.Acked.{AreAcknowledgedTruly, AreAcknowledgingTruly, AreWaitingUntilDecided}
 use Rattle.mqb_history.specs.Histories.{HasHistory, IsHistory, course_of}
 use Rattle.mqb_history.specs.Changes.{Change}
 use Rattle.mqb_history.specs.Carried.{AreCarriedTruly, AreDecidedTruly}
@@ -116,3 +117,15 @@ AlwaysUndecided = Always AreUndecided
 -- Sequences of one destination follow one another.
 abbrev pub AlwaysBegunInOrder : Type 0
 AlwaysBegunInOrder = Always AreBegunInOrder
+
+-- What a packet acknowledges was decided by its sender.
+abbrev pub AlwaysAcknowledgingTruly : Type 0
+AlwaysAcknowledgingTruly = Always AreAcknowledgingTruly
+
+-- What is acknowledged was decided, or expired.
+abbrev pub AlwaysAcknowledgedTruly : Type 0
+AlwaysAcknowledgedTruly = Always AreAcknowledgedTruly
+
+-- Each committed message waits in its row until it is decided, unless it expires.
+abbrev pub AlwaysWaitingUntilDecided : Type 0
+AlwaysWaitingUntilDecided = Always AreWaitingUntilDecided

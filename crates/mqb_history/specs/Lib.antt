@@ -13,5 +13,6 @@ pub mod Expired
 pub mod Skipped
 pub mod Waiting
 pub mod Begun
+pub mod Acked
 pub mod Laws
 pub mod Stored

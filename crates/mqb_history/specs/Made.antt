@@ -1,14 +1,16 @@
 -- What is known of a record that a call made, as long as its manager's rows and numbers stay.
 use Rattle.std.specs.List.{AllByRecursion, enumerate_from}
-use Rattle.std.specs.Prelude.{[], ◌+◌, ◌∷◌, ◌≡◌, List, None, Option, Some, filter_map, slice_get, true, ℕ}
+use Rattle.std.specs.Prelude.{[], ◌+◌, ◌∷◌, ◌≡◌, ◌≤◌, List, None, Option, Some, filter_map, length, slice_get, true, ℕ}
 use Rattle.mqb_base.specs.declared.heads.TxHead.{TxHead}
 use Rattle.mqb_base.specs.declared.ids.Guid.{Guid}
 use Rattle.mqb_base.specs.declared.message.Message.{Message}
 use Rattle.mqb_entries.specs.declared.members.Mark.{Mark}
 use Rattle.mqb_exactly_once.specs.Words.{In}
+use Rattle.mqb_fate.specs.Asking.{is_ordinary}
 use Rattle.mqb_model.specs.Lists.{first_where}
 use Rattle.mqb_model.specs.calls.pump.Candidates.{Candidate, tx_of}
 use Rattle.mqb_model.specs.calls.pump.Pump.{mark_for}
+use Rattle.mqb_model.specs.declared.limits.TheConstants.{MAX_NUMBER}
 use Rattle.mqb_model.specs.managers.Beside.{OfRow, Origin}
 use Rattle.mqb_model.specs.records.Commit.{sends_of}
 use Rattle.mqb_model.specs.records.Record.{Record}
@@ -60,10 +62,22 @@ abbrev pub AreSent : List Row → List Mark → Type 0
 AreSent outs marks = (cs : List Candidate) × (marks ≡ filter_map (mark_for cs) (enumerate_from 0 outs))
     × AllByRecursion (λ c. IsOfRows outs c c.origin) cs
 
--- A record adds no peer, the messages that a transaction sends bear the next numbers, what is offered is sent, and what is decided is next.
+-- messages take the next numbers, of which so many are left
+pub record TakeNumbers (own : Guid) (next : ℕ) (ms : List Message) : Type 0 where
+  pub numbered : AreNumbered own next ms
+  pub left : next + length ms ≤ MAX_NUMBER + 1
+
+-- a plain message takes the next number, and is ordinary
+pub record IsPlainNext (own : Guid) (next : ℕ) (m : Message) : Type 0 where
+  pub id : m.id ≡ record { qm = own; number = next }
+  pub left : next ≤ MAX_NUMBER
+  pub ordinary : is_ordinary m ≡ true
+
+-- A record adds no peer, the messages that it sends bear the next numbers, what is offered is sent, and what is decided is next.
 abbrev pub IsMadeBy : Guid → List Row → List InRow → ℕ → Record → Type 0
 IsMadeBy own outs ins next (entry.Peer peer) = ⊥
-IsMadeBy own outs ins next (entry.Commit now ops) = AreNumbered own next (sends_of ops)
+IsMadeBy own outs ins next (entry.Commit now ops) = TakeNumbers own next (sends_of ops)
+IsMadeBy own outs ins next (entry.Plain now p) = IsPlainNext own next p.message
 IsMadeBy own outs ins next (entry.Offered marks) = AreSent outs marks
 IsMadeBy own outs ins next (entry.Arrived now numbers (entry.Decided p)) = IsNext ins p
 IsMadeBy own outs ins next _ = Unit {0}

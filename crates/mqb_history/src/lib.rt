@@ -3,7 +3,7 @@
 //! Each function stands for a law: its contract is the law, and its body is empty.
 #![tactic(auto)]
 
-ghost use Rattle.mqb_history.specs.Laws.{AlwaysBegunInOrder, AlwaysCarriedTruly, AlwaysCommittedInOrder, AlwaysDecidedInOrder, AlwaysDecidedTruly, AlwaysExpiredDuly, AlwaysOffersKept, AlwaysToldCommitments, AlwaysUndecided, AlwaysUnskipped, AlwaysWaiting, DecisionsHaveReasons, DownStays, ExpiriesHaveReasons, FailuresAreSettled, HistoriesAreOrderly, LinesTellDecisions, RunsHaveHistories};
+ghost use Rattle.mqb_history.specs.Laws.{AlwaysAcknowledgedTruly, AlwaysAcknowledgingTruly, AlwaysBegunInOrder, AlwaysCarriedTruly, AlwaysCommittedInOrder, AlwaysDecidedInOrder, AlwaysDecidedTruly, AlwaysExpiredDuly, AlwaysOffersKept, AlwaysToldCommitments, AlwaysUndecided, AlwaysUnskipped, AlwaysWaiting, AlwaysWaitingUntilDecided, DecisionsHaveReasons, DownStays, ExpiriesHaveReasons, FailuresAreSettled, HistoriesAreOrderly, LinesTellDecisions, RunsHaveHistories};
 ghost use Rattle.mqb_history.specs.Stored.{StorageIsAlwaysKept};
 
 /// Sessions are connections, there is a note for each packet, and managers stay who they are.
@@ -99,4 +99,20 @@ pub fn expired_is_never_decided()
 /// Of two sequences to one destination nothing of the later one is offered before all of the earlier one is acknowledged or expired.
 pub fn sequences_always_in_order()
     ensures { AlwaysBegunInOrder }
+{}
+
+/// Each packet that acknowledges an order spells a position that its sender decided, of a channel whose source is its receiver, and each message of
+/// another manager's stream that a final acknowledgement names was decided by the sender of that.
+pub fn acknowledgements_are_true()
+    ensures { AlwaysAcknowledgingTruly }
+{}
+
+/// Each number up to the acknowledged one of an outgoing row was decided by the manager to which the row leads, or expired.
+pub fn only_decided_is_acknowledged()
+    ensures { AlwaysAcknowledgedTruly }
+{}
+
+/// Each committed message waits in its row, above the acknowledged number, until the manager to which that leads decides it, unless it expires.
+pub fn always_waits_until_decided()
+    ensures { AlwaysWaitingUntilDecided }
 {}
