@@ -106,7 +106,7 @@ module _ (known : List Identity) (apart : AreApart known) (c : Course) (h : IsCr
       by (inr (inr (inr u))) = absurd (unused u)
 
   acknowledging : AreAcknowledgingTruly c
-  acknowledging k note p e f t = let told = h.honest.packets k note p e f t in
+  acknowledging k note p e f t = let told = (h.honest.packets k note p e f).plain t in
       record { order = told.order; final = λ durable final. names_decided note.sender p (told.plain durable) final }
 
   -- Rows.

@@ -32,7 +32,7 @@ use Rattle.mqb_model.specs.state.State.{State}
 use Rattle.mqb_network.specs.Courses.{Course}
 use Rattle.mqb_history.specs.Calls.{Call, Commit, CreateQueue, Hear, Pump, Purge, Resend, Send, SetRoll, Take, Tick, outcome_of}
 use Rattle.mqb_history.specs.Changes.{is_of_packets}
-use Rattle.mqb_history.proofs.Later.{IsReached, Unused}
+use Rattle.mqb_history.proofs.Later.{CameRightly, IsReached, Unused}
 use Rattle.mqb_history.proofs.Lists.{clash}
 use Rattle.mqb_history.proofs.Named.{IsRightBeside}
 use Rattle.mqb_history.proofs.Pumping.{IsOfMarks}
@@ -44,9 +44,15 @@ abbrev pub StoresIt : Record → UserPacket → Type 0
 StoresIt (entry.Arrived now numbers (entry.Stored q)) p = q ≡ p
 StoresIt _ p = ⊥
 
--- What is known of a record that a manager makes or may have made: what it stores has an identifier of no transaction, and what it acknowledges was
+-- a record decides one
+abbrev pub DecidesPacket : Record → UserPacket → Type 0
+DecidesPacket (entry.Arrived now numbers (entry.Decided q)) p = q ≡ p
+DecidesPacket _ p = ⊥
+
+-- What is known of a record that a manager makes or may have made: what it decides came from where it leads here, what it stores has an identifier of no transaction, and what it acknowledges was
 -- decided where the row leads.
 pub record IsTrueRecord (known : List Identity) (c : Course) (i : ℕ) (s : State) (r : Record) : Type 0 where
+  pub decided : (p : UserPacket) → DecidesPacket r p → CameRightly known c i p
   pub stored : (p : UserPacket) → StoresIt r p → is_express p.message.delivery ≡ false → Unused known c p.message.id
   pub acked : (ordinal number : ℕ) (row : Row) → Acknowledges r ordinal number → In row s.outs → row.sequence.ordinal ≡ ordinal → IsReached c i row number
   pub finished : (m : Message) (k : Kept) (row : Row) → Finishes r m → In row s.outs → peer_known s m.id.qm ≡ Some row.peer → In k row.kept → same_id k.message.id m.correlation ≡ true
@@ -54,17 +60,17 @@ pub record IsTrueRecord (known : List Identity) (c : Course) (i : ℕ) (s : Stat
 
 -- a record of no arrival
 pub work_true : (known : List Identity) (c : Course) (i : ℕ) (s : State) (own : Guid) (r : Record) → IsWork own r → IsTrueRecord known c i s r
-work_true known c i s own (entry.Identity identity) h = record { stored = λ p f. absurd f; acked = λ o n row f. absurd f; finished = λ m k row f. absurd f }
-work_true known c i s own (entry.Peer peer) h = record { stored = λ p f. absurd f; acked = λ o n row f. absurd f; finished = λ m k row f. absurd f }
-work_true known c i s own (entry.CreateQueue number plan) h = record { stored = λ p f. absurd f; acked = λ o n row f. absurd f; finished = λ m k row f. absurd f }
-work_true known c i s own (entry.Commit now ops) h = record { stored = λ p f. absurd f; acked = λ o n row f. absurd f; finished = λ m k row f. absurd f }
-work_true known c i s own (entry.Plain now q) h = record { stored = λ p f. absurd f; acked = λ o n row f. absurd f; finished = λ m k row f. absurd f }
-work_true known c i s own (entry.Offered marks) h = record { stored = λ p f. absurd f; acked = λ o n row f. absurd f; finished = λ m k row f. absurd f }
+work_true known c i s own (entry.Identity identity) h = record { decided = λ p f. absurd f; stored = λ p f. absurd f; acked = λ o n row f. absurd f; finished = λ m k row f. absurd f }
+work_true known c i s own (entry.Peer peer) h = record { decided = λ p f. absurd f; stored = λ p f. absurd f; acked = λ o n row f. absurd f; finished = λ m k row f. absurd f }
+work_true known c i s own (entry.CreateQueue number plan) h = record { decided = λ p f. absurd f; stored = λ p f. absurd f; acked = λ o n row f. absurd f; finished = λ m k row f. absurd f }
+work_true known c i s own (entry.Commit now ops) h = record { decided = λ p f. absurd f; stored = λ p f. absurd f; acked = λ o n row f. absurd f; finished = λ m k row f. absurd f }
+work_true known c i s own (entry.Plain now q) h = record { decided = λ p f. absurd f; stored = λ p f. absurd f; acked = λ o n row f. absurd f; finished = λ m k row f. absurd f }
+work_true known c i s own (entry.Offered marks) h = record { decided = λ p f. absurd f; stored = λ p f. absurd f; acked = λ o n row f. absurd f; finished = λ m k row f. absurd f }
 work_true known c i s own (entry.Arrived now numbers part) h = absurd h
-work_true known c i s own (entry.Taken now place id) h = record { stored = λ p f. absurd f; acked = λ o n row f. absurd f; finished = λ m k row f. absurd f }
-work_true known c i s own (entry.Purged now place) h = record { stored = λ p f. absurd f; acked = λ o n row f. absurd f; finished = λ m k row f. absurd f }
-work_true known c i s own (entry.Ticked now) h = record { stored = λ p f. absurd f; acked = λ o n row f. absurd f; finished = λ m k row f. absurd f }
-work_true known c i s own (entry.Roll count) h = record { stored = λ p f. absurd f; acked = λ o n row f. absurd f; finished = λ m k row f. absurd f }
+work_true known c i s own (entry.Taken now place id) h = record { decided = λ p f. absurd f; stored = λ p f. absurd f; acked = λ o n row f. absurd f; finished = λ m k row f. absurd f }
+work_true known c i s own (entry.Purged now place) h = record { decided = λ p f. absurd f; stored = λ p f. absurd f; acked = λ o n row f. absurd f; finished = λ m k row f. absurd f }
+work_true known c i s own (entry.Ticked now) h = record { decided = λ p f. absurd f; stored = λ p f. absurd f; acked = λ o n row f. absurd f; finished = λ m k row f. absurd f }
+work_true known c i s own (entry.Roll count) h = record { decided = λ p f. absurd f; stored = λ p f. absurd f; acked = λ o n row f. absurd f; finished = λ m k row f. absurd f }
 
 -- a record of marks
 pub marks_true : (known : List Identity) (c : Course) (i : ℕ) (s : State) (r : Record) → IsOfMarks r → IsTrueRecord known c i s r
@@ -73,7 +79,7 @@ marks_true known c i s (entry.Peer peer) h = absurd h
 marks_true known c i s (entry.CreateQueue number plan) h = absurd h
 marks_true known c i s (entry.Commit now ops) h = absurd h
 marks_true known c i s (entry.Plain now q) h = absurd h
-marks_true known c i s (entry.Offered marks) h = record { stored = λ p f. absurd f; acked = λ o n row f. absurd f; finished = λ m k row f. absurd f }
+marks_true known c i s (entry.Offered marks) h = record { decided = λ p f. absurd f; stored = λ p f. absurd f; acked = λ o n row f. absurd f; finished = λ m k row f. absurd f }
 marks_true known c i s (entry.Arrived now numbers part) h = absurd h
 marks_true known c i s (entry.Taken now place id) h = absurd h
 marks_true known c i s (entry.Purged now place) h = absurd h

@@ -41,14 +41,25 @@ use Rattle.mqb_history.proofs.Beginning.{linked_condition, linked_same_state}
 use Rattle.mqb_history.proofs.Begun.{AreRolling, rolling_by_records}
 use Rattle.mqb_history.proofs.Calling.{calls_are_modest, made_only}
 use Rattle.mqb_history.proofs.Carrying.{IsCarrying, carrying_begins, carrying_closed, calling_noted, carrying_decided, dropped_note, numbered_split, numbered_suc, numbered_within, replicated}
-use Rattle.mqb_history.proofs.Committing.{all_in}
-use Rattle.mqb_history.proofs.Crediting.{IsSound, heard_truly}
+use Rattle.mqb_history.proofs.Committing.{IsCounted, IsOwnBelow, all_in, kept_at}
+use Rattle.mqb_history.proofs.Crediting.{IsSound, heard_truly, only_row, row_of}
+use Rattle.mqb_history.proofs.Addressing.{AreLed, IsLedPacket, pump_led}
+use Rattle.mqb_history.proofs.Rows.{HasRow}
+use Rattle.mqb_history.proofs.Names.{same_guid_is}
+use Rattle.mqb_history.specs.Carried.{IsCommittedBy}
+use Rattle.mqb_history.specs.Committed.{commitments}
+use Rattle.mqb_base.specs.Same.{same_guid}
+use Rattle.mqb_base.specs.declared.heads.TxHead.{TxHead}
+use Rattle.mqb_base.specs.declared.ids.SequenceId.{SequenceId}
+use Rattle.mqb_base.specs.declared.message.Message.{Message}
+use Rattle.mqb_model.specs.state.Resolving.{resolved}
+use Rattle.mqb_model.specs.declared.target.Target.TheVariants.{AtPeer}
 use Rattle.mqb_history.proofs.Ending.{parted_at}
 use Rattle.mqb_history.proofs.Fresh.{AreTold, IsToldTruly, told_by_records}
 use Rattle.mqb_history.proofs.Heeding.{IsHonestCall, hears_honest}
-use Rattle.mqb_history.proofs.Honest.{HasTrueDoubt, IsHonestly, IsRightAt, at_doubt, calling_doubts, calling_packets, calling_right, doubt_on, joined, packets_on, parted_doubt_true, parted_right, quiet_right, recorded_right, still_right, stored_right, wrote_right}
+use Rattle.mqb_history.proofs.Honest.{HasTrueDoubt, IsHonestly, IsRightAt, IsTrulySent, at_doubt, calling_doubts, calling_packets, calling_right, calling_written, doubt_on, joined, packets_on, parted_doubt_true, parted_right, quiet_right, recorded_right, sent_later, still_right, stored_right, written_more, written_still, wrote_right}
 use Rattle.mqb_history.proofs.Keeping.{IsClosed}
-use Rattle.mqb_history.proofs.Later.{IsAckedTruly, IsNote, IsTold, IsUnused, Known, Later, Unused, Vacant, change_later, told_later}
+use Rattle.mqb_history.proofs.Later.{CameRightly, LeadsFrom, IsAckedTruly, IsNote, IsTold, IsUnused, Known, Later, Unused, Vacant, change_later}
 use Rattle.mqb_history.proofs.Lists.{get_within, none_some, not_true, split_and, within_get}
 use Rattle.mqb_history.proofs.Named.{IsRightBeside}
 use Rattle.mqb_history.proofs.Naming.{IsSafe, Knows}
@@ -56,11 +67,11 @@ use Rattle.mqb_history.proofs.Numbering.{AreCounted}
 use Rattle.mqb_history.proofs.Ordering.{ended_notes}
 use Rattle.mqb_history.proofs.Orderly.{formatted_itself, map_get}
 use Rattle.mqb_history.proofs.Recalling.{applied_knows}
-use Rattle.mqb_history.proofs.Refusing.{down_is_idle}
+use Rattle.mqb_history.proofs.Refusing.{IsIdle, down_is_idle}
 use Rattle.mqb_history.proofs.Serving.{IsWork, calls_work, if_some}
 use Rattle.mqb_history.proofs.Spelling.{GoesRightly, IsRightPacket, PumpsRightly, SpellsRow, pumps_right}
 use Rattle.mqb_history.proofs.Trusting.{true_moved}
-use Rattle.mqb_history.proofs.Undecided.{known_one, one_manager}
+use Rattle.mqb_history.proofs.Undecided.{IsKnown, committed_one, known_one, one_manager}
 use Rattle.mqb_history.proofs.Written.{begins_with, change_keeps, noted_managers}
 
 -- What holds of each course.
@@ -117,11 +128,24 @@ module _ (known : List Identity) (apart : AreApart known) (c : Course) (h : IsCr
       note : IsSafe (guid_at i) (Known known c i) (Vacant c i) (state_at i).next_number (unsent p.message) → IsNote known c i p
       note g = record { within = let low = get_within c.network.managers i x there in let count = h.carrying.0.0.count in omega (arith, low, count); source = g.source; unused = unused i x p.message.id there g.source g.below g.unused; about = g.about }
 
+  -- what a row keeps leads to its peer
+  leads_of : (i : ℕ) → AreLed (state_at i)
+  leads_of i row k inside kept = ap (resolved (state_at i)) (sym destination)
+      ∙ all_in (λ (x : Row). resolved (state_at i) x.destination ≡ AtPeer x.peer) (state_at i).outs row (h.rolling i).led inside
+    where
+      committed : In (kept_at row k) (commitments (written_of i c.written))
+      committed = (all_in (IsCounted (commitments (written_of i c.written))) (state_at i).outs row (h.carrying.0.1 i).0.0.0.0.0.rows inside).kept k kept
+
+      place : HasRow (state_at i).outs (kept_at row k)
+      place = row_of known apart c (sound_of known c h) i (kept_at row k) committed
+
+      destination : row.destination ≡ k.message.destination
+      destination = sym (ap (λ (x : Row). x.destination) (only_row known apart c (sound_of known c h) i place.0 row place.1 inside (ap (λ (q : SequenceId). q.ordinal) place.2))) ∙ place.3
+
   -- what a pump gives out
-  given_told : (i now : ℕ) (failure : Option Failure) (p : UserPacket) → In (packet.User p) (given_out (outcome_of (manager_at c.network i) (Pump now)) failure) → p.tx ≡ None
-      → IsTold known c i p
-  given_told i now (Some how) p inside t = absurd inside
-  given_told i now None p inside t = at (slice_get c.network.managers i) refl
+  given_sent : (i now : ℕ) (failure : Option Failure) (p : UserPacket) → In (packet.User p) (given_out (outcome_of (manager_at c.network i) (Pump now)) failure) → IsTrulySent known c i p
+  given_sent i now (Some how) p inside = absurd inside
+  given_sent i now None p inside = at (slice_get c.network.managers i) refl
     where
       none : slice_get c.network.managers i ≡ None → (outcome_of (manager_at c.network i) (Pump now)).packets ≡ []
       none e = (down_is_idle (manager_at c.network i) (Pump now) (ap (λ x. is_down (unwrap_or x nobody)) e)).packets
@@ -129,33 +153,35 @@ module _ (known : List Identity) (apart : AreApart known) (c : Course) (h : IsCr
       right : PumpsRightly (guid_at i) (Known known c i) (Vacant c i) (λ id e. inl e) (state_at i) (outcome_of (manager_at c.network i) (Pump now))
       right = pumps_right (guid_at i) (Known known c i) (Vacant c i) (λ id e. inl e) (manager_at c.network i) now (h.honest.managers i).knows
 
-      at : (o : Option Manager) → slice_get c.network.managers i ≡ o → IsTold known c i p
+      at : (o : Option Manager) → slice_get c.network.managers i ≡ o → IsTrulySent known c i p
       at None e = absurd (subst (In (packet.User p)) (none e) inside)
-      at (Some x) e = goes_told i x p e (all_in (IsRightPacket (guid_at i) (Known known c i) (Vacant c i) (λ id e. inl e) (state_at i)) (outcome_of (manager_at c.network i) (Pump now)).packets (packet.User p) right.packets inside p refl t)
+      at (Some x) e = record {
+        plain = λ t. goes_told i x p e (all_in (IsRightPacket (guid_at i) (Known known c i) (Vacant c i) (λ id e. inl e) (state_at i)) (outcome_of (manager_at c.network i) (Pump now)).packets (packet.User p) right.packets inside p refl t);
+        stream = λ tx t. all_in (IsLedPacket (state_at i)) (outcome_of (manager_at c.network i) (Pump now)).packets (packet.User p) (pump_led (manager_at c.network i) now (leads_of i)) inside p tx refl t;
+      }
 
 -- packets that are known join the others
-posted_told : (known : List Identity) (b c d : Course) (i now : ℕ) (packets : List Packet) → length b.network.notes ≡ length b.sent
-    → ((p : UserPacket) → In (packet.User p) packets → p.tx ≡ None → IsTold known d i p)
-    → ((k : ℕ) (note : Note) (p : UserPacket) → numbered b.network.notes k ≡ Some note → numbered b.sent k ≡ Some (packet.User p) → p.tx ≡ None → IsTold known d note.sender p)
-    → (k : ℕ) (note : Note) (p : UserPacket) → numbered (posted i now packets b).network.notes k ≡ Some note → numbered (posted i now packets b).sent k ≡ Some (packet.User p) → p.tx ≡ None
-    → IsTold known d note.sender p
-posted_told known b c d i now packets noted_all new old k note p e f t = at (connection_of b.network i) e
+posted_sent : (known : List Identity) (b c d : Course) (i now : ℕ) (packets : List Packet) → length b.network.notes ≡ length b.sent
+    → ((p : UserPacket) → In (packet.User p) packets → IsTrulySent known d i p)
+    → ((k : ℕ) (note : Note) (p : UserPacket) → numbered b.network.notes k ≡ Some note → numbered b.sent k ≡ Some (packet.User p) → IsTrulySent known d note.sender p)
+    → (k : ℕ) (note : Note) (p : UserPacket) → numbered (posted i now packets b).network.notes k ≡ Some note → numbered (posted i now packets b).sent k ≡ Some (packet.User p) → IsTrulySent known d note.sender p
+posted_sent known b c d i now packets noted_all new old k note p e f = at (connection_of b.network i) e
   where
     notes_of : Option Connection → List Note
     notes_of o = (option_map_or (λ (x : Connection). record b.network { notes = b.network.notes ++ replicate (length packets) (note_by i now x) }) o b.network).notes
 
     by : (x : Connection) → (numbered b.network.notes k ≡ Some note) ⊎ ((length b.network.notes < k) × In note (replicate (length packets) (note_by i now x)))
-        → (numbered b.sent k ≡ Some (packet.User p)) ⊎ ((length b.sent < k) × In (packet.User p) packets) → IsTold known d note.sender p
-    by x (inl a) (inl g) = old k note p a g t
+        → (numbered b.sent k ≡ Some (packet.User p)) ⊎ ((length b.sent < k) × In (packet.User p) packets) → IsTrulySent known d note.sender p
+    by x (inl a) (inl g) = old k note p a g
     by x (inl a) (inr g) = let low = numbered_within b.network.notes k note a in let high = g.0 in absurd (omega (arith, low, high, noted_all))
     by x (inr a) (inl g) = let low = numbered_within b.sent k (packet.User p) g in let high = a.0 in absurd (omega (arith, low, high, noted_all))
-    by x (inr a) (inr g) = subst (λ (y : Note). IsTold known d y.sender p) (replicated (length packets) (note_by i now x) note a.1) (new p g.1 t)
+    by x (inr a) (inr g) = subst (λ (y : Note). IsTrulySent known d y.sender p) (replicated (length packets) (note_by i now x) note a.1) (new p g.1)
 
-    alone : numbered b.network.notes k ≡ Some note → (numbered b.sent k ≡ Some (packet.User p)) ⊎ ((length b.sent < k) × In (packet.User p) packets) → IsTold known d note.sender p
-    alone a (inl g) = old k note p a g t
+    alone : numbered b.network.notes k ≡ Some note → (numbered b.sent k ≡ Some (packet.User p)) ⊎ ((length b.sent < k) × In (packet.User p) packets) → IsTrulySent known d note.sender p
+    alone a (inl g) = old k note p a g
     alone a (inr g) = let low = numbered_within b.network.notes k note a in let high = g.0 in absurd (omega (arith, low, high, noted_all))
 
-    at : (o : Option Connection) → numbered (notes_of o) k ≡ Some note → IsTold known d note.sender p
+    at : (o : Option Connection) → numbered (notes_of o) k ≡ Some note → IsTrulySent known d note.sender p
     at None a = alone a (numbered_split b.sent packets k (packet.User p) f)
     at (Some x) a = by x (numbered_split b.network.notes (replicate (length packets) (note_by i now x)) k note a) (numbered_split b.sent packets k (packet.User p) f)
 
@@ -181,9 +207,10 @@ module _ (known : List Identity) (apart : AreApart known) (c : Course) (h : IsCr
   calling_honest d later i call failure true_call same = record {
     managers = λ j. subst (λ (x : Course). IsRightAt known d j (manager_at x.network j).state) (sym same)
         (calling_right known c d later counted i call failure (ap (λ (x : Course). x.written) same) (made_by i call) true_call.entry true_call.beside h.honest.managers j);
-    packets = λ k note p e f t. calling_packets known c d later counted i call failure h.honest.packets k note p
-        (subst (λ (x : Course). numbered x.network.notes k ≡ Some note) same e) (subst (λ (x : Course). numbered x.sent k ≡ Some (packet.User p)) same f) t;
+    packets = λ k note p e f. calling_packets known c d later counted i call failure h.honest.packets k note p
+        (subst (λ (x : Course). numbered x.network.notes k ≡ Some note) same e) (subst (λ (x : Course). numbered x.sent k ≡ Some (packet.User p)) same f);
     doubts = λ j. subst (λ (x : Course). HasTrueDoubt known d j (manager_at x.network j)) (sym same) (calling_doubts known c d later counted i call failure true_call.entry h.honest.doubts j);
+    written = calling_written known c d later counted i call failure (ap (λ (x : Course). x.written) same) true_call.entry h.honest.written;
   }
 
   pumping_honest : (d : Course) → Later known c d → (i now : ℕ) (failure : Option Failure) → d ≡ changed (Pumps i now failure) c → IsHonestly known d
@@ -191,13 +218,14 @@ module _ (known : List Identity) (apart : AreApart known) (c : Course) (h : IsCr
     managers = λ j. subst (λ (x : Course). IsRightAt known d j (manager_at x.network j).state) (sym same)
         (subst (λ ms. IsRightAt known d j (unwrap_or (slice_get ms j) nobody).state) (sym (noted_managers i now (length packets) b.network))
         (calling_right known c d later counted i (Pump now) failure (ap (λ (x : Course). x.written) same) (made_by i (Pump now)) entry pumps.beside h.honest.managers j));
-    packets = λ k note p e f t. posted_told known b c d i now packets (calling_noted i (Pump now) failure c h.carrying.0.0.noted)
-        (λ q inside none. told_later known c d later i q (given_told known apart c h i now failure q inside none))
+    packets = λ k note p e f. posted_sent known b c d i now packets (calling_noted i (Pump now) failure c h.carrying.0.0.noted)
+        (λ q inside. sent_later known c d later counted i q (given_sent known apart c h i now failure q inside))
         (calling_packets known c d later counted i (Pump now) failure h.honest.packets) k note p
-        (subst (λ (x : Course). numbered x.network.notes k ≡ Some note) same e) (subst (λ (x : Course). numbered x.sent k ≡ Some (packet.User p)) same f) t;
+        (subst (λ (x : Course). numbered x.network.notes k ≡ Some note) same e) (subst (λ (x : Course). numbered x.sent k ≡ Some (packet.User p)) same f);
     doubts = λ j. subst (λ (x : Course). HasTrueDoubt known d j (manager_at x.network j)) (sym same)
         (subst (λ ms. HasTrueDoubt known d j (unwrap_or (slice_get ms j) nobody)) (sym (noted_managers i now (length packets) b.network))
         (calling_doubts known c d later counted i (Pump now) failure entry h.honest.doubts j));
+    written = calling_written known c d later counted i (Pump now) failure (ap (λ (x : Course). x.written) same) entry h.honest.written;
   }
     where
       b : Course
@@ -212,14 +240,44 @@ module _ (known : List Identity) (apart : AreApart known) (c : Course) (h : IsCr
       entry : IfSome (outcome_of (manager i) (Pump now)).entry (IsTrueRecord known c i (manager i).state)
       entry = if_some _ (IsTrueRecord known c i (manager i).state) (outcome_of (manager i) (Pump now)).entry (marks_true known c i (manager i).state) pumps.entry
 
+  -- a packet of a stream comes from where it leads here
+  came : (k : ℕ) (note : Note) (x : Manager) (p : UserPacket) (tx : TxHead) → numbered c.network.notes k ≡ Some note → numbered c.sent k ≡ Some (packet.User p)
+      → slice_get c.network.managers note.receiver ≡ Some x → same_guid p.to (manager note.receiver).state.identity.guid ≡ true → p.tx ≡ Some tx → CameRightly known c note.receiver p
+  came k note x p tx e f there to t = record {
+    source = note.sender;
+    within = get_within known note.sender sender.own sender.there;
+    own = sym ((all_in (IsOwnBelow (manager note.sender).state.identity.guid (manager note.sender).state.next_number) (commitments (written_of note.sender c.written))
+        carried.commitment (counted note.sender).own_ids carried.there).0) ∙ ap (λ (m : Message). m.id.qm) (sym carried.message);
+    here = let low = get_within c.network.managers note.receiver x there in let count = h.carrying.0.0.count in omega (arith, low, count);
+    leads = subst (λ g. LeadsFrom (manager note.sender).state g p.message.destination) (same_guid_is p.to (manager note.receiver).state.identity.guid to)
+        ((h.honest.packets k note p e f).stream tx t);
+  }
+    where
+      carried : IsCommittedBy note.sender c.written note.moment p tx
+      carried = h.carrying.1.carried k note p tx e f t
+
+      sender : IsKnown known c note.sender
+      sender = committed_one known c note.sender carried.commitment h.carrying.0.0 (h.carrying.0.1 note.sender).0.0.0 carried.there
+
   -- a packet is heard
   hears_true : (k now : ℕ) (note : Note) (x : Packet) → numbered c.network.notes k ≡ Some note → numbered c.sent k ≡ Some x → IsTrueCall note.receiver (Hear now x)
-  hears_true k now note x e f = record { entry = call.entry; beside = call.beside }
+  hears_true k now note x e f = at (slice_get c.network.managers note.receiver) refl
     where
-      call : IsHonestCall known c note.receiver (manager note.receiver) x now
-      call = hears_honest known c note.receiver (manager note.receiver) now x
-          (λ before session p same none meant. heard_truly known apart c (sound_of known c h) note.receiver note.sender before p
-          (h.honest.packets k note p e (f ∙ ap (λ y. Some y) same) none) meant (h.honest.managers note.receiver).knows)
+      call : (y : Manager) → slice_get c.network.managers note.receiver ≡ Some y → IsHonestCall known c note.receiver (manager note.receiver) x now
+      call y there = hears_honest known c note.receiver (manager note.receiver) now x (λ before session p same meant. let sent = f ∙ ap (λ z. Some z) same in record {
+        plain = λ none. heard_truly known apart c (sound_of known c h) note.receiver note.sender before p ((h.honest.packets k note p e sent).plain none) meant (h.honest.managers note.receiver).knows;
+        stream = λ tx t. came k note y p tx e sent there meant.to t;
+      })
+
+      idle : slice_get c.network.managers note.receiver ≡ None → IsIdle (outcome_of (manager note.receiver) (Hear now x))
+      idle none = down_is_idle (manager note.receiver) (Hear now x) (ap (λ y. is_down (unwrap_or y nobody)) none)
+
+      at : (o : Option Manager) → slice_get c.network.managers note.receiver ≡ o → IsTrueCall note.receiver (Hear now x)
+      at None none = record {
+        entry = subst (λ o. IfSome o (IsTrueRecord known c note.receiver (manager note.receiver).state)) (sym (idle none).entry) tt;
+        beside = subst (IsRightBeside (manager note.receiver).state) (sym (idle none).beside) tt;
+      }
+      at (Some y) there = record { entry = (call y there).entry; beside = (call y there).beside }
 
   hearing_honest : (d : Course) → Later known c d → (k now : ℕ) (failure : Option Failure) (note : Option Note) (x : Option Packet) → numbered c.network.notes k ≡ note → numbered c.sent k ≡ x
       → d ≡ hearing note x now failure c → IsHonestly known d
@@ -245,6 +303,7 @@ module _ (known : List Identity) (apart : AreApart known) (c : Course) (h : IsCr
     packets = packets_on known c d later counted h.honest.packets;
     doubts = λ j. subst (λ x. IfSome (doubt_of x) (IsTrueRecord known d j (manager_at d.network j).state)) (sym (conditions j))
         (subst (λ s. IfSome (doubt_of (manager j).condition) (IsTrueRecord known d j s)) (sym (states j)) (doubt_on known c d later counted j (manager j) (h.honest.doubts j)));
+    written = written_still known c d later counted refl h.honest.written;
   }
     where
       d : Course
@@ -260,19 +319,22 @@ module _ (known : List Identity) (apart : AreApart known) (c : Course) (h : IsCr
       conditions j = linked_condition (linked_as a end window_a c.network) b j role.Acceptor window_b ∙ linked_condition c.network a j end window_a
   change_honest (Ends i) may later = let d = changed (Ends i) c in record {
     managers = λ j. parted_at (λ x. IsRightAt known d j x.state) c.network i j (parted_right known c d later counted j) (quiet_right known c d later counted j refl (h.honest.managers j));
-    packets = λ k note p e f t. packets_on known c d later counted h.honest.packets k note p (subst (λ (notes : List Note). numbered notes k ≡ Some note) (ended_notes c.network i) e) f t;
+    packets = λ k note p e f. packets_on known c d later counted h.honest.packets k note p (subst (λ (notes : List Note). numbered notes k ≡ Some note) (ended_notes c.network i) e) f;
     doubts = λ j. parted_at (HasTrueDoubt known d j) c.network i j (parted_doubt_true known c d later counted j) (doubt_on known c d later counted j (manager j) (h.honest.doubts j));
+    written = written_still known c d later counted refl h.honest.written;
   }
   change_honest (Drops n) may later = let d = changed (Drops n) c in record {
     managers = λ j. quiet_right known c d later counted j refl (h.honest.managers j);
-    packets = λ k note p e f t. let old = dropped_note c.network.notes n k note e in
-        subst (λ s. IsTold known d s p) old.2 (packets_on known c d later counted h.honest.packets k old.0 p old.1 f t);
+    packets = λ k note p e f. let old = dropped_note c.network.notes n k note e in
+        subst (λ s. IsTrulySent known d s p) old.2 (packets_on known c d later counted h.honest.packets k old.0 p old.1 f);
     doubts = λ j. doubt_on known c d later counted j (manager j) (h.honest.doubts j);
+    written = written_still known c d later counted refl h.honest.written;
   }
   change_honest (Restarts i) may later = let d = changed (Restarts i) c in let m = restarted (manager i) false in record {
     managers = still_right known c d later counted i m refl (stored_right known c d later counted i (manager i).state (quiet_right known c d later counted i refl (h.honest.managers i))) h.honest.managers;
     packets = packets_on known c d later counted h.honest.packets;
     doubts = at_doubt known c d later counted i m tt h.honest.doubts;
+    written = written_still known c d later counted refl h.honest.written;
   }
   change_honest (Finds i) may later = let d = changed (Finds i) c in let m = restarted (manager i) true in let o = doubt_of (manager i).condition in record {
     managers = wrote_right known c d later counted i m o refl (λ e. ap (λ x. doubt_of (unwrap_or x nobody).condition) e)
@@ -280,11 +342,13 @@ module _ (known : List Identity) (apart : AreApart known) (c : Course) (h : IsCr
         (recorded_right known c d later counted i o (h.carrying.0.0.doubts i) (h.honest.doubts i) (joined known c d later counted i o refl) (h.honest.managers i))) h.honest.managers;
     packets = packets_on known c d later counted h.honest.packets;
     doubts = at_doubt known c d later counted i m tt h.honest.doubts;
+    written = written_more known c d later counted i o refl (h.honest.doubts i) h.honest.written;
   }
   change_honest (Fails i) may later = let d = changed (Fails i) c in let m = unread (manager i) in record {
     managers = still_right known c d later counted i m refl (stored_right known c d later counted i (manager i).state (quiet_right known c d later counted i refl (h.honest.managers i))) h.honest.managers;
     packets = packets_on known c d later counted h.honest.packets;
     doubts = at_doubt known c d later counted i m (moved (doubt_of (manager i).condition) (doubt_on known c d later counted i (manager i) (h.honest.doubts i))) h.honest.doubts;
+    written = written_still known c d later counted refl h.honest.written;
   }
     where
       moved : (o : Option Record) → IfSome o (IsTrueRecord known (changed (Fails i) c) i (manager i).state) → IfSome o (IsTrueRecord known (changed (Fails i) c) i (durable (manager i).state))
@@ -336,7 +400,8 @@ begun_at known K V P (Some own) free mine = subst (λ g. Knows g K V s × AllByR
 begins_honest : (known : List Identity) → IsHonestly known (beginning known)
 begins_honest known = record {
   managers = λ j. let g = right j in record { knows = g.0; rows = g.1 };
-  packets = λ k note p e f t. absurd (nothing_numbered k note e);
+  packets = λ k note p e f. absurd (nothing_numbered k note e);
+  written = λ j w inside. absurd inside;
   doubts = λ j. subst (λ o. IfSome (doubt_of (unwrap_or o nobody).condition) (IsTrueRecord known (beginning known) j (unwrap_or o nobody).state))
       (sym (map_get (λ own. formatted own (others known own)) known j)) (doubts j (slice_get known j));
 }

@@ -50,7 +50,7 @@ use Rattle.mqb_network.specs.Courses.{Course}
 use Rattle.mqb_history.specs.Calls.{Hear, outcome_of}
 use Rattle.mqb_history.proofs.Acting.{IsTrueRecord}
 use Rattle.mqb_history.proofs.Between.{any_in}
-use Rattle.mqb_history.proofs.Later.{IsReached, Unused}
+use Rattle.mqb_history.proofs.Later.{CameRightly, IsReached, Unused}
 use Rattle.mqb_history.proofs.Lists.{clash, split_and}
 use Rattle.mqb_history.proofs.Named.{IsRightBeside}
 use Rattle.mqb_history.proofs.Recalling.{here_apart}
@@ -70,13 +70,18 @@ pub record IsMeant (s : State) (before : one_end.State) (p : UserPacket) : Type 
   pub to : same_guid p.to s.identity.guid ≡ true
 
 module _ (known : List Identity) (c : Course) (i : ℕ) where
+  -- what is known of a packet
+  pub record AreFactsOf (s : State) (peer : ℕ) (p : UserPacket) : Type 0 where
+    pub plain : p.tx ≡ None → IsHeardTruly known c i s peer p
+    pub stream : (tx : TxHead) → p.tx ≡ Some tx → CameRightly known c i p
+
   -- what a manager does in a state is true
   pub record IsHonest (s : State) (outcome : HeardOutcome) : Type 0 where
     pub entry : IfSome outcome.entry (IsTrueRecord known c i s)
     pub beside : IsRightBeside s outcome.beside
 
   nothing_true : (s : State) (now : ℕ) (numbers : List ℕ) → IsTrueRecord known c i s (entry.Arrived now numbers entry.Nothing)
-  nothing_true s now numbers = record { stored = λ p f. absurd f; acked = λ o n row f. absurd f; finished = λ m k row f. absurd f }
+  nothing_true s now numbers = record { decided = λ p f. absurd f; stored = λ p f. absurd f; acked = λ o n row f. absurd f; finished = λ m k row f. absurd f }
 
   quiet : (l : Listening) (answer : Heard) → IsHonest l.manager.state (heard_as l entry.Nothing answer)
   quiet l answer = record { entry = at (length (numbers_released l) == 0); beside = tt }
@@ -94,17 +99,17 @@ module _ (known : List Identity) (c : Course) (i : ℕ) where
 
   -- Messages of streams.
 
-  judged_honest : (l : Listening) (p : UserPacket) (tx : TxHead) (found : Verdict) → IsHonest l.manager.state (judged l p tx found)
-  judged_honest l p tx verdict.Next = record { entry = record { stored = λ q f. absurd f; acked = λ o n row f. absurd f; finished = λ m k row f. absurd f }; beside = tt }
-  judged_honest l p tx verdict.Duplicate = either l.manager.state (has_sequence l.manager.state p.message tx)
+  judged_honest : (l : Listening) (p : UserPacket) (tx : TxHead) (found : Verdict) → CameRightly known c i p → IsHonest l.manager.state (judged l p tx found)
+  judged_honest l p tx verdict.Next came = record { entry = record { decided = λ q f. subst (CameRightly known c i) f came; stored = λ q f. absurd f; acked = λ o n row f. absurd f; finished = λ m k row f. absurd f }; beside = tt }
+  judged_honest l p tx verdict.Duplicate came = either l.manager.state (has_sequence l.manager.state p.message tx)
       (owing (index_for l.manager.state p.message) (duplicate_heard l tx)) (duplicate_heard l tx)
       (owing_honest l.manager.state (index_for l.manager.state p.message) (duplicate_heard l tx) (quiet l (heard.Duplicate tx.sequence tx.number))) (quiet l (heard.Duplicate tx.sequence tx.number))
-  judged_honest l p tx verdict.Gap = quiet l (heard.Gap tx.sequence tx.number)
-  judged_honest l p tx verdict.Stale = quiet l (heard.Stale tx.sequence tx.number)
+  judged_honest l p tx verdict.Gap came = quiet l (heard.Gap tx.sequence tx.number)
+  judged_honest l p tx verdict.Stale came = quiet l (heard.Stale tx.sequence tx.number)
 
-  stream_honest : (l : Listening) (p : UserPacket) (tx : TxHead) → IsHonest l.manager.state (hear_in_stream l p tx)
-  stream_honest l p tx = either l.manager.state (is_ordinary p.message) (judged l p tx (verdict_of (in_row l.manager.state p.message) tx)) (discarded l)
-      (judged_honest l p tx (verdict_of (in_row l.manager.state p.message) tx)) (quiet l heard.Discarded)
+  stream_honest : (l : Listening) (p : UserPacket) (tx : TxHead) → CameRightly known c i p → IsHonest l.manager.state (hear_in_stream l p tx)
+  stream_honest l p tx came = either l.manager.state (is_ordinary p.message) (judged l p tx (verdict_of (in_row l.manager.state p.message) tx)) (discarded l)
+      (judged_honest l p tx (verdict_of (in_row l.manager.state p.message) tx) came) (quiet l heard.Discarded)
 
   -- Others.
 
@@ -117,6 +122,7 @@ module _ (known : List Identity) (c : Course) (i : ℕ) where
       at : (b : Bool) → list_any (raises (peer_heard l) ack) l.manager.state.outs ≡ b → IsHonest l.manager.state (cond b (order_acked l ack) (heard_as l entry.Nothing heard.OldAck))
       at true f = let found = any_in (raises (peer_heard l) ack) l.manager.state.outs f in record {
         entry = record {
+          decided = λ q g. absurd g;
           stored = λ q g. absurd g;
           acked = λ ordinal number row same inside of_row. subst (IsReached c i row) same.1 (h.acked ack e found.0 row found.1 found.2 inside (of_row ∙ sym same.0));
           finished = λ m k row g. absurd g;
@@ -138,6 +144,7 @@ module _ (known : List Identity) (c : Course) (i : ℕ) where
       at : (b : Bool) → is_final l.manager.state p.message ≡ b → IsHonest l.manager.state (cond b (hear_final l p) (hear_stored l p))
       at true f = record {
         entry = record {
+          decided = λ q g. absurd g;
           stored = λ q g. absurd g;
           acked = λ o n row g. absurd g;
           finished = λ m k row same inside peer kept named. h.finished f k row inside (ap (λ (x : Message). peer_known l.manager.state x.id.qm) same ∙ peer) kept
@@ -147,6 +154,7 @@ module _ (known : List Identity) (c : Course) (i : ℕ) where
       }
       at false f = record {
         entry = record {
+          decided = λ q g. absurd g;
           stored = λ q same g. subst (λ (x : UserPacket). Unused known c x.message.id) same (h.stored e);
           acked = λ o n row g. absurd g;
           finished = λ m k row g. absurd g;
@@ -169,17 +177,17 @@ module _ (known : List Identity) (c : Course) (i : ℕ) where
       at None e = message_honest l in_order p h
       at (Some ack) e = ack_honest l p ack h e
 
-  user_honest : (l : Listening) (in_order : Bool) (p : UserPacket) → (p.tx ≡ None → Facts l p) → IsHonest l.manager.state (hear_user l in_order p)
+  user_honest : (l : Listening) (in_order : Bool) (p : UserPacket) → AreFactsOf l.manager.state (peer_heard l) p → IsHonest l.manager.state (hear_user l in_order p)
   user_honest l in_order p h = at p.tx refl
     where
       at : (o : Option TxHead) → p.tx ≡ o → IsHonest l.manager.state (option_map_or (hear_in_stream l p) o (hear_plain l in_order p))
-      at None e = plain_honest l in_order p (h e)
-      at (Some tx) e = stream_honest l p tx
+      at None e = plain_honest l in_order p (h.plain e)
+      at (Some tx) e = stream_honest l p tx (h.stream tx e)
 
   -- The whole packet.
 
   module _ (m : Manager) (now : ℕ) (p : UserPacket) (before : one_end.State)
-      (facts : p.tx ≡ None → IsMeant m.state before p → IsHeardTruly known c i m.state (linked_peer m.state before) p) where
+      (facts : IsMeant m.state before p → AreFactsOf m.state (linked_peer m.state before) p) where
     abbrev h : SessionHead
     h = unwrap_or p.session no_head
 
@@ -191,9 +199,9 @@ module _ (known : List Identity) (c : Course) (i : ℕ) where
       where
         at : (none next : Bool) → IsHonest m.state (hear_behind m now p (cond none head.AckOnly (cond next head.InOrder head.OutOfOrder))
             (counted (cond none head.AckOnly (cond next head.InOrder head.OutOfOrder)) (acknowledged h before)))
-        at true next = user_honest (listening m (acknowledged h before) now) false p (λ e. facts e meant)
-        at false true = user_honest (listening m (counted head.InOrder (acknowledged h before)) now) true p (λ e. facts e meant)
-        at false false = user_honest (listening m (acknowledged h before) now) false p (λ e. facts e meant)
+        at true next = user_honest (listening m (acknowledged h before) now) false p (facts meant)
+        at false true = user_honest (listening m (counted head.InOrder (acknowledged h before)) now) true p (facts meant)
+        at false false = user_honest (listening m (acknowledged h before) now) false p (facts meant)
 
     bad : IsMeant m.state before p → (b : Bool) → let given = cond b (closing cause.BadAck before) (order_of h before, counted (order_of h before) (acknowledged h before)) in
         IsHonest m.state (hear_behind m now p given.0 given.1)
@@ -231,7 +239,7 @@ module _ (known : List Identity) (c : Course) (i : ℕ) where
 
   -- what is known of a packet that a linked manager hears
   abbrev pub AreFacts : Manager → Packet → one_end.State → Type 0
-  AreFacts m x before = (p : UserPacket) → x ≡ packet.User p → p.tx ≡ None → IsMeant m.state before p → IsHeardTruly known c i m.state (linked_peer m.state before) p
+  AreFacts m x before = (p : UserPacket) → x ≡ packet.User p → IsMeant m.state before p → AreFactsOf m.state (linked_peer m.state before) p
 
   linked_honest : (m : Manager) (now : ℕ) (x : Packet) (before : one_end.State) → AreFacts m x before → IsHonest m.state (hear_linked m now x before)
   linked_honest m now (packet.Establish e) before facts = record { entry = tt; beside = tt }

@@ -1,7 +1,7 @@
 -- What managers know of messages and rows, and what is known of packets, stays so in a later course.
 use Rattle.std.proofs.Common.{refl, ap, sym, subst, ◌∙◌, inl, inr}
 use Rattle.std.specs.List.{AllByRecursion}
-use Rattle.std.specs.Prelude.{◌++◌, ◌==◌, ◌≡◌, Bool, IfSome, List, None, Option, Some, cond, false, slice_get, true, unwrap_or, ℕ}
+use Rattle.std.specs.Prelude.{[], ◌++◌, ◌==◌, ◌∷◌, ◌≡◌, ◌⊎◌, Bool, IfSome, List, None, Option, Some, cond, false, slice_get, true, unwrap_or, ℕ}
 use Rattle.mqb_base.specs.declared.ids.Identity.{Identity}
 use Rattle.mqb_model.specs.calls.Link.{unlink}
 use Rattle.mqb_model.specs.managers.Beside.{Beside, beside_done}
@@ -14,7 +14,7 @@ use Rattle.mqb_model.specs.state.Durable.{durable}
 use Rattle.mqb_model.specs.state.State.{State}
 use Rattle.mqb_network.specs.Changes.{parted}
 use Rattle.mqb_network.specs.Choices.{Failure}
-use Rattle.mqb_network.specs.Courses.{Course, written_by}
+use Rattle.mqb_network.specs.Courses.{Course, Written, written_by}
 use Rattle.mqb_network.specs.Network.{Note, manager_at, nobody, with_manager}
 use Rattle.mqb_orders.specs.Rows.{Row}
 use Rattle.mqb_packet.specs.declared.packet.Packet.TheVariants as packet
@@ -24,10 +24,10 @@ use Rattle.mqb_history.specs.Calls.{Call, outcome_of}
 use Rattle.mqb_history.specs.Changes.{calling}
 use Rattle.mqb_history.specs.Decided.{written_of}
 use Rattle.mqb_history.specs.Made.{IsMade}
-use Rattle.mqb_history.proofs.Acting.{IsTrueRecord}
+use Rattle.mqb_history.proofs.Acting.{DecidesPacket, IsTrueRecord}
 use Rattle.mqb_history.proofs.Applying.{applied_manager, beside_rows, made_of_no_peer}
 use Rattle.mqb_history.proofs.Ending.{parted_at}
-use Rattle.mqb_history.proofs.Later.{IsAckedTruly, IsTold, Known, Later, Vacant, reached_later, told_later}
+use Rattle.mqb_history.proofs.Later.{CameRightly, IsAckedTruly, IsTold, Known, Later, LeadsFrom, Vacant, came_later, led_later, reached_later, told_later}
 use Rattle.mqb_history.proofs.Lists.{all_weaker, append_nothing, apart_numbers, equal_numbers, get_within, set_apart, set_get, set_there}
 use Rattle.mqb_history.proofs.Named.{IsRightBeside, beside_knows, stored_knows}
 use Rattle.mqb_history.proofs.Naming.{Knows}
@@ -36,17 +36,27 @@ use Rattle.mqb_history.proofs.Ordering.{ended_notes, with_at}
 use Rattle.mqb_history.proofs.Refusing.{down_changes_nothing}
 use Rattle.mqb_history.proofs.Storing.{up_doubt}
 use Rattle.mqb_history.proofs.Trusting.{beside_moved, quiet_knows, record_knows, record_rows, true_later}
-use Rattle.mqb_history.proofs.Written.{absent_idle, other_more, own_more}
+use Rattle.mqb_history.proofs.Written.{absent_idle, of_append, other_more, own_more}
+use Rattle.mqb_history.proofs.Committing.{in_split}
+use Rattle.mqb_base.specs.declared.heads.TxHead.{TxHead}
+use Rattle.mqb_exactly_once.specs.Words.{In}
 
 -- what is known of a manager in a state
 pub record IsRightAt (known : List Identity) (c : Course) (j : ℕ) (s : State) : Type 0 where
   pub knows : Knows (manager_at c.network j).state.identity.guid (Known known c j) (Vacant c j) s
   pub rows : AllByRecursion (IsAckedTruly c j) s.outs
 
--- what is known of each packet that is in no stream
+-- what is known of a packet that a manager sent: whether it is in no stream, or in one
+pub record IsTrulySent (known : List Identity) (c : Course) (j : ℕ) (p : UserPacket) : Type 0 where
+  pub plain : p.tx ≡ None → IsTold known c j p
+  pub stream : (tx : TxHead) → p.tx ≡ Some tx → LeadsFrom (manager_at c.network j).state p.to p.message.destination
+
 abbrev pub AreTruePackets : List Identity → Course → Type 0
-AreTruePackets known c = (k : ℕ) (note : Note) (p : UserPacket) → numbered c.network.notes k ≡ Some note → numbered c.sent k ≡ Some (packet.User p) → p.tx ≡ None
-    → IsTold known c note.sender p
+AreTruePackets known c = (k : ℕ) (note : Note) (p : UserPacket) → numbered c.network.notes k ≡ Some note → numbered c.sent k ≡ Some (packet.User p) → IsTrulySent known c note.sender p
+
+-- what a manager decided came from where it leads there
+abbrev pub HaveCome : List Identity → Course → ℕ → Type 0
+HaveCome known c j = (w : Written) → In w (written_of j c.written) → (p : UserPacket) → DecidesPacket w.entry p → CameRightly known c j p
 
 -- a record in doubt is true
 abbrev pub HasTrueDoubt : List Identity → Course → ℕ → Manager → Type 0
@@ -57,6 +67,7 @@ pub record IsHonestly (known : List Identity) (c : Course) : Type 0 where
   pub managers : (j : ℕ) → IsRightAt known c j (manager_at c.network j).state
   pub packets : AreTruePackets known c
   pub doubts : (j : ℕ) → HasTrueDoubt known c j (manager_at c.network j)
+  pub written : (j : ℕ) → HaveCome known c j
 
 module _ (known : List Identity) (c d : Course) (later : Later known c d) (counted : (j : ℕ) → AreCounted (manager_at c.network j).state (written_of j c.written)) where
   abbrev old_state : ℕ → State
@@ -193,12 +204,47 @@ module _ (known : List Identity) (c d : Course) (later : Later known c d) (count
 
   -- Packets.
 
-  pub packets_on : AreTruePackets known c → (k : ℕ) (note : Note) (p : UserPacket) → numbered c.network.notes k ≡ Some note → numbered c.sent k ≡ Some (packet.User p) → p.tx ≡ None
-      → IsTold known d note.sender p
-  packets_on h k note p e f t = told_later known c d later note.sender p (h k note p e f t)
+  pub sent_later : (j : ℕ) (p : UserPacket) → IsTrulySent known c j p → IsTrulySent known d j p
+  sent_later j p h = record {
+    plain = λ t. told_later known c d later j p (h.plain t);
+    stream = λ tx t. led_later known c d later j p.to p.message.destination (h.stream tx t);
+  }
+
+  pub packets_on : AreTruePackets known c → (k : ℕ) (note : Note) (p : UserPacket) → numbered c.network.notes k ≡ Some note → numbered c.sent k ≡ Some (packet.User p)
+      → IsTrulySent known d note.sender p
+  packets_on h k note p e f = sent_later note.sender p (h k note p e f)
 
   pub calling_packets : (i : ℕ) (call : Call) (failure : Option Failure) → AreTruePackets known c → (k : ℕ) (note : Note) (p : UserPacket)
-      → numbered (calling i call failure c).network.notes k ≡ Some note → numbered (calling i call failure c).sent k ≡ Some (packet.User p) → p.tx ≡ None → IsTold known d note.sender p
-  calling_packets i call None h k note p e f t = packets_on h k note p e f t
-  calling_packets i call (Some how) h k note p e f t = packets_on h k note p
-      (subst (λ (notes : List Note). numbered notes k ≡ Some note) (ended_notes (with_manager c.network i (failed (manager_at c.network i) (outcome_of (manager_at c.network i) call))) i) e) f t
+      → numbered (calling i call failure c).network.notes k ≡ Some note → numbered (calling i call failure c).sent k ≡ Some (packet.User p) → IsTrulySent known d note.sender p
+  calling_packets i call None h k note p e f = packets_on h k note p e f
+  calling_packets i call (Some how) h k note p e f = packets_on h k note p
+      (subst (λ (notes : List Note). numbered notes k ≡ Some note) (ended_notes (with_manager c.network i (failed (manager_at c.network i) (outcome_of (manager_at c.network i) call))) i) e) f
+
+  -- Records.
+
+  pub written_still : d.written ≡ c.written → ((j : ℕ) → HaveCome known c j) → (j : ℕ) → HaveCome known d j
+  written_still same old j w inside p f = came_later known c d later j p (old j w (subst (λ ws. In w (written_of j ws)) same inside) p f)
+
+  pub written_more : (i : ℕ) (o : Option Record) → d.written ≡ c.written ++ written_by i (manager_at c.network i) o → IfSome o (IsTrueRecord known c i (old_state i))
+      → ((j : ℕ) → HaveCome known c j) → (j : ℕ) → HaveCome known d j
+  written_more i None same truly old = written_still (same ∙ append_nothing c.written) old
+  written_more i (Some r) same truly old = λ j w inside p f. at j w p f (in_split (written_of j c.written) (written_of j (one ∷ [])) w
+      (subst (In w) (ap (written_of j) same ∙ of_append j c.written (one ∷ [])) inside))
+    where
+      one : Written
+      one = record { by = i; before = old_state i; entry = r }
+
+      new : (j : ℕ) (w : Written) (p : UserPacket) → DecidesPacket w.entry p → (b : Bool) → (i == j) ≡ b → In w (cond b (one ∷ []) []) → CameRightly known d j p
+      new j w p f true e (inl g) = subst (λ k. CameRightly known d k p) (equal_numbers i j e)
+          (came_later known c d later i p (truly.decided p (subst (λ (x : Written). DecidesPacket x.entry p) (sym g) f)))
+      new j w p f true e (inr g) = absurd g
+      new j w p f false e g = absurd g
+
+      at : (j : ℕ) (w : Written) (p : UserPacket) → DecidesPacket w.entry p → In w (written_of j c.written) ⊎ In w (written_of j (one ∷ [])) → CameRightly known d j p
+      at j w p f (inl g) = came_later known c d later j p (old j w g p f)
+      at j w p f (inr g) = new j w p f (i == j) refl g
+
+  pub calling_written : (i : ℕ) (call : Call) (failure : Option Failure) → d.written ≡ (calling i call failure c).written
+      → IfSome (outcome_of (manager_at c.network i) call).entry (IsTrueRecord known c i (old_state i)) → ((j : ℕ) → HaveCome known c j) → (j : ℕ) → HaveCome known d j
+  calling_written i call None same truly old = written_more i (outcome_of (manager_at c.network i) call).entry same truly old
+  calling_written i call (Some how) same truly old = written_still same old

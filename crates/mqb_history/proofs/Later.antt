@@ -13,7 +13,12 @@ use Rattle.mqb_model.specs.records.Applying.{apply}
 use Rattle.mqb_model.specs.records.Record.{Record}
 use Rattle.mqb_model.specs.records.Record as entry
 use Rattle.mqb_model.specs.state.Places.{is_express}
+use Rattle.mqb_base.specs.declared.queue_names.QueueName.{QueueName}
+use Rattle.mqb_model.specs.declared.target.Target.TheVariants.{AtPeer}
+use Rattle.mqb_model.specs.state.Resolving.{resolved}
 use Rattle.mqb_model.specs.state.State.{State}
+use Rattle.mqb_history.proofs.Rowwise.{resolved_peer}
+use Rattle.mqb_history.proofs.Staying.{IsSameManager}
 use Rattle.mqb_network.specs.Choices.{Failure}
 use Rattle.mqb_network.specs.Courses.{Course, Written, written_by}
 use Rattle.mqb_network.specs.Network.{Note, manager_at}
@@ -70,6 +75,7 @@ Vacant c j n = (m : Commitment) → In m (commitments (written_of j c.written)) 
 -- Later courses.
 
 pub record Later (known : List Identity) (c d : Course) : Type 0 where
+  pub identity : (j : ℕ) → (manager_at d.network j).state.identity ≡ (manager_at c.network j).state.identity
   pub guid : (j : ℕ) → (manager_at d.network j).state.identity.guid ≡ (manager_at c.network j).state.identity.guid
   pub peers : (j : ℕ) → (manager_at d.network j).state.peers ≡ (manager_at c.network j).state.peers
   pub more : List Written
@@ -117,6 +123,10 @@ unused_lasts known id = record {
 
 pub change_later : (known : List Identity) (c : Course) (x : Change) → may_change c x ≡ true → IsOrderly known c → Later known c (changed x c)
 change_later known c x may o = let more = change_written c x in record {
+  identity = change_lasts known (λ j s ws. s.identity ≡ (manager_at c.network j).state.identity) (record {
+    quiet = λ i a b ws same h. same.manager.identity ∙ h;
+    grows = λ i s r ws made h. (applied_manager s r (made_of_no_peer s r made)).identity ∙ h;
+  }) c x may o (λ j. refl);
   guid = change_lasts known (λ j s ws. s.identity.guid ≡ (manager_at c.network j).state.identity.guid) (record {
     quiet = λ i a b ws same h. ap (λ (x : Identity). x.guid) same.manager.identity ∙ h;
     grows = λ i s r ws made h. ap (λ (x : Identity). x.guid) (applied_manager s r (made_of_no_peer s r made)).identity ∙ h;
@@ -210,3 +220,44 @@ reached_later known c d later i row n h = record { upto = h.upto; enough = h.eno
 -- the acknowledged number of a row is
 abbrev pub IsAckedTruly : Course → ℕ → Row → Type 0
 IsAckedTruly c i row = (row.acked ≡ 0) ⊎ IsReached c i row row.acked
+
+-- Streams.
+
+-- a name leads from a manager to the one of an identifier
+pub record LeadsFrom (s : State) (to : Guid) (d : QueueName) : Type 0 where
+  pub index : ℕ
+  pub resolves : resolved s d ≡ AtPeer index
+  pub peer : Identity
+  pub there : slice_get s.peers index ≡ Some peer
+  pub is : peer.guid ≡ to
+
+pub leads_later : (s t : State) (to : Guid) (d : QueueName) → IsSameManager s t → LeadsFrom s to d → LeadsFrom t to d
+leads_later s t to d same h = record {
+  index = h.index;
+  resolves = resolved_peer s t same d h.index h.resolves;
+  peer = h.peer;
+  there = ap (λ (ps : List Identity). slice_get ps h.index) same.peers ∙ h.there;
+  is = h.is;
+}
+
+-- a message came from the manager whose identifier it bears, and its name leads from there to the manager that it reached
+pub record CameRightly (known : List Identity) (c : Course) (j : ℕ) (p : UserPacket) : Type 0 where
+  pub source : ℕ
+  pub within : source < length known
+  pub own : (manager_at c.network source).state.identity.guid ≡ p.message.id.qm
+  pub here : j < length known
+  pub leads : LeadsFrom (manager_at c.network source).state (manager_at c.network j).state.identity.guid p.message.destination
+
+module _ (known : List Identity) (c d : Course) (later : Later known c d) where
+  pub led_later : (i : ℕ) (to : Guid) (name : QueueName) → LeadsFrom (manager_at c.network i).state to name → LeadsFrom (manager_at d.network i).state to name
+  led_later i to name h = leads_later (manager_at c.network i).state (manager_at d.network i).state to name (record { identity = later.identity i; peers = later.peers i }) h
+
+  pub came_later : (j : ℕ) (p : UserPacket) → CameRightly known c j p → CameRightly known d j p
+  came_later j p h = record {
+    source = h.source;
+    within = h.within;
+    own = later.guid h.source ∙ h.own;
+    here = h.here;
+    leads = subst (λ g. LeadsFrom (manager_at d.network h.source).state g p.message.destination) (sym (later.guid j))
+        (led_later h.source (manager_at c.network j).state.identity.guid p.message.destination h.leads);
+  }

@@ -63,6 +63,7 @@ mod Named
 mod Recalling
 mod Fresh
 mod Later
+mod Addressing
 mod Spelling
 mod Acting
 mod Heeding
@@ -72,3 +73,4 @@ mod Trusting
 mod Honest
 mod Answering
 mod Acknowledged
+mod Led

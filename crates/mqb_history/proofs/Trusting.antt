@@ -39,7 +39,7 @@ use Rattle.mqb_history.proofs.Committing.{IsOwnBelow, all_in, in_end, in_split}
 use Rattle.mqb_history.proofs.Connections.{found_passes}
 use Rattle.mqb_history.proofs.Deciding.{first_is_found}
 use Rattle.mqb_history.proofs.Fresh.{commits_within, sent_by}
-use Rattle.mqb_history.proofs.Later.{IsAckedTruly, IsReached, Known, Later, Vacant, known_later, reached_later}
+use Rattle.mqb_history.proofs.Later.{IsAckedTruly, IsReached, Known, Later, Vacant, known_later, came_later, reached_later}
 use Rattle.mqb_history.proofs.Lists.{all_weaker, split_and}
 use Rattle.mqb_history.proofs.Named.{IsRightBeside}
 use Rattle.mqb_history.proofs.Naming.{AreListed, ArePlaced, ArePlain, AreQueued, IsSafe, Knows}
@@ -233,6 +233,7 @@ acked_allows c i s r = record {
 
 pub true_later : (known : List Identity) (c d : Course) → Later known c d → (i : ℕ) (s : State) (r : Record) → IsTrueRecord known c i s r → IsTrueRecord known d i s r
 true_later known c d later i s r h = record {
+  decided = λ p f. came_later known c d later i p (h.decided p f);
   stored = λ p f e. later.unused p.message.id (h.stored p f e);
   acked = λ ordinal number row acks inside same. reached_later known c d later i row number (h.acked ordinal number row acks inside same);
   finished = λ m k row ends inside peer kept named. reached_later known c d later i row k.number (h.finished m k row ends inside peer kept named);
@@ -240,6 +241,7 @@ true_later known c d later i s r h = record {
 
 pub true_moved : (known : List Identity) (c : Course) (i : ℕ) (s t : State) (r : Record) → t.outs ≡ s.outs → t.peers ≡ s.peers → IsTrueRecord known c i s r → IsTrueRecord known c i t r
 true_moved known c i s t r outs peers h = record {
+  decided = h.decided;
   stored = h.stored;
   acked = λ ordinal number row acks inside same. h.acked ordinal number row acks (subst (In row) outs inside) same;
   finished = λ m k row ends inside peer kept named. h.finished m k row ends (subst (In row) outs inside)

@@ -16,6 +16,7 @@ use Rattle.mqb_history.specs.Skipped.{AreUnskipped}
 use Rattle.mqb_history.specs.Waiting.{AreWaiting}
 use Rattle.mqb_history.specs.Expired.{AreExpiredDuly, AreOffersKept, MayExpire}
 use Rattle.mqb_history.specs.Offered.{AreUndecided}
+use Rattle.mqb_history.specs.Led.{AreDecidedByOne, AreDecidedWhereLed}
 use Rattle.mqb_history.specs.Begun.{AreBegunInOrder}
 use Rattle.mqb_base.specs.declared.ids.MessageId.{MessageId}
 use Rattle.mqb_base.specs.declared.ledger.Line.TheVariants as line
@@ -129,3 +130,11 @@ AlwaysAcknowledgedTruly = Always AreAcknowledgedTruly
 -- Each committed message waits in its row until it is decided, unless it expires.
 abbrev pub AlwaysWaitingUntilDecided : Type 0
 AlwaysWaitingUntilDecided = Always AreWaitingUntilDecided
+
+-- What is committed is decided only where its row leads.
+abbrev pub AlwaysDecidedWhereLed : Type 0
+AlwaysDecidedWhereLed = Always AreDecidedWhereLed
+
+-- Each channel is decided by one manager.
+abbrev pub AlwaysDecidedByOne : Type 0
+AlwaysDecidedByOne = Always AreDecidedByOne

@@ -14,5 +14,6 @@ pub mod Skipped
 pub mod Waiting
 pub mod Begun
 pub mod Acked
+pub mod Led
 pub mod Laws
 pub mod Stored
