@@ -74,3 +74,4 @@ mod Honest
 mod Answering
 mod Acknowledged
 mod Led
+mod Across

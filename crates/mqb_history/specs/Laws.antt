@@ -17,7 +17,7 @@ use Rattle.mqb_history.specs.Waiting.{AreWaiting}
 use Rattle.mqb_history.specs.Expired.{AreExpiredDuly, AreOffersKept, MayExpire}
 use Rattle.mqb_history.specs.Offered.{AreUndecided}
 use Rattle.mqb_history.specs.Led.{AreDecidedByOne, AreDecidedWhereLed}
-use Rattle.mqb_history.specs.Begun.{AreBegunInOrder}
+use Rattle.mqb_history.specs.Begun.{AreBegunInOrder, AreDecidedAcross}
 use Rattle.mqb_base.specs.declared.ids.MessageId.{MessageId}
 use Rattle.mqb_base.specs.declared.ledger.Line.TheVariants as line
 use Rattle.mqb_base.specs.declared.ledger.Stream.{Stream}
@@ -130,6 +130,10 @@ AlwaysAcknowledgedTruly = Always AreAcknowledgedTruly
 -- Each committed message waits in its row until it is decided, unless it expires.
 abbrev pub AlwaysWaitingUntilDecided : Type 0
 AlwaysWaitingUntilDecided = Always AreWaitingUntilDecided
+
+-- Sequences of one destination are decided one after another.
+abbrev pub AlwaysDecidedAcross : Type 0
+AlwaysDecidedAcross = Always AreDecidedAcross
 
 -- What is committed is decided only where its row leads.
 abbrev pub AlwaysDecidedWhereLed : Type 0

@@ -3,7 +3,7 @@
 //! Each function stands for a law: its contract is the law, and its body is empty.
 #![tactic(auto)]
 
-ghost use Rattle.mqb_history.specs.Laws.{AlwaysAcknowledgedTruly, AlwaysAcknowledgingTruly, AlwaysBegunInOrder, AlwaysCarriedTruly, AlwaysCommittedInOrder, AlwaysDecidedByOne, AlwaysDecidedInOrder, AlwaysDecidedTruly, AlwaysDecidedWhereLed, AlwaysExpiredDuly, AlwaysOffersKept, AlwaysToldCommitments, AlwaysUndecided, AlwaysUnskipped, AlwaysWaiting, AlwaysWaitingUntilDecided, DecisionsHaveReasons, DownStays, ExpiriesHaveReasons, FailuresAreSettled, HistoriesAreOrderly, LinesTellDecisions, RunsHaveHistories};
+ghost use Rattle.mqb_history.specs.Laws.{AlwaysAcknowledgedTruly, AlwaysAcknowledgingTruly, AlwaysBegunInOrder, AlwaysCarriedTruly, AlwaysCommittedInOrder, AlwaysDecidedAcross, AlwaysDecidedByOne, AlwaysDecidedInOrder, AlwaysDecidedTruly, AlwaysDecidedWhereLed, AlwaysExpiredDuly, AlwaysOffersKept, AlwaysToldCommitments, AlwaysUndecided, AlwaysUnskipped, AlwaysWaiting, AlwaysWaitingUntilDecided, DecisionsHaveReasons, DownStays, ExpiriesHaveReasons, FailuresAreSettled, HistoriesAreOrderly, LinesTellDecisions, RunsHaveHistories};
 ghost use Rattle.mqb_history.specs.Stored.{StorageIsAlwaysKept};
 
 /// Sessions are connections, there is a note for each packet, and managers stay who they are.
@@ -125,4 +125,9 @@ pub fn always_decided_where_led()
 /// Of one source and one destination no two managers decide anything.
 pub fn always_decided_by_one()
     ensures { AlwaysDecidedByOne }
+{}
+
+/// Of two sequences to one destination nothing of the later one is decided before all of the earlier one was decided by the same manager, or expired.
+pub fn sequences_always_decided_in_order()
+    ensures { AlwaysDecidedAcross }
 {}
