@@ -1,0 +1,4 @@
+pub mod Searches
+pub mod Peers
+pub mod Following
+pub mod Loops
