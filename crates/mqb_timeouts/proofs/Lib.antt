@@ -1,0 +1,5 @@
+pub mod Appended
+pub mod Due
+pub mod Swept
+pub mod Lapsed
+pub mod Expired

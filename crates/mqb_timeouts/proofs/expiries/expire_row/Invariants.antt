@@ -1,0 +1,16 @@
+use Rattle.std.proofs.Common.{◌≡◌, ◌+◌, ◌*◌, ◌≤◌}
+use Rattle.mqb_contents.specs.Rooms.{IsGrown}
+use Rattle.mqb_model.specs.Loops.{repeated}
+use Rattle.mqb_model.specs.rules.Timeouts.{next_expired}
+use Rattle.mqb_timeouts.specs.Waiting.{NoneExpires, expired_count}
+use Rattle.mqb_timeouts.proofs.expiries.expire_row.Given as goal
+
+abbrev pub invariant-loop : goal.invariant-loop
+invariant-loop l = record {
+  so_far : l.draft.effect ≡ repeated l.counter (next_expired l.now l.k) l.initial.draft.effect;
+  end : l.end ≡ expired_count l.now l.fn.draft.effect.state l.k;
+  none : NoneExpires l.now l.draft.effect.state l.k l.from;
+  start : l.draft.start ≡ l.initial.draft.start;
+  grown : IsGrown l.initial.draft.rooms l.draft.rooms;
+  held : l.draft.held ≤ l.initial.draft.held + 2 * l.counter;
+}

@@ -1,0 +1,16 @@
+use Rattle.std.proofs.Common.{◌+◌, sym, ap, ◌∙◌, arith}
+use Rattle.std.specs.Option.{option_map}
+use Rattle.mqb_model.specs.rules.Timeouts.{cannot_be_received}
+use Rattle.mqb_rules.proofs.Searches.{found_behind, none_found}
+use Rattle.mqb_timeouts.proofs.sweeps.index_due_from.Goals as goal
+
+pub returns-then-from-messages-clause-index : goal.returns-then-from-messages-clause-index
+returns-then-from-messages-clause-index c = sym (none_found (cannot_be_received c.args.now) c.args.messages.now c.args.from c.requires (omega arith))
+
+pub returns-in-Some-clause-index : goal.returns-in-Some-clause-index
+returns-in-Some-clause-index c = sym (found_behind (cannot_be_received c.args.now) c.args.messages.now c.args.from c.requires (omega arith)
+    ∙ ap (option_map (λ k. c.args.from + k)) (sym c.in-Some.ensures.index))
+
+pub returns-in-None-clause-index : goal.returns-in-None-clause-index
+returns-in-None-clause-index c = sym (found_behind (cannot_be_received c.args.now) c.args.messages.now c.args.from c.requires (omega arith)
+    ∙ ap (option_map (λ k. c.args.from + k)) (sym c.in-None.ensures.index))
