@@ -3,7 +3,7 @@ use Rattle.std.proofs.Common.{refl, ap, sym, subst, ◌∙◌, arith, inl, inr}
 use Rattle.std.proofs.lemmas.Bool.Decides.{nat_tests}
 use Rattle.std.specs.List.{AllByRecursion}
 use Rattle.std.specs.Option.{option_map_or}
-use Rattle.std.specs.Prelude.{[], ◌&&◌, ◌+◌, ◌==◌, ◌∷◌, ◌≡◌, ◌≤◌, ◌⊎◌, Bool, Err, List, None, Ok, Option, Some, cond, false, length, map, nat_lt, not, slice_get, true, ℕ}
+use Rattle.std.specs.Prelude.{[], ◌<◌, ◌&&◌, ◌+◌, ◌==◌, ◌∷◌, ◌≡◌, ◌≤◌, ◌⊎◌, Bool, Err, List, None, Ok, Option, Some, cond, false, length, map, nat_lt, not, slice_get, true, ℕ}
 use Rattle.mqb_base.specs.declared.heads.TxHead.{TxHead}
 use Rattle.mqb_base.specs.declared.ids.Guid.{Guid}
 use Rattle.mqb_base.specs.declared.ids.Identity.{Identity}
@@ -56,6 +56,7 @@ pub record IsSentFrom (s : State) (o : Option Record) (tx : TxHead) : Type 0 whe
   pub there : slice_get s.outs index ≡ Some row
   pub kept : Kept
   pub inside : In kept row.kept
+  pub unacknowledged : row.acked < kept.number
   pub head : tx ≡ tx_of row kept
   pub open_ : is_open s.outs index ≡ true
   pub marked : (kept.number ≤ row.offered) ⊎ IsMarkedBy o row kept.number
@@ -67,7 +68,7 @@ GoesFrom s o x = (p : UserPacket) (tx : TxHead) → x ≡ packet.User p → p.tx
 abbrev AllGo : State → PumpOutcome → Type 0
 AllGo s outcome = AllByRecursion (GoesFrom s outcome.entry) outcome.packets
 
-user_is : (a b : UserPacket) → packet.User a ≡ packet.User b → a ≡ b
+pub user_is : (a b : UserPacket) → packet.User a ≡ packet.User b → a ≡ b
 user_is a b e = cc
 
 -- the record of marks, of which there is one
@@ -89,6 +90,7 @@ candidate_goes s cs c (OfRow index number) tx i same g e = record {
   there = g.there;
   kept = g.kept;
   inside = g.inside;
+  unacknowledged = g.unacknowledged;
   head = some_is tx (tx_of g.row g.kept) (sym e ∙ g.head);
   open_ = g.open_;
   marked = at (nat_lt g.row.offered (greatest_sent cs index)) refl;

@@ -37,7 +37,7 @@ use Rattle.mqb_history.proofs.Written.{IsByRecords}
 
 -- The marks of a pump.
 
-fold_from : (a : ℕ) (ns : List ℕ) → a ≤ fold max a ns
+pub fold_from : (a : ℕ) (ns : List ℕ) → a ≤ fold max a ns
 fold_from a [] = omega arith
 fold_from a (n ∷ ns) = let low = fold_from (max a n) ns in omega (arith, low)
 
@@ -46,7 +46,7 @@ fold_above a n [] i = absurd i
 fold_above a n (m ∷ ns) (inl e) = let low = fold_from (max a m) ns in omega (arith, low, e)
 fold_above a n (m ∷ ns) (inr i) = fold_above (max a m) n ns i
 
-fold_member : (a : ℕ) (ns : List ℕ) → (fold max a ns ≡ a) ⊎ In (fold max a ns) ns
+pub fold_member : (a : ℕ) (ns : List ℕ) → (fold max a ns ≡ a) ⊎ In (fold max a ns) ns
 fold_member a [] = inl refl
 fold_member a (n ∷ ns) = at (fold_member (max a n) ns) (nat_lt a n) refl
   where
@@ -121,6 +121,7 @@ pub record IsMarkOf (outs : List Row) (mark : Mark) : Type 0 where
   pub row : Row
   pub there : slice_get outs index ≡ Some row
   pub ordinal : mark.ordinal ≡ row.sequence.ordinal
+  pub rises : row.offered < mark.number
   pub kept : Kept
   pub inside : In kept row.kept
   pub numbered : mark.number ≡ kept.number
@@ -141,13 +142,16 @@ marks_are outs cs n (row ∷ rows) h there = at (marks_are outs cs (n + 1) rows 
     some : nat_lt row.offered (greatest_sent cs n) ≡ true → 0 < greatest_sent cs n
     some e = grind (arith, nat_tests)
 
-    new : HasGreatest outs n (greatest_sent cs n) → IsMarkOf outs (record { ordinal = row.sequence.ordinal; number = greatest_sent cs n })
-    new g = let same = some_is g.row row (sym g.there ∙ own) in
-        record { index = n; row = g.row; there = g.there; ordinal = ap (λ (x : Row). x.sequence.ordinal) (sym same); kept = g.kept; inside = g.inside; numbered = g.numbered; open_ = g.open_ }
+    more : nat_lt row.offered (greatest_sent cs n) ≡ true → row.offered < greatest_sent cs n
+    more e = grind (arith, nat_tests)
+
+    new : row.offered < greatest_sent cs n → HasGreatest outs n (greatest_sent cs n) → IsMarkOf outs (record { ordinal = row.sequence.ordinal; number = greatest_sent cs n })
+    new less g = let same = some_is g.row row (sym g.there ∙ own) in
+        record { index = n; row = g.row; there = g.there; ordinal = ap (λ (x : Row). x.sequence.ordinal) (sym same); rises = subst (λ (x : Row). x.offered < greatest_sent cs n) (sym same) less; kept = g.kept; inside = g.inside; numbered = g.numbered; open_ = g.open_ }
 
     at : AllByRecursion (IsMarkOf outs) rest → (b : Bool) → nat_lt row.offered (greatest_sent cs n) ≡ b
         → AllByRecursion (IsMarkOf outs) (cons_option (cond b (Some (record { ordinal = row.sequence.ordinal; number = greatest_sent cs n })) None) rest)
-    at behind true e = (new (greatest_kept outs cs n h (some e)), behind)
+    at behind true e = (new (more e) (greatest_kept outs cs n h (some e)), behind)
     at behind false e = behind
 
 pub marks_of_rows : (outs : List Row) (cs : List Candidate) → AreOfRows outs cs → AllByRecursion (IsMarkOf outs) (filter_map (mark_for cs) (enumerate_from 0 outs))

@@ -1,7 +1,8 @@
 -- What could go from a manager's rows is kept there, and the rows are open.
 use Rattle.std.proofs.Common.{arith, refl, subst, inr, inl}
+use Rattle.std.proofs.lemmas.Bool.Decides.{nat_tests}
 use Rattle.std.specs.List.{AllByRecursion, cons_option, enumerate_from, flat_map}
-use Rattle.std.specs.Prelude.{[], ◌&&◌, ◌+◌, ◌++◌, ◌==◌, ◌∷◌, ◌≡◌, Bool, List, None, Some, cond, filter_map, is_none, map, max, nat_lt, slice_get, true, zip, false, suc, ℕ}
+use Rattle.std.specs.Prelude.{[], ◌<◌, ◌&&◌, ◌+◌, ◌++◌, ◌==◌, ◌∷◌, ◌≡◌, Bool, List, None, Some, cond, filter, filter_map, is_none, map, max, nat_lt, slice_get, true, zip, false, suc, ℕ}
 use Rattle.mqb_base.specs.declared.ids.Identity.{Identity}
 use Rattle.mqb_exactly_once.specs.Words.{In}
 use Rattle.mqb_model.specs.calls.pump.Candidates.{Candidate, acks, candidates, of_row, plain_candidates, row_candidates, rows_owing, unsent_from, unsent_of, waiting}
@@ -19,6 +20,16 @@ use Rattle.mqb_session.specs.State as one_end
 use Rattle.mqb_history.specs.Made.{IsOfRows}
 use Rattle.mqb_history.proofs.Lists.{all_append, split_and}
 use Rattle.mqb_history.proofs.Outside.{filtered_in}
+
+-- what is left of a list passes
+filtered_passes : {X : Type 0} (test : X → Bool) (xs : List X) (x : X) → In x (filter test xs) → test x ≡ true
+filtered_passes test [] x i = absurd i
+filtered_passes test (z ∷ zs) x i = at (test z) refl i (λ j. filtered_passes test zs x j)
+  where
+    at : (b : Bool) → test z ≡ b → In x (cond b (z ∷ filter test zs) (filter test zs)) → (In x (filter test zs) → test x ≡ true) → test x ≡ true
+    at true f (inl e) rest = subst (λ y. test y ≡ true) e f
+    at true f (inr j) rest = rest j
+    at false f j rest = rest j
 
 -- candidates of these rows
 abbrev pub AreOfRows : List Row → List Candidate → Type 0
@@ -46,19 +57,25 @@ express_apart outs (o ∷ os) = at (is_none o.mark) (express_apart outs os)
     at true rest = (refl, rest)
     at false rest = rest
 
-kept_open : (outs : List Row) (index : ℕ) (row : Row) (ks : List Kept) → slice_get outs index ≡ Some row → is_open outs index ≡ true → ((k : Kept) → In k ks → In k row.kept)
+kept_open : (outs : List Row) (index : ℕ) (row : Row) (ks : List Kept) → slice_get outs index ≡ Some row → is_open outs index ≡ true → ((k : Kept) → In k ks → In k row.kept × (row.acked < k.number))
     → AreOfRows outs (map (of_row index row) ks)
 kept_open outs index row [] there open_ within = tt
 kept_open outs index row (k ∷ ks) there open_ within = (
-  record { row = row; there = there; kept = k; inside = within k (inl refl); numbered = refl; message = refl; head = refl; open_ = open_ },
+  record { row = row; there = there; kept = k; inside = (within k (inl refl)).0; numbered = refl; unacknowledged = (within k (inl refl)).1; message = refl; head = refl; open_ = open_ },
   kept_open outs index row ks there open_ (λ x i. within x (inr i)),
 )
 
 waiting_open : (s : State) (peer index : ℕ) (row : Row) (cursor : ℕ) → slice_get s.outs index ≡ Some row → AreOfRows s.outs (waiting s peer (index, (row, cursor)))
 waiting_open s peer index row cursor there = at ((row.peer == peer) && is_open s.outs index) (λ e. (split_and (row.peer == peer) (is_open s.outs index) e).1)
   where
+    less : (k : Kept) → nat_lt (max row.acked cursor) k.number ≡ true → row.acked < k.number
+    less k e = grind (arith, nat_tests)
+
+    above : (k : Kept) → In k (unsent_of row cursor) → row.acked < k.number
+    above k i = less k (filtered_passes (λ (x : Kept). nat_lt (max row.acked cursor) x.number) row.kept k i)
+
     at : (b : Bool) → (b ≡ true → is_open s.outs index ≡ true) → AreOfRows s.outs (cond b (map (of_row index row) (unsent_of row cursor)) [])
-    at true open_ = kept_open s.outs index row (unsent_of row cursor) there (open_ refl) (λ k i. filtered_in (λ (x : Kept). nat_lt (max row.acked cursor) x.number) row.kept k i)
+    at true open_ = kept_open s.outs index row (unsent_of row cursor) there (open_ refl) (λ k i. (filtered_in (λ (x : Kept). nat_lt (max row.acked cursor) x.number) row.kept k i, above k i))
     at false open_ = tt
 
 rows_open : (s : State) (peer n : ℕ) (rows : List Row) (cursors : List ℕ) → ((k : ℕ) (row : Row) → slice_get rows k ≡ Some row → slice_get s.outs (n + k) ≡ Some row)

@@ -1,6 +1,6 @@
 -- What is known of a record that a call made, as long as its manager's rows and numbers stay.
 use Rattle.std.specs.List.{AllByRecursion, enumerate_from}
-use Rattle.std.specs.Prelude.{[], ◌+◌, ◌∷◌, ◌≡◌, ◌≤◌, List, None, Option, Some, filter_map, length, slice_get, true, ℕ}
+use Rattle.std.specs.Prelude.{[], ◌<◌, ◌+◌, ◌∷◌, ◌≡◌, ◌≤◌, List, None, Option, Some, filter_map, length, slice_get, true, ℕ}
 use Rattle.mqb_base.specs.declared.heads.TxHead.{TxHead}
 use Rattle.mqb_base.specs.declared.ids.Guid.{Guid}
 use Rattle.mqb_base.specs.declared.message.Message.{Message}
@@ -41,13 +41,14 @@ pub record IsNext (ins : List InRow) (p : UserPacket) : Type 0 where
   pub there : p.tx ≡ Some head
   pub next : verdict_of (row_heard ins p.message) head ≡ Next
 
--- a message goes from a row: it is kept there, under the header that names what stands before it, and the row is open
+-- a message goes from a row: it is kept there above the acknowledged number, under the header that names what stands before it, and the row is open
 pub record IsOfOpenRow (outs : List Row) (index number : ℕ) (c : Candidate) : Type 0 where
   pub row : Row
   pub there : slice_get outs index ≡ Some row
   pub kept : Kept
   pub inside : In kept row.kept
   pub numbered : number ≡ kept.number
+  pub unacknowledged : row.acked < kept.number
   pub message : c.message ≡ kept.message
   pub head : c.tx ≡ Some (tx_of row kept)
   pub open_ : is_open outs index ≡ true
