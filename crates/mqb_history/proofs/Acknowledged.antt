@@ -29,7 +29,7 @@ use Rattle.mqb_history.proofs.Answering.{IsCredible, credible_begins, credible_c
 use Rattle.mqb_history.proofs.Believing.{decides_in, same_committed}
 use Rattle.mqb_history.proofs.Committing.{IsOwnBelow, all_in}
 use Rattle.mqb_history.proofs.Crediting.{IsItsOwn, IsSound, own_decided, row_known, row_of}
-use Rattle.mqb_history.proofs.Later.{DecideIt, IsAckedTruly, IsNote, IsReached, Known, Unused}
+use Rattle.mqb_history.proofs.Later.{DecideIt, IsAckedTruly, IsNote, Known, Unused}
 use Rattle.mqb_history.proofs.Lists.{clash, equal_numbers, get_within, within_get}
 use Rattle.mqb_history.proofs.Previous.{in_numbers}
 use Rattle.mqb_history.proofs.Rows.{HasRow}
@@ -123,28 +123,28 @@ module _ (known : List Identity) (apart : AreApart known) (c : Course) (h : IsCr
           same : g.manager ≡ i
           same = one_manager known c g.manager i apart (committer g.manager found.0 found.1) (row_known known apart c sound i row inside) g.own
 
-      under : (upto : ℕ) → n ≤ upto → nat_lt n upto ≡ false → upto ≡ n
-      under upto le e = grind (arith, nat_tests)
+      under : nat_lt n row.acked ≡ false → row.acked ≡ n
+      under e = grind (arith, nat_tests)
 
-      below : (upto : ℕ) → nat_lt n upto ≡ true → n < upto
-      below upto e = grind (arith, nat_tests)
+      below : nat_lt n row.acked ≡ true → n < row.acked
+      below e = grind (arith, nat_tests)
 
-      reached : (g : IsReached c i row row.acked) → (b : Bool) → nat_lt n g.upto ≡ b
+      reached : (g : IsDecidedThere c i row row.acked) → (b : Bool) → nat_lt n row.acked ≡ b
           → IsDecidedThere c i row n ⊎ In {A = Position} (record { sequence = row.sequence; number = n }) (expiries_told (lines_written (written_of i c.written)))
-      reached g false e = inl (subst (IsDecidedThere c i row) (under g.upto (let enough = g.enough in omega (arith, enough, low)) e) g.decided)
-      reached g true e = at (unskipped g.decided.decider (record { source = guid_at i; destination = row.destination }) (record { sequence = row.sequence; number = g.upto }) n
-          g.decided.decided positive (below g.upto e))
+      reached g false e = inl (subst (IsDecidedThere c i row) (under e) g)
+      reached g true e = at (unskipped g.decider (record { source = guid_at i; destination = row.destination }) (record { sequence = row.sequence; number = row.acked }) n
+          g.decided positive (below e))
         where
-          at : In {A = Position} (record { sequence = row.sequence; number = n }) (decisions (record { source = guid_at i; destination = row.destination }) (written_of g.decided.decider c.written))
+          at : In {A = Position} (record { sequence = row.sequence; number = n }) (decisions (record { source = guid_at i; destination = row.destination }) (written_of g.decider c.written))
               ⊎ HasExpiredAt c (guid_at i) (record { sequence = row.sequence; number = n })
               → IsDecidedThere c i row n ⊎ In {A = Position} (record { sequence = row.sequence; number = n }) (expiries_told (lines_written (written_of i c.written)))
-          at (inl d) = inl (record { decider = g.decided.decider; leads = g.decided.leads; decided = d })
+          at (inl d) = inl (record { decider = g.decider; leads = g.leads; decided = d })
           at (inr x) = inr (expired x)
 
-      by : (row.acked ≡ 0) ⊎ IsReached c i row row.acked
+      by : (row.acked ≡ 0) ⊎ IsDecidedThere c i row row.acked
           → IsDecidedThere c i row n ⊎ In {A = Position} (record { sequence = row.sequence; number = n }) (expiries_told (lines_written (written_of i c.written)))
       by (inl e) = absurd (omega (arith, positive, low, e))
-      by (inr g) = reached g (nat_lt n g.upto) refl
+      by (inr g) = reached g (nat_lt n row.acked) refl
 
   -- Committed messages.
 

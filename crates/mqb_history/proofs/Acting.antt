@@ -30,9 +30,10 @@ use Rattle.mqb_model.specs.state.Places.{is_express}
 use Rattle.mqb_model.specs.state.Resolving.{peer_known}
 use Rattle.mqb_model.specs.state.State.{State}
 use Rattle.mqb_network.specs.Courses.{Course}
+use Rattle.mqb_history.specs.Acked.{IsDecidedThere}
 use Rattle.mqb_history.specs.Calls.{Call, Commit, CreateQueue, Hear, Pump, Purge, Resend, Send, SetRoll, Take, Tick, outcome_of}
 use Rattle.mqb_history.specs.Changes.{is_of_packets}
-use Rattle.mqb_history.proofs.Later.{CameRightly, IsReached, Unused}
+use Rattle.mqb_history.proofs.Later.{CameRightly, Unused}
 use Rattle.mqb_history.proofs.Lists.{clash}
 use Rattle.mqb_history.proofs.Named.{IsRightBeside}
 use Rattle.mqb_history.proofs.Pumping.{IsOfMarks}
@@ -54,9 +55,9 @@ DecidesPacket _ p = ⊥
 pub record IsTrueRecord (known : List Identity) (c : Course) (i : ℕ) (s : State) (r : Record) : Type 0 where
   pub decided : (p : UserPacket) → DecidesPacket r p → CameRightly known c i p
   pub stored : (p : UserPacket) → StoresIt r p → is_express p.message.delivery ≡ false → Unused known c p.message.id
-  pub acked : (ordinal number : ℕ) (row : Row) → Acknowledges r ordinal number → In row s.outs → row.sequence.ordinal ≡ ordinal → IsReached c i row number
+  pub acked : (ordinal number : ℕ) (row : Row) → Acknowledges r ordinal number → In row s.outs → row.sequence.ordinal ≡ ordinal → IsDecidedThere c i row number
   pub finished : (m : Message) (k : Kept) (row : Row) → Finishes r m → In row s.outs → peer_known s m.id.qm ≡ Some row.peer → In k row.kept → same_id k.message.id m.correlation ≡ true
-      → IsReached c i row k.number
+      → IsDecidedThere c i row k.number
 
 -- a record of no arrival
 pub work_true : (known : List Identity) (c : Course) (i : ℕ) (s : State) (own : Guid) (r : Record) → IsWork own r → IsTrueRecord known c i s r

@@ -39,6 +39,7 @@ use Rattle.mqb_history.specs.Made.{IsMade}
 use Rattle.mqb_history.proofs.Acting.{IsTrueRecord, calls_beside, marks_true, work_true}
 use Rattle.mqb_history.proofs.Beginning.{linked_condition, linked_same_state}
 use Rattle.mqb_history.proofs.Begun.{AreRolling, rolling_by_records}
+use Rattle.mqb_history.proofs.Bounded.{AreBounded, bounded_by_records}
 use Rattle.mqb_history.proofs.Calling.{calls_are_modest, made_only}
 use Rattle.mqb_history.proofs.Carrying.{IsCarrying, carrying_begins, carrying_closed, calling_noted, carrying_decided, dropped_note, numbered_split, numbered_suc, numbered_within, replicated}
 use Rattle.mqb_history.proofs.Committing.{IsCounted, IsOwnBelow, all_in, kept_at}
@@ -79,10 +80,11 @@ pub record IsCredible (known : List Identity) (c : Course) : Type 0 where
   pub carrying : IsCarrying known c
   pub rolling : (i : ℕ) → AreRolling (manager_at c.network i).state (written_of i c.written)
   pub told : (i : ℕ) → AreTold (manager_at c.network i).state (written_of i c.written)
+  pub bounded : (i : ℕ) → AreBounded (manager_at c.network i).state (written_of i c.written)
   pub honest : IsHonestly known c
 
 pub sound_of : (known : List Identity) (c : Course) → IsCredible known c → IsSound known c
-sound_of known c h = record { orderly = h.carrying.0.0; marked = h.carrying.0.1; rolling = h.rolling; told = h.told; truly = carrying_decided known c h.carrying }
+sound_of known c h = record { orderly = h.carrying.0.0; marked = h.carrying.0.1; rolling = h.rolling; told = h.told; truly = carrying_decided known c h.carrying; bounded = h.bounded }
 
 -- Packets that are sent.
 
@@ -431,6 +433,7 @@ credible_closed known apart = record {
     carrying = (carrying_closed known apart).keeps c x may h.carrying;
     rolling = change_keeps known AreRolling rolling_by_records c x may h.carrying.0.0 h.rolling;
     told = change_keeps known AreTold told_by_records c x may h.carrying.0.0 h.told;
+    bounded = change_keeps known AreBounded bounded_by_records c x may h.carrying.0.0 h.bounded;
     honest = change_honest known apart c h x may (change_later known c x may h.carrying.0.0);
   };
 }
@@ -440,5 +443,6 @@ credible_begins known = record {
   carrying = carrying_begins known;
   rolling = (begins_with known AreRolling rolling_by_records).1;
   told = (begins_with known AreTold told_by_records).1;
+  bounded = (begins_with known AreBounded bounded_by_records).1;
   honest = begins_honest known;
 }

@@ -131,12 +131,12 @@ same_id_is a b e = let both = split_and (same_guid a.qm b.qm) (a.number == b.num
 
 pub record Reads (position : Position) (ack : OrderAck) : Type 0 where
   pub ordinal : position.sequence.ordinal < 256 ^ 4 → ack.sequence.ordinal ≡ position.sequence.ordinal
-  pub number : ack.number ≤ position.number
+  pub number : position.number < 256 ^ 4 → ack.number ≡ position.number
 
 pub spelled_reads : (body : List ℕ) (position : Position) (ack : OrderAck) → body ≡ ack_body (record { sequence = position.sequence; number = position.number }) → acked_by body ≡ Some ack → Reads position ack
 spelled_reads body position ack e f = subst (Reads position) (some_is read ack (sym (ap acked_by e) ∙ f)) (record {
   ordinal = λ low. little_number-reads_back 4 position.sequence.ordinal (drop 4 spelled) low;
-  number = low;
+  number = λ low. little_number-reads_back 4 position.number [] low;
 })
   where
     spelled : List ℕ

@@ -37,19 +37,20 @@ use Rattle.mqb_model.specs.state.State.{State}
 use Rattle.mqb_network.specs.Courses.{Course, Written}
 use Rattle.mqb_network.specs.Laws.{AreApart}
 use Rattle.mqb_network.specs.Network.{manager_at, nobody}
-use Rattle.mqb_history.specs.Acked.{LeadsTo, SpellsDecided}
+use Rattle.mqb_history.specs.Acked.{IsDecidedThere, LeadsTo, SpellsDecided}
 use Rattle.mqb_history.specs.Carried.{AreDecidedTruly, ComesFromItsSource}
 use Rattle.mqb_history.specs.Committed.{commitments}
 use Rattle.mqb_history.specs.Decided.{decisions, written_of}
 use Rattle.mqb_history.specs.Orderly.{IsItself, IsOrderly}
 use Rattle.mqb_history.proofs.Begun.{AreRolling}
 use Rattle.mqb_history.proofs.Between.{in_any}
+use Rattle.mqb_history.proofs.Bounded.{AreBounded, small_number}
 use Rattle.mqb_history.proofs.Committing.{IsCounted, all_in, kept_at}
 use Rattle.mqb_history.proofs.Due.{one_row}
 use Rattle.mqb_history.proofs.Fresh.{AreTold}
 use Rattle.mqb_history.proofs.Heeding.{IsHeardTruly, IsMeant}
 use Rattle.mqb_history.proofs.Knowing.{not_own_peer}
-use Rattle.mqb_history.proofs.Later.{DecideIt, IsNote, IsReached, IsTold, Known, Unused, Vacant}
+use Rattle.mqb_history.proofs.Later.{DecideIt, IsNote, IsTold, Known, Unused, Vacant}
 use Rattle.mqb_history.proofs.Lists.{clash, equal_numbers, get_in, get_within, none_some, split_and, true_not_false}
 use Rattle.mqb_history.proofs.Marked.{AreMarked}
 use Rattle.mqb_history.proofs.Names.{same_guid_is, same_name_is}
@@ -67,6 +68,7 @@ pub record IsSound (known : List Identity) (c : Course) : Type 0 where
   pub rolling : (i : ℕ) → AreRolling (manager_at c.network i).state (written_of i c.written)
   pub told : (i : ℕ) → AreTold (manager_at c.network i).state (written_of i c.written)
   pub truly : AreDecidedTruly c
+  pub bounded : (i : ℕ) → AreBounded (manager_at c.network i).state (written_of i c.written)
 
 module _ (known : List Identity) (apart : AreApart known) (c : Course) (h : IsSound known c) where
   abbrev state_at : ℕ → State
@@ -159,17 +161,13 @@ module _ (known : List Identity) (apart : AreApart known) (c : Course) (h : IsSo
         at false f g = absurd (none_some g)
 
     acked : (ack : OrderAck) → acknowledged_in (state_at i) p.message ≡ Some ack → (raised row : Row) → In raised (state_at i).outs → raises (linked_peer (state_at i) before) ack raised ≡ true
-        → In row (state_at i).outs → row.sequence.ordinal ≡ ack.sequence.ordinal → IsReached c i row ack.number
-    acked ack e raised row there raises_it inside ordinal = record {
-      upto = spells.position.number;
-      enough = reads.number;
-      decided = record {
-        decider = j;
-        leads = row_leads row inside (sym (ap (λ (x : Row). x.peer) one) ∙ to_peer) spells.source;
-        decided = subst (λ (ch : Channel). In {A = Position} (record { sequence = row.sequence; number = spells.position.number }) (decisions ch (written_of j c.written))) channel
-            (subst (λ q. In {A = Position} (record { sequence = q; number = spells.position.number }) (decisions (record { source = p.to; destination = spells.destination }) (written_of j c.written))) sequence spells.decided);
-      };
-    }
+        → In row (state_at i).outs → row.sequence.ordinal ≡ ack.sequence.ordinal → IsDecidedThere c i row ack.number
+    acked ack e raised row there raises_it inside ordinal = subst (IsDecidedThere c i row) (sym (reads.number low_number)) (record {
+      decider = j;
+      leads = row_leads row inside (sym (ap (λ (x : Row). x.peer) one) ∙ to_peer) spells.source;
+      decided = subst (λ (ch : Channel). In {A = Position} (record { sequence = row.sequence; number = spells.position.number }) (decisions ch (written_of j c.written))) channel
+          (subst (λ q. In {A = Position} (record { sequence = q; number = spells.position.number }) (decisions (record { source = p.to; destination = spells.destination }) (written_of j c.written))) sequence spells.decided);
+    })
       where
         tests : (is_express p.message.delivery && p.message.class.0 == ORDER_ACKNOWLEDGEMENT.0 ≡ true) × (acked_by p.message.body ≡ Some ack)
         tests = acks_order ack e
@@ -208,6 +206,13 @@ module _ (known : List Identity) (apart : AreApart known) (c : Course) (h : IsSo
             small : spells.position.sequence.ordinal < MAX_NUMBER + 1 → spells.position.sequence.ordinal < 256 ^ 4
             small less = omega (arith, less)
 
+        low_number : spells.position.number < 256 ^ 4
+        low_number = let low = small_number (state_at i) (written_of i c.written) own.commitment (h.bounded i) own.there in
+            let same = ap (λ (q : Position). q.number) (own.position ∙ found.2.position) in small (omega (arith, low, same))
+          where
+            small : spells.position.number < MAX_NUMBER + 1 → spells.position.number < 256 ^ 4
+            small less = omega (arith, less)
+
         place : HasRow (state_at i).outs own.commitment
         place = row_of i own.commitment own.there
 
@@ -239,7 +244,7 @@ module _ (known : List Identity) (apart : AreApart known) (c : Course) (h : IsSo
     not_ordinary e f = clash (sym (subst (λ n. is_final_class (record { 0 = n }) ≡ true) e f))
 
     finished : is_final (state_at i) p.message ≡ true → (k : Kept) (row : Row) → In row (state_at i).outs → peer_known (state_at i) p.message.id.qm ≡ Some row.peer → In k row.kept
-        → same_id k.message.id p.message.correlation ≡ true → IsReached c i row k.number
+        → same_id k.message.id p.message.correlation ≡ true → IsDecidedThere c i row k.number
     finished final k row inside peer kept named = by note.about
       where
         tests : (is_express p.message.delivery ≡ false) × (is_final_class p.message.class ≡ true)
@@ -282,17 +287,13 @@ module _ (known : List Identity) (apart : AreApart known) (c : Course) (h : IsSo
             none = subst (λ (own : Identity). list_any (λ (x : Identity). same_guid x.guid own.guid) (state_at i).peers ≡ false) (sym itself.identity)
                 (subst (λ (ps : List Identity). list_any (λ (x : Identity). same_guid x.guid is_known.own.guid) ps ≡ false) (sym itself.peers) (not_own_peer is_known.own.guid known))
 
-        decided : DecideIt (written_of j c.written) p.message.correlation → IsReached c i row k.number
+        decided : DecideIt (written_of j c.written) p.message.correlation → IsDecidedThere c i row k.number
         decided d = record {
-          upto = k.number;
-          enough = omega arith;
-          decided = record {
-            decider = j;
-            leads = leads_known i j row.peer row p.message.id.qm peer refl note.source;
-            decided = subst (λ (ch : Channel). In {A = Position} (record { sequence = row.sequence; number = k.number }) (decisions ch (written_of j c.written))) channel
-                (subst (λ (q : Position). In q (decisions (record { source = d.packet.message.id.qm; destination = d.packet.message.destination }) (written_of j c.written)))
-                (sym own.position ∙ ap (λ (x : Commitment). x.position) one) (decides_in (written_of j c.written) d.written d.now d.numbers d.packet d.head d.there d.entry d.tx));
-          };
+          decider = j;
+          leads = leads_known i j row.peer row p.message.id.qm peer refl note.source;
+          decided = subst (λ (ch : Channel). In {A = Position} (record { sequence = row.sequence; number = k.number }) (decisions ch (written_of j c.written))) channel
+              (subst (λ (q : Position). In q (decisions (record { source = d.packet.message.id.qm; destination = d.packet.message.destination }) (written_of j c.written)))
+              (sym own.position ∙ ap (λ (x : Commitment). x.position) one) (decides_in (written_of j c.written) d.written d.now d.numbers d.packet d.head d.there d.entry d.tx));
         }
           where
             qm : d.packet.message.id.qm ≡ (state_at i).identity.guid
@@ -311,7 +312,7 @@ module _ (known : List Identity) (apart : AreApart known) (c : Course) (h : IsSo
         unused : Unused known c p.message.correlation → ⊥
         unused u = (u i (get_within known i is_known.own is_known.there) (sym mine ∙ ap (λ (x : MessageId). x.qm) same)).uncommitted (kept_at row k) committed (ap (λ (x : MessageId). x.number) same)
 
-        by : ((p.message.class.0 == NORMAL.0) ≡ true) ⊎ Known known c j p.message.correlation → IsReached c i row k.number
+        by : ((p.message.class.0 == NORMAL.0) ≡ true) ⊎ Known known c j p.message.correlation → IsDecidedThere c i row k.number
         by (inl e) = absurd (not_ordinary (equal_numbers p.message.class.0 NORMAL.0 e) tests.1)
         by (inr (inl e)) = absurd (not_itself (sym e ∙ ap (λ (x : MessageId). x.qm) (sym same) ∙ mine))
         by (inr (inr (inl d))) = decided d

@@ -47,10 +47,11 @@ use Rattle.mqb_model.specs.state.Resolving.{is_for_order_layer, peer_known}
 use Rattle.mqb_model.specs.state.Rows.{in_row}
 use Rattle.mqb_model.specs.state.State.{State}
 use Rattle.mqb_network.specs.Courses.{Course}
+use Rattle.mqb_history.specs.Acked.{IsDecidedThere}
 use Rattle.mqb_history.specs.Calls.{Hear, outcome_of}
 use Rattle.mqb_history.proofs.Acting.{IsTrueRecord}
 use Rattle.mqb_history.proofs.Between.{any_in}
-use Rattle.mqb_history.proofs.Later.{CameRightly, IsReached, Unused}
+use Rattle.mqb_history.proofs.Later.{CameRightly, Unused}
 use Rattle.mqb_history.proofs.Lists.{clash, split_and}
 use Rattle.mqb_history.proofs.Named.{IsRightBeside}
 use Rattle.mqb_history.proofs.Recalling.{here_apart}
@@ -60,9 +61,9 @@ use Rattle.mqb_history.proofs.Unreleased.{refusal_here}
 pub record IsHeardTruly (known : List Identity) (c : Course) (i : ℕ) (s : State) (peer : ℕ) (p : UserPacket) : Type 0 where
   pub stored : is_express p.message.delivery ≡ false → Unused known c p.message.id
   pub acked : (ack : OrderAck) → acknowledged_in s p.message ≡ Some ack → (raised row : Row) → In raised s.outs → raises peer ack raised ≡ true → In row s.outs
-      → row.sequence.ordinal ≡ ack.sequence.ordinal → IsReached c i row ack.number
+      → row.sequence.ordinal ≡ ack.sequence.ordinal → IsDecidedThere c i row ack.number
   pub finished : is_final s p.message ≡ true → (k : Kept) (row : Row) → In row s.outs → peer_known s p.message.id.qm ≡ Some row.peer → In k row.kept
-      → same_id k.message.id p.message.correlation ≡ true → IsReached c i row k.number
+      → same_id k.message.id p.message.correlation ≡ true → IsDecidedThere c i row k.number
 
 -- a packet is no other manager's, and for no other
 pub record IsMeant (s : State) (before : one_end.State) (p : UserPacket) : Type 0 where
@@ -124,7 +125,7 @@ module _ (known : List Identity) (c : Course) (i : ℕ) where
         entry = record {
           decided = λ q g. absurd g;
           stored = λ q g. absurd g;
-          acked = λ ordinal number row same inside of_row. subst (IsReached c i row) same.1 (h.acked ack e found.0 row found.1 found.2 inside (of_row ∙ sym same.0));
+          acked = λ ordinal number row same inside of_row. subst (IsDecidedThere c i row) same.1 (h.acked ack e found.0 row found.1 found.2 inside (of_row ∙ sym same.0));
           finished = λ m k row g. absurd g;
         };
         beside = tt;

@@ -27,7 +27,7 @@ use Rattle.mqb_history.specs.Made.{IsMade}
 use Rattle.mqb_history.proofs.Acting.{DecidesPacket, IsTrueRecord}
 use Rattle.mqb_history.proofs.Applying.{applied_manager, beside_rows, made_of_no_peer}
 use Rattle.mqb_history.proofs.Ending.{parted_at}
-use Rattle.mqb_history.proofs.Later.{CameRightly, IsAckedTruly, IsTold, Known, Later, LeadsFrom, Vacant, came_later, led_later, reached_later, told_later}
+use Rattle.mqb_history.proofs.Later.{CameRightly, IsAckedTruly, IsTold, Known, Later, LeadsFrom, Vacant, came_later, led_later, there_later, told_later}
 use Rattle.mqb_history.proofs.Lists.{all_weaker, append_nothing, apart_numbers, equal_numbers, get_within, set_apart, set_get, set_there}
 use Rattle.mqb_history.proofs.Named.{IsRightBeside, beside_knows, stored_knows}
 use Rattle.mqb_history.proofs.Naming.{Knows}
@@ -78,7 +78,7 @@ module _ (known : List Identity) (c d : Course) (later : Later known c d) (count
 
   acked_on : (j : ℕ) (row : Row) → IsAckedTruly c j row → IsAckedTruly d j row
   acked_on j row (inl e) = inl e
-  acked_on j row (inr h) = inr (reached_later known c d later j row row.acked h)
+  acked_on j row (inr h) = inr (there_later known c d later j row row.acked h)
 
   -- without a record
   pub quiet_right : (j : ℕ) → written_of j d.written ≡ written_of j c.written → IsRightAt known c j (old_state j) → IsRightAt known d j (old_state j)

@@ -1,6 +1,6 @@
 -- What is known of messages that were decided, and of identifiers that no transaction has, stays known in later courses.
 use Rattle.std.proofs.Common.{refl, ap, sym, subst, ◌∙◌, arith, inl, inr}
-use Rattle.std.specs.Prelude.{[], ◌++◌, ◌<◌, ◌∷◌, ◌≡◌, ◌≤◌, ◌⊎◌, List, None, Option, Some, false, length, slice_get, true, ℕ}
+use Rattle.std.specs.Prelude.{[], ◌++◌, ◌<◌, ◌∷◌, ◌≡◌, ◌⊎◌, List, None, Option, Some, false, length, slice_get, true, ℕ}
 use Rattle.mqb_base.specs.declared.heads.TxHead.{TxHead}
 use Rattle.mqb_base.specs.declared.ids.Guid.{Guid}
 use Rattle.mqb_base.specs.declared.ids.Identity.{Identity}
@@ -208,18 +208,9 @@ told_later known c d later j p h = record {
     at (inl e) = inl e
     at (inr k) = inr (known_later known c d later j p.message.correlation k)
 
--- a number of a row is no more than one that was decided where it leads
-pub record IsReached (c : Course) (i : ℕ) (row : Row) (number : ℕ) : Type 0 where
-  pub upto : ℕ
-  pub enough : number ≤ upto
-  pub decided : IsDecidedThere c i row upto
-
-pub reached_later : (known : List Identity) (c d : Course) → Later known c d → (i : ℕ) (row : Row) (n : ℕ) → IsReached c i row n → IsReached d i row n
-reached_later known c d later i row n h = record { upto = h.upto; enough = h.enough; decided = there_later known c d later i row h.upto h.decided }
-
--- the acknowledged number of a row is
+-- the acknowledged number of a row was decided where it leads
 abbrev pub IsAckedTruly : Course → ℕ → Row → Type 0
-IsAckedTruly c i row = (row.acked ≡ 0) ⊎ IsReached c i row row.acked
+IsAckedTruly c i row = (row.acked ≡ 0) ⊎ IsDecidedThere c i row row.acked
 
 -- Streams.
 

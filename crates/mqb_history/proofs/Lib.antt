@@ -75,3 +75,4 @@ mod Answering
 mod Acknowledged
 mod Led
 mod Across
+mod Bounded

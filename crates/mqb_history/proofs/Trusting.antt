@@ -31,6 +31,7 @@ use Rattle.mqb_model.specs.state.Resolving.{peer_known}
 use Rattle.mqb_model.specs.state.State.{State}
 use Rattle.mqb_network.specs.Courses.{Course}
 use Rattle.mqb_network.specs.Network.{manager_at}
+use Rattle.mqb_history.specs.Acked.{IsDecidedThere}
 use Rattle.mqb_history.specs.Committed.{commitments, commitments_in}
 use Rattle.mqb_history.specs.Decided.{decisions, written_of}
 use Rattle.mqb_history.specs.Made.{IsMade}
@@ -39,7 +40,7 @@ use Rattle.mqb_history.proofs.Committing.{IsOwnBelow, all_in, in_end, in_split}
 use Rattle.mqb_history.proofs.Connections.{found_passes}
 use Rattle.mqb_history.proofs.Deciding.{first_is_found}
 use Rattle.mqb_history.proofs.Fresh.{commits_within, sent_by}
-use Rattle.mqb_history.proofs.Later.{IsAckedTruly, IsReached, Known, Later, Vacant, known_later, came_later, reached_later}
+use Rattle.mqb_history.proofs.Later.{IsAckedTruly, Known, Later, Vacant, known_later, came_later, there_later}
 use Rattle.mqb_history.proofs.Lists.{all_weaker, split_and}
 use Rattle.mqb_history.proofs.Named.{IsRightBeside}
 use Rattle.mqb_history.proofs.Naming.{AreListed, ArePlaced, ArePlain, AreQueued, IsSafe, Knows}
@@ -112,51 +113,44 @@ beside_moved (beside.HearsExpress peer number now m refusal) s t same h = (
 beside_moved (beside.NotesSent peer sent) s t same h = tt
 
 -- A number of a row, whatever else changes of it.
-reached_as : (c : Course) (i : ℕ) (a b : Row) (n : ℕ) → b.peer ≡ a.peer → b.destination ≡ a.destination → b.sequence ≡ a.sequence → IsReached c i a n → IsReached c i b n
-reached_as c i a b n peer destination sequence h = record {
-  upto = h.upto;
-  enough = h.enough;
-  decided = record {
-    decider = h.decided.decider;
-    leads = record {
-      peer = h.decided.leads.peer;
-      there = ap (slice_get (manager_at c.network i).state.peers) peer ∙ h.decided.leads.there;
-      is = h.decided.leads.is;
-    };
-    decided = subst (λ d. In {A = Position} (record { sequence = b.sequence; number = h.upto }) (decisions (record { source = (manager_at c.network i).state.identity.guid; destination = d }) (written_of h.decided.decider c.written)))
-        (sym destination)
-        (subst (λ q. In {A = Position} (record { sequence = q; number = h.upto }) (decisions (record { source = (manager_at c.network i).state.identity.guid; destination = a.destination }) (written_of h.decided.decider c.written)))
-        (sym sequence) h.decided.decided);
+there_as : (c : Course) (i : ℕ) (a b : Row) (n : ℕ) → b.peer ≡ a.peer → b.destination ≡ a.destination → b.sequence ≡ a.sequence → IsDecidedThere c i a n → IsDecidedThere c i b n
+there_as c i a b n peer destination sequence h = record {
+  decider = h.decider;
+  leads = record {
+    peer = h.leads.peer;
+    there = ap (slice_get (manager_at c.network i).state.peers) peer ∙ h.leads.there;
+    is = h.leads.is;
   };
+  decided = subst (λ d. In {A = Position} (record { sequence = b.sequence; number = n }) (decisions (record { source = (manager_at c.network i).state.identity.guid; destination = d }) (written_of h.decider c.written)))
+      (sym destination)
+      (subst (λ q. In {A = Position} (record { sequence = q; number = n }) (decisions (record { source = (manager_at c.network i).state.identity.guid; destination = a.destination }) (written_of h.decider c.written)))
+      (sym sequence) h.decided);
 }
 
-lower_reached : (c : Course) (i : ℕ) (row : Row) (a n : ℕ) → a ≤ n → IsReached c i row n → IsReached c i row a
-lower_reached c i row a n le h = record { upto = h.upto; enough = let more = h.enough in omega (arith, le, more); decided = h.decided }
-
 -- the greater of two
-max_reached : (c : Course) (i : ℕ) (row : Row) (a n : ℕ) → (a ≡ 0) ⊎ IsReached c i row a → IsReached c i row n → IsReached c i row (max a n)
-max_reached c i row a n h g = at (nat_le a n) refl h
+max_there : (c : Course) (i : ℕ) (row : Row) (a n : ℕ) → (a ≡ 0) ⊎ IsDecidedThere c i row a → IsDecidedThere c i row n → IsDecidedThere c i row (max a n)
+max_there c i row a n h g = at (nat_le a n) refl h
   where
-    small : nat_le a n ≡ true → max a n ≤ n
+    small : nat_le a n ≡ true → max a n ≡ n
     small e = grind (arith, nat_tests)
 
-    great : nat_le a n ≡ false → max a n ≤ a
+    great : nat_le a n ≡ false → max a n ≡ a
     great e = grind (arith, nat_tests)
 
     none : nat_le a n ≡ false → a ≡ 0 → ⊥
     none e f = grind (arith, nat_tests)
 
-    at : (b : Bool) → nat_le a n ≡ b → (a ≡ 0) ⊎ IsReached c i row a → IsReached c i row (max a n)
-    at true e x = lower_reached c i row (max a n) n (small e) g
+    at : (b : Bool) → nat_le a n ≡ b → (a ≡ 0) ⊎ IsDecidedThere c i row a → IsDecidedThere c i row (max a n)
+    at true e x = subst (IsDecidedThere c i row) (sym (small e)) g
     at false e (inl f) = absurd (none e f)
-    at false e (inr x) = lower_reached c i row (max a n) a (great e) x
+    at false e (inr x) = subst (IsDecidedThere c i row) (sym (great e)) x
 
 -- Rows under a record that is true.
 
 record MayBeAcked (c : Course) (i : ℕ) (s : State) (r : Record) (row : Row) : Type 0 where
   pub acked : IsAckedTruly c i row
-  pub order : (ordinal number : ℕ) → Acknowledges r ordinal number → row.sequence.ordinal ≡ ordinal → IsReached c i row number
-  pub final : (m : Message) (k : Kept) → Finishes r m → peer_known s m.id.qm ≡ Some row.peer → In k row.kept → same_id k.message.id m.correlation ≡ true → IsReached c i row k.number
+  pub order : (ordinal number : ℕ) → Acknowledges r ordinal number → row.sequence.ordinal ≡ ordinal → IsDecidedThere c i row number
+  pub final : (m : Message) (k : Kept) → Finishes r m → peer_known s m.id.qm ≡ Some row.peer → In k row.kept → same_id k.message.id m.correlation ≡ true → IsDecidedThere c i row k.number
 
 no_acks : (r : Record) (ordinal number : ℕ) → IsCommit r → Acknowledges r ordinal number → ⊥
 no_acks (entry.Identity identity) ordinal number h g = h
@@ -186,15 +180,15 @@ no_final (entry.Roll count) m h g = h
 
 acked_as : (c : Course) (i : ℕ) (a b : Row) → b.peer ≡ a.peer → b.destination ≡ a.destination → b.sequence ≡ a.sequence → b.acked ≡ a.acked → IsAckedTruly c i a → IsAckedTruly c i b
 acked_as c i a b peer destination sequence same (inl e) = inl (same ∙ e)
-acked_as c i a b peer destination sequence same (inr h) = inr (subst (IsReached c i b) (sym same) (reached_as c i a b a.acked peer destination sequence h))
+acked_as c i a b peer destination sequence same (inr h) = inr (subst (IsDecidedThere c i b) (sym same) (there_as c i a b a.acked peer destination sequence h))
 
 -- a row that keeps less, acknowledged as far as may be
 less_acked : (c : Course) (i : ℕ) (s : State) (r : Record) (row : Row) (acked : ℕ) (kept : List Kept) → ((k : Kept) → In k kept → In k row.kept)
     → IsAckedTruly c i (record row { acked = acked; kept = kept }) → MayBeAcked c i s r row → MayBeAcked c i s r (record row { acked = acked; kept = kept })
 less_acked c i s r row acked kept fewer truly h = record {
   acked = truly;
-  order = λ ordinal number acks same. reached_as c i row (record row { acked = acked; kept = kept }) number refl refl refl (h.order ordinal number acks same);
-  final = λ m k ends peer inside named. reached_as c i row (record row { acked = acked; kept = kept }) k.number refl refl refl (h.final m k ends peer (fewer k inside) named);
+  order = λ ordinal number acks same. there_as c i row (record row { acked = acked; kept = kept }) number refl refl refl (h.order ordinal number acks same);
+  final = λ m k ends peer inside named. there_as c i row (record row { acked = acked; kept = kept }) k.number refl refl refl (h.final m k ends peer (fewer k inside) named);
 }
 
 acked_allows : (c : Course) (i : ℕ) (s : State) (r : Record) → Allows (MayBeAcked c i s r) s r
@@ -211,16 +205,16 @@ acked_allows c i s r = record {
   };
   offers = λ mark row raises same h. record {
     acked = acked_as c i row _ refl refl refl refl h.acked;
-    order = λ ordinal number acks of_row. reached_as c i row _ number refl refl refl (h.order ordinal number acks of_row);
-    final = λ m k ends peer inside named. reached_as c i row _ k.number refl refl refl (h.final m k ends peer inside named);
+    order = λ ordinal number acks of_row. there_as c i row _ number refl refl refl (h.order ordinal number acks of_row);
+    final = λ m k ends peer inside named. there_as c i row _ k.number refl refl refl (h.final m k ends peer inside named);
   };
   acknowledges = λ ordinal number row acks same h. less_acked c i s r row (max row.acked number) _
       (λ k j. filtered_in (λ (x : Kept). nat_lt (max row.acked number) x.number || keeps_dead x.message) row.kept k j)
-      (inr (reached_as c i row _ (max row.acked number) refl refl refl (max_reached c i row row.acked number h.acked (h.order ordinal number acks same)))) h;
+      (inr (there_as c i row _ (max row.acked number) refl refl refl (max_there c i row row.acked number h.acked (h.order ordinal number acks same)))) h;
   finishes = λ m k row ends peer named h. less_acked c i s r row (max row.acked k.number) _
       (λ x j. without_in (is_offered_as m.correlation row) row.kept x
       (filtered_in (λ (y : Kept). nat_lt (max row.acked k.number) y.number || keeps_dead y.message) (without_first (is_offered_as m.correlation row) row.kept) x j))
-      (inr (reached_as c i row _ (max row.acked k.number) refl refl refl (max_reached c i row row.acked k.number h.acked
+      (inr (there_as c i row _ (max row.acked k.number) refl refl refl (max_there c i row row.acked k.number h.acked
       (h.final m k ends peer (found_kept (is_offered_as m.correlation row) row.kept k (found m row k named))
       (split_and (names_kept m.correlation k) (nat_le k.number row.offered) (found_passes (is_offered_as m.correlation row) row.kept k (found m row k named))).0)))) h;
   expires = λ now row h. less_acked c i s r row row.acked _ (λ k j. without_in (expires now row) row.kept k j) (acked_as c i row _ refl refl refl refl h.acked) h;
@@ -235,8 +229,8 @@ pub true_later : (known : List Identity) (c d : Course) → Later known c d → 
 true_later known c d later i s r h = record {
   decided = λ p f. came_later known c d later i p (h.decided p f);
   stored = λ p f e. later.unused p.message.id (h.stored p f e);
-  acked = λ ordinal number row acks inside same. reached_later known c d later i row number (h.acked ordinal number row acks inside same);
-  finished = λ m k row ends inside peer kept named. reached_later known c d later i row k.number (h.finished m k row ends inside peer kept named);
+  acked = λ ordinal number row acks inside same. there_later known c d later i row number (h.acked ordinal number row acks inside same);
+  finished = λ m k row ends inside peer kept named. there_later known c d later i row k.number (h.finished m k row ends inside peer kept named);
 }
 
 pub true_moved : (known : List Identity) (c : Course) (i : ℕ) (s t : State) (r : Record) → t.outs ≡ s.outs → t.peers ≡ s.peers → IsTrueRecord known c i s r → IsTrueRecord known c i t r
@@ -384,10 +378,10 @@ module _ (known : List Identity) (c d : Course) (later : Later known c d) (i : �
       record_rows h = all_weaker (MayBeAcked d i state r) (IsAckedTruly d i) (λ row g. g.acked) (apply state r).outs
           (applied_each (MayBeAcked d i state r) state r (acked_allows d i state r) (all_of (MayBeAcked d i state r) state.outs (λ row inside. record {
             acked = acked_later row (all_in (IsAckedTruly c i) state.outs row h inside);
-            order = λ ordinal number acks same. reached_later known c d later i row number (truly.acked ordinal number row acks inside same);
-            final = λ m k ends peer kept named. reached_later known c d later i row k.number (truly.finished m k row ends inside peer kept named);
+            order = λ ordinal number acks same. there_later known c d later i row number (truly.acked ordinal number row acks inside same);
+            final = λ m k ends peer kept named. there_later known c d later i row k.number (truly.finished m k row ends inside peer kept named);
           })))
         where
           acked_later : (row : Row) → IsAckedTruly c i row → IsAckedTruly d i row
           acked_later row (inl e) = inl e
-          acked_later row (inr x) = inr (reached_later known c d later i row row.acked x)
+          acked_later row (inr x) = inr (there_later known c d later i row row.acked x)
