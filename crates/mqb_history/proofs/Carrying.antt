@@ -212,7 +212,7 @@ from_packet ws i moment x (Some (entry.Purged now place)) h g = tt
 from_packet ws i moment x (Some (entry.Ticked now)) h g = tt
 from_packet ws i moment x (Some (entry.Roll count)) h g = tt
 
-none_heard : (call : Call) → is_of_packets call ≡ false → packet_heard call ≡ None
+pub none_heard : (call : Call) → is_of_packets call ≡ false → packet_heard call ≡ None
 none_heard (CreateQueue plan) e = refl
 none_heard (SetRoll count) e = refl
 none_heard (Commit now ops) e = refl
@@ -376,7 +376,7 @@ same_doubts c n ws same h j = subst (λ x. IfSome (doubt_of x) (DecidesTruly ws)
 abbrev pub HasSender : List Note → ℕ → Note → Type 0
 HasSender notes k note = (old : Note) × (numbered notes k ≡ Some old) × (old.sender ≡ note.sender) × (old.moment ≡ note.moment)
 
-place_there : {X : Type 0} (xs : List X) (d : ℕ) (x : X) → numbered xs d ≡ Some x → slice_get xs (d - 1) ≡ Some x
+pub place_there : {X : Type 0} (xs : List X) (d : ℕ) (x : X) → numbered xs d ≡ Some x → slice_get xs (d - 1) ≡ Some x
 place_there xs zero x e = absurd (none_some e)
 place_there xs (suc d) x e = ap (slice_get xs) (let f : suc d - 1 ≡ d = omega arith in f) ∙ sym (numbered_suc xs d) ∙ e
 

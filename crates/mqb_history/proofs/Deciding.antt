@@ -57,11 +57,11 @@ first_is_found p (x ∷ xs) = at (p x) (first_is_found p xs)
         ∙ behind (nat_lt (prefix_len (λ x. not (p x)) xs) (length xs)) refl ∙ rest
 
 -- a row takes the place of the first that passes, or stands behind the others
-abbrev put : {X : Type 0} → (X → Bool) → X → List X → List X
+abbrev pub put : {X : Type 0} → (X → Bool) → X → List X → List X
 put p y [] = y ∷ []
 put p y (x ∷ xs) = cond (p x) (y ∷ xs) (x ∷ put p y xs)
 
-set_is_put : {X : Type 0} (p : X → Bool) (y : X) (xs : List X) → option_map_or (λ k. slice_set xs k y) (position p xs) (xs ++ y ∷ []) ≡ put p y xs
+pub set_is_put : {X : Type 0} (p : X → Bool) (y : X) (xs : List X) → option_map_or (λ k. slice_set xs k y) (position p xs) (xs ++ y ∷ []) ≡ put p y xs
 set_is_put p y [] = refl
 set_is_put p y (x ∷ xs) = at (p x) (set_is_put p y xs)
   where
@@ -77,7 +77,7 @@ set_is_put p y (x ∷ xs) = at (p x) (set_is_put p y xs)
     at false rest = ap (λ b. option_map_or (λ k. slice_set (x ∷ xs) k y) (cond b (Some (1 + prefix_len (λ x. not (p x)) xs)) None) (x ∷ (xs ++ y ∷ [])))
         (counted (prefix_len (λ x. not (p x)) xs) (length xs)) ∙ behind (nat_lt (prefix_len (λ x. not (p x)) xs) (length xs)) ∙ ap (λ zs. x ∷ zs) rest
 
-found_put : {X : Type 0} (p : X → Bool) (y : X) (xs : List X) → p y ≡ true → find p (put p y xs) ≡ Some y
+pub found_put : {X : Type 0} (p : X → Bool) (y : X) (xs : List X) → p y ≡ true → find p (put p y xs) ≡ Some y
 found_put p y [] e = ap (λ b. cond b (Some y) None) e
 found_put p y (x ∷ xs) e = at (p x) refl (found_put p y xs e)
   where
@@ -85,7 +85,7 @@ found_put p y (x ∷ xs) e = at (p x) refl (found_put p y xs e)
     at true f rest = ap (λ b. cond b (Some y) (find p xs)) e
     at false f rest = ap (λ b. cond b (Some x) (find p (put p y xs))) f ∙ rest
 
-other_put : {X : Type 0} (p q : X → Bool) (y : X) (xs : List X) → ((x : X) → p x ≡ true → q x ≡ false) → q y ≡ false → find q (put p y xs) ≡ find q xs
+pub other_put : {X : Type 0} (p q : X → Bool) (y : X) (xs : List X) → ((x : X) → p x ≡ true → q x ≡ false) → q y ≡ false → find q (put p y xs) ≡ find q xs
 other_put p q y [] apart e = ap (λ b. cond b (Some y) None) e
 other_put p q y (x ∷ xs) apart e = at (p x) refl (other_put p q y xs apart e)
   where
@@ -175,7 +175,7 @@ behind_last None last tx e v = subst (λ p. LastPrecedes p (position_of tx)) e t
 behind_last (Some row) last tx e v = subst (λ p. LastPrecedes p (position_of tx)) e (behind_row row tx v)
 
 -- the channel of a message
-abbrev channel_of : Message → Channel
+abbrev pub channel_of : Message → Channel
 channel_of m = record { source = m.id.qm; destination = m.destination }
 
 pub in_its_channel : (channel : Channel) (m : Message) → is_in_channel channel m ≡ true → channel_of m ≡ channel
@@ -184,7 +184,7 @@ in_its_channel channel m e = let both = split_and (same_guid m.id.qm channel.sou
     ∙ ap (λ d. record { source = channel.source; destination = d }) (same_name_is m.destination channel.destination both.1)
 
 -- no row is of two channels
-of_one : (channel : Channel) (m : Message) → is_in_channel channel m ≡ false → (row : InRow) → is_row_of m.id.qm m.destination row ≡ true
+pub of_one : (channel : Channel) (m : Message) → is_in_channel channel m ≡ false → (row : InRow) → is_row_of m.id.qm m.destination row ≡ true
     → is_row_of channel.source channel.destination row ≡ false
 of_one channel m apart row here = at (is_row_of channel.source channel.destination row) refl
   where
@@ -259,7 +259,7 @@ record_keeps s (entry.Roll count) channel ps made h = quiet_keeps s (entry.Roll 
 
 -- The law.
 
-joined_ins : (s : State) (peers : List Identity) → (fold apply s (map (λ peer. entry.Peer peer) peers)).ins ≡ s.ins
+pub joined_ins : (s : State) (peers : List Identity) → (fold apply s (map (λ peer. entry.Peer peer) peers)).ins ≡ s.ins
 joined_ins s [] = refl
 joined_ins s (p ∷ ps) = joined_ins (apply s (entry.Peer p)) ps
 

@@ -73,7 +73,7 @@ joined_reasoned s e next h g = all_append (IsReasoned s) e.lines next.lines h g
 
 -- Messages expire.
 
-find_in : {X : Type 0} (p : X → Bool) (xs : List X) (x : X) → find p xs ≡ Some x → In x xs × (p x ≡ true)
+pub find_in : {X : Type 0} (p : X → Bool) (xs : List X) (x : X) → find p xs ≡ Some x → In x xs × (p x ≡ true)
 find_in p [] x e = absurd (none_some e)
 find_in p (y ∷ ys) x e = at (p y) refl e (find_in p ys x)
   where

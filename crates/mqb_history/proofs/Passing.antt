@@ -36,7 +36,7 @@ use Rattle.mqb_history.proofs.Storing.{AnyMark, FlowsIn, KeepsStorage, ReleasesS
 use Rattle.mqb_history.proofs.Unreleased.{IsOfOwn, Waits, weaker_waits}
 
 -- nothing is sent
-posted_nothing : (i now : ℕ) (c : Course) → posted i now [] c ≡ c
+pub posted_nothing : (i now : ℕ) (c : Course) → posted i now [] c ≡ c
 posted_nothing i now c = ap (λ n. record { network = n; sent = c.sent ++ []; written = c.written }) (at (connection_of c.network i))
     ∙ ap (λ (xs : List Packet). record { network = c.network; sent = xs; written = c.written }) (append_nothing c.sent)
   where

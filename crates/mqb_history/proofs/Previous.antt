@@ -22,7 +22,7 @@ use Rattle.mqb_history.proofs.Sending.{IsRowOf}
 use Rattle.mqb_history.proofs.Unskipped.{AreHeld}
 
 -- A kept number below another is at most the link of that.
-linked : (acked n : ℕ) (kept : List Kept) (k : Kept) → In k kept → k.number < n → k.number ≤ link_before acked kept n
+pub linked : (acked n : ℕ) (kept : List Kept) (k : Kept) → In k kept → k.number < n → k.number ≤ link_before acked kept n
 linked acked n kept k i less = (All-contains (λ x. x < n → x ≤ link_before acked kept n) (numbers kept) k.number (greatest acked n (numbers kept)) (among kept i)) less
   where
     among : (ks : List Kept) → In k ks → Contains (numbers ks) k.number

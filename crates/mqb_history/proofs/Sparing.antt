@@ -106,7 +106,7 @@ found_kept test (x ∷ ks) k e = at (test x) (λ f. found_kept test ks k f) e
     at false rest f = inr (rest f)
 
 -- what is left where the first that passes is gone has another number
-left_apart : (test : Kept → Bool) (ks : List Kept) (gone k : Kept) → KeptRise ks → find test ks ≡ Some gone → In k (others_of test ks) → gone.number ≡ k.number → ⊥
+pub left_apart : (test : Kept → Bool) (ks : List Kept) (gone k : Kept) → KeptRise ks → find test ks ≡ Some gone → In k (others_of test ks) → gone.number ≡ k.number → ⊥
 left_apart test [] gone k h e i same = i
 left_apart test (x ∷ ks) gone k h e i same = at (test x) (λ f j. left_apart test ks gone k h.1 f j same) e i
   where
@@ -243,11 +243,11 @@ module _ (ls : List Line) (s : State) (now : ℕ) (row : Row) (gone : Kept) (fou
   )
 
 -- the rows of an effect, behind lines
-record AreTidyIn (ls : List Line) (e : Effect) : Type 0 where
+pub record AreTidyIn (ls : List Line) (e : Effect) : Type 0 where
   pub rise : OrdinalsRise e.state.outs
   pub rows : AllByRecursion (IsTidy (ls ++ e.lines)) e.state.outs
 
-next_tidy : (ls : List Line) (now k : ℕ) (e : Effect) → AreTidyIn ls e → AreTidyIn ls (next_expired now k e)
+pub next_tidy : (ls : List Line) (now k : ℕ) (e : Effect) → AreTidyIn ls e → AreTidyIn ls (next_expired now k e)
 next_tidy ls now k e h = record { rise = rise_no_more e.state.outs (next_expired now k e).state.outs (next_no_more now k e).outs h.rise; rows = at (slice_get e.state.outs k) refl }
   where
     kept_out : (row : Row) → slice_get e.state.outs k ≡ Some row → (gone : Kept) → expiring now row ≡ Some gone
@@ -280,7 +280,7 @@ expiring_tidy ls now (suc n) e h = let f = for_each_below n (row_expired now) e 
 
 -- Only a tick tells of expiries.
 
-other_unexpired : (l : Line) → IsOther l → expiry_told l ≡ None
+pub other_unexpired : (l : Line) → IsOther l → expiry_told l ≡ None
 other_unexpired (line.Committed stream number id) h = absurd h
 other_unexpired (line.Put stream number id) h = absurd h
 other_unexpired (line.Refused stream number class id) h = absurd h
@@ -325,7 +325,7 @@ decided_expires now e p None none = none
 decided_expires now e p (Some tx) none = joined_expires e (message_decided now e.state p tx) none (line_expires p.message tx (refusal_of e.state p))
 
 -- a record of another kind
-abbrev IsNoTick : Record → Type 0
+abbrev pub IsNoTick : Record → Type 0
 IsNoTick (entry.Ticked now) = ⊥
 IsNoTick _ = Unit {0}
 

@@ -27,10 +27,10 @@ use Rattle.mqb_history.proofs.Storing.{AnyMark, KeepsStorage, NoMark, ReleaseSto
 use Rattle.mqb_history.proofs.Lasting.{applied_waits}
 use Rattle.mqb_history.proofs.Unreleased.{Waits}
 
-abbrev IsStoring : List Identity → Course → Type 0
+abbrev pub IsStoring : List Identity → Course → Type 0
 IsStoring known c = IsOrderly known c × KeepsStorage c
 
-storing_closed : (known : List Identity) → AreApart known → IsClosed known (IsStoring known)
+pub storing_closed : (known : List Identity) → AreApart known → IsClosed known (IsStoring known)
 storing_closed known apart = record {
   orderly = λ c h. h.0;
   keeps = λ c x may h. (change_orderly known c x apart may h.0, change_keeps_storage known c x apart may h.0 h.1);
@@ -45,7 +45,7 @@ none_waits own Bears (p ∷ ps) s h = none_waits own Bears ps (apply s (entry.Pe
 begun_waits : (own : Identity) (Bears : ℕ → MessageId → Type 0) (peers : List Identity) → Waits own.guid Bears (formatted own peers).state
 begun_waits own Bears peers = none_waits own.guid Bears peers (empty own) (record { identity = refl; plain = tt })
 
-begins_storing : (known : List Identity) → KeepsStorage (beginning known)
+pub begins_storing : (known : List Identity) → KeepsStorage (beginning known)
 begins_storing known = record {
   rests = λ i. subst (λ o. Rests (unwrap_or o nobody)) (sym (map_get (λ own. formatted own (others known own)) known i)) (rests (slice_get known i));
   flows = λ d inside i j ends. absurd inside;

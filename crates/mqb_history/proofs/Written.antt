@@ -148,7 +148,7 @@ hearing_keeps Q q None p now failure c h = h
 hearing_keeps Q q (Some note) None now failure c h = h
 hearing_keeps Q q (Some note) (Some p) now failure c h = calling_keeps Q q note.receiver (Hear now p) failure c h
 
-durable_rows : (s : State) → HasSameRows s (durable s)
+pub durable_rows : (s : State) → HasSameRows s (durable s)
 durable_rows s = record { manager = record { identity = refl; peers = refl }; outs = refl; ins = refl; next_ordinal = refl; numbers = omega arith }
 
 -- a manager is in what its store stands for

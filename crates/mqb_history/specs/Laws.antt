@@ -18,6 +18,7 @@ use Rattle.mqb_history.specs.Expired.{AreExpiredDuly, AreOffersKept, MayExpire}
 use Rattle.mqb_history.specs.Offered.{AreUndecided}
 use Rattle.mqb_history.specs.Led.{AreDecidedByOne, AreDecidedWhereLed}
 use Rattle.mqb_history.specs.Begun.{AreBegunInOrder, AreDecidedAcross}
+use Rattle.mqb_history.specs.Shown.{AreExactlyOnce, AreShown}
 use Rattle.mqb_base.specs.declared.ids.MessageId.{MessageId}
 use Rattle.mqb_base.specs.declared.ledger.Line.TheVariants as line
 use Rattle.mqb_base.specs.declared.ledger.Stream.{Stream}
@@ -142,3 +143,11 @@ AlwaysDecidedWhereLed = Always AreDecidedWhereLed
 -- Each channel is decided by one manager.
 abbrev pub AlwaysDecidedByOne : Type 0
 AlwaysDecidedByOne = Always AreDecidedByOne
+
+-- Each run is a run of the stream world, for each channel.
+abbrev pub AlwaysShown : Type 0
+AlwaysShown = Always AreShown
+
+-- Each channel is exactly once.
+abbrev pub AlwaysExactlyOnce : Type 0
+AlwaysExactlyOnce = Always AreExactlyOnce

@@ -17,3 +17,4 @@ pub mod Acked
 pub mod Led
 pub mod Laws
 pub mod Stored
+pub mod Shown
