@@ -93,8 +93,10 @@ mod Posting
 mod Beginnings
 mod Chained
 mod Showing
+mod Invariants
 mod Bounded
 mod Whither
 mod Distinct
 mod Receipting
 mod Witnessing
+mod Machine

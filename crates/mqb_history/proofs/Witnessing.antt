@@ -19,11 +19,12 @@ use Rattle.mqb_network.specs.Runs.{IsRun, Move, after_run, beginning}
 use Rattle.mqb_packet.specs.declared.packet.Packet.TheVariants as packet
 use Rattle.mqb_packet.specs.declared.packet.UserPacket.{UserPacket}
 use Rattle.mqb_history.specs.Decided.{written_of}
-use Rattle.mqb_history.specs.Laws.{AlwaysExactlyOnce, AlwaysShown}
+use Rattle.mqb_history.specs.Laws.{AlwaysExactlyOnce, AlwaysShown, AlwaysStreamInvariant}
 use Rattle.mqb_history.proofs.Answering.{IsCredible, credible_begins, credible_closed}
 use Rattle.mqb_history.proofs.Chained.{Route, channel_on}
 use Rattle.mqb_history.proofs.Committing.{all_in}
 use Rattle.mqb_history.proofs.Deciding.{AreInOrder, in_order_by_records}
+use Rattle.mqb_history.proofs.Invariants.{have_invariants}
 use Rattle.mqb_history.proofs.Keeping.{IsClosed}
 use Rattle.mqb_history.proofs.Later.{IsAckedTruly, Known, Vacant}
 use Rattle.mqb_history.proofs.Linked.{IsAckedAt}
@@ -89,3 +90,6 @@ always_shown known ms apart run kept = let h = chained known apart ms run kept i
 
 pub always_exactly_once : AlwaysExactlyOnce
 always_exactly_once known ms apart run kept = are_exactly_once (settled kept (after_run known ms)) (always_shown known ms apart run kept)
+
+pub always_stream_invariant : AlwaysStreamInvariant
+always_stream_invariant known ms apart run kept = have_invariants (settled kept (after_run known ms)) (always_shown known ms apart run kept)

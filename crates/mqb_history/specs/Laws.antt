@@ -18,6 +18,7 @@ use Rattle.mqb_history.specs.Expired.{AreExpiredDuly, AreOffersKept, MayExpire}
 use Rattle.mqb_history.specs.Offered.{AreUndecided}
 use Rattle.mqb_history.specs.Led.{AreDecidedByOne, AreDecidedWhereLed}
 use Rattle.mqb_history.specs.Begun.{AreBegunInOrder, AreDecidedAcross}
+use Rattle.mqb_history.specs.Invariants.{HaveStreamInvariants, MachineInvariant}
 use Rattle.mqb_history.specs.Shown.{AreExactlyOnce, AreShown}
 use Rattle.mqb_base.specs.declared.ids.MessageId.{MessageId}
 use Rattle.mqb_base.specs.declared.ledger.Line.TheVariants as line
@@ -151,3 +152,12 @@ AlwaysShown = Always AreShown
 -- Each channel is exactly once.
 abbrev pub AlwaysExactlyOnce : Type 0
 AlwaysExactlyOnce = Always AreExactlyOnce
+
+-- The parts of the invariant hold of the stream world that is shown.
+abbrev pub AlwaysStreamInvariant : Type 0
+AlwaysStreamInvariant = Always HaveStreamInvariants
+
+-- The parts of the invariant hold of the course.
+abbrev pub AlwaysMachineInvariant : Type 0
+AlwaysMachineInvariant = (known : List Identity) (ms : List Move) → AreApart known → IsRun known ms → (kept : ℕ → Bool)
+    → MachineInvariant known (settled kept (after_run known ms))

@@ -18,3 +18,4 @@ pub mod Led
 pub mod Laws
 pub mod Stored
 pub mod Shown
+pub mod Invariants

@@ -3,7 +3,7 @@
 //! Each function stands for a law: its contract is the law, and its body is empty.
 #![tactic(auto)]
 
-ghost use Rattle.mqb_history.specs.Laws.{AlwaysAcknowledgedTruly, AlwaysAcknowledgingTruly, AlwaysBegunInOrder, AlwaysCarriedTruly, AlwaysCommittedInOrder, AlwaysDecidedAcross, AlwaysDecidedByOne, AlwaysDecidedInOrder, AlwaysDecidedTruly, AlwaysDecidedWhereLed, AlwaysExactlyOnce, AlwaysExpiredDuly, AlwaysOffersKept, AlwaysShown, AlwaysToldCommitments, AlwaysUndecided, AlwaysUnskipped, AlwaysWaiting, AlwaysWaitingUntilDecided, DecisionsHaveReasons, DownStays, ExpiriesHaveReasons, FailuresAreSettled, HistoriesAreOrderly, LinesTellDecisions, RunsHaveHistories};
+ghost use Rattle.mqb_history.specs.Laws.{AlwaysAcknowledgedTruly, AlwaysAcknowledgingTruly, AlwaysBegunInOrder, AlwaysCarriedTruly, AlwaysCommittedInOrder, AlwaysDecidedAcross, AlwaysDecidedByOne, AlwaysDecidedInOrder, AlwaysDecidedTruly, AlwaysDecidedWhereLed, AlwaysExactlyOnce, AlwaysExpiredDuly, AlwaysMachineInvariant, AlwaysOffersKept, AlwaysShown, AlwaysStreamInvariant, AlwaysToldCommitments, AlwaysUndecided, AlwaysUnskipped, AlwaysWaiting, AlwaysWaitingUntilDecided, DecisionsHaveReasons, DownStays, ExpiriesHaveReasons, FailuresAreSettled, HistoriesAreOrderly, LinesTellDecisions, RunsHaveHistories};
 ghost use Rattle.mqb_history.specs.Stored.{StorageIsAlwaysKept};
 
 /// Sessions are connections, there is a note for each packet, and managers stay who they are.
@@ -141,4 +141,14 @@ pub fn always_shown()
 /// So each channel is exactly once: what is decided was committed, in order and each once, and whatever was not expired before is decided or waits.
 pub fn always_exactly_once()
     ensures { AlwaysExactlyOnce }
+{}
+
+/// The parts of the invariant of streams hold of the world of each channel.
+pub fn always_stream_invariant()
+    ensures { AlwaysStreamInvariant }
+{}
+
+/// The parts of the invariant hold of the course itself.
+pub fn always_machine_invariant()
+    ensures { AlwaysMachineInvariant }
 {}
