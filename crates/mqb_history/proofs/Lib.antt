@@ -100,3 +100,7 @@ mod Distinct
 mod Receipting
 mod Witnessing
 mod Machine
+mod SettingUp
+mod Choosing
+mod Readings
+mod Quiet

@@ -19,3 +19,4 @@ pub mod Laws
 pub mod Stored
 pub mod Shown
 pub mod Invariants
+pub mod Choosing

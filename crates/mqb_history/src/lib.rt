@@ -5,6 +5,9 @@
 
 ghost use Rattle.mqb_history.specs.Laws.{AlwaysAcknowledgedTruly, AlwaysAcknowledgingTruly, AlwaysBegunInOrder, AlwaysCarriedTruly, AlwaysCommittedInOrder, AlwaysDecidedAcross, AlwaysDecidedByOne, AlwaysDecidedInOrder, AlwaysDecidedTruly, AlwaysDecidedWhereLed, AlwaysExactlyOnce, AlwaysExpiredDuly, AlwaysMachineInvariant, AlwaysOffersKept, AlwaysShown, AlwaysStreamInvariant, AlwaysToldCommitments, AlwaysUndecided, AlwaysUnskipped, AlwaysWaiting, AlwaysWaitingUntilDecided, DecisionsHaveReasons, DownStays, ExpiriesHaveReasons, FailuresAreSettled, HistoriesAreOrderly, LinesTellDecisions, RunsHaveHistories};
 ghost use Rattle.mqb_history.specs.Stored.{StorageIsAlwaysKept};
+ghost use Rattle.mqb_history.specs.Choosing.{RepliesShowChoices, RunsAreShown};
+
+use mqb_model::refusals_change_nothing;
 
 /// Sessions are connections, there is a note for each packet, and managers stay who they are.
 pub fn histories_are_orderly()
@@ -152,3 +155,16 @@ pub fn always_stream_invariant()
 pub fn always_machine_invariant()
     ensures { AlwaysMachineInvariant }
 {}
+/// Each free choice shows: two choices that may be made in an event and are answered alike are one.
+pub fn replies_show_choices()
+    ensures { RepliesShowChoices }
+{
+    refusals_change_nothing();
+}
+
+/// A run is told by its events and replies: there are no two with the same.
+pub fn runs_are_shown()
+    ensures { RunsAreShown }
+{
+    refusals_change_nothing();
+}
