@@ -104,3 +104,4 @@ mod SettingUp
 mod Choosing
 mod Readings
 mod Quiet
+mod Leading

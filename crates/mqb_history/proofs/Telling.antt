@@ -210,7 +210,7 @@ decided_joins : (now : ℕ) (e : Effect) (p : UserPacket) (o : Option TxHead) �
 decided_joins now e p None none = none
 decided_joins now e p (Some tx) none = more_joins e (message_decided now e.state p tx) none (line_joins p.message tx (refusal_of e.state p))
 
-record_joins : (s : State) (r : Record) → told_joins (lines_of s r) ≡ map (joined_by s.identity.guid) (commitments_in s r)
+pub record_joins : (s : State) (r : Record) → told_joins (lines_of s r) ≡ map (joined_by s.identity.guid) (commitments_in s r)
 record_joins s (entry.Identity identity) = refl
 record_joins s (entry.Peer peer) = refl
 record_joins s (entry.CreateQueue number plan) = refl

@@ -20,3 +20,4 @@ pub mod Stored
 pub mod Shown
 pub mod Invariants
 pub mod Choosing
+pub mod Leading

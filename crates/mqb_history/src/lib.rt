@@ -6,8 +6,10 @@
 ghost use Rattle.mqb_history.specs.Laws.{AlwaysAcknowledgedTruly, AlwaysAcknowledgingTruly, AlwaysBegunInOrder, AlwaysCarriedTruly, AlwaysCommittedInOrder, AlwaysDecidedAcross, AlwaysDecidedByOne, AlwaysDecidedInOrder, AlwaysDecidedTruly, AlwaysDecidedWhereLed, AlwaysExactlyOnce, AlwaysExpiredDuly, AlwaysMachineInvariant, AlwaysOffersKept, AlwaysShown, AlwaysStreamInvariant, AlwaysToldCommitments, AlwaysUndecided, AlwaysUnskipped, AlwaysWaiting, AlwaysWaitingUntilDecided, DecisionsHaveReasons, DownStays, ExpiriesHaveReasons, FailuresAreSettled, HistoriesAreOrderly, LinesTellDecisions, RunsHaveHistories};
 ghost use Rattle.mqb_history.specs.Stored.{StorageIsAlwaysKept};
 ghost use Rattle.mqb_history.specs.Choosing.{RepliesShowChoices, RunsAreShown};
+ghost use Rattle.mqb_history.specs.Leading.{CommitmentsLeadToManagers};
 
 use mqb_model::refusals_change_nothing;
+use mqb_network::ledger_is_written;
 
 /// Sessions are connections, there is a note for each packet, and managers stay who they are.
 pub fn histories_are_orderly()
@@ -167,4 +169,11 @@ pub fn runs_are_shown()
     ensures { RunsAreShown }
 {
     refusals_change_nothing();
+}
+
+/// What is committed to a stream goes from one manager of the network to another: no stream is left out.
+pub fn commitments_lead_to_managers()
+    ensures { CommitmentsLeadToManagers }
+{
+    ledger_is_written();
 }
