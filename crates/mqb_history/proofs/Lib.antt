@@ -105,3 +105,5 @@ mod Choosing
 mod Readings
 mod Quiet
 mod Leading
+mod Validating
+mod Starting

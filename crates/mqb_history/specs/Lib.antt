@@ -21,3 +21,4 @@ pub mod Shown
 pub mod Invariants
 pub mod Choosing
 pub mod Leading
+pub mod Drafted

@@ -7,8 +7,13 @@ ghost use Rattle.mqb_history.specs.Laws.{AlwaysAcknowledgedTruly, AlwaysAcknowle
 ghost use Rattle.mqb_history.specs.Stored.{StorageIsAlwaysKept};
 ghost use Rattle.mqb_history.specs.Choosing.{RepliesShowChoices, RunsAreShown};
 ghost use Rattle.mqb_history.specs.Leading.{CommitmentsLeadToManagers};
+ghost use Rattle.mqb_history.specs.Drafted.{AlwaysValid};
 
-use mqb_model::refusals_change_nothing;
+use mqb_model::{
+    calls_keep_valid, failed_is_valid, kept_is_valid, linked_is_valid, lost_is_valid, new_is_valid,
+    pumped_is_readable, refusals_change_nothing, resent_is_valid, unlinked_is_valid,
+    unread_is_valid,
+};
 use mqb_network::ledger_is_written;
 
 /// Sessions are connections, there is a note for each packet, and managers stay who they are.
@@ -176,4 +181,20 @@ pub fn commitments_lead_to_managers()
     ensures { CommitmentsLeadToManagers }
 {
     ledger_is_written();
+}
+
+/// Whatever is lost, repeated and reordered, and wherever disks fail, each manager stays valid, as long as what events ask for is in order.
+pub fn always_valid()
+    ensures { AlwaysValid }
+{
+    new_is_valid();
+    failed_is_valid();
+    calls_keep_valid();
+    pumped_is_readable();
+    linked_is_valid();
+    unlinked_is_valid();
+    resent_is_valid();
+    lost_is_valid();
+    kept_is_valid();
+    unread_is_valid();
 }
