@@ -1,0 +1,5 @@
+pub mod Searching
+mod Waiting
+mod Names
+mod Deciding
+mod Finishing
