@@ -1,0 +1,6 @@
+mod Framing
+mod Finding
+mod Stepping
+mod Reading
+mod Ordering
+mod Recording

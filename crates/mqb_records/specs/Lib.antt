@@ -1,0 +1,4 @@
+pub mod Unfit
+pub mod Applied
+pub mod Ops
+pub mod Ordered

@@ -1,0 +1,18 @@
+//! Each kind of record, tried in a draft.
+//!
+//! A draft that answers a fault is half changed: `Draft::finish` takes all of it back.
+#![tactic(auto)]
+
+mod applying;
+mod commit;
+mod leaving;
+mod offered;
+mod packets;
+mod peers;
+mod plain;
+mod queues;
+mod records;
+mod rolls;
+
+pub use applying::apply_record;
+pub use mqb_arrivals::RecordFault;
