@@ -1,0 +1,14 @@
+//! The durable state of one manager, and beside it the express messages and the marks of a connection.
+//!
+//! `State::prepare` tries what an entry does, takes all the memory for it, and leaves the state as it was. `State::install` makes what was prepared,
+//! and takes none: so a record can be written between them. `spell` and `read_back` are a state in bytes, `print` the lines of what it holds.
+#![tactic(auto)]
+
+mod prepared;
+mod preparing;
+mod readers;
+mod state;
+
+pub use mqb_records::RecordFault as PrepareFault;
+pub use prepared::Prepared;
+pub use state::State;

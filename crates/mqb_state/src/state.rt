@@ -1,0 +1,39 @@
+ghost use Rattle.std.specs.Prelude.{◌≡◌, IfOk};
+ghost use Rattle.mqb_contents.specs.Rooms.{no_room};
+ghost use Rattle.mqb_model.specs.state.State.{empty};
+
+use mqb_base::{Identity, Memory};
+use mqb_contents::Contents;
+use std::alloc::Global;
+use std::marker::Model;
+
+/// What a store stands for, and beside it what a restart forgets: express messages, and the marks of plain messages that were sent. Contracts see the
+/// lists, and beside them how many members each can have without memory.
+#[derive(Debug, Drop)]
+pub struct State {
+    pub(crate) contents: Contents,
+    pub(crate) alloc: Global,
+}
+
+impl Model for State {
+    ghost use Rattle.mqb_base.specs.Rooms.{WithRooms};
+    ghost use Rattle.mqb_contents.specs.Rooms.{StateRooms};
+    ghost use Rattle.mqb_model.specs.state.State as model;
+
+    ghost Value = { WithRooms model.State StateRooms };
+
+    ghost view = { λ s. s.contents };
+}
+
+impl State {
+    /// The state that a first record with this identity leaves. It has no room.
+    pub fn empty(alloc: Global, identity: &Identity) -> Result<State, Memory>
+        ensures { IfOk result (λ s. s ≡ record { lists = empty identity.now; rooms = no_room }) }
+    {
+        let identity = identity.clone()?;
+        Ok(State {
+            contents: Contents::empty(alloc, identity),
+            alloc,
+        })
+    }
+}
