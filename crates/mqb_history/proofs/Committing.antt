@@ -113,7 +113,7 @@ pub record Commits (own : Guid) (outs : List Row) (next low : ℕ) (cs : List Co
   pub differ : IdentifiersDiffer cs
 
 -- the numbers of a sequence with one commitment more
-numbers_more : (q : SequenceId) (cs : List Commitment) (c : Commitment) → numbers_in q (cs ++ c ∷ []) ≡ numbers_in q cs ++ cons_option (number_in q c) []
+pub numbers_more : (q : SequenceId) (cs : List Commitment) (c : Commitment) → numbers_in q (cs ++ c ∷ []) ≡ numbers_in q cs ++ cons_option (number_in q c) []
 numbers_more q [] c = refl
 numbers_more q (x ∷ cs) c = at (number_in q x) (numbers_more q cs c)
   where

@@ -10,6 +10,8 @@ use Rattle.mqb_exactly_once.specs.Words.{In}
 use Rattle.mqb_packet.specs.declared.packet.Packet.{Packet}
 use Rattle.mqb_packet.specs.declared.packet.Packet.TheVariants as packet
 use Rattle.mqb_packet.specs.declared.packet.UserPacket.{UserPacket}
+use Rattle.mqb_base.specs.Same.{same_guid, same_id}
+use Rattle.mqb_model.specs.records.Releases.{is_released_by}
 use Rattle.mqb_plain.specs.Lists.{at_most}
 use Rattle.mqb_plain.specs.Plain.{PlainLists}
 use Rattle.mqb_queue.specs.Places.{numbered}
@@ -19,10 +21,12 @@ use Rattle.mqb_model.specs.records.Record.{Record}
 use Rattle.mqb_model.specs.rules.Numbers.{own_id}
 use Rattle.mqb_model.specs.state.State.{State}
 use Rattle.mqb_network.specs.Courses.{Written}
-use Rattle.mqb_history.specs.Stored.{IsStoredIn}
+use Rattle.mqb_history.specs.Stored.{IsStoredIn, WaitsIn}
 use Rattle.mqb_history.proofs.Between.{all_in}
 use Rattle.mqb_history.proofs.Heard.{Counts, HasGot, IsReleasable, Stores, is_storable, no_more, one_more, stored_told}
-use Rattle.mqb_history.proofs.Lists.{all_append, append_length, append_nothing, none_some, some_is}
+use Rattle.mqb_history.proofs.Between.{in_any}
+use Rattle.mqb_history.proofs.Lists.{all_append, append_length, append_nothing, join_and, none_some, same_number, some_is}
+use Rattle.mqb_history.proofs.Names.{same_guid_refl}
 use Rattle.mqb_history.proofs.Pumped.{AreInTurn, IsNumberOf, Sends, filter_append, ids_cons, storable_ids, user_in, user_number, users_of}
 use Rattle.mqb_history.proofs.Unreleased.{IsBorne, PlainWaits, Waits}
 
@@ -348,8 +352,11 @@ numbered_front {X = X} xs ys n x le e = at (n == 0) refl e
 
 -- what was sent up to what is acknowledged was stored
 pub released_stored : (mi mj : Manager) (xs ys : List Packet) (ws : List Written) (acked n : ℕ) (h : Flows mi mj xs ys ws) → acked ≤ h.target.stored → IsReleasable mi.state acked n
-    → IsStoredIn ws (own_id mi.state n)
-released_stored mi mj xs ys ws acked n h le r = subst (IsStoredIn ws) named (at r.item.mark refl r.sent borne.mark)
+    → IsStoredIn ws (own_id mi.state n) × WaitsIn mi.state n
+released_stored mi mj xs ys ws acked n h le r = (
+  subst (IsStoredIn ws) named (at r.item.mark refl r.sent borne.mark),
+  record { index = r.peer; lists = r.lists; there = r.waiting; has = in_any (is_released_by mi.state n) r.lists.recoverable r.item r.there test },
+)
   where
     listed : PlainWaits h.own (IsNumberOf (storable_ids (users_of xs))) r.lists
     listed = get mi.state.plain r.peer r.waiting h.waits.plain
@@ -366,6 +373,10 @@ released_stored mi mj xs ys ws acked n h le r = subst (IsStoredIn ws) named (at 
     named : r.item.message.id ≡ own_id mi.state n
     named = ap (λ g. record { qm = g; number = r.item.message.id.number }) (borne.source ∙ sym h.waits.identity)
         ∙ ap (λ k. record { qm = mi.state.identity.guid; number = k }) (sym r.number)
+
+    test : is_released_by mi.state n r.item ≡ true
+    test = subst (λ i. same_id i (own_id mi.state n) ≡ true) (sym named)
+        (join_and (same_guid mi.state.identity.guid mi.state.identity.guid) (n == n) (same_guid_refl mi.state.identity.guid) (same_number n))
 
     below : (k : ℕ) → nat_le k acked ≡ true → k ≤ length (storable_ids h.got)
     below k e = let f : k ≤ acked = grind (arith, nat_tests) in let g = h.stored in omega (arith, f, g, le)

@@ -32,7 +32,7 @@ use Rattle.mqb_network.specs.Network.{Connection, Network, Note, is_connected, i
 use Rattle.mqb_history.specs.Calls.{Hear, outcome_of}
 use Rattle.mqb_history.specs.Changes.{calling, hearing, may_hear}
 use Rattle.mqb_history.specs.Orderly.{AreAllDisjoint, IsOrderly}
-use Rattle.mqb_history.specs.Stored.{IsStorageOf, IsStoredIn, TellStorage}
+use Rattle.mqb_history.specs.Stored.{IsStorageOf, IsStoredIn, TellStorage, WaitsIn}
 use Rattle.mqb_history.proofs.Between.{AreEnds, all_in, any_in, ends_turn, first_end, from_sender, in_any, one_end_of, sent_in}
 use Rattle.mqb_history.proofs.Flowing.{Flows, flows_more, released_stored, source_hears, target_hears}
 use Rattle.mqb_history.proofs.Heard.{Hears, IsReleasable, IsSound, Stores, linked_hears, stored_told}
@@ -129,7 +129,7 @@ module _ (c : Course) (k : KeepsStorage c) (x sender now : ℕ) (p : Packet) (d 
   stores : IfSome outcome.entry (ReleasesStored c.written m.state)
   stores = let g = hears h.own in if_some (IsSound h.own m.state g.after.recoverable_acked) (ReleasesStored c.written m.state) outcome.entry (λ r s. of r s) g.answers.entry
     where
-      each : (acked : ℕ) (ns : List ℕ) → acked ≤ h.target.stored → AllByRecursion (IsReleasable m.state acked) ns → AllByRecursion (λ n. IsStoredIn c.written (own_id m.state n)) ns
+      each : (acked : ℕ) (ns : List ℕ) → acked ≤ h.target.stored → AllByRecursion (IsReleasable m.state acked) ns → AllByRecursion (λ n. IsStoredIn c.written (own_id m.state n) × WaitsIn m.state n) ns
       each acked [] le g = tt
       each acked (n ∷ ns) le g = (
         released_stored m (manager_at c.network sender) (from_sender d.number x c.network.notes c.sent) (from_sender d.number sender c.network.notes c.sent) c.written acked n h le g.0,

@@ -4,6 +4,7 @@ use Rattle.std.proofs.lemmas.List.{append_assoc}
 use Rattle.std.specs.List.{AllByRecursion, enumerate_from}
 use Rattle.std.specs.Option.{option_map_or}
 use Rattle.std.specs.Prelude.{[], ◌&&◌, ◌+◌, ◌++◌, ◌==◌, ◌||◌, ◌∷◌, ◌≡◌, Bool, Err, List, None, Ok, Option, Result, Some, cond, false, fold, is_none, is_some, length, not, slice_get, true, ℕ}
+use Rattle.mqb_base.specs.declared.draft.Op.{Op}
 use Rattle.mqb_base.specs.declared.ids.Identity.{Identity}
 use Rattle.mqb_model.specs.calls.Commit.{commit}
 use Rattle.mqb_model.specs.calls.CreateQueue.{create_queue}
@@ -48,6 +49,17 @@ pub record IsClosed (known : List Identity) (P : Course → Type 0) : Type 0 whe
   pub orderly : (c : Course) → P c → IsOrderly known c
   pub keeps : (c : Course) (x : Change) → may_change c x ≡ true → P c → P (changed x c)
 
+-- a change commits nothing
+abbrev pub CommitsNone : Change → Type 0
+CommitsNone (change.Calls i (Commit now ops) failure) = ⊥
+CommitsNone _ = Unit {0}
+
+-- the same where changes are given, of which each that commits nothing is one
+pub record IsClosedUnder (A : Change → Type 0) (known : List Identity) (P : Course → Type 0) : Type 0 where
+  pub orderly : (c : Course) → P c → IsOrderly known c
+  pub others : (x : Change) → CommitsNone x → A x
+  pub keeps : (c : Course) (x : Change) → A x → may_change c x ≡ true → P c → P (changed x c)
+
 -- Calls.
 
 -- a disk fails only in a call that touches it
@@ -69,11 +81,11 @@ without_answer : {A : Type 0} (i : ℕ) (outcome : Outcome A) (failure : Option 
 without_answer i outcome None c = refl
 without_answer i outcome (Some how) c = refl
 
-call_keeps : {A : Type 0} (known : List Identity) (P : Course → Type 0) → IsClosed known P → (i : ℕ) (call : Call) (outcome : Outcome A) (choice : Choice) (c : Course)
-    → answerless outcome ≡ outcome_of (manager_at c.network i) call → is_of_packets call ≡ false → P c → P (called i outcome choice c)
-call_keeps known P k i call outcome choice c same apart h = subst P (without_answer i outcome (failure_in choice outcome) c)
+call_keeps : {R : Type 0} (A : Change → Type 0) (known : List Identity) (P : Course → Type 0) → IsClosedUnder A known P → (i : ℕ) (call : Call) (outcome : Outcome R) (choice : Choice) (c : Course)
+    → answerless outcome ≡ outcome_of (manager_at c.network i) call → is_of_packets call ≡ false → A (change.Calls i call (failure_in choice outcome)) → P c → P (called i outcome choice c)
+call_keeps A known P k i call outcome choice c same apart given h = subst P (without_answer i outcome (failure_in choice outcome) c)
     (subst (λ o. P (called_unless i o (failure_in choice outcome) c)) (sym same)
-    (k.keeps c (change.Calls i call (failure_in choice outcome))
+    (k.keeps c (change.Calls i call (failure_in choice outcome)) given
     (join_and (not (is_of_packets call)) (is_none (failure_in choice outcome) || (outcome_of (manager_at c.network i) call).touches)
     (ap not apart) (subst (λ (o : Outcome (Unit {0})). (is_none (failure_in choice outcome) || o.touches) ≡ true) same (rightly choice outcome))) h))
 
@@ -84,26 +96,26 @@ pumped_same : (i now : ℕ) (outcome : PumpOutcome) (failure : Option Failure) (
 pumped_same i now outcome None c = refl
 pumped_same i now outcome (Some how) c = refl
 
-pump_keeps : (known : List Identity) (P : Course → Type 0) → IsClosed known P → (i now : ℕ) (choice : Choice) (c : Course) → P c
+pump_keeps : (A : Change → Type 0) (known : List Identity) (P : Course → Type 0) → IsClosedUnder A known P → (i now : ℕ) (choice : Choice) (c : Course) → P c
     → P (pump_by i now (pump (manager_at c.network i) now) choice c).after
-pump_keeps known P k i now choice c h = let outcome = pump (manager_at c.network i) now in
+pump_keeps A known P k i now choice c h = let outcome = pump (manager_at c.network i) now in
     subst P (pumped_same i now outcome (failure_in choice outcome) c)
-    (k.keeps c (change.Pumps i now (failure_in choice outcome)) (rightly choice outcome) h)
+    (k.keeps c (change.Pumps i now (failure_in choice outcome)) (k.others (change.Pumps i now (failure_in choice outcome)) tt) (rightly choice outcome) h)
 
 -- Deliveries.
 
-closed_keeps : (known : List Identity) (P : Course → Type 0) → IsClosed known P → (b : Bool) (i : ℕ) (c : Course) → P c → P (cond b (moved (ended i) c) c)
-closed_keeps known P k true i c h = k.keeps c (change.Ends i) refl h
-closed_keeps known P k false i c h = h
+closed_keeps : (A : Change → Type 0) (known : List Identity) (P : Course → Type 0) → IsClosedUnder A known P → (b : Bool) (i : ℕ) (c : Course) → P c → P (cond b (moved (ended i) c) c)
+closed_keeps A known P k true i c h = k.keeps c (change.Ends i) (k.others (change.Ends i) tt) refl h
+closed_keeps A known P k false i c h = h
 
-heard_keeps : (known : List Identity) (P : Course → Type 0) → IsClosed known P → (number : ℕ) (note : Note) (p : Packet) (now : ℕ) (choice : Choice) (c : Course)
+heard_keeps : (A : Change → Type 0) (known : List Identity) (P : Course → Type 0) → IsClosedUnder A known P → (number : ℕ) (note : Note) (p : Packet) (now : ℕ) (choice : Choice) (c : Course)
     → numbered c.network.notes number ≡ Some note → numbered c.sent number ≡ Some p → is_underway c.network note ≡ true → P c
     → P (heard_by note.receiver (hear (manager_at c.network note.receiver) p now) choice c).after
-heard_keeps known P k number note p now choice c noted sent underway h = closed_keeps known P k (closes outcome.answer) note.receiver (called note.receiver outcome choice c)
+heard_keeps A known P k number note p now choice c noted sent underway h = closed_keeps A known P k (closes outcome.answer) note.receiver (called note.receiver outcome choice c)
     (subst P (without_answer note.receiver outcome failure c)
     (subst (λ q. P (hearing (Some note) q now failure c)) sent
     (subst (λ n. P (hearing n (numbered c.sent number) now failure c)) noted
-    (k.keeps c (change.Hears number now failure) may_be h))))
+    (k.keeps c (change.Hears number now failure) (k.others (change.Hears number now failure) tt) may_be h))))
   where
     outcome : HeardOutcome
     outcome = hear (manager_at c.network note.receiver) p now
@@ -116,28 +128,28 @@ heard_keeps known P k number note p now choice c noted sent underway h = closed_
         (subst (λ q. may_hear c (Some note) q now failure ≡ true) (sym sent)
         (join_and (is_underway c.network note) (is_none failure || outcome.touches) underway (rightly choice outcome)))
 
-passed_keeps : (known : List Identity) (P : Course → Type 0) → IsClosed known P → (number : ℕ) (note : Note) (p : Packet) (now : ℕ) (choice : Choice) (c : Course)
+passed_keeps : (A : Change → Type 0) (known : List Identity) (P : Course → Type 0) → IsClosedUnder A known P → (number : ℕ) (note : Note) (p : Packet) (now : ℕ) (choice : Choice) (c : Course)
     → numbered c.network.notes number ≡ Some note → numbered c.sent number ≡ Some p → P c → P (passed note p now choice c).after
-passed_keeps known P k number note p now choice c noted sent h = at (is_underway c.network note) refl
+passed_keeps A known P k number note p now choice c noted sent h = at (is_underway c.network note) refl
   where
     at : (b : Bool) → is_underway c.network note ≡ b → P (cond b (heard_by note.receiver (hear (manager_at c.network note.receiver) p now) choice c) (unheard choice c)).after
-    at true e = heard_keeps known P k number note p now choice c noted sent e h
+    at true e = heard_keeps A known P k number note p now choice c noted sent e h
     at false e = h
 
-deliver_keeps : (known : List Identity) (P : Course → Type 0) → IsClosed known P → (number : ℕ) (now : ℕ) (choice : Choice) (c : Course) → P c
+deliver_keeps : (A : Change → Type 0) (known : List Identity) (P : Course → Type 0) → IsClosedUnder A known P → (number : ℕ) (now : ℕ) (choice : Choice) (c : Course) → P c
     → P (deliver_packet (numbered c.network.notes number) (numbered c.sent number) now choice c).after
-deliver_keeps known P k number now choice c h = at (numbered c.network.notes number) refl (numbered c.sent number) refl
+deliver_keeps A known P k number now choice c h = at (numbered c.network.notes number) refl (numbered c.sent number) refl
   where
     at : (note : Option Note) → numbered c.network.notes number ≡ note → (p : Option Packet) → numbered c.sent number ≡ p → P (deliver_packet note p now choice c).after
     at None e p f = h
     at (Some note) e None f = h
-    at (Some note) e (Some p) f = passed_keeps known P k number note p now choice c e f h
+    at (Some note) e (Some p) f = passed_keeps A known P k number note p now choice c e f h
 
-drop_keeps : (known : List Identity) (P : Course → Type 0) → IsClosed known P → (number : ℕ) (c : Course) → P c → P (drop_packet number c).after
-drop_keeps known P k number c h = at (is_some (numbered c.network.notes number))
+drop_keeps : (A : Change → Type 0) (known : List Identity) (P : Course → Type 0) → IsClosedUnder A known P → (number : ℕ) (c : Course) → P c → P (drop_packet number c).after
+drop_keeps A known P k number c h = at (is_some (numbered c.network.notes number))
   where
     at : (b : Bool) → P (cond b (record { reply = reply.Dropped; after = moved (dropped number) c }) (only c reply.NoPacket)).after
-    at true = k.keeps c (change.Drops number) refl h
+    at true = k.keeps c (change.Drops number) (k.others (change.Drops number) tt) refl h
     at false = h
 
 -- Flows.
@@ -165,22 +177,22 @@ passed_sent note p now choice c = at (is_underway c.network note)
 abbrev IsPassing : (Course → Type 0) → List Packet → Passing → Type 0
 IsPassing P sent t = P t.after × (t.after.sent ≡ sent)
 
-on_keeps : (known : List Identity) (P : Course → Type 0) → IsClosed known P → (now : ℕ) (sent : List Packet) (t : Passing) (given : ℕ × Packet)
+on_keeps : (A : Change → Type 0) (known : List Identity) (P : Course → Type 0) → IsClosedUnder A known P → (now : ℕ) (sent : List Packet) (t : Passing) (given : ℕ × Packet)
     → numbered sent given.0 ≡ Some given.1 → IsPassing P sent t → IsPassing P sent (passed_on now t given)
-on_keeps known P k now sent t given there h = at (numbered t.after.network.notes given.0) refl
+on_keeps A known P k now sent t given there h = at (numbered t.after.network.notes given.0) refl
   where
     at : (o : Option Note) → numbered t.after.network.notes given.0 ≡ o
         → IsPassing P sent (with_arrival given.0 t.arrivals (option_map_or (λ note. passed note given.1 now t.left t.after) o (unheard t.left t.after)))
     at None e = h
     at (Some note) e = (
-      passed_keeps known P k given.0 note given.1 now t.left t.after e (subst (λ s. numbered s given.0 ≡ Some given.1) (sym h.1) there) h.0,
+      passed_keeps A known P k given.0 note given.1 now t.left t.after e (subst (λ s. numbered s given.0 ≡ Some given.1) (sym h.1) there) h.0,
       passed_sent note given.1 now t.left t.after ∙ h.1,
     )
 
-all_keep : (known : List Identity) (P : Course → Type 0) → IsClosed known P → (now : ℕ) (sent : List Packet) (t : Passing) (given : List (ℕ × Packet))
+all_keep : (A : Change → Type 0) (known : List Identity) (P : Course → Type 0) → IsClosedUnder A known P → (now : ℕ) (sent : List Packet) (t : Passing) (given : List (ℕ × Packet))
     → AllByRecursion (λ (g : ℕ × Packet). numbered sent g.0 ≡ Some g.1) given → IsPassing P sent t → IsPassing P sent (fold (passed_on now) t given)
-all_keep known P k now sent t [] there h = h
-all_keep known P k now sent t (g ∷ given) there h = all_keep known P k now sent (passed_on now t g) given there.1 (on_keeps known P k now sent t g there.0 h)
+all_keep A known P k now sent t [] there h = h
+all_keep A known P k now sent t (g ∷ given) there h = all_keep A known P k now sent (passed_on now t g) given there.1 (on_keeps A known P k now sent t g there.0 h)
 
 -- packets behind others, by their numbers
 behind_numbers : (s before ys : List Packet)
@@ -202,8 +214,8 @@ sent_numbers : (s packets : List Packet) (n : ℕ) → n ≡ length s
 sent_numbers s packets n e = subst (λ k. AllByRecursion (λ (g : ℕ × Packet). numbered (s ++ packets) g.0 ≡ Some g.1) (enumerate_from k packets))
     (let same : length s + 1 + 0 ≡ n + 1 = omega (arith, e) in same) (behind_numbers s [] packets)
 
-flow_keeps : (known : List Identity) (P : Course → Type 0) → IsClosed known P → (i now : ℕ) (choice : Choice) (c : Course) → P c → P (flow i now choice c).after
-flow_keeps known P k i now choice c h = by outcome.answer
+flow_keeps : (A : Change → Type 0) (known : List Identity) (P : Course → Type 0) → IsClosedUnder A known P → (i now : ℕ) (choice : Choice) (c : Course) → P c → P (flow i now choice c).after
+flow_keeps A known P k i now choice c h = by outcome.answer
   where
     outcome : PumpOutcome
     outcome = pump (manager_at c.network i) now
@@ -222,22 +234,22 @@ flow_keeps known P k i now choice c h = by outcome.answer
     pumped_sent (Some how) e = absurd (clash e)
 
     at : (b : Bool) → is_some (failure_in choice outcome) ≡ b → P (cond b (pump_by i now outcome choice c) (flowed (fold (passed_on now) start given))).after
-    at true e = pump_keeps known P k i now choice c h
-    at false e = (all_keep known P k now (c.sent ++ outcome.packets) start given (sent_numbers c.sent outcome.packets (length c.network.notes) (k.orderly c h).noted)
-        (pump_keeps known P k i now choice c h, pumped_sent (failure_in choice outcome) e)).0
+    at true e = pump_keeps A known P k i now choice c h
+    at false e = (all_keep A known P k now (c.sent ++ outcome.packets) start given (sent_numbers c.sent outcome.packets (length c.network.notes) (k.orderly c h).noted)
+        (pump_keeps A known P k i now choice c h, pumped_sent (failure_in choice outcome) e)).0
 
     by : (answer : Result ℕ PumpFault) → P (flow_by i now outcome choice c answer).after
-    by (Err fault) = pump_keeps known P k i now choice c h
+    by (Err fault) = pump_keeps A known P k i now choice c h
     by (Ok count) = at (is_some (failure_in choice outcome)) refl
 
 -- Connections.
 
-exchanged_keeps : (known : List Identity) (P : Course → Type 0) → IsClosed known P → (a b now : ℕ) (c : Course) → P c → P (exchanged a b now c)
-exchanged_keeps known P k a b now c h = flow_keeps known P k b now Well (flow a now Well c).after (flow_keeps known P k a now Well c h)
+exchanged_keeps : (A : Change → Type 0) (known : List Identity) (P : Course → Type 0) → IsClosedUnder A known P → (a b now : ℕ) (c : Course) → P c → P (exchanged a b now c)
+exchanged_keeps A known P k a b now c h = flow_keeps A known P k b now Well (flow a now Well c).after (flow_keeps A known P k a now Well c h)
 
-connect_keeps : (known : List Identity) (P : Course → Type 0) → IsClosed known P → (a b now window_a window_b : ℕ) (c : Course) → P c
+connect_keeps : (A : Change → Type 0) (known : List Identity) (P : Course → Type 0) → IsClosedUnder A known P → (a b now window_a window_b : ℕ) (c : Course) → P c
     → P (connect a b now window_a window_b c).after
-connect_keeps known P k a b now window_a window_b c h = at (any_down c.network a b) refl (any_connected c.network a b) refl
+connect_keeps A known P k a b now window_a window_b c h = at (any_down c.network a b) refl (any_connected c.network a b) refl
   where
     begins : Course
     begins = moved (both_linked a b window_a window_b) c
@@ -249,63 +261,64 @@ connect_keeps known P k a b now window_a window_b c h = at (any_down c.network a
         → P (cond down (only c reply.NotUp) (cond joined (only c reply.Linked) linked)).after
     at true e joined f = h
     at false e true f = h
-    at false e false f = exchanged_keeps known P k a b now (exchanged a b now begins) (exchanged_keeps known P k a b now begins
-        (k.keeps c (change.Links a b window_a window_b) (join_and (not (any_down c.network a b)) (not (any_connected c.network a b)) (ap not e) (ap not f)) h))
+    at false e false f = exchanged_keeps A known P k a b now (exchanged a b now begins) (exchanged_keeps A known P k a b now begins
+        (k.keeps c (change.Links a b window_a window_b) (k.others (change.Links a b window_a window_b) tt) (join_and (not (any_down c.network a b)) (not (any_connected c.network a b)) (ap not e) (ap not f)) h))
 
-disconnect_keeps : (known : List Identity) (P : Course → Type 0) → IsClosed known P → (i : ℕ) (c : Course) → P c → P (disconnect i c).after
-disconnect_keeps known P k i c h = at (is_connected c.network i)
+disconnect_keeps : (A : Change → Type 0) (known : List Identity) (P : Course → Type 0) → IsClosedUnder A known P → (i : ℕ) (c : Course) → P c → P (disconnect i c).after
+disconnect_keeps A known P k i c h = at (is_connected c.network i)
   where
     at : (b : Bool) → P (cond b (record { reply = reply.Disconnected; after = moved (ended i) c }) (only c reply.Unlinked)).after
-    at true = k.keeps c (change.Ends i) refl h
+    at true = k.keeps c (change.Ends i) (k.others (change.Ends i) tt) refl h
     at false = h
 
-resend_keeps : (known : List Identity) (P : Course → Type 0) → IsClosed known P → (i : ℕ) (c : Course) → P c → P (resend_by i c).after
-resend_keeps known P k i c h = at (is_connected c.network i)
+resend_keeps : (A : Change → Type 0) (known : List Identity) (P : Course → Type 0) → IsClosedUnder A known P → (i : ℕ) (c : Course) → P c → P (resend_by i c).after
+resend_keeps A known P k i c h = at (is_connected c.network i)
   where
     with_records : List Written → Course
     with_records written = record { network = succeeded_at i (resend (manager_at c.network i)) c.network; sent = c.sent; written = written }
 
     at : (b : Bool) → P (cond b (record { reply = reply.Resent; after = moved (succeeded_at i (resend (manager_at c.network i))) c }) (only c reply.Unlinked)).after
-    at true = subst P (ap with_records (append_nothing c.written)) (k.keeps c (change.Calls i Resend None) refl h)
+    at true = subst P (ap with_records (append_nothing c.written)) (k.keeps c (change.Calls i Resend None) (k.others (change.Calls i Resend None) tt) refl h)
     at false = h
 
 -- Restarts.
 
-reopen_keeps : (known : List Identity) (P : Course → Type 0) → IsClosed known P → (i : ℕ) (choice : Choice) (c : Course) → is_connected c.network i ≡ false
+reopen_keeps : (A : Change → Type 0) (known : List Identity) (P : Course → Type 0) → IsClosedUnder A known P → (i : ℕ) (choice : Choice) (c : Course) → is_connected c.network i ≡ false
     → (choice ≡ Kept → is_some (doubt_of (manager_at c.network i).condition) ≡ true) → P c → P (reopen i choice c).after
-reopen_keeps known P k i Well c free doubt h = k.keeps c (change.Restarts i) (ap not free) h
-reopen_keeps known P k i (Fails before how) c free doubt h = k.keeps c (change.Restarts i) (ap not free) h
-reopen_keeps known P k i Lost c free doubt h = k.keeps c (change.Restarts i) (ap not free) h
-reopen_keeps known P k i Kept c free doubt h = k.keeps c (change.Finds i)
+reopen_keeps A known P k i Well c free doubt h = k.keeps c (change.Restarts i) (k.others (change.Restarts i) tt) (ap not free) h
+reopen_keeps A known P k i (Fails before how) c free doubt h = k.keeps c (change.Restarts i) (k.others (change.Restarts i) tt) (ap not free) h
+reopen_keeps A known P k i Lost c free doubt h = k.keeps c (change.Restarts i) (k.others (change.Restarts i) tt) (ap not free) h
+reopen_keeps A known P k i Kept c free doubt h = k.keeps c (change.Finds i) (k.others (change.Finds i) tt)
     (join_and (not (is_connected c.network i)) (is_some (doubt_of (manager_at c.network i).condition)) (ap not free) (doubt refl)) h
-reopen_keeps known P k i Unread c free doubt h = k.keeps c (change.Fails i) (ap not free) h
+reopen_keeps A known P k i Unread c free doubt h = k.keeps c (change.Fails i) (k.others (change.Fails i) tt) (ap not free) h
 
-restart_keeps : (known : List Identity) (P : Course → Type 0) → IsClosed known P → (i : ℕ) (choice : Choice) (c : Course)
+restart_keeps : (A : Change → Type 0) (known : List Identity) (P : Course → Type 0) → IsClosedUnder A known P → (i : ℕ) (choice : Choice) (c : Course)
     → (choice ≡ Kept → is_some (doubt_of (manager_at c.network i).condition) ≡ true) → P c → P (reopen i choice (moved (ended i) c)).after
-restart_keeps known P k i choice c doubt h = reopen_keeps known P k i choice (moved (ended i) c) (ended_free known c i (k.orderly c h))
+restart_keeps A known P k i choice c doubt h = reopen_keeps A known P k i choice (moved (ended i) c) (ended_free known c i (k.orderly c h))
     (λ e. parted_at (λ m. is_some (doubt_of m.condition) ≡ true) c.network i i (λ m d. ap (λ x. is_some (doubt_of x)) (parted_condition m) ∙ d) (doubt e))
-    (k.keeps c (change.Ends i) refl h)
+    (k.keeps c (change.Ends i) (k.others (change.Ends i) tt) refl h)
 
 -- Every event.
 
-pub event_keeps : (known : List Identity) (P : Course → Type 0) → IsClosed known P → (c : Course) (e : Event) (choice : Choice) → may c e choice ≡ true → P c
+pub event_keeps_under : (A : Change → Type 0) (known : List Identity) (P : Course → Type 0) → IsClosedUnder A known P → (c : Course) (e : Event) (choice : Choice)
+    → ((i now : ℕ) (ops : List Op) (failure : Option Failure) → e ≡ event.Commit i now ops → A (change.Calls i (Commit now ops) failure)) → may c e choice ≡ true → P c
     → P (answer_to e (packet_of c.sent e) choice c).after
-event_keeps known P k c (event.Queue i plan) choice m h = call_keeps known P k i (CreateQueue plan) (create_queue (manager_at c.network i) plan) choice c refl refl h
-event_keeps known P k c (event.Roll i count) choice m h = call_keeps known P k i (SetRoll count) (set_roll (manager_at c.network i) count) choice c refl refl h
-event_keeps known P k c (event.Commit i now ops) choice m h = call_keeps known P k i (Commit now ops) (commit (manager_at c.network i) ops now) choice c refl refl h
-event_keeps known P k c (event.Send i now recoverable parts) choice m h = call_keeps known P k i (Send now recoverable parts) (send (manager_at c.network i) parts recoverable now) choice c refl refl h
-event_keeps known P k c (event.Take i now place) choice m h = call_keeps known P k i (Take now place) (take_message (manager_at c.network i) place now) choice c refl refl h
-event_keeps known P k c (event.Purge i now place) choice m h = call_keeps known P k i (Purge now place) (purge (manager_at c.network i) place now) choice c refl refl h
-event_keeps known P k c (event.Tick i now) choice m h = call_keeps known P k i (Tick now) (tick (manager_at c.network i) now) choice c refl refl h
-event_keeps known P k c (event.Connect a b now window_a window_b) choice m h = connect_keeps known P k a b now window_a window_b c h
-event_keeps known P k c (event.Disconnect i) choice m h = disconnect_keeps known P k i c h
-event_keeps known P k c (event.Resend i) choice m h = resend_keeps known P k i c h
-event_keeps known P k c (event.Pump i now) choice m h = pump_keeps known P k i now choice c h
-event_keeps known P k c (event.Deliver number now) choice m h = deliver_keeps known P k number now choice c h
-event_keeps known P k c (event.Drop number) choice m h = drop_keeps known P k number c h
-event_keeps known P k c (event.Flow i now) choice m h = flow_keeps known P k i now choice c h
-event_keeps known P k c (event.Arm i) choice m h = h
-event_keeps known P k c (event.Restart i) choice m h = restart_keeps known P k i choice c (doubt choice m) h
+event_keeps_under A known P k c (event.Queue i plan) choice commits m h = call_keeps A known P k i (CreateQueue plan) (create_queue (manager_at c.network i) plan) choice c refl refl (k.others (change.Calls i (CreateQueue plan) (failure_in choice (create_queue (manager_at c.network i) plan))) tt) h
+event_keeps_under A known P k c (event.Roll i count) choice commits m h = call_keeps A known P k i (SetRoll count) (set_roll (manager_at c.network i) count) choice c refl refl (k.others (change.Calls i (SetRoll count) (failure_in choice (set_roll (manager_at c.network i) count))) tt) h
+event_keeps_under A known P k c (event.Commit i now ops) choice commits m h = call_keeps A known P k i (Commit now ops) (commit (manager_at c.network i) ops now) choice c refl refl (commits i now ops (failure_in choice (commit (manager_at c.network i) ops now)) refl) h
+event_keeps_under A known P k c (event.Send i now recoverable parts) choice commits m h = call_keeps A known P k i (Send now recoverable parts) (send (manager_at c.network i) parts recoverable now) choice c refl refl (k.others (change.Calls i (Send now recoverable parts) (failure_in choice (send (manager_at c.network i) parts recoverable now))) tt) h
+event_keeps_under A known P k c (event.Take i now place) choice commits m h = call_keeps A known P k i (Take now place) (take_message (manager_at c.network i) place now) choice c refl refl (k.others (change.Calls i (Take now place) (failure_in choice (take_message (manager_at c.network i) place now))) tt) h
+event_keeps_under A known P k c (event.Purge i now place) choice commits m h = call_keeps A known P k i (Purge now place) (purge (manager_at c.network i) place now) choice c refl refl (k.others (change.Calls i (Purge now place) (failure_in choice (purge (manager_at c.network i) place now))) tt) h
+event_keeps_under A known P k c (event.Tick i now) choice commits m h = call_keeps A known P k i (Tick now) (tick (manager_at c.network i) now) choice c refl refl (k.others (change.Calls i (Tick now) (failure_in choice (tick (manager_at c.network i) now))) tt) h
+event_keeps_under A known P k c (event.Connect a b now window_a window_b) choice commits m h = connect_keeps A known P k a b now window_a window_b c h
+event_keeps_under A known P k c (event.Disconnect i) choice commits m h = disconnect_keeps A known P k i c h
+event_keeps_under A known P k c (event.Resend i) choice commits m h = resend_keeps A known P k i c h
+event_keeps_under A known P k c (event.Pump i now) choice commits m h = pump_keeps A known P k i now choice c h
+event_keeps_under A known P k c (event.Deliver number now) choice commits m h = deliver_keeps A known P k number now choice c h
+event_keeps_under A known P k c (event.Drop number) choice commits m h = drop_keeps A known P k number c h
+event_keeps_under A known P k c (event.Flow i now) choice commits m h = flow_keeps A known P k i now choice c h
+event_keeps_under A known P k c (event.Arm i) choice commits m h = h
+event_keeps_under A known P k c (event.Restart i) choice commits m h = restart_keeps A known P k i choice c (doubt choice m) h
   where
     doubt : (choice : Choice) → may c (event.Restart i) choice ≡ true → choice ≡ Kept → is_some (doubt_of (manager_at c.network i).condition) ≡ true
     doubt Kept m e = m
@@ -313,3 +326,8 @@ event_keeps known P k c (event.Restart i) choice m h = restart_keeps known P k i
     doubt (Fails before how) m e = absurd (let none : ⊥ = cc in none)
     doubt Lost m e = absurd (let none : ⊥ = cc in none)
     doubt Unread m e = absurd (let none : ⊥ = cc in none)
+
+pub event_keeps : (known : List Identity) (P : Course → Type 0) → IsClosed known P → (c : Course) (e : Event) (choice : Choice) → may c e choice ≡ true → P c
+    → P (answer_to e (packet_of c.sent e) choice c).after
+event_keeps known P k c e choice m h = event_keeps_under (λ x. Unit {0}) known P (record { orderly = k.orderly; others = λ x none. tt; keeps = λ c x given may h. k.keeps c x may h })
+    c e choice (λ i now ops failure same. tt) m h

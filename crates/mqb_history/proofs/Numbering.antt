@@ -123,7 +123,7 @@ joins_row own rows next low cs row m inside id h = subst (λ x. Commits own x ne
     })
 
 -- of a sequence that is not given yet there is no commitment
-none_given : (cs : List Commitment) (next : ℕ) (q : SequenceId) → next ≤ q.ordinal → AllByRecursion (λ c. c.position.sequence.ordinal < next) cs → numbers_in q cs ≡ []
+pub none_given : (cs : List Commitment) (next : ℕ) (q : SequenceId) → next ≤ q.ordinal → AllByRecursion (λ c. c.position.sequence.ordinal < next) cs → numbers_in q cs ≡ []
 none_given [] next q low h = refl
 none_given (c ∷ cs) next q low h = ap (λ b. cons_option (cond b (Some c.position.number) None) (numbers_in q cs))
     (differ_by_ordinal c.position.sequence q (λ same. let less = h.0 in omega (arith, less, low, same))) ∙ none_given cs next q low h.1
@@ -194,7 +194,7 @@ in_use_in s peer destination row e = at (last_sequence s peer destination) refl 
         by false g = absurd (none_some g)
 
 -- what a manager has committed, by its state
-abbrev CommitsIn : State → ℕ → List Commitment → Type 0
+abbrev pub CommitsIn : State → ℕ → List Commitment → Type 0
 CommitsIn s low cs = Commits s.identity.guid s.outs s.next_ordinal low cs
 
 joins : (s : State) (peer now low : ℕ) (m : Message) (cs : List Commitment) → m.id ≡ record { qm = s.identity.guid; number = low } → CommitsIn s low cs
@@ -221,13 +221,13 @@ weaker own rows next low high cs le h = record {
 }
 
 -- a state with the same rows
-same_commits : (a b : State) (low : ℕ) (cs : List Commitment) → HasSameRows a b → CommitsIn a low cs → CommitsIn b low cs
+pub same_commits : (a b : State) (low : ℕ) (cs : List Commitment) → HasSameRows a b → CommitsIn a low cs → CommitsIn b low cs
 same_commits a b low cs same h = subst (λ (i : Identity). Commits i.guid b.outs b.next_ordinal low cs) (sym same.manager.identity)
     (subst (λ rows. Commits a.identity.guid rows b.next_ordinal low cs) (sym same.outs)
     (subst (λ next. Commits a.identity.guid a.outs next low cs) (sym same.next_ordinal) h))
 
 -- a message of a transaction is sent
-to_commits : (now low : ℕ) (s : State) (t : Target) (m : Message) (cs : List Commitment) → m.id ≡ record { qm = s.identity.guid; number = low } → CommitsIn s low cs
+pub to_commits : (now low : ℕ) (s : State) (t : Target) (m : Message) (cs : List Commitment) → m.id ≡ record { qm = s.identity.guid; number = low } → CommitsIn s low cs
     → CommitsIn (committed_to now s t m).state (low + 1) (cs ++ cons_option (commitment_at now s t m) [])
 to_commits now low s (AtPeer k) m cs id h = joins s k now low m cs id h
 to_commits now low s (Here queue) m cs id h = subst (CommitsIn (committed_to now s (Here queue) m).state (low + 1)) (sym (append_nothing cs))
@@ -241,7 +241,7 @@ pub cons_behind : (cs : List Commitment) (o : Option Commitment) (rest : List Co
 cons_behind cs None rest = ap (λ xs. xs ++ rest) (append_nothing cs)
 cons_behind cs (Some c) rest = append_assoc cs (c ∷ []) rest
 
-own_numbered : (a b : Guid) (n : ℕ) (ms : List Message) → a ≡ b → AreNumbered a n ms → AreNumbered b n ms
+pub own_numbered : (a b : Guid) (n : ℕ) (ms : List Message) → a ≡ b → AreNumbered a n ms → AreNumbered b n ms
 own_numbered a b n ms e h = subst (λ g. AreNumbered g n ms) e h
 
 sends_commit : (now low : ℕ) (e : Effect) (ms : List Message) (cs : List Commitment) → AreNumbered e.state.identity.guid low ms → CommitsIn e.state low cs

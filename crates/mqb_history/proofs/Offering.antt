@@ -66,7 +66,7 @@ offered_no_less mark olds news less h = rows_no_more (WasOffered mark) keeps old
 
 -- Transactions.
 
-same_stands : (a b : State) (mark : Mark) → HasSameRows a b → StandsIn a mark → StandsIn b mark
+pub same_stands : (a b : State) (mark : Mark) → HasSameRows a b → StandsIn a mark → StandsIn b mark
 same_stands a b mark same h = record {
   given = let e = same.next_ordinal in let less = h.given in omega (arith, e, less);
   offered = subst (AllByRecursion (WasOffered mark)) (sym same.outs) h.offered;
@@ -101,7 +101,7 @@ sends_stand now e (m ∷ ms) mark h = sends_stand now (send_made now e m) ms mar
 
 -- Records.
 
-record_stands : (s : State) (r : Record) → OrdinalsRise s.outs → IsMade s r → (mark : Mark) → StandsIn s mark → StandsIn (apply s r) mark
+pub record_stands : (s : State) (r : Record) → OrdinalsRise s.outs → IsMade s r → (mark : Mark) → StandsIn s mark → StandsIn (apply s r) mark
 record_stands s r rise made mark h = at r made
   where
     quiet : (x : Record) → IsMade s x → CommitsNothing x → StandsIn (apply s x) mark
@@ -176,7 +176,7 @@ marks_given next cs n (row ∷ rows) h = at (nat_lt row.offered (greatest_sent c
     at true rest = (h.0, rest)
     at false rest = rest
 
-new_stand : (s : State) (r : Record) → OrdinalsRise s.outs → AllByRecursion (λ row. row.sequence.ordinal < s.next_ordinal) s.outs → IsMade s r
+pub new_stand : (s : State) (r : Record) → OrdinalsRise s.outs → AllByRecursion (λ row. row.sequence.ordinal < s.next_ordinal) s.outs → IsMade s r
     → AllByRecursion (StandsIn (apply s r)) (marks_in r)
 new_stand s (entry.Identity identity) rise below made = tt
 new_stand s (entry.Peer peer) rise below made = tt
@@ -193,7 +193,7 @@ new_stand s (entry.Roll count) rise below made = tt
 
 -- What expires.
 
-abbrev IsAbove : Mark → Line → Type 0
+abbrev pub IsAbove : Mark → Line → Type 0
 IsAbove mark (line.Expired stream number id moment) = stream.sequence.ordinal ≡ mark.ordinal → mark.number < number
 IsAbove mark _ = Unit {0}
 
@@ -202,7 +202,7 @@ expiry_above : (s : State) (mark : Mark) (stream : Stream) (number : ℕ) (id : 
 expiry_above s mark stream number id moment offered h same = let le = (all_in (WasOffered mark) s.outs h.row offered h.there) (sym (ap (λ (x : Stream). x.sequence.ordinal) h.of_row) ∙ same) in
     let low = h.unoffered in let e = h.of_kept in omega (arith, le, low, e)
 
-line_above : (s : State) (mark : Mark) → AllByRecursion (WasOffered mark) s.outs → (l : Line) → IsReasoned s l → IsAbove mark l
+pub line_above : (s : State) (mark : Mark) → AllByRecursion (WasOffered mark) s.outs → (l : Line) → IsReasoned s l → IsAbove mark l
 line_above s mark offered (line.Committed stream number id) h = tt
 line_above s mark offered (line.Expired stream number id moment) h = expiry_above s mark stream number id moment offered h
 line_above s mark offered (line.Put stream number id) h = tt

@@ -1,7 +1,8 @@
 -- Outgoing rows: but for a transaction a record adds none, and each keeps its sequence and its count, and no message that it had not kept. Its mark does not fall.
 use Rattle.std.proofs.Common.{refl, sym, subst, ◌∙◌, arith, inl, inr}
+use Rattle.std.specs.List.{AllByRecursion}
 use Rattle.std.specs.Option.{option_map_or}
-use Rattle.std.specs.Prelude.{[], ◌∷◌, ◌≡◌, Bool, List, None, Option, Some, cond, filter, fold, length, option_and_then, position, remove, slice_get, slice_set, suc, zero, ℕ}
+use Rattle.std.specs.Prelude.{[], ◌<◌, ◌||◌, ◌∷◌, ◌≡◌, ◌≤◌, Bool, List, None, Option, Some, cond, false, filter, fold, length, max, nat_lt, option_and_then, position, remove, slice_get, slice_set, suc, true, zero, ℕ}
 use Rattle.mqb_base.specs.declared.class.TheConstants.Class.{REACH_TIMEOUT}
 use Rattle.mqb_base.specs.declared.message.Lane.TheVariants as lane
 use Rattle.mqb_base.specs.declared.message.Message.{Message}
@@ -31,13 +32,17 @@ use Rattle.mqb_base.specs.declared.ids.MessageId.{MessageId}
 use Rattle.mqb_base.specs.declared.heads.TxHead.{TxHead}
 use Rattle.mqb_base.specs.Bits.{keeps_dead}
 use Rattle.mqb_model.specs.rules.Notices.{meets}
-use Rattle.std.specs.Prelude.{◌||◌, ◌≤◌, false, max, nat_lt, true}
 use Rattle.mqb_model.specs.records.Finals.{is_offered_as}
-use Rattle.mqb_history.proofs.Lists.{equal_numbers, some_is}
+use Rattle.mqb_history.proofs.Lists.{all_filter, equal_numbers, some_is}
 use Rattle.mqb_history.proofs.Marking.{IsAbove, Raise, raise_then}
 use Rattle.mqb_history.proofs.Committing.{first_changed, is_first_changed}
 use Rattle.mqb_history.proofs.Applying.{dead_rows, releases_rows}
 use Rattle.mqb_history.proofs.Staying.{HasSameRows, arrived_rows, meets_rows, plain_sent_rows, purged_rows, taken_rows, ticked_rows}
+
+-- numbers rise from one kept message to the next
+abbrev pub KeptRise : List Kept → Type 0
+KeptRise [] = Unit {0}
+KeptRise (k ∷ ks) = AllByRecursion (λ (x : Kept). k.number < x.number) ks × KeptRise ks
 
 -- a row has no more than before
 pub record HasNoMore (a b : Row) : Type 0 where
@@ -46,11 +51,12 @@ pub record HasNoMore (a b : Row) : Type 0 where
   pub sequence : b.sequence ≡ a.sequence
   pub committed : b.committed ≡ a.committed
   pub kept : (k : Kept) → In k b.kept → In k a.kept
+  pub rises : KeptRise a.kept → KeptRise b.kept
   -- and was offered no less
   pub offered : a.offered ≤ b.offered
 
 pub no_more : (a : Row) → HasNoMore a a
-no_more a = record { peer = refl; destination = refl; sequence = refl; committed = refl; kept = λ k h. h; offered = omega arith }
+no_more a = record { peer = refl; destination = refl; sequence = refl; committed = refl; kept = λ k h. h; rises = λ h. h; offered = omega arith }
 
 no_more_then : (a b c : Row) → HasNoMore a b → HasNoMore b c → HasNoMore a c
 no_more_then a b c f g = record {
@@ -59,6 +65,7 @@ no_more_then a b c f g = record {
   sequence = g.sequence ∙ f.sequence;
   committed = g.committed ∙ f.committed;
   kept = λ k h. f.kept k (g.kept k h);
+  rises = λ h. g.rises (f.rises h);
   offered = let low = f.offered in let high = g.offered in omega (arith, low, high);
 }
 
@@ -152,14 +159,42 @@ without_in test xs x h = at (position test xs) h
     at None h = h
     at (Some k) h = removed_in xs k x h
 
+-- where some leave, the others rise
+rise_filter : (test : Kept → Bool) (ks : List Kept) → KeptRise ks → KeptRise (filter test ks)
+rise_filter test [] h = tt
+rise_filter test (k ∷ ks) h = at (test k) (rise_filter test ks h.1)
+  where
+    at : (b : Bool) → KeptRise (filter test ks) → KeptRise (cond b (k ∷ filter test ks) (filter test ks))
+    at true rest = (all_filter (λ (x : Kept). k.number < x.number) test ks h.0, rest)
+    at false rest = rest
+
+all_removed : (P : Kept → Type 0) (ks : List Kept) (i : ℕ) → AllByRecursion P ks → AllByRecursion P (remove ks i)
+all_removed P [] zero h = tt
+all_removed P [] (suc i) h = tt
+all_removed P (k ∷ ks) zero h = h.1
+all_removed P (k ∷ ks) (suc i) h = (h.0, all_removed P ks i h.1)
+
+rise_removed : (ks : List Kept) (i : ℕ) → KeptRise ks → KeptRise (remove ks i)
+rise_removed [] zero h = tt
+rise_removed [] (suc i) h = tt
+rise_removed (k ∷ ks) zero h = h.1
+rise_removed (k ∷ ks) (suc i) h = (all_removed (λ (x : Kept). k.number < x.number) ks i h.0, rise_removed ks i h.1)
+
+pub rise_without : (test : Kept → Bool) (ks : List Kept) → KeptRise ks → KeptRise (without_first test ks)
+rise_without test ks h = at (position test ks)
+  where
+    at : (o : Option ℕ) → KeptRise (option_map_or (remove ks) o ks)
+    at None = h
+    at (Some i) = rise_removed ks i h
+
 acknowledged_no_more : (number : ℕ) (a : Row) → HasNoMore a (acknowledged number a)
-acknowledged_no_more number a = record { peer = refl; destination = refl; sequence = refl; committed = refl; kept = λ k h. filtered_in (λ (x : Kept). nat_lt (max a.acked number) x.number || keeps_dead x.message) a.kept k h; offered = omega arith }
+acknowledged_no_more number a = record { peer = refl; destination = refl; sequence = refl; committed = refl; kept = λ k h. filtered_in (λ (x : Kept). nat_lt (max a.acked number) x.number || keeps_dead x.message) a.kept k h; rises = rise_filter (λ (x : Kept). nat_lt (max a.acked number) x.number || keeps_dead x.message) a.kept; offered = omega arith }
 
 offered_no_more : (number : ℕ) (a : Row) → a.offered ≤ number → HasNoMore a (with_offered number a)
-offered_no_more number a above = record { peer = refl; destination = refl; sequence = refl; committed = refl; kept = λ k h. h; offered = above }
+offered_no_more number a above = record { peer = refl; destination = refl; sequence = refl; committed = refl; kept = λ k h. h; rises = λ h. h; offered = above }
 
 expired_no_more : (now : ℕ) (a : Row) → HasNoMore a (without_expired now a)
-expired_no_more now a = record { peer = refl; destination = refl; sequence = refl; committed = refl; kept = λ k h. without_in (expires now a) a.kept k h; offered = omega arith }
+expired_no_more now a = record { peer = refl; destination = refl; sequence = refl; committed = refl; kept = λ k h. without_in (expires now a) a.kept k h; rises = rise_without (expires now a) a.kept; offered = omega arith }
 
 finished_no_more : (id : MessageId) (number : ℕ) (a : Row) → HasNoMore a (finished_row id number a)
 finished_no_more id number a = record {
@@ -168,6 +203,7 @@ finished_no_more id number a = record {
   sequence = refl;
   committed = refl;
   kept = λ k h. without_in (is_offered_as id a) a.kept k (filtered_in (λ (x : Kept). nat_lt (max a.acked number) x.number || keeps_dead x.message) (without_first (is_offered_as id a) a.kept) k h);
+  rises = λ h. rise_filter (λ (x : Kept). nat_lt (max a.acked number) x.number || keeps_dead x.message) (without_first (is_offered_as id a) a.kept) (rise_without (is_offered_as id a) a.kept h);
   offered = omega arith;
 }
 
@@ -216,7 +252,7 @@ each_no_more : (step : ℕ → Effect → Effect) → ((k : ℕ) (e : Effect) �
 each_no_more step keeps zero e = nothing_more e.state
 each_no_more step keeps (suc n) e = more_then e.state (for_each_below n step e).state (step n (for_each_below n step e)).state (each_no_more step keeps n e) (keeps n (for_each_below n step e))
 
-expiring_no_more : (now : ℕ) (e : Effect) → NoMore e.state (rows_expired now e).state
+pub expiring_no_more : (now : ℕ) (e : Effect) → NoMore e.state (rows_expired now e).state
 expiring_no_more now e = each_no_more (row_expired now)
     (λ k e. repeated_no_more (next_expired now k) (next_no_more now k) (option_map_or (expiring_in now) (slice_get e.state.outs k) 0) e) (length e.state.outs) e
 

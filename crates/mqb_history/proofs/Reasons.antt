@@ -11,7 +11,7 @@ use Rattle.mqb_packet.specs.declared.packet.UserPacket.{UserPacket}
 use Rattle.mqb_history.specs.Laws.{DecisionsHaveReasons}
 
 -- what is released changes no reason
-released_reason : (e : Effect) (numbers : List ℕ) (p : UserPacket) → refusal_of (fold message_released e numbers).state p ≡ refusal_of e.state p
+pub released_reason : (e : Effect) (numbers : List ℕ) (p : UserPacket) → refusal_of (fold message_released e numbers).state p ≡ refusal_of e.state p
 released_reason e [] p = refl
 released_reason e (n ∷ ns) p = released_reason (message_released e n) ns p
 

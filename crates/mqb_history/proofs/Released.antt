@@ -311,5 +311,5 @@ told_in (v ∷ ws) w l (inr i) j = in_right (lines_of v.before v.entry) (lines_w
 -- So the lines are in order where the records are.
 pub lines_kept : (c : Course) → AreReleasedTruly c → IsStorageKept c
 lines_kept c h before behind id e = let at = line_of c.written before behind (line.Released id) e in let r = line_releases at.written.before at.written.entry id at.told in
-    let stored = subst (IsStoredIn at.front) (sym r.named) (h at.front at.back at.written r.now r.numbers r.part r.number at.split r.arrived r.there) in
+    let stored = subst (IsStoredIn at.front) (sym r.named) (h at.front at.back at.written r.now r.numbers r.part r.number at.split r.arrived r.there).stored in
     (stored.told.0, subst (In stored.told.0) (sym at.lines) (in_left (lines_written at.front) at.inner stored.told.0 (told_in at.front stored.storage stored.told.0 stored.there stored.told.1)), stored.told.2)

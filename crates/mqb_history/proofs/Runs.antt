@@ -1,5 +1,5 @@
 -- Each point of each run has a history, and so what each change keeps holds there.
-use Rattle.std.proofs.Common.{refl, ap, sym, subst}
+use Rattle.std.proofs.Common.{refl, ap, sym, subst, inl, inr}
 use Rattle.std.specs.List.{range_with_len}
 use Rattle.std.specs.Prelude.{[], ◌∷◌, ◌≡◌, Bool, List, Option, Some, None, cond, false, fold, is_none, is_some, length, not, true, ℕ}
 use Rattle.mqb_base.specs.declared.ids.Identity.{Identity}
@@ -15,7 +15,13 @@ use Rattle.mqb_history.specs.Changes.{Finds, changed, may_change}
 use Rattle.mqb_history.specs.Histories.{HasHistory}
 use Rattle.mqb_history.specs.Laws.{RunsHaveHistories}
 use Rattle.mqb_history.specs.Orderly.{IsOrderly}
-use Rattle.mqb_history.proofs.Keeping.{IsClosed, event_keeps}
+use Rattle.mqb_exactly_once.specs.Words.{In}
+use Rattle.mqb_base.specs.declared.draft.Op.{Op}
+use Rattle.mqb_network.specs.Choices.{Failure}
+use Rattle.mqb_network.specs.Events as event
+use Rattle.mqb_history.specs.Calls.{Commit}
+use Rattle.mqb_history.specs.Changes.{Calls, Change}
+use Rattle.mqb_history.proofs.Keeping.{IsClosed, IsClosedUnder, event_keeps, event_keeps_under}
 use Rattle.mqb_history.proofs.Lists.{join_and}
 use Rattle.mqb_history.proofs.Orderly.{histories_are_orderly}
 use Rattle.mqb_history.proofs.Parting.{doubt_free}
@@ -65,3 +71,33 @@ pub always_kept : (known : List Identity) (P : Course → Type 0) → IsClosed k
     → P (settled kept (after_run known ms))
 always_kept known P k ms run kept h = settled_keeps known P k kept (after_run known ms) (range_with_len 0 (length (after_run known ms).network.managers))
     (moves_keep known P k (beginning known) ms run h)
+
+-- The same of what only the given changes keep, where the commits of the moves are given.
+
+-- each commit of these moves is given
+abbrev pub AreGiven : (Change → Type 0) → List Move → Type 0
+AreGiven A ms = (m : Move) → In m ms → (i now : ℕ) (ops : List Op) (failure : Option Failure) → m.event ≡ event.Commit i now ops → A (Calls i (Commit now ops) failure)
+
+given_keep : (A : Change → Type 0) (known : List Identity) (P : Course → Type 0) → IsClosedUnder A known P → (c : Course) (ms : List Move) → AreGiven A ms → IsRunFrom c ms → P c → P (course_after c ms)
+given_keep A known P k c [] given run h = h
+given_keep A known P k c (m ∷ ms) given run h = given_keep A known P k (moved_on c m) ms (λ x i. given x (inr i)) run.1
+    (subst P (sym (move_in_course c m)) (event_keeps_under A known P k c m.event m.choice (λ i now ops failure e. given m (inl refl) i now ops failure e) run.0 h))
+
+settles_given : (A : Change → Type 0) (known : List Identity) (P : Course → Type 0) → IsClosedUnder A known P → (kept : ℕ → Bool) (c : Course) (is : List ℕ) → P c → P (fold (settled_at kept) c is)
+settles_given A known P k kept c [] h = h
+settles_given A known P k kept c (i ∷ is) h = settles_given A known P k kept (settled_at kept c i) is (at (is_none (doubt_of (manager_at c.network i).condition)) refl (kept i))
+  where
+    some : (o : Option Record) → is_none o ≡ false → is_some o ≡ true
+    some None e = sym e
+    some (Some r) e = refl
+
+    at : (b : Bool) → is_none (doubt_of (manager_at c.network i).condition) ≡ b → (chosen : Bool) → P (cond b c (cond chosen (found_kept i c) c))
+    at true e chosen = h
+    at false e false = h
+    at false e true = k.keeps c (Finds i) (k.others (Finds i) tt) (join_and (not (is_connected c.network i)) (is_some (doubt_of (manager_at c.network i).condition))
+        (ap not (doubt_free known c i (k.orderly c h) e)) (some (doubt_of (manager_at c.network i).condition) e)) h
+
+pub always_given : (A : Change → Type 0) (known : List Identity) (P : Course → Type 0) → IsClosedUnder A known P → (ms : List Move) → AreGiven A ms → IsRun known ms → (kept : ℕ → Bool) → P (beginning known)
+    → P (settled kept (after_run known ms))
+always_given A known P k ms given run kept h = settles_given A known P k kept (after_run known ms) (range_with_len 0 (length (after_run known ms).network.managers))
+    (given_keep A known P k (beginning known) ms given run h)

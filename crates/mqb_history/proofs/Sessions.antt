@@ -6,7 +6,13 @@ use Rattle.std.specs.Prelude.{[], ◌&&◌, ◌+◌, ◌-◌, ◌++◌, ◌==◌
 use Rattle.mqb_base.specs.declared.ids.Guid.{Guid}
 use Rattle.mqb_base.specs.declared.ids.Identity.{Identity}
 use Rattle.mqb_base.specs.declared.ledger.Line.{Line}
-use Rattle.mqb_history.specs.Stored.{IsStoredIn}
+use Rattle.std.specs.List.{list_any}
+use Rattle.mqb_model.specs.records.Releases.{is_released_by}
+use Rattle.mqb_model.specs.state.Durable.{durable, durable_plain}
+use Rattle.mqb_plain.specs.Lists.{unmarked}
+use Rattle.mqb_plain.specs.declared.outgoing.Outgoing.{Outgoing}
+use Rattle.mqb_history.proofs.Orderly.{map_get}
+use Rattle.mqb_history.specs.Stored.{IsStoredIn, WaitsIn}
 use Rattle.mqb_exactly_once.specs.Words.{In}
 use Rattle.mqb_packet.specs.declared.packet.Packet.{Packet}
 use Rattle.mqb_queue.specs.Places.{numbered, with_numbered}
@@ -284,26 +290,39 @@ alone_keeps c x m o free rests stores doubt k = record {
     more : List Written
     more = written_by x (manager_at c.network x) o
 
-same_releases : (ws : List Written) (s t : State) (r : Record) → t.identity ≡ s.identity → ReleasesStored ws s r → ReleasesStored ws t r
-same_releases ws s t (entry.Identity identity) e h = tt
-same_releases ws s t (entry.Peer peer) e h = tt
-same_releases ws s t (entry.CreateQueue number plan) e h = tt
-same_releases ws s t (entry.Commit now ops) e h = tt
-same_releases ws s t (entry.Plain now p) e h = tt
-same_releases ws s t (entry.Offered marks) e h = tt
-same_releases ws s t (entry.Arrived now numbers part) e h = all numbers h
-  where
-    all : (ns : List ℕ) → AllByRecursion (λ n. IsStoredIn ws (own_id s n)) ns → AllByRecursion (λ n. IsStoredIn ws (own_id t n)) ns
-    all [] g = tt
-    all (n ∷ ns) g = (subst (λ (i : Identity). IsStoredIn ws (record { qm = i.guid; number = n })) (sym e) g.0, all ns g.1)
-same_releases ws s t (entry.Taken now place id) e h = tt
-same_releases ws s t (entry.Purged now place) e h = tt
-same_releases ws s t (entry.Ticked now) e h = tt
-same_releases ws s t (entry.Roll count) e h = tt
+-- the recoverable messages of a state are those of its store
+durable_has : (s : State) (n : ℕ) (os : List Outgoing) → list_any (is_released_by s n) (unmarked os) ≡ list_any (is_released_by s n) os
+durable_has s n [] = refl
+durable_has s n (o ∷ os) = ap (λ b. is_released_by s n o || b) (durable_has s n os)
 
-some_same_releases : (ws : List Written) (s t : State) (o : Option Record) → t.identity ≡ s.identity → IfSome o (ReleasesStored ws s) → IfSome o (ReleasesStored ws t)
-some_same_releases ws s t None e h = tt
-some_same_releases ws s t (Some r) e h = same_releases ws s t r e h
+durable_waits : (s : State) (n : ℕ) → WaitsIn s n → WaitsIn (durable s) n
+durable_waits s n h = record {
+  index = h.index;
+  lists = durable_plain h.lists;
+  there = map_get durable_plain s.plain h.index ∙ ap (option_map durable_plain) h.there;
+  has = durable_has s n h.lists.recoverable ∙ h.has;
+}
+
+same_releases : (ws : List Written) (s t : State) (r : Record) → t.identity ≡ s.identity → ((n : ℕ) → WaitsIn s n → WaitsIn t n) → ReleasesStored ws s r → ReleasesStored ws t r
+same_releases ws s t (entry.Identity identity) e keeps h = tt
+same_releases ws s t (entry.Peer peer) e keeps h = tt
+same_releases ws s t (entry.CreateQueue number plan) e keeps h = tt
+same_releases ws s t (entry.Commit now ops) e keeps h = tt
+same_releases ws s t (entry.Plain now p) e keeps h = tt
+same_releases ws s t (entry.Offered marks) e keeps h = tt
+same_releases ws s t (entry.Arrived now numbers part) e keeps h = all numbers h
+  where
+    all : (ns : List ℕ) → AllByRecursion (λ n. IsStoredIn ws (own_id s n) × WaitsIn s n) ns → AllByRecursion (λ n. IsStoredIn ws (own_id t n) × WaitsIn t n) ns
+    all [] g = tt
+    all (n ∷ ns) g = ((subst (λ (i : Identity). IsStoredIn ws (record { qm = i.guid; number = n })) (sym e) g.0.0, keeps n g.0.1), all ns g.1)
+same_releases ws s t (entry.Taken now place id) e keeps h = tt
+same_releases ws s t (entry.Purged now place) e keeps h = tt
+same_releases ws s t (entry.Ticked now) e keeps h = tt
+same_releases ws s t (entry.Roll count) e keeps h = tt
+
+some_same_releases : (ws : List Written) (s t : State) (o : Option Record) → t.identity ≡ s.identity → ((n : ℕ) → WaitsIn s n → WaitsIn t n) → IfSome o (ReleasesStored ws s) → IfSome o (ReleasesStored ws t)
+some_same_releases ws s t None e keeps h = tt
+some_same_releases ws s t (Some r) e keeps h = same_releases ws s t r e keeps h
 
 nothing_written : (n : Network) (sent : List Packet) (ws : List Written) → KeepsStorage (record { network = n; sent = sent; written = ws ++ [] }) → KeepsStorage (record { network = n; sent = sent; written = ws })
 nothing_written n sent ws k = subst (λ xs. KeepsStorage (record { network = n; sent = sent; written = xs })) (append_nothing ws) k
@@ -327,4 +346,4 @@ change_keeps_storage known c (Finds i) apart may o k = let m = manager_at c.netw
     (alone_keeps c i (restarted m true) (doubt_of m.condition) (not_true (is_connected c.network i) (split_and (not (is_connected c.network i)) _ may).0) (found_rests m (k.rests i)) (k.doubts i) tt k)
 change_keeps_storage known c (Fails i) apart may o k = let m = manager_at c.network i in nothing_written (with_manager c.network i (unread m)) c.sent c.written
     (alone_keeps c i (unread m) None (not_true (is_connected c.network i) may) (unread_rests m (k.rests i)) tt
-    (some_same_releases (c.written ++ []) m.state (unread m).state (doubt_of m.condition) refl (some_releases_more c.written [] m.state (doubt_of m.condition) (k.doubts i))) k)
+    (some_same_releases (c.written ++ []) m.state (unread m).state (doubt_of m.condition) refl (durable_waits m.state) (some_releases_more c.written [] m.state (doubt_of m.condition) (k.doubts i))) k)

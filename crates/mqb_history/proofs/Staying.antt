@@ -124,7 +124,7 @@ copied_rows : (s : State) (number : ℕ) (m : Message) → HasSameRows s (copied
 copied_rows s number m = rows_or s (λ (q : Queue). cond q.plan.journal (put_at s (place.JournalOf number) m) s) (numbered s.places.queues number)
     (λ q. rows_if s q.plan.journal (put_at s (place.JournalOf number) m) s (put_rows s (place.JournalOf number) m) (same_rows s))
 
-after_take_rows : (s : State) (at : EntryPlace) (m : Message) (now : ℕ) → HasSameRows s (after_take s at m now)
+pub after_take_rows : (s : State) (at : EntryPlace) (m : Message) (now : ℕ) → HasSameRows s (after_take s at m now)
 after_take_rows s (place.Queue number) m now = rows_then s (copied s number m) (after_take s (place.Queue number) m now) (copied_rows s number m) (meets_rows (copied s number m) m RECEIVED now)
 after_take_rows s (place.JournalOf number) m now = same_rows s
 after_take_rows s place.Dead m now = same_rows s
@@ -154,7 +154,7 @@ pub each_rows : (step : ℕ → Effect → Effect) → ((k : ℕ) (e : Effect) �
 each_rows step keeps zero e = same_rows e.state
 each_rows step keeps (suc n) e = rows_then e.state (for_each_below n step e).state (step n (for_each_below n step e)).state (each_rows step keeps n e) (keeps n (for_each_below n step e))
 
-after_purge_rows : (s : State) (at : EntryPlace) (m : Message) (now : ℕ) → HasSameRows s (after_purge s at m now)
+pub after_purge_rows : (s : State) (at : EntryPlace) (m : Message) (now : ℕ) → HasSameRows s (after_purge s at m now)
 after_purge_rows s at m now = rows_if s (is_queue at) (meets s m QUEUE_PURGED now) s (meets_rows s m QUEUE_PURGED now) (same_rows s)
 
 oldest_rows : (kind : Lane) (at : EntryPlace) (now : ℕ) (e : Effect) → KeepsRows e (oldest_purged kind at now e)
@@ -166,7 +166,7 @@ purged_rows kind at now e = repeated_rows (oldest_purged kind at now) (oldest_ro
 
 -- Plain messages lapse, and messages of queues are swept.
 
-lapsed_one : (kind : Lane) (now k index : ℕ) (s : State) (m : Message) → HasSameRows s (message_lapsed kind now k index s m).state
+pub lapsed_one : (kind : Lane) (now k index : ℕ) (s : State) (m : Message) → HasSameRows s (message_lapsed kind now k index s m).state
 lapsed_one kind now k index s m = rows_then s (with_plain (without kind index) s k) (message_lapsed kind now k index s m).state
     (record { manager = record { identity = refl; peers = refl }; outs = refl; ins = refl; next_ordinal = refl; numbers = omega arith })
     (meets_rows (with_plain (without kind index) s k) m REACH_TIMEOUT now)
@@ -179,7 +179,7 @@ lapsed_rows kind now k e = keeps_or e (λ (p : PlainLists). option_map_or (λ in
     (λ index. keeps_or e (λ (o : Outgoing). joined e (message_lapsed kind now k index e.state o.message)) (slice_get (outgoing_in kind p) index)
     (λ o. lapsed_one kind now k index e.state o.message)))
 
-swept_one : (kind : Lane) (now number index : ℕ) (s : State) (m : Message) → HasSameRows s (message_swept kind now number index s m).state
+pub swept_one : (kind : Lane) (now number index : ℕ) (s : State) (m : Message) → HasSameRows s (message_swept kind now number index s m).state
 swept_one kind now number index s m = rows_then s (without_at kind s (place.Queue number) index) (message_swept kind now number index s m).state
     (without_rows kind s (place.Queue number) index) (meets_rows (without_at kind s (place.Queue number) index) m RECEIVE_TIMEOUT now)
 

@@ -1,23 +1,27 @@
 -- What is released was stored before, at each point of each run.
 use Rattle.std.proofs.Common.{refl, sym, subst}
-use Rattle.std.specs.Prelude.{[], ◌∷◌, IfSome, List, None, Option, Some, fold, map, option_map, slice_get, unwrap_or, ℕ}
+use Rattle.std.specs.Prelude.{[], ◌++◌, ◌∷◌, ◌≡◌, IfSome, List, None, Option, Some, fold, map, option_map, slice_get, unwrap_or, ℕ}
 use Rattle.mqb_base.specs.declared.ids.Guid.{Guid}
 use Rattle.mqb_base.specs.declared.ids.Identity.{Identity}
 use Rattle.mqb_model.specs.managers.Manager.{doubt_of}
 use Rattle.mqb_model.specs.records.Applying.{apply}
 use Rattle.mqb_base.specs.declared.ids.MessageId.{MessageId}
+use Rattle.mqb_exactly_once.specs.Words.{In}
+use Rattle.mqb_model.specs.records.Record.{Part}
 use Rattle.mqb_model.specs.records.Record as entry
 use Rattle.mqb_model.specs.rules.Numbers.{own_id}
 use Rattle.mqb_model.specs.state.State.{State, empty}
-use Rattle.mqb_network.specs.Courses.{Course}
+use Rattle.mqb_network.specs.Courses.{Course, Written}
 use Rattle.mqb_network.specs.Doubts.{settled}
 use Rattle.mqb_network.specs.Laws.{AreApart}
 use Rattle.mqb_network.specs.Network.{formatted, nobody, others}
 use Rattle.mqb_network.specs.Runs.{after_run, beginning}
 use Rattle.mqb_session.specs.State.{no_guid}
 use Rattle.mqb_history.specs.Orderly.{IsOrderly}
-use Rattle.mqb_history.specs.Stored.{AreReleasedTruly, IsStoredIn, StorageIsAlwaysKept}
+use Rattle.mqb_history.specs.Stored.{AreReleasedTruly, IsStoredIn, StorageIsAlwaysKept, WaitsIn}
 use Rattle.mqb_history.proofs.Between.{all_in}
+use Rattle.mqb_history.proofs.Agreeing.{agreeing}
+use Rattle.mqb_history.proofs.Courses.{Agrees}
 use Rattle.mqb_history.proofs.Keeping.{IsClosed}
 use Rattle.mqb_history.proofs.Orderly.{begins_orderly, change_orderly, map_get}
 use Rattle.mqb_history.proofs.Released.{lines_kept}
@@ -26,6 +30,7 @@ use Rattle.mqb_history.proofs.Sessions.{change_keeps_storage}
 use Rattle.mqb_history.proofs.Storing.{AnyMark, KeepsStorage, NoMark, ReleaseStored, ReleasesStored, Rests, release_at}
 use Rattle.mqb_history.proofs.Lasting.{applied_waits}
 use Rattle.mqb_history.proofs.Unreleased.{Waits}
+use Rattle.mqb_history.proofs.StoredByPeer.{stored_by_peer}
 
 abbrev pub IsStoring : List Identity → Course → Type 0
 IsStoring known c = IsOrderly known c × KeepsStorage c
@@ -74,12 +79,20 @@ begins_storing known = record {
     doubts None = tt
     doubts (Some own) = tt
 
-released : (c : Course) → KeepsStorage c → AreReleasedTruly c
-released c k before behind w now numbers part number split e inside = all_in (λ n. IsStoredIn before (own_id w.before n)) numbers number
+released : (c : Course) → KeepsStorage c → (before behind : List Written) (w : Written) (now : ℕ) (numbers : List ℕ) (part : Part) (number : ℕ)
+    → c.written ≡ before ++ w ∷ behind → w.entry ≡ entry.Arrived now numbers part → In number numbers → IsStoredIn before (own_id w.before number) × WaitsIn w.before number
+released c k before behind w now numbers part number split e inside = all_in (λ n. IsStoredIn before (own_id w.before n) × WaitsIn w.before n) numbers number
     (subst (ReleasesStored before w.before) e (release_at [] before behind w (subst (ReleaseStored []) split k.written))) inside
 
 pub storage_is_always_kept : StorageIsAlwaysKept
-storage_is_always_kept known ms apart run kept = (records, lines_kept (settled kept (after_run known ms)) records)
+storage_is_always_kept known ms apart run kept = (records, lines_kept c records)
   where
-    records : AreReleasedTruly (settled kept (after_run known ms))
-    records = released (settled kept (after_run known ms)) (always_kept known (IsStoring known) (storing_closed known apart) ms run kept (begins_orderly known, begins_storing known)).1
+    c : Course
+    c = settled kept (after_run known ms)
+
+    agrees : IsOrderly known c × Agrees known c
+    agrees = agreeing known apart ms run kept
+
+    records : AreReleasedTruly c
+    records before behind w now numbers part number split e inside = let r = released c (always_kept known (IsStoring known) (storing_closed known apart) ms run kept (begins_orderly known, begins_storing known)).1 before behind w now numbers part number split e inside in
+        stored_by_peer known apart c agrees.0 agrees.1 before behind w number split r.0 r.1

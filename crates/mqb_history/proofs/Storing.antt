@@ -26,7 +26,7 @@ use Rattle.mqb_network.specs.Courses.{Course, Written, written_by}
 use Rattle.mqb_network.specs.Changes.{ended, ended_by, parted}
 use Rattle.mqb_network.specs.Network.{Connection, Network, Note, connection_of, manager_at, with_manager}
 use Rattle.mqb_history.specs.Calls.{Call, outcome_of}
-use Rattle.mqb_history.specs.Stored.{IsStoredIn}
+use Rattle.mqb_history.specs.Stored.{IsStoredIn, WaitsIn}
 use Rattle.mqb_history.proofs.Between.{AreEnds, elsewhere, ends_turn, first_end, from_sender, outlives}
 use Rattle.mqb_history.proofs.Flowing.{Flows, stored_more}
 use Rattle.mqb_history.proofs.Lists.{append_nothing, clash}
@@ -49,7 +49,7 @@ pub record Rests (m : Manager) : Type 0 where
 
 -- what a record releases was stored before
 abbrev pub ReleasesStored : List Written → State → Record → Type 0
-ReleasesStored ws s (entry.Arrived now numbers part) = AllByRecursion (λ n. IsStoredIn ws (own_id s n)) numbers
+ReleasesStored ws s (entry.Arrived now numbers part) = AllByRecursion (λ n. IsStoredIn ws (own_id s n) × WaitsIn s n) numbers
 ReleasesStored ws s _ = Unit {0}
 
 releases_more : (ws more : List Written) (s : State) (r : Record) → ReleasesStored ws s r → ReleasesStored (ws ++ more) s r
@@ -61,9 +61,9 @@ releases_more ws more s (entry.Plain now p) h = tt
 releases_more ws more s (entry.Offered marks) h = tt
 releases_more ws more s (entry.Arrived now numbers part) h = all numbers h
   where
-    all : (ns : List ℕ) → AllByRecursion (λ n. IsStoredIn ws (own_id s n)) ns → AllByRecursion (λ n. IsStoredIn (ws ++ more) (own_id s n)) ns
+    all : (ns : List ℕ) → AllByRecursion (λ n. IsStoredIn ws (own_id s n) × WaitsIn s n) ns → AllByRecursion (λ n. IsStoredIn (ws ++ more) (own_id s n) × WaitsIn s n) ns
     all [] g = tt
-    all (n ∷ ns) g = (stored_more ws more (own_id s n) g.0, all ns g.1)
+    all (n ∷ ns) g = ((stored_more ws more (own_id s n) g.0.0, g.0.1), all ns g.1)
 releases_more ws more s (entry.Taken now place id) h = tt
 releases_more ws more s (entry.Purged now place) h = tt
 releases_more ws more s (entry.Ticked now) h = tt

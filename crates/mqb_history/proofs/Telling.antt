@@ -91,7 +91,7 @@ decided_tells channel now e p (Some tx) none = joined_tells channel e (message_d
 
 -- Records.
 
-record_tells : (channel : Channel) (s : State) (r : Record) → told channel (lines_of s r) ≡ cons_option (decided_in channel r) []
+pub record_tells : (channel : Channel) (s : State) (r : Record) → told channel (lines_of s r) ≡ cons_option (decided_in channel r) []
 record_tells channel s (entry.Identity identity) = refl
 record_tells channel s (entry.Peer peer) = refl
 record_tells channel s (entry.CreateQueue number plan) = refl

@@ -1,12 +1,13 @@
 -- What the lines of the ledger say of messages that expire.
 use Rattle.std.specs.Prelude.{◌++◌, ◌∷◌, None, Option, Some, filter_map, ◌<◌, ◌≡◌, IsTrue, List, ℕ}
+use Rattle.mqb_base.specs.declared.heads.TxHead.{TxHead}
 use Rattle.mqb_base.specs.declared.ids.Guid.{Guid}
 use Rattle.mqb_base.specs.declared.ids.MessageId.{MessageId}
 use Rattle.mqb_base.specs.declared.ledger.Line.{Line}
 use Rattle.mqb_base.specs.declared.ledger.Line.TheVariants as line
 use Rattle.mqb_base.specs.declared.ledger.Stream.{Stream}
-use Rattle.mqb_exactly_once.specs.Words.{In, due}
-use Rattle.mqb_exactly_once.specs.World.{Commitment, Position}
+use Rattle.mqb_exactly_once.specs.Words.{In, due, position_of}
+use Rattle.mqb_exactly_once.specs.World.{Channel, Commitment, Position}
 use Rattle.mqb_model.specs.state.Rows.{stream_of}
 use Rattle.mqb_model.specs.state.State.{State}
 use Rattle.mqb_entries.specs.declared.members.Mark.{Mark}
@@ -16,8 +17,10 @@ use Rattle.mqb_network.specs.Laws.{lines_written}
 use Rattle.mqb_network.specs.Network.{manager_at}
 use Rattle.mqb_orders.specs.Rows.{Row}
 use Rattle.mqb_orders.specs.declared.kept.Kept.{Kept}
+use Rattle.mqb_packet.specs.declared.packet.Packet.TheVariants as packet
+use Rattle.mqb_packet.specs.declared.packet.UserPacket.{UserPacket}
 use Rattle.mqb_history.specs.Committed.{commitments}
-use Rattle.mqb_history.specs.Decided.{written_of}
+use Rattle.mqb_history.specs.Decided.{decisions, written_of}
 use Rattle.mqb_history.specs.Told.{joined_by}
 
 -- An outgoing row of a state keeps the message, above the number that it offered last, and its time to reach its queue is over at that moment.
@@ -60,3 +63,13 @@ AreOffersKept c = (i : ℕ) (before behind : List Written) (w : Written) (marks 
     → written_of i c.written ≡ before ++ w ∷ behind → w.entry ≡ entry.Offered marks → In mark marks
     → (stream : Stream) (number : ℕ) (id : MessageId) (moment : ℕ) → In (line.Expired stream number id moment) (lines_written behind)
     → stream.sequence.ordinal ≡ mark.ordinal → mark.number < number
+
+-- What was sent of a stream never expires at its source.
+abbrev pub AreSentKept : Course → Type 0
+AreSentKept c = (i : ℕ) (p : UserPacket) (tx : TxHead) → In (packet.User p) c.sent → p.tx ≡ Some tx → p.message.id.qm ≡ (manager_at c.network i).state.identity.guid
+    → In (position_of tx) (expiries_told (lines_written (written_of i c.written))) → ⊥
+
+-- Nor does what was decided.
+abbrev pub AreDecidedKept : Course → Type 0
+AreDecidedKept c = (i j : ℕ) (channel : Channel) (p : Position) → (manager_at c.network i).state.identity.guid ≡ channel.source → In p (decisions channel (written_of j c.written))
+    → In p (expiries_told (lines_written (written_of i c.written))) → ⊥

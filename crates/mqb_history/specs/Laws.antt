@@ -14,7 +14,7 @@ use Rattle.mqb_history.specs.Told.{AreCommitmentsTold, decisions_told}
 use Rattle.mqb_history.specs.Orderly.{IsOrderly}
 use Rattle.mqb_history.specs.Skipped.{AreUnskipped}
 use Rattle.mqb_history.specs.Waiting.{AreWaiting}
-use Rattle.mqb_history.specs.Expired.{AreExpiredDuly, AreOffersKept, MayExpire}
+use Rattle.mqb_history.specs.Expired.{AreDecidedKept, AreExpiredDuly, AreOffersKept, AreSentKept, MayExpire}
 use Rattle.mqb_history.specs.Offered.{AreUndecided}
 use Rattle.mqb_history.specs.Led.{AreDecidedByOne, AreDecidedWhereLed}
 use Rattle.mqb_history.specs.Begun.{AreBegunInOrder, AreDecidedAcross}
@@ -161,3 +161,7 @@ AlwaysStreamInvariant = Always HaveStreamInvariants
 abbrev pub AlwaysMachineInvariant : Type 0
 AlwaysMachineInvariant = (known : List Identity) (ms : List Move) → AreApart known → IsRun known ms → (kept : ℕ → Bool)
     → MachineInvariant known (settled kept (after_run known ms))
+
+-- What was sent or decided never expires.
+abbrev pub SentNeverExpires : Type 0
+SentNeverExpires = Always (λ c. AreSentKept c × AreDecidedKept c)

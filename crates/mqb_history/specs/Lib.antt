@@ -22,3 +22,6 @@ pub mod Invariants
 pub mod Choosing
 pub mod Leading
 pub mod Drafted
+pub mod Put
+pub mod Asked
+pub mod Truths

@@ -3,8 +3,11 @@
 //! Each function stands for a law: its contract is the law, and its body is empty, or cites laws of the crates below by calling them.
 #![tactic(auto)]
 
-ghost use Rattle.mqb_history.specs.Laws.{AlwaysAcknowledgedTruly, AlwaysAcknowledgingTruly, AlwaysBegunInOrder, AlwaysCarriedTruly, AlwaysCommittedInOrder, AlwaysDecidedAcross, AlwaysDecidedByOne, AlwaysDecidedInOrder, AlwaysDecidedTruly, AlwaysDecidedWhereLed, AlwaysExactlyOnce, AlwaysExpiredDuly, AlwaysMachineInvariant, AlwaysOffersKept, AlwaysShown, AlwaysStreamInvariant, AlwaysToldCommitments, AlwaysUndecided, AlwaysUnskipped, AlwaysWaiting, AlwaysWaitingUntilDecided, DecisionsHaveReasons, DownStays, ExpiriesHaveReasons, FailuresAreSettled, HistoriesAreOrderly, LinesTellDecisions, RunsHaveHistories};
+ghost use Rattle.mqb_history.specs.Laws.{AlwaysAcknowledgedTruly, AlwaysAcknowledgingTruly, AlwaysBegunInOrder, AlwaysCarriedTruly, AlwaysCommittedInOrder, AlwaysDecidedAcross, AlwaysDecidedByOne, AlwaysDecidedInOrder, AlwaysDecidedTruly, AlwaysDecidedWhereLed, AlwaysExactlyOnce, AlwaysExpiredDuly, AlwaysMachineInvariant, AlwaysOffersKept, AlwaysShown, AlwaysStreamInvariant, AlwaysToldCommitments, AlwaysUndecided, AlwaysUnskipped, AlwaysWaiting, AlwaysWaitingUntilDecided, DecisionsHaveReasons, DownStays, ExpiriesHaveReasons, FailuresAreSettled, HistoriesAreOrderly, LinesTellDecisions, RunsHaveHistories, SentNeverExpires};
+ghost use Rattle.mqb_history.specs.Asked.{CommittedIsAsked};
+ghost use Rattle.mqb_history.specs.Put.{PutIsTheCommittedMessage};
 ghost use Rattle.mqb_history.specs.Stored.{StorageIsAlwaysKept};
+ghost use Rattle.mqb_history.specs.Truths.{AlwaysTruthful};
 ghost use Rattle.mqb_history.specs.Choosing.{RepliesShowChoices, RunsAreShown};
 ghost use Rattle.mqb_history.specs.Leading.{CommitmentsLeadToManagers};
 ghost use Rattle.mqb_history.specs.Drafted.{AlwaysValid};
@@ -96,9 +99,30 @@ pub fn always_offers_kept()
     ensures { AlwaysOffersKept }
 {}
 
-/// Each plain message that leaves its sender as released was stored, or refused, where it arrived before, and a line says so.
+/// Each plain message that leaves its sender as released was stored before, or refused, by the peer for which it waited, and a line says so.
 pub fn storage_is_always_kept()
     ensures { StorageIsAlwaysKept }
+{}
+
+/// What a put line brings to the end of its queue is the message that the source of its stream committed, but for the time to reach the queue.
+pub fn put_is_the_committed_message()
+    ensures { PutIsTheCommittedMessage }
+{}
+
+/// Each message that a manager commits is one that an event of the run asked it to send in a transaction, with its parts and at its moment.
+pub fn committed_is_asked()
+    ensures { CommittedIsAsked }
+{}
+
+/// Each message that says that another one did not arrive is true: a committed one that it names expired or was refused, and was never put, and none of
+/// those that were put where they were sent is named.
+pub fn always_truthful()
+    ensures { AlwaysTruthful }
+{}
+
+/// What was sent of a stream never expires, and so what was decided never does.
+pub fn sent_never_expires()
+    ensures { SentNeverExpires }
 {}
 
 /// What expired at its source is decided nowhere: nothing that was decided expires later, and nothing that expired is decided.

@@ -1,0 +1,383 @@
+-- Which record each call makes, and what it sends or hears beside it.
+use Rattle.std.proofs.Common.{refl, ap, arith}
+use Rattle.std.proofs.lemmas.Bool.Decides.{nat_tests}
+use Rattle.std.specs.List.{AllByRecursion, list_any}
+use Rattle.std.specs.Option.{option_map_or, option_or}
+use Rattle.std.specs.Prelude.{[], ◌&&◌, ◌+◌, ◌==◌, ◌∷◌, ◌≡◌, ◌≤◌, Bool, Err, IfSome, List, None, Ok, Option, Result, Some, cond, false, length, nat_lt, not, slice_get, true, unwrap_or, ℕ}
+use Rattle.mqb_base.specs.Same.{same_guid}
+use Rattle.mqb_base.specs.declared.class.TheConstants.Class.{NORMAL}
+use Rattle.mqb_base.specs.declared.draft.Op.{Op}
+use Rattle.mqb_base.specs.declared.draft.Parts.{Parts}
+use Rattle.mqb_base.specs.declared.heads.SessionHead.{SessionHead}
+use Rattle.mqb_base.specs.declared.heads.TxHead.{TxHead}
+use Rattle.mqb_base.specs.declared.heard.Cause.{Cause}
+use Rattle.mqb_base.specs.declared.heard.Cause.TheVariants as cause
+use Rattle.mqb_base.specs.declared.heard.Heard.{Heard}
+use Rattle.mqb_base.specs.declared.heard.Heard.TheVariants as heard
+use Rattle.mqb_base.specs.declared.ids.Guid.{Guid}
+use Rattle.mqb_base.specs.declared.message.Lane.{Lane}
+use Rattle.mqb_base.specs.declared.message.Lane.TheVariants as lane
+use Rattle.mqb_base.specs.declared.message.Message.{Message}
+use Rattle.mqb_base.specs.declared.queues.EntryPlace.{EntryPlace}
+use Rattle.mqb_fate.specs.Asking.{is_ordinary}
+use Rattle.mqb_fate.specs.declared.orders.OrderAck.{OrderAck}
+use Rattle.mqb_orders.specs.Judging.{verdict_of}
+use Rattle.mqb_orders.specs.declared.judging.Verdict.{Verdict}
+use Rattle.mqb_orders.specs.declared.judging.Verdict.TheVariants as verdict
+use Rattle.mqb_packet.specs.declared.packet.Headers.TheVariants as headers
+use Rattle.mqb_packet.specs.declared.packet.Packet.{Packet}
+use Rattle.mqb_packet.specs.declared.packet.Packet.TheVariants as packet
+use Rattle.mqb_packet.specs.declared.packet.UserPacket.{UserPacket}
+use Rattle.mqb_queue.specs.Places.{lists_at, place_named}
+use Rattle.mqb_session.specs.Hearing.{acknowledged, closing, counted, head_in, is_bad_ack, order_of}
+use Rattle.mqb_session.specs.Phases.{owed_by}
+use Rattle.mqb_session.specs.Sending.{is_ready, is_spent}
+use Rattle.mqb_session.specs.State as one_end
+use Rattle.mqb_session.specs.declared.heads.HeadHeard.{HeadHeard}
+use Rattle.mqb_session.specs.declared.heads.HeadHeard.TheVariants as head
+use Rattle.mqb_session.specs.declared.phase.Phase.{Phase}
+use Rattle.mqb_session.specs.declared.phase.Phase.TheVariants as phase
+use Rattle.mqb_setup.specs.declared.internal.Internal.{Internal}
+use Rattle.mqb_model.specs.calls.Commit.{Trial, commit_tried, has_too_large, ops_refusal, trial_of, try_ops, whole_refusal}
+use Rattle.mqb_model.specs.calls.CreateQueue.{create_refusal}
+use Rattle.mqb_model.specs.calls.Messages.{plain_message}
+use Rattle.mqb_model.specs.calls.Purge.{purge_at, purge_refusal, purging}
+use Rattle.mqb_model.specs.calls.Send.{message_fault, send_refusal, sending, target_fault}
+use Rattle.mqb_model.specs.calls.SetRoll.{store_refusal}
+use Rattle.mqb_model.specs.calls.Take.{first_in, take_at, take_position, take_refusal, taking}
+use Rattle.mqb_model.specs.calls.hear.Hear.{hear_acknowledgement, hear_behind, hear_linked, hear_refusal, hear_user, listening}
+use Rattle.mqb_model.specs.calls.hear.Plain.{hear_arriving, hear_express, hear_final, hear_in_order, hear_message, hear_plain, hear_recoverable, hear_stored}
+use Rattle.mqb_model.specs.calls.hear.Session.{HeardOutcome, Listening, ack_heard, discarded, heard_as, is_foreign, is_from, no_head, numbers_released, peer_heard, user_heard}
+use Rattle.mqb_model.specs.calls.hear.Streams.{acknowledged_in, duplicate_heard, has_sequence, hear_in_stream, hear_order_ack, index_for, judged, order_acked, owing, raises}
+use Rattle.mqb_model.specs.calls.pump.Candidates.{Candidate, candidates}
+use Rattle.mqb_model.specs.calls.pump.Choosing.{chosen}
+use Rattle.mqb_model.specs.calls.pump.Pump.{marks_for, pump_at, pump_linked, pump_owed, pump_refusal, pump_to, pump_with, sending_chosen}
+use Rattle.mqb_model.specs.declared.answers.Done.{Done}
+use Rattle.mqb_model.specs.declared.faults.CommitFault.{CommitFault}
+use Rattle.mqb_model.specs.declared.faults.CommitFault.TheVariants as commit_fault
+use Rattle.mqb_model.specs.declared.faults.SendFault.{SendFault}
+use Rattle.mqb_model.specs.declared.faults.SendFault.TheVariants as send_fault
+use Rattle.mqb_model.specs.declared.faults.PumpFault.{PumpFault}
+use Rattle.mqb_model.specs.declared.faults.PumpFault.TheVariants as pump_fault
+use Rattle.mqb_model.specs.declared.faults.HearFault.TheVariants as hear_fault
+use Rattle.mqb_model.specs.declared.limits.TheConstants.{FIRST_EXPRESS, MAX_NUMBER}
+use Rattle.mqb_model.specs.managers.Beside.{Beside}
+use Rattle.mqb_model.specs.managers.Beside as beside
+use Rattle.mqb_model.specs.managers.Manager.{Manager, is_down, linked_peer}
+use Rattle.mqb_model.specs.managers.Outcomes.{Outcome, answering, recording, unless}
+use Rattle.mqb_model.specs.records.Commit.{sends_of}
+use Rattle.mqb_model.specs.records.Finals.{is_final}
+use Rattle.mqb_model.specs.records.Packets.{is_too_large}
+use Rattle.mqb_model.specs.records.Record.{Part, Record}
+use Rattle.mqb_model.specs.records.Record as entry
+use Rattle.mqb_model.specs.rules.Arrivals.{refusal_of}
+use Rattle.mqb_model.specs.rules.Numbers.{own_id}
+use Rattle.mqb_model.specs.rules.Takes.{message_at}
+use Rattle.mqb_model.specs.rules.Timeouts.{durable_due}
+use Rattle.mqb_model.specs.state.Places.{is_express}
+use Rattle.mqb_model.specs.state.Resolving.{is_for_order_layer, resolved}
+use Rattle.mqb_model.specs.state.Rows.{in_row}
+use Rattle.mqb_model.specs.state.State.{State}
+use Rattle.mqb_history.specs.Calls.{Call, Commit, CreateQueue, Hear, Pump, Purge, Resend, Send, SetRoll, Take, Tick, answerless, outcome_of}
+use Rattle.mqb_history.proofs.Asking.{IfAsked, IsOfOps, ops_asked}
+use Rattle.mqb_history.proofs.Lists.{clash, split_and}
+use Rattle.mqb_history.proofs.Names.{same_guid_is}
+use Rattle.mqb_history.proofs.Trying.{IfTried, ops_tried}
+
+-- a plain packet
+abbrev pub IsPlainPacket : UserPacket → Type 0
+IsPlainPacket p = (p.tx ≡ None) × (is_express p.message.delivery ≡ false)
+
+-- the packet of a part was heard, and is for this manager
+abbrev pub PartOf : Guid → Packet → Part → Type 0
+PartOf own x entry.Nothing = Unit {0}
+PartOf own x (entry.Decided p) = (x ≡ packet.User p) × (p.to ≡ own)
+PartOf own x (entry.Stored p) = (x ≡ packet.User p) × (p.to ≡ own) × IsPlainPacket p
+PartOf own x (entry.OrderAcknowledged ordinal number) = Unit {0}
+PartOf own x (entry.Final p) = (x ≡ packet.User p) × (p.to ≡ own) × IsPlainPacket p
+
+-- what a transaction sends is asked for, and its numbers are durable ones
+pub record IsCommitOf (s : State) (now : ℕ) (ops : List Op) (sends : List Message) : Type 0 where
+  pub asked : AllByRecursion (IsOfOps now ops) sends
+  pub high : s.next_number + length sends ≤ FIRST_EXPRESS
+
+-- a plain message bears the next number, which is a durable one
+pub record IsPlainOf (s : State) (m : Message) : Type 0 where
+  pub id : m.id ≡ own_id s s.next_number
+  pub class : m.class ≡ NORMAL
+  pub durable : is_express m.delivery ≡ false
+  pub high : s.next_number + 1 ≤ FIRST_EXPRESS
+
+-- the record of a call is of its kind
+abbrev pub RecordOf : State → Call → Record → Type 0
+RecordOf s (CreateQueue plan) (entry.CreateQueue number given) = Unit {0}
+RecordOf s (SetRoll count) (entry.Roll given) = Unit {0}
+RecordOf s (Commit now ops) (entry.Commit at made) = IsCommitOf s now ops (sends_of made)
+RecordOf s (Send now recoverable parts) (entry.Plain at p) = IsPlainOf s p.message
+RecordOf s (Take now place) (entry.Taken at from id) = Unit {0}
+RecordOf s (Purge now place) (entry.Purged at from) = Unit {0}
+RecordOf s (Tick now) (entry.Ticked at) = Unit {0}
+RecordOf s (Pump now) (entry.Offered marks) = Unit {0}
+RecordOf s (Hear now x) (entry.Arrived at numbers part) = PartOf s.identity.guid x part
+RecordOf s _ _ = ⊥
+
+-- an express message is sent by a call that sends it, under the next express number, and heard by one that hears its packet
+abbrev pub BesideOf : State → Call → Beside → Type 0
+BesideOf s (Send now recoverable parts) (beside.SendsExpress at m) = (m.id ≡ own_id s s.next_express) × (m.class ≡ NORMAL) × (is_express m.delivery ≡ true)
+BesideOf s call (beside.SendsExpress at m) = ⊥
+BesideOf s (Hear now x) (beside.HearsExpress peer number at m refusal) = (p : UserPacket) × (x ≡ packet.User p) × (p.message ≡ m) × (is_express m.delivery ≡ true)
+BesideOf s call (beside.HearsExpress peer number at m refusal) = ⊥
+BesideOf s call _ = Unit {0}
+
+pub record IsOutcomeOf {A : Type 0} (s : State) (call : Call) (outcome : Outcome A) : Type 0 where
+  pub entry : IfSome outcome.entry (RecordOf s call)
+  pub beside : BesideOf s call outcome.beside
+
+nothing_of : {A : Type 0} (m : Manager) (call : Call) (answer : A) → BesideOf m.state call beside.Nothing → IsOutcomeOf m.state call (answering m answer)
+nothing_of m call answer h = record { entry = tt; beside = h }
+
+unless_of : {V E : Type 0} (m : Manager) (call : Call) (refusal : Option E) (outcome : Outcome (Result V E)) → BesideOf m.state call beside.Nothing → IsOutcomeOf m.state call outcome → IsOutcomeOf m.state call (unless m refusal outcome)
+unless_of m call (Some fault) outcome h g = nothing_of m call (Err fault) h
+unless_of m call None outcome h g = g
+
+or_of : {X A : Type 0} (s : State) (call : Call) (f : X → Outcome A) (o : Option X) (other : Outcome A) → ((x : X) → IsOutcomeOf s call (f x)) → IsOutcomeOf s call other → IsOutcomeOf s call (option_map_or f o other)
+or_of s call f None other some none = none
+or_of s call f (Some x) other some none = some x
+
+either_of : {A : Type 0} (s : State) (call : Call) (b : Bool) (x y : Outcome A) → IsOutcomeOf s call x → IsOutcomeOf s call y → IsOutcomeOf s call (cond b x y)
+either_of s call true x y left right = left
+either_of s call false x y left right = right
+
+some_unless : (s : State) (call : Call) (b : Bool) (r : Record) → RecordOf s call r → IfSome (cond b None (Some r)) (RecordOf s call)
+some_unless s call true r h = tt
+some_unless s call false r h = h
+
+-- Calls on a store.
+
+commit_of : (m : Manager) (now : ℕ) (ops : List Op) (r : Result Trial CommitFault) → IfAsked now ops r → IfTried m.state r → IsOutcomeOf m.state (Commit now ops) (commit_tried m now r)
+commit_of m now ops (Err why) asked tried = nothing_of m (Commit now ops) (Err why) tt
+commit_of m now ops (Ok t) asked tried = by (nat_lt (MAX_NUMBER + 1) t.sending.next_number) refl
+  where
+    outcome : Outcome (Result (List Done) CommitFault)
+    outcome = recording m (entry.Commit now t.ops) (Ok t.done)
+
+    whole : t.sending.next_number ≤ FIRST_EXPRESS → IsOutcomeOf m.state (Commit now ops) outcome
+    whole le = record { entry = record { asked = asked; high = let e = tried.next in omega (arith, e, le) }; beside = tt }
+
+    by : (b : Bool) → nat_lt (MAX_NUMBER + 1) t.sending.next_number ≡ b → IsOutcomeOf m.state (Commit now ops) (unless m (whole_refusal t) outcome)
+    by false e = unless_of m (Commit now ops) (whole_refusal t) outcome tt (whole (grind (arith, nat_tests)))
+    by true e = refused (whole_refusal t) (spent e)
+      where
+        spent : nat_lt (MAX_NUMBER + 1) t.sending.next_number ≡ true → whole_refusal t ≡ Some commit_fault.NumbersSpent
+        spent f = ap (λ z. cond z (Some commit_fault.NumbersSpent) (cond (has_too_large t.ops) (Some commit_fault.TooLarge) None)) f
+
+        refused : (o : Option CommitFault) → o ≡ Some commit_fault.NumbersSpent → IsOutcomeOf m.state (Commit now ops) (unless m o outcome)
+        refused (Some why) f = nothing_of m (Commit now ops) (Err why) tt
+        refused None f = absurd (let none : ⊥ = cc in none)
+
+-- a message for which no reason is found bears a durable number
+send_high : (s : State) (a b : Option SendFault) → option_or a b ≡ None → b ≡ None
+send_high s None b e = e
+send_high s (Some why) b e = absurd (let none : ⊥ = cc in none)
+
+send_of : (m : Manager) (now : ℕ) (recoverable : Bool) (parts : Parts) → IsOutcomeOf m.state (Send now recoverable parts)
+    (unless m (send_refusal m recoverable (plain_message m.state recoverable now parts)) (sending m recoverable (plain_message m.state recoverable now parts) now))
+send_of m now true parts = by (send_refusal m true message) refl
+  where
+    message : Message
+    message = plain_message m.state true now parts
+
+    not_spent : send_refusal m true message ≡ None → nat_lt MAX_NUMBER m.state.next_number ≡ false
+    not_spent e = down (is_down m) e
+      where
+        rest : Option SendFault
+        rest = cond (is_too_large headers.Session message) (Some send_fault.TooLarge) None
+
+        reasons : (b : Bool) → cond b (Some send_fault.NumbersSpent) rest ≡ None → b ≡ false
+        reasons true f = absurd (let none : ⊥ = cc in none)
+        reasons false f = refl
+
+        down : (d : Bool) → cond d (Some send_fault.Down) (option_or (target_fault m.state (resolved m.state message.destination)) (message_fault m.state true message)) ≡ None → nat_lt MAX_NUMBER m.state.next_number ≡ false
+        down true f = absurd (let none : ⊥ = cc in none)
+        down false f = reasons (nat_lt MAX_NUMBER m.state.next_number) (send_high m.state (target_fault m.state (resolved m.state message.destination)) (message_fault m.state true message) f)
+
+    by : (o : Option SendFault) → send_refusal m true message ≡ o → IsOutcomeOf m.state (Send now true parts) (unless m o (sending m true message now))
+    by (Some why) e = nothing_of m (Send now true parts) (Err why) tt
+    by None e = record { entry = record { id = refl; class = refl; durable = refl; high = let low = not_spent e in grind (arith, nat_tests) }; beside = tt }
+send_of m now false parts = unless_of m (Send now false parts) (send_refusal m false (plain_message m.state false now parts)) _ tt (record { entry = tt; beside = (refl, refl, refl) })
+
+taking_of : (m : Manager) (call : Call) (at : EntryPlace) (now : ℕ) (kind : Lane) (k : ℕ) (message : Message) → RecordOf m.state call (entry.Taken now at message.id) → BesideOf m.state call beside.Nothing
+    → BesideOf m.state call (beside.TakesExpress now at k) → IsOutcomeOf m.state call (taking m at now kind k message)
+taking_of m call at now lane.Durable k message h g b = record { entry = h; beside = g }
+taking_of m call at now lane.Express k message h g b = record { entry = tt; beside = b }
+
+-- Hearing.
+
+abbrev HearsRightly : Packet → Listening → HeardOutcome → Type 0
+HearsRightly x l outcome = IsOutcomeOf l.manager.state (Hear l.now x) outcome
+
+heard_nothing : (x : Packet) (l : Listening) (answer : Heard) → HearsRightly x l (heard_as l entry.Nothing answer)
+heard_nothing x l answer = record { entry = some_unless l.manager.state (Hear l.now x) (length (numbers_released l) == 0) (entry.Arrived l.now (numbers_released l) entry.Nothing) tt; beside = tt }
+
+owing_of : (x : Packet) (l : Listening) (k : ℕ) (outcome : HeardOutcome) → HearsRightly x l outcome → HearsRightly x l (owing k outcome)
+owing_of x l k outcome h = record { entry = h.entry; beside = h.beside }
+
+either_heard : (x : Packet) (l : Listening) (b : Bool) (p q : HeardOutcome) → HearsRightly x l p → HearsRightly x l q → HearsRightly x l (cond b p q)
+either_heard x l b p q left right = either_of l.manager.state (Hear l.now x) b p q left right
+
+-- a packet for this manager
+module _ (p : UserPacket) (l : Listening) (own : p.to ≡ l.manager.state.identity.guid) where
+  abbrev x : Packet
+  x = packet.User p
+
+  judged_of : (tx : TxHead) (found : Verdict) → HearsRightly x l (judged l p tx found)
+  judged_of tx verdict.Next = record { entry = (refl, own); beside = tt }
+  judged_of tx verdict.Duplicate = either_heard x l (has_sequence l.manager.state p.message tx) (owing (index_for l.manager.state p.message) (duplicate_heard l tx)) (duplicate_heard l tx)
+      (owing_of x l (index_for l.manager.state p.message) (duplicate_heard l tx) (heard_nothing x l (heard.Duplicate tx.sequence tx.number)))
+      (heard_nothing x l (heard.Duplicate tx.sequence tx.number))
+  judged_of tx verdict.Gap = heard_nothing x l (heard.Gap tx.sequence tx.number)
+  judged_of tx verdict.Stale = heard_nothing x l (heard.Stale tx.sequence tx.number)
+
+  stream_of : (tx : TxHead) → HearsRightly x l (hear_in_stream l p tx)
+  stream_of tx = either_heard x l (is_ordinary p.message) (judged l p tx (verdict_of (in_row l.manager.state p.message) tx)) (discarded l)
+      (judged_of tx (verdict_of (in_row l.manager.state p.message) tx)) (heard_nothing x l heard.Discarded)
+
+  order_ack_of : (ack : OrderAck) → HearsRightly x l (hear_order_ack l ack)
+  order_ack_of ack = either_heard x l (list_any (raises (peer_heard l) ack) l.manager.state.outs) (order_acked l ack) (heard_as l entry.Nothing heard.OldAck)
+      (record { entry = tt; beside = tt }) (heard_nothing x l heard.OldAck)
+
+  in_order_of : p.tx ≡ None → HearsRightly x l (hear_in_order l p)
+  in_order_of none = at (is_express p.message.delivery) refl
+    where
+      recoverable : is_express p.message.delivery ≡ false → (b : Bool) → HearsRightly x l (cond b (hear_final l p) (hear_stored l p))
+      recoverable e true = record { entry = (refl, own, (none, e)); beside = tt }
+      recoverable e false = record { entry = (refl, own, (none, e)); beside = tt }
+
+      at : (b : Bool) → is_express p.message.delivery ≡ b → HearsRightly x l (cond b (hear_express l p) (hear_recoverable l p))
+      at true e = either_heard x l (is_for_order_layer l.manager.state p.message.destination) (discarded l) (hear_arriving l p.message (refusal_of l.manager.state p))
+          (heard_nothing x l heard.Discarded)
+          (record {
+            entry = some_unless l.manager.state (Hear l.now x) (length (numbers_released l) == 0) (entry.Arrived l.now (numbers_released l) entry.Nothing) tt;
+            beside = (p, refl, refl, e);
+          })
+      at false e = recoverable e (is_final l.manager.state p.message)
+
+  user_of : (in_order : Bool) → HearsRightly x l (hear_user l in_order p)
+  user_of in_order = by p.tx refl
+    where
+      message : p.tx ≡ None → (b : Bool) → HearsRightly x l (hear_message l b p)
+      message none true = in_order_of none
+      message none false = heard_nothing x l heard.Discarded
+
+      acks : p.tx ≡ None → (o : Option OrderAck) → HearsRightly x l (option_map_or (hear_order_ack l) o (hear_message l in_order p))
+      acks none None = message none in_order
+      acks none (Some ack) = order_ack_of ack
+
+      by : (o : Option TxHead) → p.tx ≡ o → HearsRightly x l (option_map_or (hear_in_stream l p) o (hear_plain l in_order p))
+      by None e = acks e (acknowledged_in l.manager.state p.message)
+      by (Some tx) e = stream_of tx
+
+closed_of : (m : Manager) (now : ℕ) (p : UserPacket) (why : Cause) (session : one_end.State) → IsOutcomeOf m.state (Hear now (packet.User p)) (hear_behind m now p (head.Closed why) session)
+closed_of m now p why session = record { entry = tt; beside = tt }
+
+behind_of : (m : Manager) (now : ℕ) (p : UserPacket) (session : one_end.State)
+    → IsOutcomeOf m.state (Hear now (packet.User p)) (hear_behind m now p (user_heard m.state session p).0 (user_heard m.state session p).1)
+behind_of m now p session = by session.phase (is_ready session.phase && is_foreign m.state session p) refl
+  where
+    h : SessionHead
+    h = unwrap_or p.session no_head
+
+    ordered : (given : HeadHeard) (after : one_end.State) → p.to ≡ m.state.identity.guid → IsOutcomeOf m.state (Hear now (packet.User p)) (hear_behind m now p given after)
+    ordered (head.Closed why) after own = closed_of m now p why after
+    ordered head.InOrder after own = user_of p (listening m after now) own true
+    ordered head.OutOfOrder after own = user_of p (listening m after now) own false
+    ordered head.AckOnly after own = user_of p (listening m after now) own false
+
+    bad : (b : Bool) → p.to ≡ m.state.identity.guid → let given = cond b (closing cause.BadAck session) (order_of h session, counted (order_of h session) (acknowledged h session)) in
+        IsOutcomeOf m.state (Hear now (packet.User p)) (hear_behind m now p given.0 given.1)
+    bad true own = closed_of m now p cause.BadAck (closing cause.BadAck session).1
+    bad false own = ordered (order_of h session) (counted (order_of h session) (acknowledged h session)) own
+
+    own_of : is_foreign m.state session p ≡ false → p.to ≡ m.state.identity.guid
+    own_of e = same_guid_is p.to m.state.identity.guid (split_and (is_from session p.message) (same_guid p.to m.state.identity.guid) (both (is_from session p.message && same_guid p.to m.state.identity.guid) e)).1
+      where
+        both : (b : Bool) → not b ≡ false → b ≡ true
+        both true f = refl
+        both false f = absurd (clash f)
+
+    by : (f : Phase) (b : Bool) → (is_ready f && is_foreign m.state session p) ≡ b → let given = cond b (closing cause.Foreign session) (head_in f h session) in
+        IsOutcomeOf m.state (Hear now (packet.User p)) (hear_behind m now p given.0 given.1)
+    by f true e = closed_of m now p cause.Foreign (closing cause.Foreign session).1
+    by phase.Ready false e = bad (is_bad_ack h session) (own_of e)
+    by (phase.Closed why) false e = closed_of m now p why session
+    by phase.Start false e = closed_of m now p cause.Early (closing cause.Early session).1
+    by phase.WaitEstablish false e = closed_of m now p cause.Early (closing cause.Early session).1
+    by phase.OweEstablish false e = closed_of m now p cause.Early (closing cause.Early session).1
+    by phase.OweRefusal false e = closed_of m now p cause.Early (closing cause.Early session).1
+    by phase.OweParameters false e = closed_of m now p cause.Early (closing cause.Early session).1
+    by phase.WaitParameters false e = closed_of m now p cause.Early (closing cause.Early session).1
+
+acknowledgement_of : (m : Manager) (now : ℕ) (x : Packet) (given : HeadHeard) (session : one_end.State) → IsOutcomeOf m.state (Hear now x) (hear_acknowledgement m now given session)
+acknowledgement_of m now x (head.Closed why) session = record { entry = tt; beside = tt }
+acknowledgement_of m now x head.InOrder session = heard_nothing x (listening m session now) heard.Session
+acknowledgement_of m now x head.OutOfOrder session = heard_nothing x (listening m session now) heard.Session
+acknowledgement_of m now x head.AckOnly session = heard_nothing x (listening m session now) heard.Session
+
+linked_of : (m : Manager) (now : ℕ) (x : Packet) (session : one_end.State) → IsOutcomeOf m.state (Hear now x) (hear_linked m now x session)
+linked_of m now (packet.Establish e) session = record { entry = tt; beside = tt }
+linked_of m now (packet.Parameters p) session = record { entry = tt; beside = tt }
+linked_of m now (packet.Ack h) session = acknowledgement_of m now (packet.Ack h) (ack_heard h session).0 (ack_heard h session).1
+linked_of m now (packet.User p) session = behind_of m now p session
+
+-- Pumping.
+
+chosen_of : (m : Manager) (now : ℕ) (session : one_end.State) (k : ℕ) (to : Guid) (cs : List Candidate) → IsOutcomeOf m.state (Pump now) (sending_chosen m now session k to cs)
+chosen_of m now session k to [] = either_of m.state (Pump now) session.owes _ (answering m (Ok 0)) (record { entry = tt; beside = tt }) (nothing_of m (Pump now) (Ok 0) tt)
+chosen_of m now session k to (c ∷ cs) = record {
+  entry = some_unless m.state (Pump now) (length (marks_for m.state (c ∷ cs)) == 0) (entry.Offered (marks_for m.state (c ∷ cs))) tt;
+  beside = tt;
+}
+
+pump_of : (m : Manager) (now : ℕ) (session : one_end.State) → IsOutcomeOf m.state (Pump now) (pump_linked m now session)
+pump_of m now session = owed (owed_by session.phase now session)
+  where
+    none : IsOutcomeOf {A = Result ℕ PumpFault} m.state (Pump now) (answering m (Ok 0))
+    none = nothing_of m (Pump now) (Ok 0) tt
+
+    with_candidates : (k : ℕ) (to : Guid) (cs : List Candidate) → IsOutcomeOf m.state (Pump now) (pump_with m now session k to cs)
+    with_candidates k to cs = either_of m.state (Pump now) (is_spent session && not (length cs == 0)) (answering m (Err pump_fault.Spent)) (sending_chosen m now session k to (chosen session 0 0 cs))
+        (nothing_of m (Pump now) (Err pump_fault.Spent) tt) (chosen_of m now session k to (chosen session 0 0 cs))
+
+    ready : (k : ℕ) → IsOutcomeOf m.state (Pump now) (pump_at m now session k)
+    ready k = or_of m.state (Pump now) (λ peer. option_map_or (pump_to m now session k peer) (slice_get m.state.plain k) (answering m (Ok 0))) (slice_get m.state.peers k) (answering m (Ok 0))
+        (λ peer. or_of m.state (Pump now) (pump_to m now session k peer) (slice_get m.state.plain k) (answering m (Ok 0))
+        (λ p. with_candidates k peer.guid (candidates m.state m.rest now k peer p)) none) none
+
+    owed : (o : Option Internal) → IsOutcomeOf m.state (Pump now) (pump_owed m now session o)
+    owed None = either_of m.state (Pump now) (is_ready session.phase) (pump_at m now session (linked_peer m.state session)) (answering m (Ok 0)) (ready (linked_peer m.state session)) none
+    owed (Some part) = record { entry = tt; beside = tt }
+
+-- Each call.
+
+same_of : {A : Type 0} (s : State) (call : Call) (outcome : Outcome A) → IsOutcomeOf s call outcome → IsOutcomeOf s call (answerless outcome)
+same_of s call outcome h = record { entry = h.entry; beside = h.beside }
+
+pub calls_are_of : (m : Manager) (call : Call) → IsOutcomeOf m.state call (outcome_of m call)
+calls_are_of m (CreateQueue plan) = same_of m.state (CreateQueue plan) _ (unless_of m (CreateQueue plan) (create_refusal m plan) _ tt (record { entry = tt; beside = tt }))
+calls_are_of m (SetRoll count) = same_of m.state (SetRoll count) _ (unless_of m (SetRoll count) (store_refusal m) _ tt (record { entry = tt; beside = tt }))
+calls_are_of m (Commit now ops) = same_of m.state (Commit now ops) _ (unless_of m (Commit now ops) (ops_refusal m ops) _ tt
+    (commit_of m now ops (try_ops now 0 (trial_of m.state) ops) (ops_asked m.state ops now) (ops_tried m.state ops now)))
+calls_are_of m (Send now recoverable parts) = same_of m.state (Send now recoverable parts) _ (send_of m now recoverable parts)
+calls_are_of m (Take now p) = same_of m.state (Take now p) _ (unless_of m (Take now p) (take_refusal m) _ tt (or_of m.state (Take now p) (take_at m now) (place_named m.state.places.queues p) _
+    (λ at. or_of m.state (Take now p) (take_position m at now) (first_in m.state at now) _ (λ q. or_of m.state (Take now p) (taking m at now q.lane q.index) (message_at q.lane m.state at q.index) _
+    (λ x. taking_of m (Take now p) at now q.lane q.index x tt tt tt) (nothing_of m (Take now p) _ tt)) (nothing_of m (Take now p) _ tt)) (nothing_of m (Take now p) _ tt)))
+calls_are_of m (Purge now p) = same_of m.state (Purge now p) _ (unless_of m (Purge now p) (purge_refusal m) _ tt (or_of m.state (Purge now p) (purge_at m now) (place_named m.state.places.queues p) _
+    (λ at. or_of m.state (Purge now p) (purging m now at) (lists_at m.state.places at) _
+    (λ l. record { entry = some_unless m.state (Purge now p) (length l.durable == 0) (entry.Purged now at) tt; beside = tt }) (nothing_of m (Purge now p) _ tt)) (nothing_of m (Purge now p) _ tt)))
+calls_are_of m (Tick now) = same_of m.state (Tick now) _ (unless_of m (Tick now) (store_refusal m) _ tt
+    (record { entry = some_unless m.state (Tick now) (durable_due m.state now == 0) (entry.Ticked now) tt; beside = tt }))
+calls_are_of m Resend = record { entry = tt; beside = tt }
+calls_are_of m (Pump now) = same_of m.state (Pump now) _ (unless_of m (Pump now) (pump_refusal m) _ tt
+    (or_of m.state (Pump now) (pump_linked m now) m.rest.session _ (pump_of m now) (nothing_of m (Pump now) (Err pump_fault.NotLinked) tt)))
+calls_are_of m (Hear now x) = same_of m.state (Hear now x) _ (unless_of m (Hear now x) (hear_refusal m) _ tt
+    (or_of m.state (Hear now x) (hear_linked m now x) m.rest.session _ (linked_of m now x) (nothing_of m (Hear now x) (Err hear_fault.NotLinked) tt)))
