@@ -65,15 +65,15 @@ front_bytes (a ∷ []) long small = absurd (omega arith)
 front_bytes (a ∷ b ∷ bytes) long small = ap (λ (front : List ℕ). front ++ bytes) (pair_bytes a b (small 0 0 (omega arith)) (small 1 0 (omega arith)))
 
 -- a value that was found in turn
-map_some : {X Y : Type 0} (f : X → Y) (o : Option X) (y : Y) → option_map f o ≡ Some y → (x : X) × (o ≡ Some x) × (f x ≡ y)
+pub map_some : {X Y : Type 0} (f : X → Y) (o : Option X) (y : Y) → option_map f o ≡ Some y → (x : X) × (o ≡ Some x) × (f x ≡ y)
 map_some f (Some x) y e = (x, refl, cc)
 map_some f None y e = absurd cc
 
-then_some : {X Y : Type 0} (f : X → Option Y) (o : Option X) (y : Y) → option_and_then f o ≡ Some y → (x : X) × (o ≡ Some x) × (f x ≡ Some y)
+pub then_some : {X Y : Type 0} (f : X → Option Y) (o : Option X) (y : Y) → option_and_then f o ≡ Some y → (x : X) × (o ≡ Some x) × (f x ≡ Some y)
 then_some f (Some x) y e = (x, refl, e)
 then_some f None y e = absurd cc
 
-unless_some : {X : Type 0} (b : Bool) (o : Option X) (x : X) → cond b None o ≡ Some x → o ≡ Some x
+pub unless_some : {X : Type 0} (b : Bool) (o : Option X) (x : X) → cond b None o ≡ Some x → o ≡ Some x
 unless_some true o x e = absurd cc
 unless_some false o x e = e
 
@@ -81,12 +81,12 @@ no_rest : (list : List ℕ) → (length list == 0) ≡ true → list ≡ []
 no_rest [] e = refl
 no_rest (b ∷ list) e = absurd (omega (arith, eqb-true (length (b ∷ list)) 0 e))
 
-some_if : {X : Type 0} (b : Bool) (x y : X) → cond b (Some x) None ≡ Some y → (b ≡ true) × (x ≡ y)
+pub some_if : {X : Type 0} (b : Bool) (x y : X) → cond b (Some x) None ≡ Some y → (b ≡ true) × (x ≡ y)
 some_if true x y e = (refl, cc)
 some_if false x y e = absurd cc
 
 -- a text that is read to its end as host and queue
-whole_some : (read : Result ((Host × List ℕ) × Reading) PartFault) (found : Host × List ℕ) → whole read ≡ Some found
+pub whole_some : (read : Result ((Host × List ℕ) × Reading) PartFault) (found : Host × List ℕ) → whole read ≡ Some found
     → (end : Reading) × (read ≡ Ok (found, end)) × (rest_of end ≡ [])
 whole_some (Ok x) found e =
     let all = some_if (length (rest_of x.1) == 0) x.0 found e in

@@ -6,3 +6,7 @@ pub mod Users
 pub mod Properties
 pub mod Packets
 pub mod DirectNames
+pub mod Bytes
+pub mod ReadNames
+pub mod Headers
+pub mod Written

@@ -83,7 +83,7 @@ base_stands : (read : Result (BaseHead × Reading) HeadFault) (base : BaseHead) 
 base_stands (Ok x) base e = (x.1, ap (λ (base : BaseHead). Ok (base, x.1)) (ok_is x.0 base e))
 base_stands (Err d) base e = absurd cc
 
-base_length : (base : BaseHead) (bytes : List ℕ) → BaseForm base bytes → length bytes ≡ 16
+pub base_length : (base : BaseHead) (bytes : List ℕ) → BaseForm base bytes → length bytes ≡ 16
 base_length base bytes (flags, said, least, most, form) =
     let a = form in
     let b = a.4 in
