@@ -137,3 +137,4 @@ mod Unexpired
 mod Truthful
 mod SentKept
 mod StoredByPeer
+mod Finals

@@ -25,3 +25,4 @@ pub mod Drafted
 pub mod Put
 pub mod Asked
 pub mod Truths
+pub mod Finished

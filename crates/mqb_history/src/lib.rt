@@ -6,6 +6,7 @@
 ghost use Rattle.mqb_history.specs.Laws.{AlwaysAcknowledgedTruly, AlwaysAcknowledgingTruly, AlwaysBegunInOrder, AlwaysCarriedTruly, AlwaysCommittedInOrder, AlwaysDecidedAcross, AlwaysDecidedByOne, AlwaysDecidedInOrder, AlwaysDecidedTruly, AlwaysDecidedWhereLed, AlwaysExactlyOnce, AlwaysExpiredDuly, AlwaysMachineInvariant, AlwaysOffersKept, AlwaysShown, AlwaysStreamInvariant, AlwaysToldCommitments, AlwaysUndecided, AlwaysUnskipped, AlwaysWaiting, AlwaysWaitingUntilDecided, DecisionsHaveReasons, DownStays, ExpiriesHaveReasons, FailuresAreSettled, HistoriesAreOrderly, LinesTellDecisions, RunsHaveHistories, SentNeverExpires};
 ghost use Rattle.mqb_history.specs.Asked.{CommittedIsAsked};
 ghost use Rattle.mqb_history.specs.Put.{PutIsTheCommittedMessage};
+ghost use Rattle.mqb_history.specs.Finished.{FinalsHaveReasons};
 ghost use Rattle.mqb_history.specs.Stored.{StorageIsAlwaysKept};
 ghost use Rattle.mqb_history.specs.Truths.{AlwaysTruthful};
 ghost use Rattle.mqb_history.specs.Choosing.{RepliesShowChoices, RunsAreShown};
@@ -77,6 +78,11 @@ pub fn decisions_have_reasons()
 /// A message expires out of the row that keeps it, where its time to reach its queue is over and it was not offered.
 pub fn expiries_have_reasons()
     ensures { ExpiriesHaveReasons }
+{}
+
+/// A final acknowledgement changes no row but one that leads to the manager from which it came, and keeps a message that it names and that was offered.
+pub fn finals_have_reasons()
+    ensures { FinalsHaveReasons }
 {}
 
 /// Whatever expires at a manager was committed there, and its time to reach its queue was over.
