@@ -138,3 +138,8 @@ mod Truthful
 mod SentKept
 mod StoredByPeer
 mod Finals
+mod Tallies
+mod Queued
+mod Remaining
+mod Counting
+mod Received

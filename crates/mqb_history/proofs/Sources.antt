@@ -71,7 +71,7 @@ not_below n = at (nat_lt n n) refl
     at false e = e
     at true e = let lt : n < n = grind (arith, nat_tests, e) in absurd (omega (arith, lt))
 
-not_itself : (p : Position) → precedes p p ≡ true → ⊥
+pub not_itself : (p : Position) → precedes p p ≡ true → ⊥
 not_itself p e = clash (sym e ∙ by (nat_lt p.sequence.ordinal p.sequence.ordinal) (nat_lt p.sequence.stamp p.sequence.stamp) (nat_lt p.number p.number)
     (p.sequence.ordinal == p.sequence.ordinal) (p.sequence.ordinal == p.sequence.ordinal && p.sequence.stamp == p.sequence.stamp)
     (not_below p.sequence.ordinal) (not_below p.sequence.stamp) (not_below p.number))

@@ -26,3 +26,4 @@ pub mod Put
 pub mod Asked
 pub mod Truths
 pub mod Finished
+pub mod Received

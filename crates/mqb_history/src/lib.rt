@@ -9,6 +9,7 @@ ghost use Rattle.mqb_history.specs.Put.{PutIsTheCommittedMessage};
 ghost use Rattle.mqb_history.specs.Finished.{FinalsHaveReasons};
 ghost use Rattle.mqb_history.specs.Stored.{StorageIsAlwaysKept};
 ghost use Rattle.mqb_history.specs.Truths.{AlwaysTruthful};
+ghost use Rattle.mqb_history.specs.Received.{AlwaysReceivedTruly};
 ghost use Rattle.mqb_history.specs.Choosing.{RepliesShowChoices, RunsAreShown};
 ghost use Rattle.mqb_history.specs.Leading.{CommitmentsLeadToManagers};
 ghost use Rattle.mqb_history.specs.Drafted.{AlwaysValid};
@@ -124,6 +125,11 @@ pub fn committed_is_asked()
 /// those that were put where they were sent is named.
 pub fn always_truthful()
     ensures { AlwaysTruthful }
+{}
+
+/// Each message that says that a committed one was not received is true: it was purged, or its time to be received was over, and it was never taken.
+pub fn always_received_truly()
+    ensures { AlwaysReceivedTruly }
 {}
 
 /// What was sent of a stream never expires, and so what was decided never does.
