@@ -5,9 +5,11 @@ use Rattle.std.proofs.lemmas.Bool.{ltb-false}
 use Rattle.std.proofs.lemmas.List.{map-append, get_or-map, length-map, length-take, get_or-take, take-map}
 use Rattle.std.proofs.lemmas.List.Quantifiers.{all_pairs_push}
 use Rattle.std.proofs.lemmas.List.Sums.{fails_before_first}
-use Rattle.std.proofs.lemmas.Option.{slice_get_cases, none-some}
+use Rattle.std.proofs.lemmas.List.Elements.{All-from_get_or}
+use Rattle.std.proofs.lemmas.Option.{get_or_from_slice_get, none-some, slice_get_cases, slice_get_within}
 use Rattle.mqb_base.specs.Same.{same_ignoring_case}
 use Rattle.mqb_queue.specs.Places.{Queue, NamesDiffer, found}
+use Rattle.mqb_queue.proofs.Positions.{passes_none}
 
 past_the_end : (p : Queue → Bool) (queues : List Queue) → position p queues ≡ None → length queues ≤ position_or_len p queues
 past_the_end p queues none = at (ltb (position_or_len p queues) (length queues)) (λ f. ltb-false (position_or_len p queues) (length queues) f) none
@@ -57,3 +59,27 @@ fewer_differ n queues differ =
         let there : j < length names = omega (arith, within, length-take n names) in
         subst (λ (a : List ℕ). same_ignoring_case a (get_or (take n names) j d) ≡ false) (sym (get_or-take n names i d (omega (arith, before, inside))))
         (subst (λ (b : List ℕ). same_ignoring_case (get_or names i d) b ≡ false) (sym (get_or-take n names j d inside)) (pairs i j d before there))
+
+-- no queue before one has its name
+pub none_before : (queues : List Queue) (k : ℕ) (q : Queue) → NamesDiffer queues → slice_get queues k ≡ Some q → found (take k queues) q.plan.name ≡ None
+none_before queues k q differ got =
+    passes_none (λ r. same_ignoring_case r.plan.name q.plan.name) (take k queues)
+    (All-from_get_or (λ r. same_ignoring_case r.plan.name q.plan.name ≡ false) (take k queues) q (λ i within. apart i within))
+  where
+    name_of : Queue → List ℕ
+    name_of r = r.plan.name
+
+    inside : k < length queues
+    inside = slice_get_within queues k q got
+
+    is : get_or (map name_of queues) k q.plan.name ≡ q.plan.name
+    is = get_or-map name_of queues k q q.plan.name inside ∙ ap name_of (get_or_from_slice_get queues k q q got)
+
+    apart : (i : ℕ) → i < length (take k queues) → same_ignoring_case (name_of (get_or (take k queues) i q)) q.plan.name ≡ false
+    apart i within =
+        let before : i < k = omega (arith, within, length-take k queues, inside) in
+        let there : i < length queues = omega (arith, before, inside) in
+        ap (λ (r : Queue). same_ignoring_case r.plan.name q.plan.name) (get_or-take k queues i q before)
+        ∙ (ap (λ (name : List ℕ). same_ignoring_case name q.plan.name) (sym (get_or-map name_of queues i q q.plan.name there))
+        ∙ (ap (λ (name : List ℕ). same_ignoring_case (get_or (map name_of queues) i q.plan.name) name) (sym is)
+        ∙ differ i k q.plan.name before (omega (arith, inside, length-map queues name_of))))

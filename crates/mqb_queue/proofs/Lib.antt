@@ -8,3 +8,4 @@ pub mod Splits
 pub mod Names
 pub mod Others
 pub mod Renamed
+pub mod Keys

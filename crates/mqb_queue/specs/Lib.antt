@@ -5,3 +5,4 @@ pub mod First
 pub mod Seen
 pub mod Laws
 pub mod Lending
+pub mod Names

@@ -11,6 +11,7 @@ mod first;
 mod laws;
 mod lists;
 mod messages;
+mod name_keys;
 mod named;
 mod new_queue;
 mod places;
@@ -23,5 +24,6 @@ pub use laws::{
     at_most_one_first, found_by_its_name, oldest_is_first, one_named_place_changes,
     one_place_changes, plans_stay,
 };
+pub use name_keys::NameKey;
 pub use new_queue::NewQueue;
 pub use queues::Queues;

@@ -3,12 +3,15 @@ ghost use Rattle.std.specs.Borrow.{sem};
 ghost use Rattle.std.specs.Option.{option_map};
 ghost use Rattle.mqb_base.specs.declared.roomed.TheConstants.{MAX_MEMBERS};
 ghost use Rattle.mqb_queue.specs.Lending.{LendsLists};
+ghost use Rattle.mqb_queue.specs.Names.{LeadsTo};
 ghost use Rattle.mqb_queue.specs.Places.{NamesDiffer, found, lists_at, new_queue, no_queue_room, no_rooms, nothing, numbered, place_named, rooms_at, with_queue, with_queue_room, without_last};
 ghost use Rattle.mqb_queue.specs.Seen.{queue_of};
 
 use crate::lists::Lists;
+use crate::name_keys::{NameKey, enter, enter_all, make_room, name_key, number_of};
 use crate::new_queue::NewQueue;
-use crate::queue::{Queue, found, numbered};
+use crate::queue::{Queue, numbered};
+use indexmap::IndexMap;
 use mqb_base::{EntryPlace, MAX_MEMBERS, Memory, Name, Place, QueuePlan, Roomed};
 use std::alloc::Global;
 use std::marker::Model;
@@ -18,6 +21,7 @@ use std::marker::Model;
 #[derive(Debug, Drop)]
 pub struct Queues {
     queues: Roomed<Queue>,
+    names: IndexMap<NameKey, u32>,
     dead: Lists,
     dead_xact: Lists,
     journal: Lists,
@@ -35,7 +39,9 @@ impl Model for Queues {
 
     ghost view = { λ q. seen q.queues q.dead q.dead_xact q.journal };
 
-    ghost invariant = { λ q. (q.queues.room ≤ MAX_MEMBERS) × NamesDiffer (map queue_of q.queues.items) };
+    ghost use Rattle.mqb_queue.specs.Names.{IsNamed};
+
+    ghost invariant = { λ q. (q.queues.room ≤ MAX_MEMBERS) × NamesDiffer (map queue_of q.queues.items) × IsNamed (map queue_of q.queues.items) q.queues.room q.names };
 }
 
 impl Queues {
@@ -45,6 +51,7 @@ impl Queues {
     {
         Queues {
             queues: Roomed::new(alloc),
+            names: IndexMap::new(alloc),
             dead: Lists::new(alloc),
             dead_xact: Lists::new(alloc),
             journal: Lists::new(alloc),
@@ -90,8 +97,15 @@ impl Queues {
         ensures within { IfSome result (λ k. k < length self.now.lists.queues) }
         ensures few { length self.now.lists.queues ≤ MAX_MEMBERS }
     {
-        let k = found(self.queues.as_slice(), name)?;
-        Some(k as u32)
+        let _count = self.queues.len();
+        number_of(&self.names, name_key(name))
+    }
+
+    /// The keys of the queues' names, each with the place of its queue in the list, from 0.
+    pub fn names(&self) -> &IndexMap<NameKey, u32>
+        ensures { LeadsTo self.now.lists.queues result.now }
+    {
+        &self.names
     }
 
     /// A place as the store names it, where it is there.
@@ -157,6 +171,7 @@ impl Queues {
         if self.queues.len() >= MAX_MEMBERS {
             return Err(Memory);
         }
+        make_room(&mut self.names)?;
         self.queues.make_room(1)
     }
 
@@ -191,6 +206,8 @@ impl Queues {
           queues = self.old.rooms.queues ++ queue.rooms ∷ [];
         } }
     {
+        let key = name_key(&queue.plan().name);
+        enter(&mut self.names, key, self.queues.len() as u32);
         self.queues.push(queue.into_queue());
     }
 
@@ -205,6 +222,8 @@ impl Queues {
         ensures rest { self.new ≡ without_last self.old }
         ensures room { length self.new.lists.queues < self.new.rooms.more_queues }
     {
-        NewQueue::from_queue(self.queues.pop())
+        let queue = self.queues.pop();
+        enter_all(&mut self.names, self.queues.as_slice());
+        NewQueue::from_queue(queue)
     }
 }
