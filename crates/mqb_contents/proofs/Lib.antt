@@ -8,3 +8,4 @@ pub mod Lasts
 pub mod Waiting
 pub mod Named
 pub mod Reserved
+pub mod Numbering

@@ -3,3 +3,4 @@ pub mod Rooms
 pub mod Rows
 pub mod Seen
 pub mod Changes
+pub mod Tables

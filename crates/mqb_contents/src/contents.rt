@@ -3,6 +3,7 @@ ghost use Rattle.mqb_base.specs.declared.roomed.TheConstants.{MAX_MEMBERS};
 ghost use Rattle.mqb_contents.specs.Rooms.{no_room};
 ghost use Rattle.mqb_contents.specs.Rows.{KeepsCommitted};
 ghost use Rattle.mqb_contents.specs.Seen.{counters_of};
+ghost use Rattle.mqb_contents.specs.Tables.{LeadsTo};
 ghost use Rattle.mqb_model.specs.declared.limits.TheConstants.{MAX_PEERS, MAX_QUEUES};
 ghost use Rattle.mqb_model.specs.state.State.{empty};
 ghost use Rattle.mqb_orders.specs.Rows.{row_of};
@@ -10,6 +11,7 @@ ghost use Rattle.mqb_orders.specs.Rows.{row_of};
 use crate::counters::Counters;
 use crate::out_rows::OutRows;
 use crate::plain_outs::PlainOuts;
+use indexmap::IndexMap;
 use mqb_base::{Identity, Roomed};
 use mqb_model::{FIRST_EXPRESS, MAX_ROLL};
 use mqb_orders::{InRow, OutRow};
@@ -102,6 +104,13 @@ impl Contents {
         ensures committed { All KeepsCommitted self.now.lists.outs }
     {
         self.outs.as_slice()
+    }
+
+    /// The ordinals of the outgoing rows, each with the index of its row.
+    pub fn ordinals(&self) -> &IndexMap<u32, u32>
+        ensures { LeadsTo self.now.lists.outs result.now }
+    {
+        self.outs.ordinals()
     }
 
     /// The outgoing row at an index.

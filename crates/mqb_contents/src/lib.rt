@@ -13,6 +13,7 @@ mod making_room;
 mod marks;
 mod new_peer;
 mod new_row;
+mod ordinals;
 mod out_rows;
 mod plain_outs;
 

@@ -14,13 +14,6 @@ use crate::contents::Contents;
 use mqb_base::{EntryPlace, Guid, Identity, Lane, QueueName};
 use mqb_orders::{InRow, OutRow};
 
-fn index_of_ordinal(rows: &[OutRow], ordinal: u32) -> Option<usize>
-    ensures index { result ≡ position (λ r. has_ordinal ordinal (row_of r)) rows.now }
-    ensures within { IfSome result (λ k. k < length rows.now) }
-{
-    rows.iter().position(|row| row.sequence.ordinal == ordinal)
-}
-
 fn leads_to(row: &OutRow, peer: u32, destination: &QueueName) -> bool
     ensures { result ≡ leads_to peer destination.now (row_of row.now) }
 {
@@ -61,8 +54,7 @@ impl Contents {
         ensures index { result ≡ position (has_ordinal ordinal) self.now.lists.outs }
         ensures within { IfSome result (λ k. k < length self.now.lists.outs) }
     {
-        let k = index_of_ordinal(self.outs(), ordinal)?;
-        Some(k as u32)
+        self.ordinals().get(&ordinal).copied()
     }
 
     /// The index of the last outgoing row that leads to a destination at a peer.

@@ -4,12 +4,15 @@ ghost use Rattle.mqb_contents.specs.Ends.{last_of, without_last};
 ghost use Rattle.mqb_contents.specs.Rooms.{AreMembersGrown, kept_room, no_members};
 ghost use Rattle.mqb_contents.specs.Seen.{room_of};
 ghost use Rattle.mqb_contents.specs.Rows.{CanKeep, IsBegun, KeepsCommitted, begun_row, keeping, kept_count, marks_of, with_marks};
+ghost use Rattle.mqb_contents.specs.Tables.{LeadsTo};
 ghost use Rattle.mqb_model.specs.Lists.{with_changed};
 ghost use Rattle.mqb_orders.specs.KeptLists.{Rises};
 ghost use Rattle.mqb_orders.specs.Rows.{row_of};
 
 use crate::marks::RowMarks;
 use crate::new_row::NewRow;
+use crate::ordinals::{enter, enter_all, make_room};
+use indexmap::IndexMap;
 use mqb_base::{MAX_MEMBERS, Memory, Roomed};
 use mqb_orders::{Kept, OutRow};
 use std::alloc::Global;
@@ -20,13 +23,15 @@ use std::marker::Model;
 #[derive(Debug, Drop)]
 pub(crate) struct OutRows {
     rows: Roomed<OutRow>,
+    ordinals: IndexMap<u32, u32>,
 }
 
 impl Model for OutRows {
-    ghost use Rattle.std.specs.Prelude.{◌≤◌, All, List, ℕ};
+    ghost use Rattle.std.specs.Prelude.{◌≤◌, All, List, map, ℕ};
     ghost use Rattle.mqb_base.specs.Rooms.{WithRooms};
     ghost use Rattle.mqb_base.specs.declared.roomed.TheConstants.{MAX_MEMBERS};
     ghost use Rattle.mqb_contents.specs.Rooms.{MemberRooms};
+    ghost use Rattle.mqb_contents.specs.Tables.{AreNumbered};
     ghost use Rattle.mqb_contents.specs.Rows.{KeepsCommitted};
     ghost use Rattle.mqb_contents.specs.Seen.{room_of, seen_members};
     ghost use Rattle.mqb_orders.specs.Rows.{Row, row_of};
@@ -35,7 +40,7 @@ impl Model for OutRows {
 
     ghost view = { λ o. seen_members row_of room_of o.rows };
 
-    ghost invariant = { λ o. (o.rows.room ≤ MAX_MEMBERS) × All (λ r. KeepsCommitted (row_of r)) o.rows.items };
+    ghost invariant = { λ o. (o.rows.room ≤ MAX_MEMBERS) × All (λ r. KeepsCommitted (row_of r)) o.rows.items × AreNumbered (map row_of o.rows.items) o.rows.room o.ordinals };
 }
 
 /// A row keeps a message before the one at an index, or at the end, where there is room.
@@ -92,6 +97,7 @@ impl OutRows {
     {
         OutRows {
             rows: Roomed::new(alloc),
+            ordinals: IndexMap::new(alloc),
         }
     }
 
@@ -108,6 +114,13 @@ impl OutRows {
         ensures committed { All KeepsCommitted self.now.lists }
     {
         self.rows.as_slice()
+    }
+
+    /// The ordinals of the rows, each with the place of the first row that has it.
+    pub(crate) fn ordinals(&self) -> &IndexMap<u32, u32>
+        ensures { LeadsTo self.now.lists result.now }
+    {
+        &self.ordinals
     }
 
     pub(crate) fn get(&self, row: u32) -> &OutRow
@@ -166,7 +179,13 @@ impl OutRows {
           each = self.old.rooms.each ++ row.room ∷ [];
         } }
     {
-        self.rows.push(row.into_row());
+        let row = row.into_row();
+        enter(
+            &mut self.ordinals,
+            row.sequence.ordinal,
+            self.rows.len() as u32,
+        );
+        self.rows.push(row);
     }
 
     /// The last row leaves, in which nothing was committed.
@@ -181,7 +200,9 @@ impl OutRows {
         } }
         ensures room { length self.new.lists < self.new.rooms.more }
     {
-        NewRow::from_row(self.rows.pop())
+        let row = self.rows.pop();
+        enter_all(&mut self.ordinals, self.rows.as_slice());
+        NewRow::from_row(row)
     }
 
     /// Makes room for one more message that a row keeps.
@@ -203,6 +224,7 @@ impl OutRows {
         if self.rows.len() >= MAX_MEMBERS {
             return Err(Memory);
         }
+        make_room(&mut self.ordinals, self.rows.len() + 1)?;
         self.rows.make_room(1)
     }
 }

@@ -1,12 +1,12 @@
-use Rattle.std.proofs.Common.{◌≤◌, insert, sym, subst}
+use Rattle.std.proofs.Common.{◌≤◌, insert, sym, ap, subst}
 use Rattle.std.proofs.lemmas.List.Elements.{All-set}
 use Rattle.mqb_contents.specs.Rows.{CanKeep, KeepsCommitted, keeping}
 use Rattle.mqb_contents.specs.Seen.{room_of}
 use Rattle.mqb_orders.specs.Rows.{Row, row_of}
-use Rattle.mqb_orders.specs.declared.kept.Kept.{Kept}
 use Rattle.mqb_orders.specs.declared.rows.OutRow.{OutRow}
 use Rattle.mqb_contents.proofs.Lens.{changed, fact_there}
 use Rattle.mqb_contents.proofs.Members.{all_at, all_insert}
+use Rattle.mqb_contents.proofs.Numbering.{numbered_written}
 use Rattle.mqb_contents.proofs.out_rows.OutRows.insert_kept.Goals as goal
 
 pub invariant_of-self : goal.invariant_of-self
@@ -19,6 +19,8 @@ invariant_of-self c =
       All-set (λ r. KeepsCommitted (row_of r)) c.self.inside.rows.items c.args.row c.insert_kept.new.row
           (subst KeepsCommitted (sym c.insert_kept.ensures.row) (all_insert (λ k. k.number ≤ x.committed) x.kept.items c.args.index c.args.kept can.2 kept))
           c.self.invariant.1,
+      numbered_written c.self.inside.rows.items c.args.row x c.insert_kept.new.row c.self.inside.rows.room c.self.inside.ordinals c.get_mut.ensures.value
+          (ap (λ (r : Row). r.sequence.ordinal) c.insert_kept.ensures.row) c.self.invariant.2,
     )
 
 pub returns : goal.returns

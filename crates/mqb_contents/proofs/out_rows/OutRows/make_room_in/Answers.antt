@@ -1,9 +1,24 @@
-use Rattle.std.proofs.Common.{length}
+use Rattle.std.proofs.Common.{length, sym, ap, subst}
+use Rattle.std.proofs.lemmas.List.Elements.{All-set}
 use Rattle.mqb_queue.proofs.Changed.{on_ok}
 use Rattle.mqb_contents.specs.Seen.{room_of}
-use Rattle.mqb_orders.specs.Rows.{row_of}
+use Rattle.mqb_contents.specs.Rows.{KeepsCommitted}
+use Rattle.mqb_orders.specs.Rows.{Row, row_of}
+use Rattle.mqb_orders.specs.declared.rows.OutRow.{OutRow}
 use Rattle.mqb_contents.proofs.Lens.{grown, left, stays}
+use Rattle.mqb_contents.proofs.Members.{all_at}
+use Rattle.mqb_contents.proofs.Numbering.{numbered_written}
 use Rattle.mqb_contents.proofs.out_rows.OutRows.make_room_in.Goals as goal
+
+pub invariant_of-self : goal.invariant_of-self
+invariant_of-self c =
+    let x : OutRow = c.get_mut.result.now in
+    let kept : KeepsCommitted (row_of x) = all_at (λ r. KeepsCommitted (row_of r)) c.self.inside.rows.items c.args.row x c.get_mut.ensures.value c.self.invariant.1 in (
+      c.self.invariant.0,
+      All-set (λ r. KeepsCommitted (row_of r)) c.self.inside.rows.items c.args.row c.make_room_in.new.row (subst KeepsCommitted (sym c.make_room_in.ensures.row) kept) c.self.invariant.1,
+      numbered_written c.self.inside.rows.items c.args.row x c.make_room_in.new.row c.self.inside.rows.room c.self.inside.ordinals c.get_mut.ensures.value
+          (ap (λ (r : Row). r.sequence.ordinal) c.make_room_in.ensures.row) c.self.invariant.2,
+    )
 
 pub returns-clause-rows : goal.returns-clause-rows
 returns-clause-rows c = stays row_of room_of c.self.inside.rows c.args.self.now c.self.view_is c.args.row c.get_mut.result.now c.get_mut.ensures.value c.make_room_in.new.row c.make_room_in.ensures.row

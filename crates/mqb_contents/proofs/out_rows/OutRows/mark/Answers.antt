@@ -1,13 +1,25 @@
-use Rattle.std.proofs.Common.{sym, subst}
+use Rattle.std.proofs.Common.{sym, ap, subst}
+use Rattle.std.proofs.lemmas.List.Elements.{All-set}
 use Rattle.mqb_contents.specs.Rows.{KeepsCommitted, with_marks}
 use Rattle.mqb_contents.specs.declared.marks.RowMarks.{RowMarks}
 use Rattle.mqb_contents.specs.Seen.{room_of}
 use Rattle.mqb_orders.specs.Rows.{Row, row_of}
-use Rattle.mqb_orders.specs.declared.kept.Kept.{Kept}
 use Rattle.mqb_orders.specs.declared.rows.OutRow.{OutRow}
-use Rattle.mqb_contents.proofs.Lens.{changed, fact_now}
+use Rattle.mqb_contents.proofs.Lens.{changed, fact_now, fact_there}
 use Rattle.mqb_contents.proofs.Members.{all_at}
+use Rattle.mqb_contents.proofs.Numbering.{numbered_written}
 use Rattle.mqb_contents.proofs.out_rows.OutRows.mark.Goals as goal
+
+pub invariant_of-self : goal.invariant_of-self
+invariant_of-self c =
+    let x : OutRow = c.get_mut.result.now in
+    let kept : KeepsCommitted (with_marks c.args.marks (row_of x)) =
+    fact_there row_of room_of c.self.inside.rows c.args.self.now c.self.view_is c.args.row x c.get_mut.ensures.value (λ r. KeepsCommitted (with_marks c.args.marks r)) c.requires in (
+      c.self.invariant.0,
+      All-set (λ r. KeepsCommitted (row_of r)) c.self.inside.rows.items c.args.row c.mark.new.row (subst KeepsCommitted (sym c.mark.ensures.row) kept) c.self.invariant.1,
+      numbered_written c.self.inside.rows.items c.args.row x c.mark.new.row c.self.inside.rows.room c.self.inside.ordinals c.get_mut.ensures.value
+          (ap (λ (r : Row). r.sequence.ordinal) c.mark.ensures.row) c.self.invariant.2,
+    )
 
 pub returns-clause-rows : goal.returns-clause-rows
 returns-clause-rows c =

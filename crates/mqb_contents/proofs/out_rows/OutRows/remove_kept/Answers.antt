@@ -1,4 +1,4 @@
-use Rattle.std.proofs.Common.{◌≡◌, ◌≤◌, List, Some, insert, length, remove, sym, subst}
+use Rattle.std.proofs.Common.{◌≡◌, ◌≤◌, Some, insert, length, remove, sym, ap, subst}
 use Rattle.std.specs.Prelude.{slice_get}
 use Rattle.std.proofs.lemmas.List.Elements.{All-set}
 use Rattle.std.proofs.lemmas.Option.{slice_get_within}
@@ -10,6 +10,7 @@ use Rattle.mqb_orders.specs.declared.kept.Kept.{Kept}
 use Rattle.mqb_orders.specs.declared.rows.OutRow.{OutRow}
 use Rattle.mqb_contents.proofs.Lens.{changed, fact_back, fact_now, left}
 use Rattle.mqb_contents.proofs.Members.{all_at, all_remove, insert-remove, length-removed}
+use Rattle.mqb_contents.proofs.Numbering.{numbered_written}
 use Rattle.mqb_contents.proofs.out_rows.OutRows.remove_kept.Goals as goal
 
 pub invariant_of-self : goal.invariant_of-self
@@ -20,6 +21,8 @@ invariant_of-self c =
       All-set (λ r. KeepsCommitted (row_of r)) c.self.inside.rows.items c.args.row c.remove_kept.new.row
           (subst KeepsCommitted (sym c.remove_kept.ensures.row) (all_remove (λ k. k.number ≤ x.committed) x.kept.items c.args.index kept))
           c.self.invariant.1,
+      numbered_written c.self.inside.rows.items c.args.row x c.remove_kept.new.row c.self.inside.rows.room c.self.inside.ordinals c.get_mut.ensures.value
+          (ap (λ (r : Row). r.sequence.ordinal) c.remove_kept.ensures.row) c.self.invariant.2,
     )
 
 pub returns-clause-removed : goal.returns-clause-removed

@@ -1,0 +1,117 @@
+-- A table of the ordinals of outgoing rows.
+use Rattle.std.proofs.Common.{◌≡◌, ℕ, ◌+◌, ◌<◌, ◌≤◌, ◌==◌, Bool, true, false, cond, List, [], ◌∷◌, ◌++◌, length, map, set, take, Option, Some, None, refl, sym, ap, ◌∙◌, subst, arith}
+use Rattle.std.specs.List.{position}
+use Rattle.std.specs.Map.{lookup}
+use Rattle.std.specs.Option.{option_map}
+use Rattle.std.specs.Prelude.{IfSome, nat_eq, slice_get}
+use Rattle.std.proofs.lemmas.List.{length-map, length-take-le, length_push, map-append, map-set, take_more}
+use Rattle.std.proofs.lemmas.List.Quantifiers.{position-Some}
+use Rattle.std.proofs.lemmas.Option.{get_or_from_slice_get, slice_get-map, slice_get_within}
+use Rattle.indexmap.specs.IndexMap.{IndexMap, get, index_map_len, spare}
+use Rattle.mqb_model.specs.state.Rows.{has_ordinal}
+use Rattle.mqb_orders.specs.Rows.{Row, row_of}
+use Rattle.mqb_orders.specs.declared.rows.OutRow.{OutRow}
+use Rattle.mqb_queue.proofs.Positions.{none_passes, position_behind, position_joined, position_map, position_step}
+use Rattle.mqb_contents.specs.Tables.{AreNumbered, LeadsTo}
+use Rattle.mqb_contents.proofs.Members.{set_same}
+
+abbrev pub Table : Type 0 → Type 0
+Table S = IndexMap ℕ ℕ S
+
+-- an ordinal was entered: those that were there stay
+pub record IsEntered {S : Type 0} (m n : Table S) (ordinal number : ℕ) : Type 0 where
+  pub kept : (o k : ℕ) → get nat_eq m o ≡ Some k → get nat_eq n o ≡ Some k
+  pub entered : (o : ℕ) → get nat_eq m o ≡ None → get nat_eq n o ≡ cond (ordinal == o) (Some number) None
+
+pub leads_empty : {S : Type 0} (m : Table S) → m.entries ≡ [] → LeadsTo [] m
+leads_empty m none o = ap (λ (es : List (ℕ × ℕ)). lookup (nat_eq o) es) none
+
+pub leads_same : {S : Type 0} (rows : List Row) (m n : Table S) → n.entries ≡ m.entries → LeadsTo rows m → LeadsTo rows n
+leads_same rows m n same leads o = ap (λ (es : List (ℕ × ℕ)). lookup (nat_eq o) es) same ∙ leads o
+
+pub leads_on : {S : Type 0} (rows : List Row) (r : Row) (m n : Table S) (number : ℕ) → LeadsTo rows m → number ≡ length rows → IsEntered m n r.sequence.ordinal number
+    → LeadsTo (rows ++ r ∷ []) n
+leads_on rows r m n number leads is h o = at (position (has_ordinal o) rows) refl
+  where
+    last : (b : Bool) → cond b (Some number) None ≡ option_map (λ k. length rows + k) (cond b (Some 0) None)
+    last true = ap Some (omega (arith, is))
+    last false = refl
+
+    at : (p : Option ℕ) → position (has_ordinal o) rows ≡ p → get nat_eq n o ≡ position (has_ordinal o) (rows ++ r ∷ [])
+    at (Some j) there = h.kept o j (leads o ∙ there) ∙ sym (position_joined (has_ordinal o) rows (r ∷ []) j there)
+    at None none =
+        h.entered o (leads o ∙ none)
+        ∙ (last (has_ordinal o r)
+        ∙ (sym (ap (option_map (λ k. length rows + k)) (position_step (has_ordinal o) r []))
+        ∙ sym (position_behind (has_ordinal o) rows (r ∷ []) (none_passes (has_ordinal o) rows none))))
+
+pub numbered_empty : {S : Type 0} (m : Table S) → m.entries ≡ [] → AreNumbered [] 0 m
+numbered_empty m none = record { leads = leads_empty m none; few = let e : length m.entries ≡ 0 = ap length none in omega (arith, e); room = omega arith }
+
+-- there is room for more
+pub numbered_grown : {S : Type 0} (rows : List Row) (most more : ℕ) (m n : Table S) → n.entries ≡ m.entries → more ≤ index_map_len n + spare n → AreNumbered rows most m
+    → AreNumbered rows more n
+numbered_grown rows most more m n same fits h = record {
+  leads = leads_same rows m n same h.leads;
+  few = let e : length n.entries ≡ length m.entries = ap length same in omega (arith, e, h.few);
+  room = fits;
+}
+
+-- a row joins the others
+pub numbered_more : {S : Type 0} (rows : List Row) (r : Row) (most number : ℕ) (m n : Table S) → number ≡ length rows → IsEntered m n r.sequence.ordinal number
+    → index_map_len n ≤ index_map_len m + 1 → index_map_len m + spare m ≤ index_map_len n + spare n → AreNumbered rows most m → AreNumbered (rows ++ r ∷ []) most n
+numbered_more rows r most number m n is entered few room h = record {
+  leads = leads_on rows r m n number h.leads is entered;
+  few = let e : length (rows ++ r ∷ []) ≡ length rows + 1 = length_push rows r in omega (arith, few, h.few, e);
+  room = omega (arith, room, h.room);
+}
+
+-- other rows with the same ordinals
+numbered_same : {S : Type 0} (rows others : List Row) (most : ℕ) (m : Table S)
+    → map (λ (r : Row). r.sequence.ordinal) others ≡ map (λ (r : Row). r.sequence.ordinal) rows → AreNumbered rows most m → AreNumbered others most m
+numbered_same rows others most m same h =
+    let ordinal_of : Row → ℕ = λ r. r.sequence.ordinal in
+    let e : length others ≡ length rows = sym (length-map others ordinal_of) ∙ (ap length same ∙ length-map rows ordinal_of) in
+    record {
+      leads = λ o. h.leads o
+          ∙ (sym (position_map ordinal_of (λ n. n == o) rows)
+          ∙ (ap (λ (ns : List ℕ). position (λ n. n == o) ns) (sym same)
+          ∙ position_map ordinal_of (λ n. n == o) others));
+      few = omega (arith, h.few, e);
+      room = h.room;
+    }
+
+-- one of them is written, and its ordinal stays
+pub numbered_written : {S : Type 0} (items : List OutRow) (k : ℕ) (x y : OutRow) (most : ℕ) (m : Table S) → slice_get items k ≡ Some x
+    → y.sequence.ordinal ≡ x.sequence.ordinal → AreNumbered (map row_of items) most m → AreNumbered (map row_of (set items k y)) most m
+numbered_written items k x y most m is same h =
+    let ordinal_of : Row → ℕ = λ r. r.sequence.ordinal in
+    numbered_same (map row_of items) (map row_of (set items k y)) most m
+    (ap (map ordinal_of) (map-set row_of items k y)
+    ∙ (map-set ordinal_of (map row_of items) k (row_of y)
+    ∙ set_same (map ordinal_of (map row_of items)) k y.sequence.ordinal
+    (slice_get-map ordinal_of (map row_of items) k
+    ∙ (ap (option_map ordinal_of) (slice_get-map row_of items k ∙ ap (option_map row_of) is) ∙ ap Some (sym same))))) h
+
+-- the next one of the first rows of a list
+pub leads_next : {S : Type 0} (items : List OutRow) (k : ℕ) (x : OutRow) (m n : Table S) → LeadsTo (map row_of (take k items)) m → slice_get items k ≡ Some x
+    → IsEntered m n x.sequence.ordinal k → LeadsTo (map row_of (take (k + 1) items)) n
+leads_next items k x m n leads is entered =
+    let within : k < length items = slice_get_within items k x is in
+    let long : k ≡ length (map row_of (take k items)) = sym (length-map (take k items) row_of ∙ length-take-le k items (omega (arith, within))) in
+    let more : take (k + 1) items ≡ take k items ++ x ∷ [] =
+    take_more items k x within ∙ ap (λ (y : OutRow). take k items ++ y ∷ []) (get_or_from_slice_get items k x x is) in
+    subst (λ (rs : List Row). LeadsTo rs n) (sym (ap (map row_of) more ∙ map-append row_of (take k items) (x ∷ [])))
+    (leads_on (map row_of (take k items)) (row_of x) m n k leads long entered)
+
+-- the place that a search gives
+pub ordinal_within : (o : ℕ) (rows : List Row) → IfSome (position (has_ordinal o) rows) (λ k. k < length rows)
+ordinal_within o rows = at (position (has_ordinal o) rows) refl
+  where
+    at : (p : Option ℕ) → position (has_ordinal o) rows ≡ p → IfSome p (λ k. k < length rows)
+    at None is = tt
+    at (Some k) is = first rows k is
+      where
+        first : (xs : List Row) (k : ℕ) → position (has_ordinal o) xs ≡ Some k → k < length xs
+        first [] k is = absurd (let none : ⊥ = cc in none)
+        first (x ∷ xs) k is = (position-Some (has_ordinal o) (x ∷ xs) k x is).0
