@@ -91,7 +91,7 @@ pub fn always_expired_duly()
     ensures { AlwaysExpiredDuly }
 {}
 
-/// None of a sequence is skipped: whatever stands before a decided message was decided too, or it expired at the source before it was offered.
+/// None of a sequence is skipped: whatever stands before a decided message was decided too, or it expired at the source.
 pub fn always_unskipped()
     ensures { AlwaysUnskipped }
 {}
