@@ -4,7 +4,6 @@ use Rattle.std.specs.Prelude.{[], ◌+◌, ◌++◌, ◌∷◌, Bool, List, None
 use Rattle.mqb_base.specs.declared.ids.Identity.{Identity}
 use Rattle.mqb_exactly_once.specs.Words.{In}
 use Rattle.mqb_model.specs.records.Applying.{apply}
-use Rattle.mqb_model.specs.records.Record.{Part, Record}
 use Rattle.mqb_model.specs.records.Record as entry
 use Rattle.mqb_model.specs.state.State.{State, empty}
 use Rattle.mqb_network.specs.Courses.{Course}
@@ -96,10 +95,10 @@ begins_agreeing known = record {
 -- At each point of each run.
 
 -- an orderly course whose rows lead where their messages go
-abbrev IsAgreed : List Identity → Course → Type 0
+abbrev pub IsAgreed : List Identity → Course → Type 0
 IsAgreed known c = IsOrderlyWith known AreLed c × Agrees known c
 
-agreeing_closed : (known : List Identity) → AreApart known → IsClosed known (IsAgreed known)
+pub agreeing_closed : (known : List Identity) → AreApart known → IsClosed known (IsAgreed known)
 agreeing_closed known apart = record {
   orderly = λ c h. h.0.0;
   keeps = λ c x may h. ((by_records known AreLed apart led_by_records).keeps c x may h.0, change_agrees known apart c x may h.0.0 (λ i. (h.0.1 i).1) h.1);

@@ -252,11 +252,11 @@ module _ (known : List Identity) (apart : AreApart known) (c : Course) (o : AreK
   past j = befores (written_of j c.written)
 
   -- what goes
-  goes : (own : Identity) (e : slice_get known i ≡ Some own) (p : UserPacket) → In (packet.User p) packets → IsRightPacket all (mine i) (past i) c.sent pumper (h.stand i own e) rows p
+  pub goes : (own : Identity) (e : slice_get known i ≡ Some own) (p : UserPacket) → In (packet.User p) packets → IsRightPacket all (mine i) (past i) c.sent pumper (h.stand i own e) rows p
   goes own e p inside = all_in (IsRight all (mine i) (past i) c.sent pumper (h.stand i own e) rows) packets (packet.User p) (pumped_right all (mine i) (past i) c.sent pumper (h.stand i own e) rows now) inside p refl
 
   -- a manager that is not known gives nothing out
-  none_given : slice_get known i ≡ None → packets ≡ []
+  pub none_given : slice_get known i ≡ None → packets ≡ []
   none_given e = (down_is_idle pumper (Pump now) (unknown_down known c.network i o e)).packets
 
   -- who sent it

@@ -139,7 +139,16 @@ mod SentKept
 mod StoredByPeer
 mod Finals
 mod Tallies
+mod Owned
 mod Queued
 mod Remaining
+mod Giving
+mod Steady
 mod Counting
+mod Gone
+mod Sums
+mod Counted
+mod Arriving
+mod Balance
+mod Copies
 mod Received

@@ -49,7 +49,7 @@ locals_join n ls more below old new within id stream number a b = at (in_either 
     at (inr i) (inr j) = within id stream number i j
 
 -- what sends nothing
-abbrev silent : Sayings
+abbrev pub silent : Sayings
 silent = record { Sends = λ id. ⊥; Decides = λ id. Unit {0}; Stores = λ id. Unit {0}; Expires = λ id. Unit {0} }
 
 no_sends : (ls : List Line) → AllByRecursion (Says silent) ls → (l : Line) (id : MessageId) → In l ls → IsSendOf id l → ⊥
@@ -108,7 +108,7 @@ sends_apart now own n e (m ∷ ms) h below old = rest (at (resolved e.state m.de
         → LocalsApart (fold (send_made now) (send_made now e m) ms).lines
     rest g next = next g.0 g.1
 
-part_silent : (now : ℕ) (numbers : List ℕ) (part : Part) → RecordSays silent (entry.Arrived now numbers part)
+pub part_silent : (now : ℕ) (numbers : List ℕ) (part : Part) → RecordSays silent (entry.Arrived now numbers part)
 part_silent now numbers entry.Nothing = tt
 part_silent now numbers (entry.Decided p) = tt
 part_silent now numbers (entry.Stored p) = tt

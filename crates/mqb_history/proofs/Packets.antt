@@ -7,6 +7,7 @@ use Rattle.mqb_base.specs.declared.heads.SessionHead.{SessionHead}
 use Rattle.mqb_base.specs.declared.heads.TxHead.{TxHead}
 use Rattle.mqb_base.specs.declared.ids.Identity.{Identity}
 use Rattle.mqb_base.specs.declared.ledger.Line.{Line}
+use Rattle.mqb_base.specs.declared.message.Message.{Message}
 use Rattle.mqb_exactly_once.specs.Words.{In}
 use Rattle.mqb_model.specs.calls.pump.Candidates.{Candidate, acks, candidates, of_row, plain_candidates, row_candidates, rows_owing, unsent_from, unsent_of, waiting}
 use Rattle.mqb_model.specs.calls.pump.Choosing.{candidate_size, chosen, head_for, may_follow, session_after, with_heads}
@@ -41,6 +42,7 @@ use Rattle.mqb_history.proofs.Fates.{IsFair, IsFairExpress, IsWaiting, PlainFair
 use Rattle.mqb_history.proofs.Leads.{GoesAs, RowLeads, RowsLead}
 use Rattle.mqb_history.proofs.Lists.{all_append, all_filter, clash, equal_numbers, none_some, split_and}
 use Rattle.mqb_history.proofs.Outside.{filtered_in}
+use Rattle.mqb_history.proofs.Owned.{in_plain, waits_there}
 use Rattle.mqb_history.proofs.Recorded.{IsPlainPacket}
 use Rattle.mqb_history.proofs.Walks.{lists_at_peer}
 
@@ -58,8 +60,12 @@ module _ (all mine : List Line) (past : List State) (sent : List Packet) (m : Ma
   abbrev pub GoesFrom : UserPacket → Type 0
   GoesFrom p = (k : ℕ) × GoesAs s.identity s.peers k p.message × LeadsTo s.peers k p.to
 
+  -- its message waits in a list
+  abbrev pub WaitsHere : Message → Type 0
+  WaitsHere x = 1 ≤ in_plain x.id s
+
   abbrev pub IsRightPacket : UserPacket → Type 0
-  IsRightPacket p = IsFair Told p.message × (IsPlainPacket p → (p.message.id.qm ≡ s.identity.guid) × IsPacketOf s.identity.guid s.peers s.next_number h.went mine p)
+  IsRightPacket p = IsFair Told p.message × (IsPlainPacket p → (p.message.id.qm ≡ s.identity.guid) × IsPacketOf s.identity.guid s.peers s.next_number h.went mine p × WaitsHere p.message)
       × ((tx : TxHead) → p.tx ≡ Some tx → GoesFrom p)
 
   abbrev pub IsRight : Packet → Type 0
@@ -67,7 +73,7 @@ module _ (all mine : List Line) (past : List State) (sent : List Packet) (m : Ma
 
   -- a candidate for the peer at an index
   abbrev MayGo : ℕ → Candidate → Type 0
-  MayGo k c = IsFair Told c.message × (c.tx ≡ None → is_express c.message.delivery ≡ false → IsWaiting (resting s h.went mine) h.keeps.goes s.next_number k c.message)
+  MayGo k c = IsFair Told c.message × (c.tx ≡ None → is_express c.message.delivery ≡ false → IsWaiting (resting s h.went mine) h.keeps.goes s.next_number k c.message × WaitsHere c.message)
       × ((tx : TxHead) → c.tx ≡ Some tx → GoesAs s.identity s.peers k c.message)
 
   -- Candidates.
@@ -79,13 +85,14 @@ module _ (all mine : List Line) (past : List State) (sent : List Packet) (m : Ma
     acks_go k peer now (express_after number) rows (above_first number high),
   )
 
-  recoverable_go : (k : ℕ) (os : List Outgoing) → AllByRecursion (WaitsFairly (resting s h.went mine) Told h.keeps.goes s.next_number k) os → AllByRecursion (MayGo k) (filter_map (unsent_from OfRecoverable) os)
-  recoverable_go k [] g = tt
-  recoverable_go k (o ∷ os) g = at (is_none o.mark) (recoverable_go k os g.1)
+  recoverable_go : (k : ℕ) (os : List Outgoing) → AllByRecursion (WaitsFairly (resting s h.went mine) Told h.keeps.goes s.next_number k) os → AllByRecursion (λ o. WaitsHere o.message) os
+      → AllByRecursion (MayGo k) (filter_map (unsent_from OfRecoverable) os)
+  recoverable_go k [] g waits = tt
+  recoverable_go k (o ∷ os) g waits = at (is_none o.mark) (recoverable_go k os g.1 waits.1)
     where
       at : (b : Bool) → AllByRecursion (MayGo k) (filter_map (unsent_from OfRecoverable) os)
           → AllByRecursion (MayGo k) (cons_option (cond b (Some (record { origin = OfRecoverable; message = o.message; tx = None })) None) (filter_map (unsent_from OfRecoverable) os))
-      at true rest = ((g.0.0, λ none e. g.0.1, λ tx f. absurd (none_some f)), rest)
+      at true rest = ((g.0.0, λ none e. (g.0.1, waits.0), λ tx f. absurd (none_some f)), rest)
       at false rest = rest
 
   express_go : (k : ℕ) (os : List Outgoing) → AllByRecursion (λ o. IsFairExpress Told o.message) os → AllByRecursion (MayGo k) (filter_map (unsent_from OfExpress) os)
@@ -121,7 +128,7 @@ module _ (all mine : List Line) (past : List State) (sent : List Packet) (m : Ma
       (all_append (MayGo k) (acks s peer now s.next_express (rows_owing s rest peer.guid)) (plain_candidates p)
       (acks_go k peer now s.next_express (rows_owing s rest peer.guid) h.keeps.express)
       (all_append (MayGo k) (filter_map (unsent_from OfRecoverable) p.recoverable) (filter_map (unsent_from OfExpress) p.express)
-      (recoverable_go k p.recoverable lists.recoverable) (express_go k p.express lists.express)))
+      (recoverable_go k p.recoverable lists.recoverable (waits_there s k p there)) (express_go k p.express lists.express)))
       (rows_go k 0 s.outs rest.cursors h.keeps.outs rows)
     where
       lists : PlainFair (resting s h.went mine) Told h.keeps.goes s.next_number k p
@@ -148,13 +155,14 @@ module _ (all mine : List Line) (past : List State) (sent : List Packet) (m : Ma
       sends : UserPacket
       sends = carried_user c.message (carriage_for peer.guid now (c, head))
 
-      of : IsWaiting (resting s h.went mine) h.keeps.goes s.next_number k c.message → (c.message.id.qm ≡ s.identity.guid) × IsPacketOf s.identity.guid s.peers s.next_number h.went mine sends
-      of w = (
+      of : IsWaiting (resting s h.went mine) h.keeps.goes s.next_number k c.message × WaitsHere c.message → (c.message.id.qm ≡ s.identity.guid) × IsPacketOf s.identity.guid s.peers s.next_number h.went mine sends × WaitsHere c.message
+      of (w, here) = (
         w.source,
         record {
           plain = record { source = w.source; below = w.below; apart = apart w.known };
           leads = subst (λ j. LeadsTo s.peers j peer.guid) (sym w.place ∙ h.keeps.same c.message.id.number w.below) (record { peer = peer; there = there; same = refl });
         },
+        here,
       )
         where
           apart : ((c.message.id.number < s.next_number) × IsApart mine c.message.id) ⊎ (s.next_number ≤ c.message.id.number) → IsApart mine c.message.id

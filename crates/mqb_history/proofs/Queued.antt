@@ -1,7 +1,7 @@
--- How many copies of a message queues have behind each step: what is put, taken, purged, swept and told.
-use Rattle.std.proofs.Common.{refl, ap, sym, subst, ◌∙◌, arith, inl, inr}
+-- How many copies of a message queues have behind each step, and how many wait for peers: what is put, taken, purged, swept and told.
+use Rattle.std.proofs.Common.{refl, ap, sym, subst, ◌∙◌, arith}
 use Rattle.std.specs.Option.{option_map_or}
-use Rattle.std.specs.Prelude.{◌&&◌, ◌+◌, ◌<◌, ◌≡◌, ◌≤◌, ◌⊎◌, Bool, IfSome, None, Option, Some, cond, false, nat_le, not, option_and_then, option_map, slice_get, true, ℕ}
+use Rattle.std.specs.Prelude.{◌&&◌, ◌+◌, ◌≡◌, ◌≤◌, Bool, IfSome, None, Option, Some, cond, false, nat_le, not, option_and_then, option_map, slice_get, true, ℕ}
 use Rattle.mqb_base.specs.Bits.{keeps_dead}
 use Rattle.mqb_base.specs.Classes.{is_negative}
 use Rattle.mqb_base.specs.Lanes.{lane_of}
@@ -26,56 +26,59 @@ use Rattle.mqb_model.specs.rules.Numbers.{number_left, number_taken}
 use Rattle.mqb_model.specs.state.Places.{is_express, placed, put_at}
 use Rattle.mqb_model.specs.state.Resolving.{peer_known, resolved}
 use Rattle.mqb_model.specs.state.State.{State}
+use Rattle.mqb_plain.specs.Plain.{PlainLists, pushed}
 use Rattle.mqb_queue.specs.First.{is_queue}
-use Rattle.mqb_queue.specs.Lists.{Lists, messages_in}
 use Rattle.mqb_queue.specs.Lists as held
 use Rattle.mqb_queue.specs.Places.{place_named}
 use Rattle.mqb_history.proofs.Lists.{clash}
-use Rattle.mqb_history.proofs.Staying.{HasSameRows, number_rows, placed_rows, put_rows, rows_then}
-use Rattle.mqb_history.proofs.Tallies.{copies, elsewhere, left, put_more, weight, weight_apart}
+use Rattle.mqb_history.proofs.Owned.{given, given_next, given_same, in_list, in_plain, pushed_more, tally_changed}
+use Rattle.mqb_history.proofs.Tallies.{copies, elsewhere, put_more, weight}
 
--- no notice between two states bears the identifier: it is another manager's, or its number was given before, or is not yet
-abbrev pub IsClear : MessageId → State → State → Type 0
-IsClear x a b = (x.qm ≡ a.identity.guid → ⊥) ⊎ ((x.number < a.next_number) ⊎ (b.next_number ≤ x.number))
-
--- One state leads to another one: less copies leave queues and more come to them.
+-- One state leads to another one: as many copies leave queues, and no more come to them, nor wait for peers, than these and one of each number that is given.
 pub record Moves (x : MessageId) (less more : ℕ) (a b : State) : Type 0 where
-  pub own : b.identity ≡ a.identity
-  pub next : a.next_number ≤ b.next_number
-  pub count : IsClear x a b → copies x b + less ≤ copies x a + more
+  pub up : given x a ≤ given x b
+  pub queues : copies x b + less + given x a ≤ copies x a + more + given x b
+  pub both : copies x b + in_plain x b + less + given x a ≤ copies x a + in_plain x a + more + given x b
 
 module _ (x : MessageId) where
   abbrev pub Still : State → State → Type 0
   Still a b = Moves x 0 0 a b
 
-  pub of_rows : (less more : ℕ) (a b : State) → HasSameRows a b → (IsClear x a b → copies x b + less ≤ copies x a + more) → Moves x less more a b
-  of_rows less more a b h count = record { own = h.manager.identity; next = h.numbers; count = count }
+  -- no number is given
+  pub without_number : (less more : ℕ) (a b : State) → b.identity ≡ a.identity → b.next_number ≡ a.next_number → copies x b + less ≤ copies x a + more
+      → copies x b + in_plain x b + less ≤ copies x a + in_plain x a + more → Moves x less more a b
+  without_number less more a b own next queues both = let same = given_same x a b own next in record {
+    up = omega (arith, same);
+    queues = omega (arith, same, queues);
+    both = omega (arith, same, both);
+  }
 
   pub stays : (s : State) → Still s s
-  stays s = record { own = refl; next = omega arith; count = λ clear. omega arith }
-
-  clear_first : (a b c : State) → b.next_number ≤ c.next_number → IsClear x a c → IsClear x a b
-  clear_first a b c le (inl f) = inl f
-  clear_first a b c le (inr (inl lt)) = inr (inl lt)
-  clear_first a b c le (inr (inr high)) = inr (inr (omega (arith, le, high)))
-
-  clear_second : (a b c : State) → b.identity ≡ a.identity → a.next_number ≤ b.next_number → IsClear x a c → IsClear x b c
-  clear_second a b c own le (inl f) = inl (λ e. f (e ∙ ap (λ (i : Identity). i.guid) own))
-  clear_second a b c own le (inr (inl lt)) = inr (inl (omega (arith, le, lt)))
-  clear_second a b c own le (inr (inr high)) = inr (inr high)
+  stays s = record { up = omega arith; queues = omega arith; both = omega arith }
 
   pub moves_then : (less more fewer further : ℕ) (a b c : State) → Moves x less more a b → Moves x fewer further b c → Moves x (less + fewer) (more + further) a c
   moves_then less more fewer further a b c f g = record {
-    own = g.own ∙ f.own;
-    next = let low = f.next in let high = g.next in omega (arith, low, high);
-    count = λ clear. let one = f.count (clear_first a b c g.next clear) in let two = g.count (clear_second a b c f.own f.next clear) in omega (arith, one, two);
+    up = let one = f.up in let two = g.up in omega (arith, one, two);
+    queues = let one = f.queues in let two = g.queues in omega (arith, one, two);
+    both = let one = f.both in let two = g.both in omega (arith, one, two);
   }
 
   pub still_then : (less more : ℕ) (a b c : State) → Still a b → Moves x less more b c → Moves x less more a c
-  still_then less more a b c f g = let h = moves_then 0 0 less more a b c f g in record { own = h.own; next = h.next; count = λ clear. let le = h.count clear in omega (arith, le) }
+  still_then less more a b c f g = record {
+    up = let one = f.up in let two = g.up in omega (arith, one, two);
+    queues = let one = f.queues in let two = g.queues in omega (arith, one, two);
+    both = let one = f.both in let two = g.both in omega (arith, one, two);
+  }
 
   pub then_still : (less more : ℕ) (a b c : State) → Moves x less more a b → Still b c → Moves x less more a c
-  then_still less more a b c f g = let h = moves_then less more 0 0 a b c f g in record { own = h.own; next = h.next; count = λ clear. let le = h.count clear in omega (arith, le) }
+  then_still less more a b c f g = record {
+    up = let one = f.up in let two = g.up in omega (arith, one, two);
+    queues = let one = f.queues in let two = g.queues in omega (arith, one, two);
+    both = let one = f.both in let two = g.both in omega (arith, one, two);
+  }
+
+  pub more_moves : (less more further : ℕ) (a b : State) → more ≤ further → Moves x less more a b → Moves x less further a b
+  more_moves less more further a b le h = record { up = h.up; queues = let one = h.queues in omega (arith, one, le); both = let one = h.both in omega (arith, one, le) }
 
   pub still_or : {X : Type 0} (s : State) (f : X → State) (o : Option X) → ((y : X) → Still s (f y)) → Still s (option_map_or f o s)
   still_or s f None some = stays s
@@ -88,16 +91,29 @@ module _ (x : MessageId) where
   -- Puts.
 
   pub put_aside : (s : State) (at : EntryPlace) (m : Message) → is_queue at ≡ false → Still s (put_at s at m)
-  put_aside s at m e = of_rows 0 0 s (put_at s at m) (put_rows s at m) (λ clear. let le = elsewhere x s.places at (held.put (lane_of m.delivery) m) e in omega (arith, le))
+  put_aside s at m e = let le = elsewhere x s.places at (held.put (lane_of m.delivery) m) e in without_number 0 0 s (put_at s at m) refl refl (omega (arith, le)) (omega (arith, le))
 
-  pub placed_more : (s : State) (t : Target) (m : Message) (n : ℕ) → (is_express m.delivery ≡ false → weight x m.id ≤ n) → copies x (placed s t m) ≤ copies x s + n
+  queued_more : (s : State) (t : Target) (m : Message) (n : ℕ) → (is_express m.delivery ≡ false → weight x m.id ≤ n) → copies x (placed s t m) ≤ copies x s + n
+  queued_more s (Here None) m n few = omega arith
+  queued_more s (Here (Some k)) m n few = put_more x s.places (place.Queue k) m n few
+  queued_more s (AtPeer k) m n few = omega arith
+  queued_more s Nowhere m n few = omega arith
+
+  placed_more : (s : State) (t : Target) (m : Message) (n : ℕ) → (is_express m.delivery ≡ false → weight x m.id ≤ n) → copies x (placed s t m) + in_plain x (placed s t m) ≤ copies x s + in_plain x s + n
   placed_more s (Here None) m n few = omega arith
-  placed_more s (Here (Some k)) m n few = put_more x s.places (place.Queue k) m n few
-  placed_more s (AtPeer k) m n few = omega arith
+  placed_more s (Here (Some k)) m n few = let le = put_more x s.places (place.Queue k) m n few in omega (arith, le)
+  placed_more s (AtPeer k) m n few = let le = tally_changed (λ (p : PlainLists). in_list x p.recoverable) (pushed (lane_of m.delivery) m) s.plain k n (λ p. pushed_more x m p n few) in omega (arith, le)
   placed_more s Nowhere m n few = omega arith
 
+  placed_own : (s : State) (t : Target) (m : Message) → ((placed s t m).identity ≡ s.identity) × ((placed s t m).next_number ≡ s.next_number)
+  placed_own s (Here None) m = (refl, refl)
+  placed_own s (Here (Some k)) m = (refl, refl)
+  placed_own s (AtPeer k) m = (refl, refl)
+  placed_own s Nowhere m = (refl, refl)
+
   pub placed_moves : (s : State) (t : Target) (m : Message) (n : ℕ) → (is_express m.delivery ≡ false → weight x m.id ≤ n) → Moves x 0 n s (placed s t m)
-  placed_moves s t m n few = of_rows 0 n s (placed s t m) (placed_rows s t m) (λ clear. let le = placed_more s t m n few in omega (arith, le))
+  placed_moves s t m n few = let own = placed_own s t m in let queues = queued_more s t m n few in let both = placed_more s t m n few in
+      without_number 0 n s (placed s t m) own.0 own.1 (omega (arith, queues)) (omega (arith, both))
 
   -- Notices.
 
@@ -109,22 +125,26 @@ module _ (x : MessageId) where
   told_still s t n number = still_if s (may_go s t n.delivery) (placed (number_taken s n.delivery) t n) s (goes n.delivery refl) (stays s)
     where
       durable : (d : Delivery) → n.delivery ≡ d → is_express d ≡ false → number_taken s d ≡ record s { next_number = s.next_number + 1 } → Still s (placed (number_taken s d) t n)
-      durable d e e_durable same = subst (λ y. Still s (placed y t n)) (sym same) (of_rows 0 0 s (placed taken t n)
-          (rows_then s taken (placed taken t n) (record { manager = record { identity = refl; peers = refl }; outs = refl; ins = refl; next_ordinal = refl; numbers = omega arith }) (placed_rows taken t n))
-          (λ clear. let le = placed_more taken t n 0 (λ f. let w = weight_apart x n.id (λ is. apart clear (is ∙ number f)) in omega (arith, w)) in omega (arith, le)))
+      durable d e e_durable same = subst (λ y. Still s (placed y t n)) (sym same) (record {
+        up = let same = given_same x taken (placed taken t n) own.0 own.1 in omega (arith, same, more);
+        queues = let le = queued_more taken t n (weight x n.id) (λ f. omega arith) in let same = given_same x taken (placed taken t n) own.0 own.1 in omega (arith, le, same, more);
+        both = let le = placed_more taken t n (weight x n.id) (λ f. omega arith) in let same = given_same x taken (placed taken t n) own.0 own.1 in omega (arith, le, same, more);
+      })
         where
           taken : State
           taken = record s { next_number = s.next_number + 1 }
 
-          apart : IsClear x s (placed taken t n) → x ≡ record { qm = s.identity.guid; number = s.next_number } → ⊥
-          apart (inl f) e = f (ap (λ (i : MessageId). i.qm) e)
-          apart (inr (inl lt)) e = let same = ap (λ (i : MessageId). i.number) e in omega (arith, lt, same)
-          apart (inr (inr high)) e = let same = ap (λ (i : MessageId). i.number) e in let more = (placed_rows taken t n).numbers in omega (arith, high, same, more)
+          own : ((placed taken t n).identity ≡ taken.identity) × ((placed taken t n).next_number ≡ taken.next_number)
+          own = placed_own taken t n
+
+          more : given x s + weight x n.id ≤ given x taken
+          more = subst (λ i. given x s + weight x i ≤ given x taken) (sym (number (ap is_express e ∙ e_durable))) (given_next x s.identity.guid s.next_number)
 
       goes : (d : Delivery) → n.delivery ≡ d → Still s (placed (number_taken s n.delivery) t n)
-      goes delivery.Express e = subst (λ d. Still s (placed (number_taken s d) t n)) (sym e) (of_rows 0 0 s (placed (number_taken s delivery.Express) t n)
-          (rows_then s (number_taken s delivery.Express) (placed (number_taken s delivery.Express) t n) (number_rows s delivery.Express) (placed_rows (number_taken s delivery.Express) t n))
-          (λ clear. let le = placed_more (number_taken s delivery.Express) t n 0 (λ f. absurd (clash (sym (ap is_express e) ∙ f))) in omega (arith, le)))
+      goes delivery.Express e = subst (λ d. Still s (placed (number_taken s d) t n)) (sym e)
+          (still_then 0 0 s (number_taken s delivery.Express) (placed (number_taken s delivery.Express) t n)
+          (without_number 0 0 s (number_taken s delivery.Express) refl refl (omega arith) (omega arith))
+          (placed_moves (number_taken s delivery.Express) t n 0 (λ f. absurd (clash (sym (ap is_express e) ∙ f)))))
       goes delivery.Recoverable e = subst (λ d. Still s (placed (number_taken s d) t n)) (sym e) (durable delivery.Recoverable e refl refl)
       goes delivery.Transactional e = subst (λ d. Still s (placed (number_taken s d) t n)) (sym e) (durable delivery.Transactional e refl refl)
 

@@ -16,7 +16,6 @@ use Rattle.mqb_exactly_once.specs.Words.{In, position_of, precedes}
 use Rattle.mqb_exactly_once.specs.World.{Commitment, Position}
 use Rattle.mqb_model.specs.records.Applying.{lines_of}
 use Rattle.mqb_model.specs.records.Decisions.{decided_line, stream_heard}
-use Rattle.mqb_model.specs.records.Record.{Record}
 use Rattle.mqb_model.specs.records.Record as entry
 use Rattle.mqb_model.specs.rules.Arrivals.{refusal_of}
 use Rattle.mqb_network.specs.Courses.{Course, Written}
@@ -244,9 +243,36 @@ module _ (known : List Identity) (apart : AreApart known) (c : Course) (o : IsOr
       decided_at truly w stream number id i d (refused_line d.packet.message d.head (refusal_of w.before d.packet) stream number class id
       (decision_line w.before d.now d.numbers d.packet d.head (line.Refused stream number class id) d.there (λ none. none) (subst (λ r. In (line.Refused stream number class id) (lines_of w.before r)) d.entry inside)))
 
+  -- a line tells of it
+  pub committed_told : AreCommitmentsTold c → (id : MessageId) (x : IsCommittedAt known c id) → (stream : Stream) × (number : ℕ) × In (line.Committed stream number id) (mine x.source)
+  committed_told told id x = let l = told_from commitment_told (mine x.source) (joined_by (manager_at c.network x.source).state.identity.guid x.commitment) told_it in at l.0 l.1 l.2
+    where
+      told_it : In (joined_by (manager_at c.network x.source).state.identity.guid x.commitment) (filter_map commitment_told (mine x.source))
+      told_it = subst (In (joined_by (manager_at c.network x.source).state.identity.guid x.commitment)) (sym (told x.source)) (in_map (commitments (written_of x.source c.written)) x.inside)
+        where
+          in_map : (cs : List Commitment) → In x.commitment cs → In (joined_by (manager_at c.network x.source).state.identity.guid x.commitment) (map (joined_by (manager_at c.network x.source).state.identity.guid) cs)
+          in_map [] j = absurd j
+          in_map (z ∷ cs) (inl e) = inl (ap (joined_by (manager_at c.network x.source).state.identity.guid) e)
+          in_map (z ∷ cs) (inr j) = inr (in_map cs j)
+
+      at : (l : Line) → In l (mine x.source) → commitment_told l ≡ Some (joined_by (manager_at c.network x.source).state.identity.guid x.commitment) → (stream : Stream) × (number : ℕ) × In (line.Committed stream number id) (mine x.source)
+      at (line.Committed stream number other) j e = (stream, number, subst (λ y. In (line.Committed stream number y) (mine x.source)) (ap (λ (y : Joined). y.id) (some_is _ _ e) ∙ x.names) j)
+      at (line.Local other) j e = absurd (none_some e)
+      at (line.Put stream number other) j e = absurd (none_some e)
+      at (line.Refused stream number class other) j e = absurd (none_some e)
+      at (line.Expired stream number other moment) j e = absurd (none_some e)
+      at (line.Stored other) j e = absurd (none_some e)
+      at (line.Bounced class other) j e = absurd (none_some e)
+      at (line.Released other) j e = absurd (none_some e)
+      at (line.Took other) j e = absurd (none_some e)
+      at (line.Purged other) j e = absurd (none_some e)
+      at (line.Swept other) j e = absurd (none_some e)
+      at (line.Lapsed other) j e = absurd (none_some e)
+      at (line.Emptied other) j e = absurd (none_some e)
+
   -- one that was committed was not put at its source
   pub not_here : AreCommitmentsTold c → (id : MessageId) → IsCommittedAt known c id → (w : Written) → In w c.written → In (line.Local id) (lines_of w.before w.entry) → ⊥
-  not_here told id x w i inside = (h.stand x.source x.own x.there).locals id k.0 k.1 (subst (λ j. In (line.Local id) (mine j)) same here) k.2
+  not_here told id x w i inside = let k = committed_told told id x in (h.stand x.source x.own x.there).locals id k.0 k.1 (subst (λ j. In (line.Local id) (mine j)) same here) k.2
     where
       here : In (line.Local id) (mine w.by)
       here = own_line known apart c o h w (line.Local id) i inside
@@ -258,32 +284,6 @@ module _ (known : List Identity) (apart : AreApart known) (c : Course) (o : IsOr
       same = one_guid known w.by x.source heard.0 x.own apart heard.1 x.there (sym (guid_of known apart c o h w.by heard.0 heard.1)
           ∙ sym (all_in (NamesOwn (manager_at c.network w.by).state.identity.guid (manager_at c.network w.by).state.next_number (mine w.by)) (mine w.by) (line.Local id) (h.stand w.by heard.0 heard.1).names here).0
           ∙ of_source id x)
-
-      told_it : In (joined_by (manager_at c.network x.source).state.identity.guid x.commitment) (filter_map commitment_told (mine x.source))
-      told_it = subst (In (joined_by (manager_at c.network x.source).state.identity.guid x.commitment)) (sym (told x.source)) (in_map (commitments (written_of x.source c.written)) x.inside)
-        where
-          in_map : (cs : List Commitment) → In x.commitment cs → In (joined_by (manager_at c.network x.source).state.identity.guid x.commitment) (map (joined_by (manager_at c.network x.source).state.identity.guid) cs)
-          in_map [] j = absurd j
-          in_map (z ∷ cs) (inl e) = inl (ap (joined_by (manager_at c.network x.source).state.identity.guid) e)
-          in_map (z ∷ cs) (inr j) = inr (in_map cs j)
-
-      k : (stream : Stream) × (number : ℕ) × In (line.Committed stream number id) (mine x.source)
-      k = let l = told_from commitment_told (mine x.source) (joined_by (manager_at c.network x.source).state.identity.guid x.commitment) told_it in at l.0 l.1 l.2
-        where
-          at : (l : Line) → In l (mine x.source) → commitment_told l ≡ Some (joined_by (manager_at c.network x.source).state.identity.guid x.commitment) → (stream : Stream) × (number : ℕ) × In (line.Committed stream number id) (mine x.source)
-          at (line.Committed stream number other) j e = (stream, number, subst (λ y. In (line.Committed stream number y) (mine x.source)) (ap (λ (y : Joined). y.id) (some_is _ _ e) ∙ x.names) j)
-          at (line.Local other) j e = absurd (none_some e)
-          at (line.Put stream number other) j e = absurd (none_some e)
-          at (line.Refused stream number class other) j e = absurd (none_some e)
-          at (line.Expired stream number other moment) j e = absurd (none_some e)
-          at (line.Stored other) j e = absurd (none_some e)
-          at (line.Bounced class other) j e = absurd (none_some e)
-          at (line.Released other) j e = absurd (none_some e)
-          at (line.Took other) j e = absurd (none_some e)
-          at (line.Purged other) j e = absurd (none_some e)
-          at (line.Swept other) j e = absurd (none_some e)
-          at (line.Lapsed other) j e = absurd (none_some e)
-          at (line.Emptied other) j e = absurd (none_some e)
 
   -- One manager decides it.
 

@@ -1,9 +1,9 @@
 -- How often the durable messages of queues bear an identifier, and how often lines say that one came to a queue, or left it.
-use Rattle.std.proofs.Common.{refl, ap, sym, subst, arith}
+use Rattle.std.proofs.Common.{refl, ap, sym, subst, ◌∙◌, arith, inl, inr}
 use Rattle.std.specs.Option.{option_map_or}
-use Rattle.std.specs.Prelude.{[], ◌+◌, ◌++◌, ◌-◌, ◌∷◌, ◌≡◌, ◌≤◌, Bool, List, None, Option, Some, cond, false, option_map, remove, slice_get, slice_set, suc, true, zero, ℕ}
+use Rattle.std.specs.Prelude.{[], ◌+◌, ◌++◌, ◌-◌, ◌==◌, ◌∷◌, ◌≡◌, ◌≤◌, Bool, List, None, Option, Some, cond, false, option_map, remove, slice_get, slice_set, suc, true, zero, ℕ}
 use Rattle.mqb_base.specs.Lanes.{lane_of}
-use Rattle.mqb_base.specs.Same.{same_id}
+use Rattle.mqb_base.specs.Same.{same_guid, same_id}
 use Rattle.mqb_base.specs.declared.ids.MessageId.{MessageId}
 use Rattle.mqb_base.specs.declared.ledger.Line.{Line}
 use Rattle.mqb_base.specs.declared.ledger.Line.TheVariants as line
@@ -12,6 +12,7 @@ use Rattle.mqb_base.specs.declared.message.Delivery.TheVariants as delivery
 use Rattle.mqb_base.specs.declared.message.Message.{Message}
 use Rattle.mqb_base.specs.declared.queues.EntryPlace.{EntryPlace}
 use Rattle.mqb_base.specs.declared.queues.EntryPlace.TheVariants as place
+use Rattle.mqb_exactly_once.specs.Words.{In}
 use Rattle.mqb_model.specs.state.Places.{is_express}
 use Rattle.mqb_model.specs.state.State.{State}
 use Rattle.mqb_queue.specs.First.{is_queue}
@@ -19,7 +20,8 @@ use Rattle.mqb_queue.specs.Lists.{Lists, put}
 use Rattle.mqb_queue.specs.Places.{Places, Queue, changed_at, lists_at, numbered}
 use Rattle.mqb_history.proofs.Believing.{same_id_is}
 use Rattle.mqb_history.proofs.Carrying.{place_there}
-use Rattle.mqb_history.proofs.Lists.{clash, none_some, some_is}
+use Rattle.mqb_history.proofs.Lists.{clash, join_and, none_some, same_number, some_is}
+use Rattle.mqb_history.proofs.Names.{same_guid_refl}
 
 -- the sum of what the members of a list count for
 abbrev pub tally : {X : Type 0} → (X → ℕ) → List X → ℕ
@@ -40,6 +42,29 @@ tally_set f [] k x y e = absurd (none_some e)
 tally_set f (z ∷ xs) zero x y e = let same = ap f (some_is z x e) in omega (arith, same)
 tally_set f (z ∷ xs) (suc k) x y e = let rest = tally_set f xs k x y e in omega (arith, rest)
 
+-- what counts for something is there
+pub tally_from : {X : Type 0} (f : X → ℕ) (xs : List X) → 1 ≤ tally f xs → (x : X) × In x xs × (1 ≤ f x)
+tally_from f [] h = absurd (omega (arith, h))
+tally_from {X} f (x ∷ xs) h = at (f x) refl (tally_from f xs)
+  where
+    at : (n : ℕ) → f x ≡ n → (1 ≤ tally f xs → (y : X) × In y xs × (1 ≤ f y)) → (y : X) × In y (x ∷ xs) × (1 ≤ f y)
+    at zero e rest = let g = rest (omega (arith, h, e)) in (g.0, inr g.1, g.2)
+    at (suc n) e rest = (x, inl refl, omega (arith, e))
+
+-- a member counts
+pub tally_there : {X : Type 0} (f : X → ℕ) (xs : List X) (x : X) → In x xs → f x ≤ tally f xs
+tally_there f [] x i = absurd i
+tally_there f (y ∷ xs) x (inl e) = let same = ap f e in omega (arith, same)
+tally_there f (y ∷ xs) x (inr i) = let le = tally_there f xs x i in omega (arith, le)
+
+-- and so do two that differ
+pub tally_both : {X : Type 0} (f : X → ℕ) (xs : List X) (x y : X) → In x xs → In y xs → (x ≡ y → ⊥) → f x + f y ≤ tally f xs
+tally_both f [] x y i j apart = absurd i
+tally_both f (z ∷ xs) x y (inl e) (inl g) apart = absurd (apart (sym e ∙ g))
+tally_both f (z ∷ xs) x y (inl e) (inr j) apart = let same = ap f e in let le = tally_there f xs y j in omega (arith, same, le)
+tally_both f (z ∷ xs) x y (inr i) (inl g) apart = let same = ap f g in let le = tally_there f xs x i in omega (arith, same, le)
+tally_both f (z ∷ xs) x y (inr i) (inr j) apart = let le = tally_both f xs x y i j apart in omega (arith, le)
+
 -- an identifier is the one that is counted
 abbrev pub one_if : Bool → ℕ
 one_if b = cond b 1 0
@@ -54,6 +79,16 @@ weight_apart x id apart = at (same_id x id) refl
     at true e = absurd (apart (same_id_is x id e))
     at false e = refl
 
+pub weight_own : (x : MessageId) → weight x x ≡ 1
+weight_own x = ap one_if (join_and (same_guid x.qm x.qm) (x.number == x.number) (same_guid_refl x.qm) (same_number x.number))
+
+pub weight_is : (x id : MessageId) → 1 ≤ weight x id → x ≡ id
+weight_is x id h = at (same_id x id) refl h
+  where
+    at : (b : Bool) → same_id x id ≡ b → 1 ≤ one_if b → x ≡ id
+    at true e h = same_id_is x id e
+    at false e h = absurd (omega (arith, h))
+
 -- durable messages of a place, of all queues
 abbrev pub in_lists : MessageId → Lists → ℕ
 in_lists x l = tally (λ (m : Message). weight x m.id) l.durable
@@ -67,18 +102,29 @@ in_queues x p = tally (in_queue x) p.queues
 abbrev pub copies : MessageId → State → ℕ
 copies x s = in_queues x s.places
 
--- what a line says of it: that it left a queue, or came to one
+-- what a line says of it: that it left a queue, or joined a stream, and so is in none
 abbrev pub left : MessageId → Line → ℕ
 left x (line.Took id) = weight x id
 left x (line.Purged id) = weight x id
 left x (line.Swept id) = weight x id
+left x (line.Committed stream number id) = weight x id
 left x _ = 0
 
+-- that it arrived from another manager
+abbrev pub arrives : MessageId → Line → ℕ
+arrives x (line.Put stream number id) = weight x id
+arrives x (line.Stored id) = weight x id
+arrives x _ = 0
+
+-- that it joined a stream here, or was put where it was sent
+abbrev pub begins : MessageId → Line → ℕ
+begins x (line.Committed stream number id) = weight x id
+begins x (line.Local id) = weight x id
+begins x _ = 0
+
+-- one of both
 abbrev pub come : MessageId → Line → ℕ
-come x (line.Put stream number id) = weight x id
-come x (line.Stored id) = weight x id
-come x (line.Local id) = weight x id
-come x _ = 0
+come x l = arrives x l + begins x l
 
 -- Places that change.
 

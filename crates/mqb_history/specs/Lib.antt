@@ -27,3 +27,4 @@ pub mod Asked
 pub mod Truths
 pub mod Finished
 pub mod Received
+pub mod Copies

@@ -9,7 +9,8 @@ ghost use Rattle.mqb_history.specs.Put.{PutIsTheCommittedMessage};
 ghost use Rattle.mqb_history.specs.Finished.{FinalsHaveReasons};
 ghost use Rattle.mqb_history.specs.Stored.{StorageIsAlwaysKept};
 ghost use Rattle.mqb_history.specs.Truths.{AlwaysTruthful};
-ghost use Rattle.mqb_history.specs.Received.{AlwaysReceivedTruly};
+ghost use Rattle.mqb_history.specs.Received.{AlwaysReceivedTruly, AlwaysReceivedTrulyOfPlain};
+ghost use Rattle.mqb_history.specs.Copies.{AlwaysCopiedRightly};
 ghost use Rattle.mqb_history.specs.Choosing.{RepliesShowChoices, RunsAreShown};
 ghost use Rattle.mqb_history.specs.Leading.{CommitmentsLeadToManagers};
 ghost use Rattle.mqb_history.specs.Drafted.{AlwaysValid};
@@ -127,9 +128,20 @@ pub fn always_truthful()
     ensures { AlwaysTruthful }
 {}
 
-/// Each message that says that a committed one was not received is true: it was purged, or its time to be received was over, and it was never taken.
+/// Each message that says that another one was not received is true: that one was purged, or its time to be received was over. And where it was sent in a
+/// transaction, or put where it was sent, it was never taken.
 pub fn always_received_truly()
     ensures { AlwaysReceivedTruly }
+{}
+
+/// Of a plain message that went in a packet two copies may be put. Where one came to a queue, and a message says that it was not received, it was never taken.
+pub fn always_received_truly_of_plain()
+    ensures { AlwaysReceivedTrulyOfPlain }
+{}
+
+/// No more copies of a message stand in queues, or left them, than came there: of one that was sent in a transaction, or put where it was sent, one.
+pub fn always_copied_rightly()
+    ensures { AlwaysCopiedRightly }
 {}
 
 /// What was sent of a stream never expires, and so what was decided never does.
