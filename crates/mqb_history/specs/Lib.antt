@@ -28,3 +28,4 @@ pub mod Truths
 pub mod Finished
 pub mod Received
 pub mod Copies
+pub mod Twice

@@ -11,6 +11,7 @@ ghost use Rattle.mqb_history.specs.Stored.{StorageIsAlwaysKept};
 ghost use Rattle.mqb_history.specs.Truths.{AlwaysTruthful};
 ghost use Rattle.mqb_history.specs.Received.{AlwaysReceivedTruly, AlwaysReceivedTrulyOfPlain};
 ghost use Rattle.mqb_history.specs.Copies.{AlwaysCopiedRightly};
+ghost use Rattle.mqb_history.specs.Twice.{OneIsTakenAndMissed};
 ghost use Rattle.mqb_history.specs.Choosing.{RepliesShowChoices, RunsAreShown};
 ghost use Rattle.mqb_history.specs.Leading.{CommitmentsLeadToManagers};
 ghost use Rattle.mqb_history.specs.Drafted.{AlwaysValid};
@@ -137,6 +138,11 @@ pub fn always_received_truly()
 /// Of a plain message that went in a packet two copies may be put. Where one came to a queue, and a message says that it was not received, it was never taken.
 pub fn always_received_truly_of_plain()
     ensures { AlwaysReceivedTrulyOfPlain }
+{}
+
+/// Where a plain message is put twice, one copy may be taken and the other one purged, and then a notice says that the message was not received.
+pub fn one_is_taken_and_missed()
+    ensures { OneIsTakenAndMissed }
 {}
 
 /// No more copies of a message stand in queues, or left them, than came there: of one that was sent in a transaction, or put where it was sent, one.
