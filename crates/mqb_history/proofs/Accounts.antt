@@ -11,6 +11,7 @@ use Rattle.mqb_base.specs.declared.ids.MessageId.{MessageId}
 use Rattle.mqb_base.specs.declared.ledger.Line.{Line}
 use Rattle.mqb_base.specs.declared.message.Message.{Message}
 use Rattle.mqb_exactly_once.specs.Words.{In}
+use Rattle.mqb_fate.specs.Orders.{is_final_class}
 use Rattle.mqb_model.specs.calls.Link.{unlink}
 use Rattle.mqb_model.specs.declared.limits.TheConstants.{FIRST_EXPRESS}
 use Rattle.mqb_model.specs.managers.Beside.{Beside, beside_done}
@@ -131,7 +132,7 @@ StillMay m = IfSome (doubt_of m.condition) (MayStill m.state.identity.guid m.sta
 abbrev pub PartFrom : List Packet → Guid → Part → Type 0
 PartFrom sent own (entry.Decided p) = In (packet.User p) sent × (p.to ≡ own)
 PartFrom sent own (entry.Stored p) = In (packet.User p) sent × (p.to ≡ own) × IsPlainPacket p
-PartFrom sent own (entry.Final p) = In (packet.User p) sent × (p.to ≡ own) × IsPlainPacket p
+PartFrom sent own (entry.Final p) = In (packet.User p) sent × (p.to ≡ own) × IsPlainPacket p × (is_final_class p.message.class ≡ true)
 PartFrom sent own _ = Unit {0}
 
 abbrev pub HeardBy : List Packet → Guid → Record → Type 0
@@ -215,7 +216,7 @@ part_from sent own x entry.Nothing i h = tt
 part_from sent own x (entry.Decided p) i h = (subst (λ y. In y sent) h.0 i, h.1)
 part_from sent own x (entry.Stored p) i h = (subst (λ y. In y sent) h.0 i, h.1, h.2)
 part_from sent own x (entry.OrderAcknowledged ordinal number) i h = tt
-part_from sent own x (entry.Final p) i h = (subst (λ y. In y sent) h.0 i, h.1, h.2)
+part_from sent own x (entry.Final p) i h = (subst (λ y. In y sent) h.0 i, h.1, h.2, h.3)
 
 arrived_heard : (sent : List Packet) (s : State) (call : Call) (now : ℕ) (numbers : List ℕ) (part : Part) → CallSent sent call → RecordOf s call (entry.Arrived now numbers part) → PartFrom sent s.identity.guid part
 arrived_heard sent s (Hear at x) now numbers part i h = part_from sent s.identity.guid x part i h

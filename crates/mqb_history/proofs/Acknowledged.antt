@@ -8,7 +8,7 @@ use Rattle.mqb_base.specs.declared.ids.Identity.{Identity}
 use Rattle.mqb_base.specs.declared.ids.MessageId.{MessageId}
 use Rattle.mqb_base.specs.declared.ids.SequenceId.{SequenceId}
 use Rattle.mqb_base.specs.declared.message.Message.{Message}
-use Rattle.mqb_exactly_once.specs.Words.{In}
+use Rattle.mqb_exactly_once.specs.Words.{In, position_of}
 use Rattle.mqb_exactly_once.specs.World.{Channel, Commitment, Position}
 use Rattle.mqb_fate.specs.Asking.{is_ordinary}
 use Rattle.mqb_fate.specs.Orders.{is_final_class}
@@ -62,7 +62,15 @@ module _ (known : List Identity) (apart : AreApart known) (c : Course) (h : IsCr
   own_id : (i : ℕ) (m : Commitment) → In m (committed_by i) → m.message.id.qm ≡ guid_at i
   own_id i m inside = (all_in (IsOwnBelow (guid_at i) (manager_at c.network i).state.next_number) (committed_by i) m (sound.marked i).0.0.0.0.0.own_ids inside).0
 
-  names_decided : (j : ℕ) (p : UserPacket) → IsNote known c j p → is_final_class p.message.class ≡ true → NamesDecided c j p
+  -- a record of one manager decides what another one committed
+  pub record IsNamedBy (i j : ℕ) (m : Commitment) : Type 0 where
+    pub decided : DecideIt (written_of j c.written) m.message.id
+    pub position : position_of decided.head ≡ m.position
+    pub source : decided.packet.message.id.qm ≡ guid_at i
+    pub destination : decided.packet.message.destination ≡ m.message.destination
+
+  pub names_decided : (j : ℕ) (p : UserPacket) → IsNote known c j p → is_final_class p.message.class ≡ true → (i : ℕ) (m : Commitment) → (i ≡ j → ⊥) → In m (committed_by i)
+      → m.message.id ≡ p.message.correlation → IsNamedBy i j m
   names_decided j p note final i m other inside same = by note.about
     where
       sender : IsKnown known c j
@@ -77,37 +85,47 @@ module _ (known : List Identity) (apart : AreApart known) (c : Course) (h : IsCr
       place : HasRow (manager_at c.network i).state.outs m
       place = row_of known apart c sound i m inside
 
-      decided : DecideIt (written_of j c.written) p.message.correlation → In m.position (decisions (record { source = guid_at i; destination = m.message.destination }) (written_of j c.written))
-      decided d = subst (λ (ch : Channel). In m.position (decisions ch (written_of j c.written))) channel
-          (subst (λ (q : Position). In q (decisions (record { source = d.packet.message.id.qm; destination = d.packet.message.destination }) (written_of j c.written)))
-          (sym own.position ∙ ap (λ (x : Commitment). x.position) one) (decides_in (written_of j c.written) d.written d.now d.numbers d.packet d.head d.there d.entry d.tx))
+      decided : DecideIt (written_of j c.written) m.message.id → IsNamedBy i j m
+      decided d = record {
+        decided = d;
+        position = sym own.position ∙ ap (λ (x : Commitment). x.position) one;
+        source = qm;
+        destination = own.destination ∙ ap (λ (x : Commitment). x.message.destination) one;
+      }
         where
           qm : d.packet.message.id.qm ≡ guid_at i
-          qm = ap (λ (x : MessageId). x.qm) d.names ∙ sym mine
+          qm = ap (λ (x : MessageId). x.qm) (d.names ∙ same) ∙ sym mine
 
           own : IsItsOwn known apart c sound i d.packet d.head
           own = own_decided known apart c sound i j place.0 d.written d.now d.numbers d.packet d.head place.1 d.there d.entry d.tx qm
 
           one : own.commitment ≡ m
-          one = same_committed (committed_by i) own.commitment m (sound.marked i).0.0.0.0.0.differ own.there inside (sym own.id ∙ d.names ∙ sym same)
-
-          channel : ◌≡◌ {A = Channel} (record { source = d.packet.message.id.qm; destination = d.packet.message.destination }) (record { source = guid_at i; destination = m.message.destination })
-          channel = ap (λ g. record { source = g; destination = d.packet.message.destination }) qm
-              ∙ ap (λ x. record { source = guid_at i; destination = x }) (own.destination ∙ ap (λ (x : Commitment). x.message.destination) one)
+          one = same_committed (committed_by i) own.commitment m (sound.marked i).0.0.0.0.0.differ own.there inside (sym own.id ∙ d.names)
 
       unused : Unused known c p.message.correlation → ⊥
       unused u = let is = committer i m inside in (u i (get_within known i is.own is.there) mine).uncommitted m inside (ap (λ (x : MessageId). x.number) same)
 
-      by : (is_ordinary p.message ≡ true) ⊎ Known known c j p.message.correlation
-          → In m.position (decisions (record { source = guid_at i; destination = m.message.destination }) (written_of j c.written))
+      by : (is_ordinary p.message ≡ true) ⊎ Known known c j p.message.correlation → IsNamedBy i j m
       by (inl e) = absurd (not_ordinary p.message e final)
       by (inr (inl e)) = absurd (other (one_manager known c i j apart (committer i m inside) sender (mine ∙ e)))
-      by (inr (inr (inl d))) = decided d
+      by (inr (inr (inl d))) = decided (subst (DecideIt (written_of j c.written)) (sym same) d)
       by (inr (inr (inr u))) = absurd (unused u)
 
-  acknowledging : AreAcknowledgingTruly c
+  -- so it is among its decisions
+  pub named_decided : (i j : ℕ) (m : Commitment) → IsNamedBy i j m → In m.position (decisions (record { source = guid_at i; destination = m.message.destination }) (written_of j c.written))
+  named_decided i j m g = subst (λ (ch : Channel). In m.position (decisions ch (written_of j c.written))) channel
+      (subst (λ (q : Position). In q (decisions (record { source = d.packet.message.id.qm; destination = d.packet.message.destination }) (written_of j c.written))) g.position
+      (decides_in (written_of j c.written) d.written d.now d.numbers d.packet d.head d.there d.entry d.tx))
+    where
+      d : DecideIt (written_of j c.written) m.message.id
+      d = g.decided
+
+      channel : ◌≡◌ {A = Channel} (record { source = d.packet.message.id.qm; destination = d.packet.message.destination }) (record { source = guid_at i; destination = m.message.destination })
+      channel = ap (λ x. record { source = x; destination = d.packet.message.destination }) g.source ∙ ap (λ x. record { source = guid_at i; destination = x }) g.destination
+
+  pub acknowledging : AreAcknowledgingTruly c
   acknowledging k note p e f t = let told = (h.honest.packets k note p e f).plain t in
-      record { order = told.order; final = λ durable final. names_decided note.sender p (told.plain durable) final }
+      record { order = told.order; final = λ durable final i m other inside same. named_decided i note.sender m (names_decided note.sender p (told.plain durable) final i m other inside same) }
 
   -- Rows.
 

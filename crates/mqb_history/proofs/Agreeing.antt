@@ -104,6 +104,9 @@ agreeing_closed known apart = record {
   keeps = λ c x may h. ((by_records known AreLed apart led_by_records).keeps c x may h.0, change_agrees known apart c x may h.0.0 (λ i. (h.0.1 i).1) h.1);
 }
 
+pub agreed_begins : (known : List Identity) → IsAgreed known (beginning known)
+agreed_begins known = (begins_with known AreLed led_by_records, begins_agreeing known)
+
 pub agreeing : (known : List Identity) → AreApart known → (ms : List Move) → IsRun known ms → (kept : ℕ → Bool)
     → IsOrderly known (settled kept (after_run known ms)) × Agrees known (settled kept (after_run known ms))
-agreeing known apart ms run kept = let h = always_kept known (IsAgreed known) (agreeing_closed known apart) ms run kept (begins_with known AreLed led_by_records, begins_agreeing known) in (h.0.0, h.1)
+agreeing known apart ms run kept = let h = always_kept known (IsAgreed known) (agreeing_closed known apart) ms run kept (agreed_begins known) in (h.0.0, h.1)

@@ -129,7 +129,7 @@ module _ (known : List Identity) (apart : AreApart known) (c : Course) (o : IsOr
         at (inl put) = put
         at (inr stored) = absurd (not_stored known apart c o h id sent w i stored)
 
-    put_here : (j : ℕ) (l : Line) → In l (mine j) → 1 ≤ arrives id l → IsPut j id l
+    pub put_here : (j : ℕ) (l : Line) → In l (mine j) → 1 ≤ arrives id l → IsPut j id l
     put_here j l i one = subst (λ k. IsPut k id l) (own_by j c.written w.0 w.1) (put_by w.0 l (filtered_in (λ (v : Written). v.by == j) c.written w.0 w.1) w.2 one)
       where
         w : (w : Written) × In w (written_of j c.written) × In l (lines_of w.before w.entry)

@@ -33,7 +33,7 @@ use Rattle.mqb_history.proofs.Tallies.{arrives, begins, copies, in_queue, left, 
 
 -- Who gave a number.
 
-given_own : (x : MessageId) (s : State) → 1 ≤ given x s → x.qm ≡ s.identity.guid
+pub given_own : (x : MessageId) (s : State) → 1 ≤ given x s → x.qm ≡ s.identity.guid
 given_own x s h = at (same_guid x.qm s.identity.guid) refl h
   where
     at : (b : Bool) → same_guid x.qm s.identity.guid ≡ b → 1 ≤ one_if (b && nat_lt x.number s.next_number) → x.qm ≡ s.identity.guid

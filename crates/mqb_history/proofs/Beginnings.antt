@@ -22,6 +22,7 @@ use Rattle.mqb_history.proofs.Catching.{note_in}
 use Rattle.mqb_history.proofs.Linked.{IsLinked}
 use Rattle.mqb_history.proofs.Lists.{apart_numbers, equal_numbers}
 use Rattle.mqb_history.proofs.Reaching.{more}
+use Rattle.mqb_history.proofs.Recording.{Awaits}
 use Rattle.mqb_history.proofs.Ruling.{MayRule}
 use Rattle.mqb_history.proofs.Sourcing.{AreRowsShown, rows_over}
 
@@ -70,6 +71,9 @@ module _ (c : Course) (i j : ℕ) (ch : Channel) (d : QueueName) (peer : ℕ) (a
     packets = h.packets;
     receipts = h.receipts;
     doubt = subst (λ x. IfSome (doubt_of x) (MayRule ch h.world.transfers h.world.connection)) (sym (condition j)) h.doubt;
+    fates = h.fates;
+    awaits = subst (λ x. IfSome (doubt_of x) (Awaits d h.world.order_acks h.world.connection (manager_at z.network i).state.outs)) (sym (condition i))
+        (subst (λ (s : State). IfSome (doubt_of (manager_at c.network i).condition) (Awaits d h.world.order_acks h.world.connection s.outs)) (sym (state i)) h.awaits);
   }
     where
       none : AreEnds new i j → ⊥
@@ -97,6 +101,8 @@ module _ (c : Course) (i j : ℕ) (ch : Channel) (d : QueueName) (peer : ℕ) (a
     packets = packets;
     receipts = receipts;
     doubt = subst (λ x. IfSome x (MayRule ch h.world.transfers (suc h.world.connection))) (sym (ap doubt_of (condition j) ∙ up j into)) tt;
+    fates = h.fates;
+    awaits = subst (λ x. IfSome x (Awaits d h.world.order_acks (suc h.world.connection) (manager_at z.network i).state.outs)) (sym (ap doubt_of (condition i) ∙ up i from)) tt;
   }
     where
       ended : StreamWorld

@@ -1,5 +1,11 @@
 -- Each change of a course keeps a stream world of each channel going along.
-use Rattle.mqb_history.specs.Acked.{is_order_ack}
+use Rattle.mqb_history.specs.Acked.{IsDecidedThere, is_order_ack}
+use Rattle.mqb_history.proofs.Answering.{IsCredible}
+use Rattle.mqb_history.proofs.Attesting.{heard_ack}
+use Rattle.mqb_history.proofs.Awaiting.{HeardAcks, call_awaits, called_awaits, ended_awaits, started_awaits}
+use Rattle.mqb_history.proofs.Finishing.{MayAck}
+use Rattle.mqb_history.proofs.Recorded.{IsAckHeard, calls_are_of}
+use Rattle.mqb_history.proofs.Recording.{Awaits}
 use Rattle.mqb_history.proofs.Spelling.{SpellsRow}
 use Rattle.mqb_history.proofs.Receipting.{AreTelling, Tells, marks_ins, row_tells}
 use Rattle.std.proofs.Common.{refl, ap, sym, subst, ◌∙◌, inl, inr}
@@ -40,7 +46,7 @@ use Rattle.mqb_history.proofs.Dispatching.{CanSend, IsOfChannel}
 use Rattle.mqb_history.proofs.Enlisting.{leads_same}
 use Rattle.mqb_history.proofs.Catching.{heard_may, heard_transfer}
 use Rattle.mqb_history.proofs.Knowing.{not_own_peer}
-use Rattle.mqb_history.proofs.Linked.{IsAckedAt, IsLinked, goes_linked}
+use Rattle.mqb_history.proofs.Linked.{AwaitsIn, FinalsDepart, IsAckedAt, IsLinked, goes_linked}
 use Rattle.mqb_history.proofs.Lists.{clash, get_in, neither, none_some, not_true, some_is, split_and, true_not_false}
 use Rattle.mqb_history.proofs.Marked.{AreMarked}
 use Rattle.mqb_base.specs.declared.ids.SequenceId.{SequenceId}
@@ -98,10 +104,14 @@ up_doubt : (x : Condition) → elim x [ Up ↦ false | Down doubt ↦ true ] ≡
 up_doubt Up e = refl
 up_doubt (Down doubt) e = absurd (clash e)
 
+heard_same : (now at : ℕ) (x y : Packet) → Hear now x ≡ Hear at y → x ≡ y
+heard_same now at x y e = cc
+
 module _ (known : List Identity) (apart : AreApart known) (i j : ℕ) (d : QueueName) (r : Route known i j d) (c : Course) (o : IsOrderly known c)
     (held : (a : ℕ) → AreMarked (manager_at c.network a).state (written_of a c.written)) (carrying : IsCarrying known c) (storage : KeepsStorage c)
     (spells : (a now : ℕ) (p : UserPacket) → In (packet.User p) (outcome_of (manager_at c.network a) (Pump now)).packets → p.tx ≡ None → is_order_ack p.message ≡ true
-    → SpellsRow (manager_at c.network a).state p.to p.message) where
+    → SpellsRow (manager_at c.network a).state p.to p.message) (credible : IsCredible known c)
+    (decider_is : (row : Row) (n : ℕ) → row.peer ≡ r.peer → (there : IsDecidedThere c i row n) → there.decider ≡ j) where
   abbrev ch : Channel
   ch = channel_on known i j d r
 
@@ -126,17 +136,37 @@ module _ (known : List Identity) (apart : AreApart known) (i j : ℕ) (d : Queue
   differ : i ≡ j → ⊥
   differ = route_apart known i j d r
 
+  abbrev Departs_at : Course → Type 0
+  Departs_at z = FinalsDepart z i
+
   module _ (h : Links_at c) where
     -- calls
+    abbrev Hears_at : ℕ → Call → Type 0
+    Hears_at a call = a ≡ i → HeardAcks (manager_at c.network a).state call d h.world.order_acks h.world.connection
+
+    call_waits : (a : ℕ) (call : Call) → Hears_at a call → a ≡ i
+        → IfSome (outcome_of (manager_at c.network a) call).entry (Awaits d h.world.order_acks h.world.connection (manager_at c.network a).state.outs)
+    call_waits a call heard e = call_awaits (manager_at c.network a).state call d h.world.order_acks h.world.connection (outcome_of (manager_at c.network a) call).entry
+        (calls_are_of (manager_at c.network a) call).entry (heard e)
+
     calling_linked : (a : ℕ) (call : Call) (failure : Option Failure)
-        → (a ≡ j → IfSome (outcome_of (manager_at c.network a) call).entry (MayRule ch h.world.transfers h.world.connection))
-        → Acked_at (calling a call failure c) → Links_at (calling a call failure c)
-    calling_linked a call None may truly = let m = manager_at c.network a in
+        → (a ≡ j → IfSome (outcome_of (manager_at c.network a) call).entry (MayRule ch h.world.transfers h.world.connection)) → Hears_at a call
+        → Acked_at (calling a call failure c) → Departs_at (calling a call failure c) → Links_at (calling a call failure c)
+    calling_linked a call None may heard truly departs = let m = manager_at c.network a in
         goes_linked i j ch d r.peer c (calling a call None c) a (outcome_of m call).entry (called_goes a call c) (made_only _ m.state (outcome_of m call).entry (calls_are_modest m call).entry) differ h
-        (held i) leads truly may (called_doubt ch h.world.transfers h.world.connection a j call None c h.doubt may)
-    calling_linked a call (Some how) may truly =
+        (held i) leads truly may (called_doubt ch h.world.transfers h.world.connection a j call None c h.doubt may) (call_waits a call heard) departs
+        (called_awaits d h.world.order_acks h.world.connection a i call None c h.awaits (call_waits a call heard))
+    calling_linked a call (Some how) may heard truly departs =
         goes_linked i j ch d r.peer c (calling a call (Some how) c) a None (failed_goes a call how c) tt differ h (held i) leads truly (λ e. tt)
-        (called_doubt ch h.world.transfers h.world.connection a j call (Some how) c h.doubt may)
+        (called_doubt ch h.world.transfers h.world.connection a j call (Some how) c h.doubt may) (λ e. tt) departs
+        (called_awaits d h.world.order_acks h.world.connection a i call (Some how) c h.awaits (call_waits a call heard))
+
+    -- a call of another kind hears no order acknowledgement
+    unheard_acks : (a : ℕ) (call : Call) → is_of_packets call ≡ false → Hears_at a call
+    unheard_acks a call quiet e now x same = absurd (clash (sym (ap is_of_packets same) ∙ quiet))
+
+    pump_acks : (a now : ℕ) → Hears_at a (Pump now)
+    pump_acks a now e at x same = absurd (let none : ⊥ = cc in none)
 
     -- what hears nothing decides nothing
     unheard_may : (a : ℕ) (call : Call) → is_of_packets call ≡ false → IfSome (outcome_of (manager_at c.network a) call).entry (MayRule ch h.world.transfers h.world.connection)
@@ -152,14 +182,21 @@ module _ (known : List Identity) (apart : AreApart known) (i j : ℕ) (d : Queue
 
     -- packets are heard
     hears_linked : (k now : ℕ) (failure : Option Failure) (note : Option Note) (p : Option Packet) → numbered c.network.notes k ≡ note → numbered c.sent k ≡ p
-        → may_hear c note p now failure ≡ true → Acked_at (hearing note p now failure c) → Links_at (hearing note p now failure c)
-    hears_linked k now failure None p e f may truly = h
-    hears_linked k now failure (Some note) None e f may truly = h
-    hears_linked k now failure (Some note) (Some x) e f may truly = calling_linked note.receiver (Hear now x) failure
+        → may_hear c note p now failure ≡ true → Acked_at (hearing note p now failure c) → Departs_at (hearing note p now failure c) → Links_at (hearing note p now failure c)
+    hears_linked k now failure None p e f may truly departs = h
+    hears_linked k now failure (Some note) None e f may truly departs = h
+    hears_linked k now failure (Some note) (Some x) e f may truly departs = calling_linked note.receiver (Hear now x) failure
         (λ to. heard_may ch h.world.transfers h.world.connection (Some x) (outcome_of (manager_at c.network note.receiver) (Hear now x)).entry
         (from_only _ (manager_at c.network note.receiver).state (outcome_of (manager_at c.network note.receiver) (Hear now x)).entry (calls_are_modest (manager_at c.network note.receiver) (Hear now x)).entry)
         (λ p tx g t inside. heard_transfer known c i j ch d r.peer apart o held carrying.1.carried storage source own_guid refl h k note p tx e (f ∙ g) t
-        (split_and (is_underway c.network note) (may_fail (manager_at c.network note.receiver) (Hear now x) failure) may).0 to inside)) truly
+        (split_and (is_underway c.network note) (may_fail (manager_at c.network note.receiver) (Hear now x) failure) may).0 to inside)) heard_acks truly departs
+      where
+        heard_acks : Hears_at note.receiver (Hear now x)
+        heard_acks to at y same ordinal number g = subst (λ a. MayAck d h.world.order_acks h.world.connection (manager_at c.network a).state.outs ordinal number) (sym to)
+            (heard_ack known apart c i j ch d r.peer credible storage own_guid refl decider_is h k note x e f
+            (split_and (is_underway c.network note) (may_fail (manager_at c.network note.receiver) (Hear now x) failure) may).0 to ordinal number
+            (subst (λ a. IsAckHeard (manager_at c.network a).state.identity.guid x ordinal number) to
+            (subst (λ z. IsAckHeard (manager_at c.network note.receiver).state.identity.guid z ordinal number) (sym (heard_same now at x y same)) g)))
 
     -- a connection begins
     links_linked : (a b window_a window_b : ℕ) → may_change c (Links a b window_a window_b) ≡ true → Links_at (changed (Links a b window_a window_b) c)
@@ -186,27 +223,33 @@ module _ (known : List Identity) (apart : AreApart known) (i j : ℕ) (d : Queue
         free x (inr e) = no_end x (subst (λ n. is_connected c.network n ≡ false) (sym e) frees.1)
 
     -- other changes
-    ends_linked : (a : ℕ) → Acked_at (changed (Ends a) c) → Links_at (changed (Ends a) c)
-    ends_linked a truly = goes_linked i j ch d r.peer c (changed (Ends a) c) a None (ends_goes a c) tt differ h (held i) leads truly (λ e. tt)
-        (ended_doubt ch h.world.transfers h.world.connection a j c.network h.doubt)
+    ends_linked : (a : ℕ) → Acked_at (changed (Ends a) c) → Departs_at (changed (Ends a) c) → Links_at (changed (Ends a) c)
+    ends_linked a truly departs = goes_linked i j ch d r.peer c (changed (Ends a) c) a None (ends_goes a c) tt differ h (held i) leads truly (λ e. tt)
+        (ended_doubt ch h.world.transfers h.world.connection a j c.network h.doubt) (λ e. tt) departs (ended_awaits d h.world.order_acks h.world.connection a i c.network h.awaits)
 
-    drops_linked : (k : ℕ) → Acked_at (changed (Drops k) c) → Links_at (changed (Drops k) c)
-    drops_linked k truly = goes_linked i j ch d r.peer c (changed (Drops k) c) 0 None (drops_goes k c) tt differ h (held i) leads truly (λ e. tt) h.doubt
+    drops_linked : (k : ℕ) → Acked_at (changed (Drops k) c) → Departs_at (changed (Drops k) c) → Links_at (changed (Drops k) c)
+    drops_linked k truly departs = goes_linked i j ch d r.peer c (changed (Drops k) c) 0 None (drops_goes k c) tt differ h (held i) leads truly (λ e. tt) h.doubt (λ e. tt) departs h.awaits
 
-    restarts_linked : (a : ℕ) → Acked_at (changed (Restarts a) c) → Links_at (changed (Restarts a) c)
-    restarts_linked a truly = goes_linked i j ch d r.peer c (changed (Restarts a) c) a None (restarts_goes a c) tt differ h (held i) leads truly (λ e. tt)
-        (started_doubt ch h.world.transfers h.world.connection a j c.network (restarted (manager_at c.network a) false) h.doubt (λ e. tt))
+    restarts_linked : (a : ℕ) → Acked_at (changed (Restarts a) c) → Departs_at (changed (Restarts a) c) → Links_at (changed (Restarts a) c)
+    restarts_linked a truly departs = goes_linked i j ch d r.peer c (changed (Restarts a) c) a None (restarts_goes a c) tt differ h (held i) leads truly (λ e. tt)
+        (started_doubt ch h.world.transfers h.world.connection a j c.network (restarted (manager_at c.network a) false) h.doubt (λ e. tt)) (λ e. tt) departs
+        (started_awaits d h.world.order_acks h.world.connection a i c.network (restarted (manager_at c.network a) false) h.awaits (λ e. tt))
 
     at_doubt : (a : ℕ) → a ≡ j → IfSome (doubt_of (manager_at c.network a).condition) (MayRule ch h.world.transfers h.world.connection)
     at_doubt a e = subst (λ n. IfSome (doubt_of (manager_at c.network n).condition) (MayRule ch h.world.transfers h.world.connection)) (sym e) h.doubt
 
-    fails_linked : (a : ℕ) → Acked_at (changed (Fails a) c) → Links_at (changed (Fails a) c)
-    fails_linked a truly = goes_linked i j ch d r.peer c (changed (Fails a) c) a None (fails_goes a c) tt differ h (held i) leads truly (λ e. tt)
-        (started_doubt ch h.world.transfers h.world.connection a j c.network (unread (manager_at c.network a)) h.doubt (at_doubt a))
+    at_waits : (a : ℕ) → a ≡ i → IfSome (doubt_of (manager_at c.network a).condition) (Awaits d h.world.order_acks h.world.connection (manager_at c.network a).state.outs)
+    at_waits a e = subst (λ n. AwaitsIn d h.world.order_acks h.world.connection (manager_at c.network n)) (sym e) h.awaits
 
-    finds_linked : (a : ℕ) → Acked_at (changed (Finds a) c) → Links_at (changed (Finds a) c)
-    finds_linked a truly = goes_linked i j ch d r.peer c (changed (Finds a) c) a (doubt_of (manager_at c.network a).condition) (finds_goes a c) (o.doubts a) differ h (held i) leads truly (at_doubt a)
-        (started_doubt ch h.world.transfers h.world.connection a j c.network (restarted (manager_at c.network a) true) h.doubt (λ e. tt))
+    fails_linked : (a : ℕ) → Acked_at (changed (Fails a) c) → Departs_at (changed (Fails a) c) → Links_at (changed (Fails a) c)
+    fails_linked a truly departs = goes_linked i j ch d r.peer c (changed (Fails a) c) a None (fails_goes a c) tt differ h (held i) leads truly (λ e. tt)
+        (started_doubt ch h.world.transfers h.world.connection a j c.network (unread (manager_at c.network a)) h.doubt (at_doubt a)) (λ e. tt) departs
+        (started_awaits d h.world.order_acks h.world.connection a i c.network (unread (manager_at c.network a)) h.awaits (at_waits a))
+
+    finds_linked : (a : ℕ) → Acked_at (changed (Finds a) c) → Departs_at (changed (Finds a) c) → Links_at (changed (Finds a) c)
+    finds_linked a truly departs = goes_linked i j ch d r.peer c (changed (Finds a) c) a (doubt_of (manager_at c.network a).condition) (finds_goes a c) (o.doubts a) differ h (held i) leads truly (at_doubt a)
+        (started_doubt ch h.world.transfers h.world.connection a j c.network (restarted (manager_at c.network a) true) h.doubt (λ e. tt)) (at_waits a) departs
+        (started_awaits d h.world.order_acks h.world.connection a i c.network (restarted (manager_at c.network a) true) h.awaits (λ e. tt))
 
     -- a pump
     module _ (a now : ℕ) (failure : Option Failure) where
@@ -234,8 +277,8 @@ module _ (known : List Identity) (apart : AreApart known) (i j : ℕ) (d : Queue
           one = one_row m.state.outs place.0 g.row (held a).0.0.0.0.0.rise place.1 g.there (ap (λ (q : SequenceId). q.ordinal) place.2)
 
       pumps_linked : Acked_at (changed (Pumps a now failure) c) → AreMarked (manager_at (changed (Pumps a now failure) c).network i).state (written_of i called_first.written)
-          → AreTelling (manager_at (changed (Pumps a now failure) c).network j).state (written_of j called_first.written) → Links_at (changed (Pumps a now failure) c)
-      pumps_linked truly held_now telling_now = posted_linked called_first i j ch d r.peer a now zs (calling_noted a (Pump now) failure c o.noted) differ first (can failure first held_first)
+          → AreTelling (manager_at (changed (Pumps a now failure) c).network j).state (written_of j called_first.written) → Departs_at called_first → Links_at (changed (Pumps a now failure) c)
+      pumps_linked truly held_now telling_now departs = posted_linked called_first i j ch d r.peer a now zs (calling_noted a (Pump now) failure c o.noted) differ first (can failure first held_first)
           (tells failure first telling_first)
         where
           acked_first : Acked_at called_first
@@ -249,7 +292,7 @@ module _ (known : List Identity) (apart : AreApart known) (i j : ℕ) (d : Queue
           telling_first = with_managers (λ ms. AreTelling (unwrap_or (slice_get ms j) nobody).state (written_of j called_first.written)) telling_now
 
           first : Links_at called_first
-          first = calling_linked a (Pump now) failure (λ e. pump_may a now) acked_first
+          first = calling_linked a (Pump now) failure (λ e. pump_may a now) (pump_acks a now) acked_first departs
 
           can : (f : Option Failure) → (g : Links_at (calling a (Pump now) f c)) → AreMarked (manager_at (calling a (Pump now) f c).network i).state (written_of i (calling a (Pump now) f c).written)
               → a ≡ i → (p : UserPacket) (tx : TxHead) → IsOfChannel d (given_out (outcome_of m (Pump now)) f) p tx → CanSend g.world now p tx
@@ -274,14 +317,14 @@ module _ (known : List Identity) (apart : AreApart known) (i j : ℕ) (d : Queue
 
   -- every change
   pub change_linked : (x : Change) → may_change c x ≡ true → Acked_at (changed x c) → ((a : ℕ) → AreMarked (manager_at (changed x c).network a).state (written_of a (changed x c).written))
-      → ((a : ℕ) → AreTelling (manager_at (changed x c).network a).state (written_of a (changed x c).written)) → Links_at c → Links_at (changed x c)
-  change_linked (Calls a call failure) may truly held_now telling_now h = calling_linked h a call failure
-      (λ e. unheard_may h a call (not_true (is_of_packets call) (split_and (not (is_of_packets call)) (may_fail (manager_at c.network a) call failure) may).0)) truly
-  change_linked (Pumps a now failure) may truly held_now telling_now h = pumps_linked h a now failure truly (held_now i) (telling_now j)
-  change_linked (Hears k now failure) may truly held_now telling_now h = hears_linked h k now failure (numbered c.network.notes k) (numbered c.sent k) refl refl may truly
-  change_linked (Links a b window_a window_b) may truly held_now telling_now h = links_linked h a b window_a window_b may
-  change_linked (Ends a) may truly held_now telling_now h = ends_linked h a truly
-  change_linked (Drops k) may truly held_now telling_now h = drops_linked h k truly
-  change_linked (Restarts a) may truly held_now telling_now h = restarts_linked h a truly
-  change_linked (Finds a) may truly held_now telling_now h = finds_linked h a truly
-  change_linked (Fails a) may truly held_now telling_now h = fails_linked h a truly
+      → ((a : ℕ) → AreTelling (manager_at (changed x c).network a).state (written_of a (changed x c).written)) → Departs_at (changed x c) → Links_at c → Links_at (changed x c)
+  change_linked (Calls a call failure) may truly held_now telling_now departs h = let quiet = not_true (is_of_packets call) (split_and (not (is_of_packets call)) (may_fail (manager_at c.network a) call failure) may).0 in
+      calling_linked h a call failure (λ e. unheard_may h a call quiet) (unheard_acks h a call quiet) truly departs
+  change_linked (Pumps a now failure) may truly held_now telling_now departs h = pumps_linked h a now failure truly (held_now i) (telling_now j) departs
+  change_linked (Hears k now failure) may truly held_now telling_now departs h = hears_linked h k now failure (numbered c.network.notes k) (numbered c.sent k) refl refl may truly departs
+  change_linked (Links a b window_a window_b) may truly held_now telling_now departs h = links_linked h a b window_a window_b may
+  change_linked (Ends a) may truly held_now telling_now departs h = ends_linked h a truly departs
+  change_linked (Drops k) may truly held_now telling_now departs h = drops_linked h k truly departs
+  change_linked (Restarts a) may truly held_now telling_now departs h = restarts_linked h a truly departs
+  change_linked (Finds a) may truly held_now telling_now departs h = finds_linked h a truly departs
+  change_linked (Fails a) may truly held_now telling_now departs h = fails_linked h a truly departs

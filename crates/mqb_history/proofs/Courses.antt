@@ -211,7 +211,7 @@ part_more sent more own entry.Nothing h = tt
 part_more sent more own (entry.Decided p) h = (behind_in sent more (packet.User p) h.0, h.1)
 part_more sent more own (entry.Stored p) h = (behind_in sent more (packet.User p) h.0, h.1, h.2)
 part_more sent more own (entry.OrderAcknowledged ordinal number) h = tt
-part_more sent more own (entry.Final p) h = (behind_in sent more (packet.User p) h.0, h.1, h.2)
+part_more sent more own (entry.Final p) h = (behind_in sent more (packet.User p) h.0, h.1, h.2, h.3)
 
 heard_more : (sent more : List Packet) (own : Guid) (r : Record) → HeardBy sent own r → HeardBy (sent ++ more) own r
 heard_more sent more own (entry.Identity identity) h = tt

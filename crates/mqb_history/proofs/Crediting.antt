@@ -2,7 +2,7 @@
 use Rattle.std.proofs.Common.{refl, ap, sym, subst, ◌∙◌, arith, inl, inr}
 use Rattle.std.specs.List.{list_any}
 use Rattle.std.specs.Option.{option_map_or}
-use Rattle.std.specs.Prelude.{◌&&◌, ◌+◌, ◌<◌, ◌==◌, ◌^◌, ◌≡◌, ◌⊎◌, Bool, IfSome, List, None, Option, Some, cond, false, length, option_and_then, slice_get, true, unwrap_or, ℕ}
+use Rattle.std.specs.Prelude.{◌&&◌, ◌+◌, ◌<◌, ◌==◌, ◌^◌, ◌≡◌, ◌≤◌, ◌⊎◌, Bool, IfSome, List, None, Option, Some, cond, false, length, option_and_then, slice_get, true, unwrap_or, ℕ}
 use Rattle.mqb_base.specs.Same.{same_guid, same_id, same_name}
 use Rattle.mqb_base.specs.Sequences.{same_sequence}
 use Rattle.mqb_base.specs.declared.class.TheConstants.Class.{NORMAL, ORDER_ACKNOWLEDGEMENT}
@@ -14,10 +14,11 @@ use Rattle.mqb_base.specs.declared.ids.SequenceId.{SequenceId}
 use Rattle.mqb_base.specs.declared.message.Delivery.{Delivery}
 use Rattle.mqb_base.specs.declared.message.Delivery.TheVariants as delivery
 use Rattle.mqb_base.specs.declared.message.Message.{Message}
+use Rattle.mqb_base.specs.declared.queue_names.QueueName.{QueueName}
 use Rattle.mqb_exactly_once.proofs.Positions.{same_sequence_is}
 use Rattle.mqb_exactly_once.specs.Words.{In, position_of}
 use Rattle.mqb_exactly_once.specs.World.{Channel, Commitment, Position}
-use Rattle.mqb_fate.specs.Orders.{acked_by, is_final_class}
+use Rattle.mqb_fate.specs.Orders.{ack_body, acked_by, is_final_class}
 use Rattle.mqb_fate.specs.declared.orders.OrderAck.{OrderAck}
 use Rattle.mqb_orders.specs.Rows.{Row}
 use Rattle.mqb_orders.specs.declared.kept.Kept.{Kept}
@@ -125,6 +126,66 @@ module _ (known : List Identity) (apart : AreApart known) (c : Course) (h : IsSo
     is = sym is ∙ sym (same_guid_is found.0.guid g found.2);
   }
 
+  -- What a manager acknowledges of a row of another one: it decided what that committed there.
+  pub record IsAckOf (i j : ℕ) (row : Row) (to : Guid) (destination : QueueName) (position : Position) (number : ℕ) : Type 0 where
+    pub commitment : Commitment
+    pub there : In commitment (committed_by i)
+    pub committed : commitment.position ≡ position
+    pub leads : commitment.message.destination ≡ row.destination
+    pub place : position ≡ record { sequence = row.sequence; number = number }
+    pub channel : ◌≡◌ {A = Channel} (record { source = to; destination = destination }) (record { source = (state_at i).identity.guid; destination = row.destination })
+
+  pub ack_of : (i j : ℕ) (row : Row) (to : Guid) (body : List ℕ) (destination : QueueName) (position : Position) (ack : OrderAck) → to ≡ (state_at i).identity.guid
+      → (state_at i).next_number ≤ MAX_NUMBER + 1 → In row (state_at i).outs → body ≡ ack_body (record { sequence = position.sequence; number = position.number }) → acked_by body ≡ Some ack
+      → In position (decisions (record { source = to; destination = destination }) (written_of j c.written)) → row.sequence.ordinal ≡ ack.sequence.ordinal → IsAckOf i j row to destination position ack.number
+  ack_of i j row to body destination position ack to_this bounded inside spelled read decided ordinal = record {
+    commitment = own.commitment;
+    there = own.there;
+    committed = own.position ∙ found.2.position;
+    leads = sym kept_in.3 ∙ ap (λ (x : Row). x.destination) same_row;
+    place = ap (λ q. record { sequence = q; number = position.number }) sequence ∙ ap (λ n. record { sequence = row.sequence; number = n }) (sym (reads.number low_number));
+    channel = ap (λ g. record { source = g; destination = destination }) to_this
+        ∙ ap (λ d. record { source = (state_at i).identity.guid; destination = d })
+        (sym (same_name_is found.2.packet.message.destination destination inside_channel.1) ∙ own.destination ∙ sym kept_in.3 ∙ ap (λ (x : Row). x.destination) same_row);
+  }
+    where
+      reads : Reads position ack
+      reads = spelled_reads body position ack spelled read
+
+      found : (w : Written) × In w (written_of j c.written) × Decides (record { source = to; destination = destination }) w.entry position
+      found = in_decisions (record { source = to; destination = destination }) position (written_of j c.written) decided
+
+      inside_channel : (same_guid found.2.packet.message.id.qm to ≡ true) × (same_name found.2.packet.message.destination destination ≡ true)
+      inside_channel = split_and (same_guid found.2.packet.message.id.qm to) (same_name found.2.packet.message.destination destination) found.2.inside
+
+      own : IsItsOwn i found.2.packet found.2.head
+      own = own_decided i j row found.0 found.2.now found.2.numbers found.2.packet found.2.head inside found.1 found.2.entry found.2.there
+          (same_guid_is found.2.packet.message.id.qm to inside_channel.0 ∙ to_this)
+
+      bound : position.sequence.ordinal < 256 ^ 4
+      bound = let low = all_in (λ (x : Commitment). x.position.sequence.ordinal < (state_at i).next_ordinal) (committed_by i) own.commitment (h.marked i).0.0.0.0.0.given own.there in
+          let few = (h.told i).few in let same = ap (λ (q : Position). q.sequence.ordinal) (own.position ∙ found.2.position) in small (omega (arith, low, few, bounded, same))
+        where
+          small : position.sequence.ordinal < MAX_NUMBER + 1 → position.sequence.ordinal < 256 ^ 4
+          small less = omega (arith, less)
+
+      low_number : position.number < 256 ^ 4
+      low_number = let low = small_number (state_at i) (written_of i c.written) own.commitment (h.bounded i) own.there in
+          let same = ap (λ (q : Position). q.number) (own.position ∙ found.2.position) in small (omega (arith, low, same))
+        where
+          small : position.number < MAX_NUMBER + 1 → position.number < 256 ^ 4
+          small less = omega (arith, less)
+
+      kept_in : HasRow (state_at i).outs own.commitment
+      kept_in = row_of i own.commitment own.there
+
+      same_row : kept_in.0 ≡ row
+      same_row = only_row i kept_in.0 row kept_in.1 inside (ap (λ (q : SequenceId). q.ordinal) (kept_in.2 ∙ ap (λ (q : Position). q.sequence) (own.position ∙ found.2.position))
+          ∙ sym (reads.ordinal bound) ∙ sym ordinal)
+
+      sequence : position.sequence ≡ row.sequence
+      sequence = sym (ap (λ (q : Position). q.sequence) (own.position ∙ found.2.position)) ∙ sym kept_in.2 ∙ ap (λ (x : Row). x.sequence) same_row
+
   -- Order acknowledgements.
 
   module _ (i j : ℕ) (before : one_end.State) (p : UserPacket) (told : IsTold known c j p) (meant : IsMeant (state_at i) before p)
@@ -162,12 +223,12 @@ module _ (known : List Identity) (apart : AreApart known) (c : Course) (h : IsSo
 
     acked : (ack : OrderAck) → acknowledged_in (state_at i) p.message ≡ Some ack → (raised row : Row) → In raised (state_at i).outs → raises (linked_peer (state_at i) before) ack raised ≡ true
         → In row (state_at i).outs → row.sequence.ordinal ≡ ack.sequence.ordinal → IsDecidedThere c i row ack.number
-    acked ack e raised row there raises_it inside ordinal = subst (IsDecidedThere c i row) (sym (reads.number low_number)) (record {
+    acked ack e raised row there raises_it inside ordinal = record {
       decider = j;
       leads = row_leads row inside (sym (ap (λ (x : Row). x.peer) one) ∙ to_peer) spells.source;
-      decided = subst (λ (ch : Channel). In {A = Position} (record { sequence = row.sequence; number = spells.position.number }) (decisions ch (written_of j c.written))) channel
-          (subst (λ q. In {A = Position} (record { sequence = q; number = spells.position.number }) (decisions (record { source = p.to; destination = spells.destination }) (written_of j c.written))) sequence spells.decided);
-    })
+      decided = subst (λ (q : Position). In q (decisions (record { source = (state_at i).identity.guid; destination = row.destination }) (written_of j c.written))) of.place
+          (subst (λ (ch : Channel). In spells.position (decisions ch (written_of j c.written))) of.channel spells.decided);
+    }
       where
         tests : (is_express p.message.delivery && p.message.class.0 == ORDER_ACKNOWLEDGEMENT.0 ≡ true) × (acked_by p.message.body ≡ Some ack)
         tests = acks_order ack e
@@ -175,8 +236,8 @@ module _ (known : List Identity) (apart : AreApart known) (c : Course) (h : IsSo
         spells : SpellsDecided c j p
         spells = told.order tests.0
 
-        reads : Reads spells.position ack
-        reads = spelled_reads p.message.body spells.position ack spells.spelled tests.1
+        of : IsAckOf i j row p.to spells.destination spells.position ack.number
+        of = ack_of i j row p.to p.message.body spells.destination spells.position ack to_this knows.bounded inside spells.spelled tests.1 spells.decided ordinal
 
         parts : ((raised.peer == linked_peer (state_at i) before) ≡ true) × (same_sequence raised.sequence ack.sequence ≡ true)
         parts = split_and (raised.peer == linked_peer (state_at i) before) (same_sequence raised.sequence ack.sequence)
@@ -187,46 +248,6 @@ module _ (known : List Identity) (apart : AreApart known) (c : Course) (h : IsSo
 
         one : raised ≡ row
         one = only_row i raised row there inside (ap (λ (q : SequenceId). q.ordinal) (same_sequence_is raised.sequence ack.sequence parts.1) ∙ sym ordinal)
-
-        found : (w : Written) × In w (written_of j c.written) × Decides (record { source = p.to; destination = spells.destination }) w.entry spells.position
-        found = in_decisions (record { source = p.to; destination = spells.destination }) spells.position (written_of j c.written) spells.decided
-
-        inside_channel : (same_guid found.2.packet.message.id.qm p.to ≡ true) × (same_name found.2.packet.message.destination spells.destination ≡ true)
-        inside_channel = split_and (same_guid found.2.packet.message.id.qm p.to) (same_name found.2.packet.message.destination spells.destination) found.2.inside
-
-        own : IsItsOwn i found.2.packet found.2.head
-        own = own_decided i j row found.0 found.2.now found.2.numbers found.2.packet found.2.head inside found.1 found.2.entry found.2.there
-            (same_guid_is found.2.packet.message.id.qm p.to inside_channel.0 ∙ to_this)
-
-        bound : spells.position.sequence.ordinal < 256 ^ 4
-        bound = let low = all_in (λ (x : Commitment). x.position.sequence.ordinal < (state_at i).next_ordinal) (committed_by i) own.commitment (h.marked i).0.0.0.0.0.given own.there in
-            let few = (h.told i).few in let most = knows.bounded in
-            let same = ap (λ (q : Position). q.sequence.ordinal) (own.position ∙ found.2.position) in small (omega (arith, low, few, most, same))
-          where
-            small : spells.position.sequence.ordinal < MAX_NUMBER + 1 → spells.position.sequence.ordinal < 256 ^ 4
-            small less = omega (arith, less)
-
-        low_number : spells.position.number < 256 ^ 4
-        low_number = let low = small_number (state_at i) (written_of i c.written) own.commitment (h.bounded i) own.there in
-            let same = ap (λ (q : Position). q.number) (own.position ∙ found.2.position) in small (omega (arith, low, same))
-          where
-            small : spells.position.number < MAX_NUMBER + 1 → spells.position.number < 256 ^ 4
-            small less = omega (arith, less)
-
-        place : HasRow (state_at i).outs own.commitment
-        place = row_of i own.commitment own.there
-
-        same_row : place.0 ≡ row
-        same_row = only_row i place.0 row place.1 inside (ap (λ (q : SequenceId). q.ordinal) (place.2 ∙ ap (λ (q : Position). q.sequence) (own.position ∙ found.2.position))
-            ∙ sym (reads.ordinal bound) ∙ sym ordinal)
-
-        sequence : spells.position.sequence ≡ row.sequence
-        sequence = sym (ap (λ (q : Position). q.sequence) (own.position ∙ found.2.position)) ∙ sym place.2 ∙ ap (λ (x : Row). x.sequence) same_row
-
-        channel : ◌≡◌ {A = Channel} (record { source = p.to; destination = spells.destination }) (record { source = (state_at i).identity.guid; destination = row.destination })
-        channel = ap (λ g. record { source = g; destination = spells.destination }) to_this
-            ∙ ap (λ d. record { source = (state_at i).identity.guid; destination = d })
-            (sym (same_name_is found.2.packet.message.destination spells.destination inside_channel.1) ∙ own.destination ∙ sym place.3 ∙ ap (λ (x : Row). x.destination) same_row)
 
     -- Final acknowledgements.
 

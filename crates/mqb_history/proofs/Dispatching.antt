@@ -241,6 +241,7 @@ pub record IsSameButSent (v w : StreamWorld) : Type 0 where
   pub offered : w.offered ≡ v.offered
   pub acknowledged : w.acknowledged ≡ v.acknowledged
   pub decided : w.decided ≡ v.decided
+  pub fates : w.fates ≡ v.fates
   pub order_acks : w.order_acks ≡ v.order_acks
   pub connection : w.connection ≡ v.connection
   pub connected : w.connected ≡ v.connected
@@ -283,6 +284,7 @@ module _ (d : QueueName) (c : Channel) (now : ℕ) where
           offered = rest.same.offered;
           acknowledged = rest.same.acknowledged;
           decided = rest.same.decided;
+          fates = rest.same.fates;
           order_acks = rest.same.order_acks;
           connection = rest.same.connection;
           connected = rest.same.connected;
@@ -338,7 +340,7 @@ module _ (d : QueueName) (c : Channel) (now : ℕ) where
   send_on v [] r can = record {
     world = v;
     reached = r;
-    same = record { channel = refl; committed = refl; expired = refl; offered = refl; acknowledged = refl; decided = refl; order_acks = refl; connection = refl; connected = refl; more = λ t i. i };
+    same = record { channel = refl; committed = refl; expired = refl; offered = refl; acknowledged = refl; decided = refl; fates = refl; order_acks = refl; connection = refl; connected = refl; more = λ t i. i };
     sent = λ p tx h. absurd h.0;
   }
   send_on v (x ∷ zs) r can = send_more v x zs can (send_on v zs r (λ p tx h. can p tx (inr h.0, h.1, h.2)))

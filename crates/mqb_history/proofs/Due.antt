@@ -130,9 +130,9 @@ due_by_records = record {
   );
 }
 
+pub expired_duly : (c : Course) → ((i : ℕ) → AreDue (manager_at c.network i).state (written_of i c.written)) → AreExpiredDuly c
+expired_duly c h i stream number id moment inside = all_in (IsDue (manager_at c.network i).state.identity.guid (commitments (written_of i c.written))) (lines_written (written_of i c.written))
+    (line.Expired stream number id moment) (h i).1 inside
+
 pub always_expired_duly : AlwaysExpiredDuly
-always_expired_duly known ms apart run kept = of_course (settled kept (after_run known ms)) (always_by_records AreDue due_by_records known ms apart run kept)
-  where
-    of_course : (c : Course) → ((i : ℕ) → AreDue (manager_at c.network i).state (written_of i c.written)) → AreExpiredDuly c
-    of_course c h i stream number id moment inside = all_in (IsDue (manager_at c.network i).state.identity.guid (commitments (written_of i c.written))) (lines_written (written_of i c.written))
-        (line.Expired stream number id moment) (h i).1 inside
+always_expired_duly known ms apart run kept = expired_duly (settled kept (after_run known ms)) (always_by_records AreDue due_by_records known ms apart run kept)

@@ -49,7 +49,7 @@ use Rattle.mqb_packet.specs.declared.packet.UserPacket.{UserPacket}
 use Rattle.mqb_queue.specs.Arrival.{length_met, queue_refusal}
 use Rattle.mqb_queue.specs.Places.{Queue, numbered}
 use Rattle.mqb_history.proofs.Having.{QueueHas}
-use Rattle.mqb_history.proofs.Fates.{AllFrom, Frame, HasFate, IsFailureOf, IsFair, IsRefusal, IsWaiting, Keeps, ListsFair, PlainFair, RowFair, WaitsFairly, fair_more, from_changed, keeps_more, late_fate, normal_fate, reached_fate, refused_fate}
+use Rattle.mqb_history.proofs.Fates.{AllFrom, Frame, HasFate, IsFailureOf, IsFair, IsMetBy, IsRefusal, IsWaiting, Keeps, ListsFair, PlainFair, RowFair, WaitsFairly, fair_more, from_changed, keeps_more, late_fate, normal_fate, reached_fate, refused_fate}
 use Rattle.mqb_history.proofs.Fairly.{delivered_keeps, journalled_goes, journalled_keeps, meets_keeps, placed_keeps, put_keeps}
 use Rattle.mqb_history.proofs.Lists.{all_append, all_filter, clash, none_some, some_is}
 use Rattle.mqb_history.proofs.Staying.{arrived_rows, delivered_rows, journalled_rows, meets_rows}
@@ -89,7 +89,7 @@ expired_walks f ls now k e h = at (slice_get e.state.outs k) refl
     one row there kept first = one_line f ls e l (meets (with_expired now e.state k) kept.message REACH_TIMEOUT now)
         (λ T old known g. meets_keeps f T (with_expired now e.state k) kept.message REACH_TIMEOUT now
         (some_at (λ (x : Kept). IsFair T x.message) (expiring now row) kept first (first_has (λ (x : Kept). IsFair T x.message) (expires now row) row.kept (get_row T e.state.outs k row there g.outs)))
-        (late_fate T kept.message.id (inl (l, known, refl)))
+        (late_fate T kept.message.id (inl (l, known, refl)) (inl (l, known, refl)))
         (outs_keeps f T e.state (with_changed (without_expired now) e.state.outs k)
         (changed_all (RowFair T) (without_expired now) e.state.outs k (λ x d. without_all (λ (y : Kept). IsFair T y.message) (expires now x) x.kept d) g.outs) g))
         (meets_rows (with_expired now e.state k) kept.message REACH_TIMEOUT now).numbers tt h
@@ -258,13 +258,13 @@ arrives_keeps f T s m now None fair here fate h = subst (λ t. Keeps f T (meets 
     (placed_keeps f T s (Here (Some (here refl).0)) m h fair (λ k other. absurd (not_here (Some (here refl).0) k other))))
 
 fate_of : (T : Line → Type 0) (id : MessageId) (refusal : Option Class) (says : Option Class → Line) → T (says refusal) → ((class : Class) → IsFailureOf id (says (Some class)))
-    → IfSome refusal IsRefusal → IfSome refusal (HasFate T id)
-fate_of T id None says known of refuses = tt
-fate_of T id (Some class) says known of refuses = refused_fate T id class refuses (inl (says (Some class), known, of class))
+    → ((class : Class) → IsMetBy class id (says (Some class))) → IfSome refusal IsRefusal → IfSome refusal (HasFate T id)
+fate_of T id None says known of met refuses = tt
+fate_of T id (Some class) says known of met refuses = refused_fate T id class refuses (inl (says (Some class), known, of class)) (inl (says (Some class), known, met class))
 
 decided_walks : (f : Frame) (ls : List Line) (now : ℕ) (e : Effect) (p : UserPacket) (tx : TxHead) → IsFair (λ l. In l ls) p.message → Walks f ls e → Walks f ls (joined e (message_decided now e.state p tx))
 decided_walks f ls now e p tx fair h = one_line f ls e (decided_line m tx refusal) (arrived t m now refusal)
-    (λ T old known g. arrives_keeps f T t m now refusal (fair_more (λ l. In l ls) T old m fair) (refusal_here e.state p) (fate_of T m.id refusal (decided_line m tx) known (λ class. refl) (arrival_refuses e.state p)) (begins T g))
+    (λ T old known g. arrives_keeps f T t m now refusal (fair_more (λ l. In l ls) T old m fair) (refusal_here e.state p) (fate_of T m.id refusal (decided_line m tx) known (λ class. refl) (λ class. (refl, refl)) (arrival_refuses e.state p)) (begins T g))
     (arrived_rows t m now refusal).numbers (rightly refusal) h
   where
     m : Message
@@ -286,7 +286,7 @@ decided_walks f ls now e p tx fair h = one_line f ls e (decided_line m tx refusa
 stored_walks : (f : Frame) (ls : List Line) (now : ℕ) (e : Effect) (p : UserPacket) → IsFair (λ l. In l ls) p.message → Walks f ls e → Walks f ls (part_made now e (entry.Stored p))
 stored_walks f ls now e p fair h = one_line f ls e (stored_line m refusal) (arrived e.state m now refusal)
     (λ T old known g. arrives_keeps f T e.state m now refusal (fair_more (λ l. In l ls) T old m fair) (storing_here e.state p)
-    (fate_of T m.id refusal (stored_line m) known (λ class. refl) (storing_refuses e.state p)) g)
+    (fate_of T m.id refusal (stored_line m) known (λ class. refl) (λ class. refl) (storing_refuses e.state p)) g)
     (arrived_rows e.state m now refusal).numbers (rightly refusal) h
   where
     m : Message

@@ -11,6 +11,7 @@ use Rattle.mqb_base.specs.declared.ids.MessageId.{MessageId}
 use Rattle.mqb_base.specs.declared.ledger.Line.{Line}
 use Rattle.mqb_base.specs.declared.ledger.Line.TheVariants as line
 use Rattle.mqb_base.specs.declared.message.Message.{Message}
+use Rattle.mqb_fate.specs.Orders.{is_final_class}
 use Rattle.mqb_history.proofs.Having.{PlacesHave, weaker_have}
 use Rattle.mqb_model.specs.Lists.{with_changed}
 use Rattle.mqb_model.specs.declared.limits.TheConstants.{FIRST_EXPRESS, MAX_EXPRESS}
@@ -40,6 +41,17 @@ IsMissOf id (line.Purged other) = other ≡ id
 IsMissOf id (line.Swept other) = other ≡ id
 IsMissOf id _ = ⊥
 
+-- that it met a class of which final acknowledgements tell
+abbrev pub IsMetBy : Class → MessageId → Line → Type 0
+IsMetBy class id (line.Took other) = (other ≡ id) × (class ≡ RECEIVED)
+IsMetBy class id (line.Purged other) = (other ≡ id) × (class ≡ QUEUE_PURGED)
+IsMetBy class id (line.Swept other) = (other ≡ id) × (class ≡ RECEIVE_TIMEOUT)
+IsMetBy class id (line.Refused stream number met other) = (other ≡ id) × (met ≡ class)
+IsMetBy class id (line.Expired stream number other moment) = other ≡ id
+IsMetBy class id (line.Bounced met other) = other ≡ id
+IsMetBy class id (line.Lapsed other) = other ≡ id
+IsMetBy class id _ = ⊥
+
 -- a line that is known says it, or the message is express
 abbrev pub IsTold : (Line → Type 0) → (MessageId → Line → Type 0) → MessageId → Type 0
 IsTold T Of id = ((l : Line) × T l × Of id l) ⊎ (FIRST_EXPRESS ≤ id.number)
@@ -48,6 +60,7 @@ IsTold T Of id = ((l : Line) × T l × Of id l) ⊎ (FIRST_EXPRESS ≤ id.number
 pub record HasFate (T : Line → Type 0) (id : MessageId) (class : Class) : Type 0 where
   pub fails : is_arrival_refusal class.0 ≡ true → IsTold T IsFailureOf id
   pub misses : nat_le 0xC000 class.0 ≡ true → IsTold T IsMissOf id
+  pub final : is_final_class class ≡ true → IsTold T (IsMetBy class) id
 
 -- a message says what is told, and an express one has an express number
 pub record IsFair (T : Line → Type 0) (m : Message) : Type 0 where
@@ -62,6 +75,7 @@ pub fate_more : (T U : Line → Type 0) (id : MessageId) (class : Class) → ((l
 fate_more T U id class more h = record {
   fails = λ e. told_more T U IsFailureOf id more (h.fails e);
   misses = λ e. told_more T U IsMissOf id more (h.misses e);
+  final = λ e. told_more T U (IsMetBy class) id more (h.final e);
 }
 
 pub fair_more : (T U : Line → Type 0) → ((l : Line) → T l → U l) → (m : Message) → IsFair T m → IsFair U m
@@ -70,35 +84,35 @@ fair_more T U more m h = record { fate = fate_more T U m.correlation m.class mor
 -- Classes.
 
 pub normal_fate : (T : Line → Type 0) (id : MessageId) → HasFate T id NORMAL
-normal_fate T id = record { fails = λ e. absurd (let none : ⊥ = cc in none); misses = λ e. absurd (let none : ⊥ = cc in none) }
+normal_fate T id = record { fails = λ e. absurd (let none : ⊥ = cc in none); misses = λ e. absurd (let none : ⊥ = cc in none); final = λ e. absurd (let none : ⊥ = cc in none) }
 
 pub reached_fate : (T : Line → Type 0) (id : MessageId) → HasFate T id REACHED_QUEUE
-reached_fate T id = record { fails = λ e. absurd (let none : ⊥ = cc in none); misses = λ e. absurd (let none : ⊥ = cc in none) }
+reached_fate T id = record { fails = λ e. absurd (let none : ⊥ = cc in none); misses = λ e. absurd (let none : ⊥ = cc in none); final = λ e. absurd (let none : ⊥ = cc in none) }
 
 pub acknowledged_fate : (T : Line → Type 0) (id : MessageId) → HasFate T id ORDER_ACKNOWLEDGEMENT
-acknowledged_fate T id = record { fails = λ e. absurd (let none : ⊥ = cc in none); misses = λ e. absurd (let none : ⊥ = cc in none) }
+acknowledged_fate T id = record { fails = λ e. absurd (let none : ⊥ = cc in none); misses = λ e. absurd (let none : ⊥ = cc in none); final = λ e. absurd (let none : ⊥ = cc in none) }
 
-pub received_fate : (T : Line → Type 0) (id : MessageId) → HasFate T id RECEIVED
-received_fate T id = record { fails = λ e. absurd (let none : ⊥ = cc in none); misses = λ e. absurd (let none : ⊥ = cc in none) }
+pub received_fate : (T : Line → Type 0) (id : MessageId) → IsTold T (IsMetBy RECEIVED) id → HasFate T id RECEIVED
+received_fate T id met = record { fails = λ e. absurd (let none : ⊥ = cc in none); misses = λ e. absurd (let none : ⊥ = cc in none); final = λ e. met }
 
-pub purged_fate : (T : Line → Type 0) (id : MessageId) → IsTold T IsMissOf id → HasFate T id QUEUE_PURGED
-purged_fate T id h = record { fails = λ e. absurd (let none : ⊥ = cc in none); misses = λ e. h }
+pub purged_fate : (T : Line → Type 0) (id : MessageId) → IsTold T IsMissOf id → IsTold T (IsMetBy QUEUE_PURGED) id → HasFate T id QUEUE_PURGED
+purged_fate T id h met = record { fails = λ e. absurd (let none : ⊥ = cc in none); misses = λ e. h; final = λ e. met }
 
-pub swept_fate : (T : Line → Type 0) (id : MessageId) → IsTold T IsMissOf id → HasFate T id RECEIVE_TIMEOUT
-swept_fate T id h = record { fails = λ e. absurd (let none : ⊥ = cc in none); misses = λ e. h }
+pub swept_fate : (T : Line → Type 0) (id : MessageId) → IsTold T IsMissOf id → IsTold T (IsMetBy RECEIVE_TIMEOUT) id → HasFate T id RECEIVE_TIMEOUT
+swept_fate T id h met = record { fails = λ e. absurd (let none : ⊥ = cc in none); misses = λ e. h; final = λ e. met }
 
-pub late_fate : (T : Line → Type 0) (id : MessageId) → IsTold T IsFailureOf id → HasFate T id REACH_TIMEOUT
-late_fate T id h = record { fails = λ e. h; misses = λ e. absurd (let none : ⊥ = cc in none) }
+pub late_fate : (T : Line → Type 0) (id : MessageId) → IsTold T IsFailureOf id → IsTold T (IsMetBy REACH_TIMEOUT) id → HasFate T id REACH_TIMEOUT
+late_fate T id h met = record { fails = λ e. h; misses = λ e. absurd (let none : ⊥ = cc in none); final = λ e. met }
 
 -- a class of a refusal says that a message failed
 abbrev pub IsRefusal : Class → Type 0
 IsRefusal class = nat_le 0xC000 class.0 ≡ false
 
-pub refused_fate : (T : Line → Type 0) (id : MessageId) (class : Class) → IsRefusal class → IsTold T IsFailureOf id → HasFate T id class
-refused_fate T id class r h = record { fails = λ e. h; misses = λ e. absurd (clash (sym e ∙ r)) }
+pub refused_fate : (T : Line → Type 0) (id : MessageId) (class : Class) → IsRefusal class → IsTold T IsFailureOf id → IsTold T (IsMetBy class) id → HasFate T id class
+refused_fate T id class r h met = record { fails = λ e. h; misses = λ e. absurd (clash (sym e ∙ r)); final = λ e. met }
 
 pub express_fate : (T : Line → Type 0) (id : MessageId) (class : Class) → FIRST_EXPRESS ≤ id.number → HasFate T id class
-express_fate T id class h = record { fails = λ e. inr h; misses = λ e. inr h }
+express_fate T id class h = record { fails = λ e. inr h; misses = λ e. inr h; final = λ e. inr h }
 
 -- What a manager keeps.
 

@@ -95,7 +95,7 @@ module _ (known : List Identity) (apart : AreApart known) (c : Course) (h : IsCr
       leads : {n : ℕ} → IsOfChannel n channel → LeadsFrom (manager_at c.network first.came.source).state (guid_at n) channel.destination
       leads {n} of = leads_here first.came.source n channel (known_at first.came.source first.came.within) (first.came.own ∙ first.source) of
 
-  where_led : AreDecidedWhereLed c
+  pub where_led : AreDecidedWhereLed c
   where_led i j m inside decided = record {
     row = place.0;
     there = place.1;

@@ -152,3 +152,9 @@ mod Arriving
 mod Balance
 mod Copies
 mod Received
+mod Finality
+mod Settling
+mod Awaiting
+mod Attesting
+mod Informed
+mod Leaves

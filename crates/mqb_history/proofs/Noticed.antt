@@ -250,7 +250,7 @@ module _ (known : List Identity) (apart : AreApart known) (c : Course) (o : IsOr
   pub own_line : (w : Written) (l : Line) → In w c.written → In l (lines_of w.before w.entry) → In l (mine w.by)
   own_line w l i j = flat_in (λ (v : Written). lines_of v.before v.entry) (written_of w.by c.written) w l (own_written c.written w i) j
 
-  names_in : (i : ℕ) (own : Identity) → slice_get known i ≡ Some own → (l : Line) → In l (mine i) → NamesOwn (manager_at c.network i).state.identity.guid (manager_at c.network i).state.next_number (mine i) l
+  pub names_in : (i : ℕ) (own : Identity) → slice_get known i ≡ Some own → (l : Line) → In l (mine i) → NamesOwn (manager_at c.network i).state.identity.guid (manager_at c.network i).state.next_number (mine i) l
   names_in i own e l j = all_in (NamesOwn (manager_at c.network i).state.identity.guid (manager_at c.network i).state.next_number (mine i)) (mine i) l (h.stand i own e).names j
 
   pub guid_of : (i : ℕ) (own : Identity) → slice_get known i ≡ Some own → (manager_at c.network i).state.identity.guid ≡ own.guid
@@ -297,7 +297,7 @@ module _ (known : List Identity) (apart : AreApart known) (c : Course) (o : IsOr
       by (line.Emptied other) e n = absurd e
 
   -- what was sent bears no number of a plain message
-  not_plain : (id : MessageId) (s : IsSentBy known c id) (i : ℕ) (own : Identity) → slice_get known i ≡ Some own → IsPlainId (manager_at c.network i).state.identity.guid (manager_at c.network i).state.next_number (mine i) id → ⊥
+  pub not_plain : (id : MessageId) (s : IsSentBy known c id) (i : ℕ) (own : Identity) → slice_get known i ≡ Some own → IsPlainId (manager_at c.network i).state.identity.guid (manager_at c.network i).state.next_number (mine i) id → ⊥
   not_plain id s i own e plain = plain.apart s.says (subst (λ k. In s.says (mine k)) same s.inside) s.sends
     where
       same : s.sender ≡ i

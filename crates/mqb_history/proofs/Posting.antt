@@ -12,6 +12,7 @@ use Rattle.mqb_model.specs.managers.Manager.{doubt_of}
 use Rattle.mqb_model.specs.records.Record.{Record}
 use Rattle.mqb_network.specs.Changes.{note_by}
 use Rattle.mqb_network.specs.Courses.{Course, posted}
+use Rattle.mqb_network.specs.Laws.{lines_written}
 use Rattle.mqb_network.specs.Network.{Connection, Network, Note, connection_of, manager_at, other_end}
 use Rattle.mqb_packet.specs.declared.packet.Packet.{Packet}
 use Rattle.mqb_packet.specs.declared.packet.Packet.TheVariants as packet
@@ -21,9 +22,11 @@ use Rattle.mqb_history.specs.Decided.{written_of}
 use Rattle.mqb_history.specs.Shown.{IsTransfer, ShowsDestination, ShowsPackets, IsReceipt, ShowsReceipts}
 use Rattle.mqb_history.proofs.Carrying.{numbered_split, numbered_within, replicated}
 use Rattle.mqb_history.proofs.Dispatching.{AreSentOn, CanSend, IsOfChannel, send_on}
-use Rattle.mqb_history.proofs.Linked.{IsLinked}
+use Rattle.mqb_history.proofs.Awaiting.{awaits_more}
+use Rattle.mqb_history.proofs.Linked.{AwaitsIn, IsLinked}
 use Rattle.mqb_history.proofs.Lists.{apart_numbers, equal_numbers}
 use Rattle.mqb_history.proofs.Ruling.{MayRule, may_more}
+use Rattle.mqb_history.proofs.Settling.{ArePutsTold}
 use Rattle.mqb_history.proofs.Sourcing.{rows_over}
 
 module _ (c : Course) (i j : ℕ) (ch : Channel) (d : QueueName) (peer : ℕ) (a now : ℕ) (zs : List Packet) (noted : length c.network.notes ≡ length c.sent) (apart : i ≡ j → ⊥)
@@ -102,6 +105,8 @@ module _ (c : Course) (i j : ℕ) (ch : Channel) (d : QueueName) (peer : ℕ) (a
       packets = split_shown h.world.connection h.world.transfers h.packets (λ p tx inside t from into to. absurd (differ from into));
       receipts = split_told h.world.connection h.world.order_acks h.receipts (λ p inside t is from into. absurd (back from into));
       doubt = h.doubt;
+      fates = h.fates;
+      awaits = h.awaits;
     }
 
     -- those of this one
@@ -122,6 +127,10 @@ module _ (c : Course) (i j : ℕ) (ch : Channel) (d : QueueName) (peer : ℕ) (a
           (subst (λ n. ShowsReceipts i j ch (written_of j c.written) c.network.notes c.sent h.number n h.world.order_acks) (sym g.same.connection) h.receipts))
           (λ p inside t is from into. absurd (apart (sym own ∙ from)));
       doubt = doubt (doubt_of (manager_at c.network j).condition) h.doubt;
+      fates = subst (λ ds. ArePutsTold (lines_written c.written) ds g.world.fates) (sym g.same.decided)
+          (subst (ArePutsTold (lines_written c.written) h.world.decided) (sym g.same.fates) h.fates);
+      awaits = subst (λ acks. AwaitsIn d acks g.world.connection (manager_at c.network i)) (sym g.same.order_acks)
+          (subst (λ n. AwaitsIn d h.world.order_acks n (manager_at c.network i)) (sym g.same.connection) h.awaits);
     }
       where
         g : AreSentOn d ch h.world now zs
@@ -158,6 +167,10 @@ module _ (c : Course) (i j : ℕ) (ch : Channel) (d : QueueName) (peer : ℕ) (a
       receipts = split_told g.world.connection g.world.order_acks old new;
       doubt = subst (λ ts. IfSome (doubt_of (manager_at c.network j).condition) (MayRule ch ts g.world.connection)) (sym g.same.transfers)
           (subst (λ n. IfSome (doubt_of (manager_at c.network j).condition) (MayRule ch h.world.transfers n)) (sym g.same.connection) h.doubt);
+      fates = subst (λ ds. ArePutsTold (lines_written c.written) ds g.world.fates) (sym g.same.decided)
+          (subst (ArePutsTold (lines_written c.written) h.world.decided) (sym g.same.fates) h.fates);
+      awaits = subst (λ n. AwaitsIn d g.world.order_acks n (manager_at c.network i)) (sym g.same.connection)
+          (awaits_more d h.world.order_acks g.world.order_acks h.world.connection (manager_at c.network i) g.same.more h.awaits);
     }
       where
         g : IsToldOn ch h.world
@@ -204,6 +217,8 @@ module _ (c : Course) (i j : ℕ) (ch : Channel) (d : QueueName) (peer : ℕ) (a
         packets = none_shown;
         receipts = none_told;
         doubt = h.doubt;
+        fates = h.fates;
+        awaits = h.awaits;
       }
 
       by : (e : Connection) → (p : Bool) → (a == i) ≡ p → (q : Bool) → (other_end a e == j) ≡ q → (r : Bool) → (a == j) ≡ r → IsLinked (after (Some e)) i j ch d peer

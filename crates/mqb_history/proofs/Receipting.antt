@@ -34,6 +34,7 @@ pub record IsSameButTold (v w : StreamWorld) : Type 0 where
   pub offered : w.offered ≡ v.offered
   pub acknowledged : w.acknowledged ≡ v.acknowledged
   pub decided : w.decided ≡ v.decided
+  pub fates : w.fates ≡ v.fates
   pub transfers : w.transfers ≡ v.transfers
   pub connection : w.connection ≡ v.connection
   pub connected : w.connected ≡ v.connected
@@ -57,13 +58,13 @@ told_on c v r connected = at (newest v.decided) refl
     at None e = record {
       world = v;
       reached = r;
-      same = record { channel = refl; committed = refl; expired = refl; offered = refl; acknowledged = refl; decided = refl; transfers = refl; connection = refl; connected = refl; more = λ a i. i };
+      same = record { channel = refl; committed = refl; expired = refl; offered = refl; acknowledged = refl; decided = refl; fates = refl; transfers = refl; connection = refl; connected = refl; more = λ a i. i };
       told = λ p f. absurd (none_some (sym e ∙ f));
     }
     at (Some q) e = record {
       world = happens v (Acknowledge q);
       reached = more c v (Acknowledge q) r (connected, e);
-      same = record { channel = refl; committed = refl; expired = refl; offered = refl; acknowledged = refl; decided = refl; transfers = refl; connection = refl; connected = refl; more = λ a i. inr i };
+      same = record { channel = refl; committed = refl; expired = refl; offered = refl; acknowledged = refl; decided = refl; fates = refl; transfers = refl; connection = refl; connected = refl; more = λ a i. inr i };
       told = λ p f. (record { position = q; connection = v.connection }, inl refl, some_is q p (sym e ∙ f), refl);
     }
 

@@ -20,6 +20,7 @@ use Rattle.mqb_base.specs.declared.message.Lane.TheVariants as lane
 use Rattle.mqb_base.specs.declared.message.Message.{Message}
 use Rattle.mqb_base.specs.declared.queues.EntryPlace.{EntryPlace}
 use Rattle.mqb_fate.specs.Asking.{is_ordinary}
+use Rattle.mqb_fate.specs.Orders.{acked_by, is_final_class}
 use Rattle.mqb_fate.specs.declared.orders.OrderAck.{OrderAck}
 use Rattle.mqb_orders.specs.Judging.{verdict_of}
 use Rattle.mqb_orders.specs.declared.judging.Verdict.{Verdict}
@@ -48,7 +49,7 @@ use Rattle.mqb_model.specs.calls.Take.{first_in, take_at, take_position, take_re
 use Rattle.mqb_model.specs.calls.hear.Hear.{hear_acknowledgement, hear_behind, hear_linked, hear_refusal, hear_user, listening}
 use Rattle.mqb_model.specs.calls.hear.Plain.{hear_arriving, hear_express, hear_final, hear_in_order, hear_message, hear_plain, hear_recoverable, hear_stored}
 use Rattle.mqb_model.specs.calls.hear.Session.{HeardOutcome, Listening, ack_heard, discarded, heard_as, is_foreign, is_from, no_head, numbers_released, peer_heard, user_heard}
-use Rattle.mqb_model.specs.calls.hear.Streams.{acknowledged_in, duplicate_heard, has_sequence, hear_in_stream, hear_order_ack, index_for, judged, order_acked, owing, raises}
+use Rattle.mqb_model.specs.calls.hear.Streams.{acknowledged_in, duplicate_heard, has_sequence, hear_in_stream, hear_order_ack, index_for, judged, may_acknowledge, order_acked, owing, raises}
 use Rattle.mqb_model.specs.calls.pump.Candidates.{Candidate, candidates}
 use Rattle.mqb_model.specs.calls.pump.Choosing.{chosen}
 use Rattle.mqb_model.specs.calls.pump.Pump.{marks_for, pump_at, pump_linked, pump_owed, pump_refusal, pump_to, pump_with, sending_chosen}
@@ -67,7 +68,7 @@ use Rattle.mqb_model.specs.managers.Manager.{Manager, is_down, linked_peer}
 use Rattle.mqb_model.specs.managers.Outcomes.{Outcome, answering, recording, unless}
 use Rattle.mqb_model.specs.records.Commit.{sends_of}
 use Rattle.mqb_model.specs.records.Finals.{is_final}
-use Rattle.mqb_model.specs.records.Packets.{is_too_large}
+use Rattle.mqb_model.specs.records.Packets.{is_recoverable, is_too_large}
 use Rattle.mqb_model.specs.records.Record.{Part, Record}
 use Rattle.mqb_model.specs.records.Record as entry
 use Rattle.mqb_model.specs.rules.Arrivals.{refusal_of}
@@ -78,9 +79,10 @@ use Rattle.mqb_model.specs.state.Places.{is_express}
 use Rattle.mqb_model.specs.state.Resolving.{is_for_order_layer, resolved}
 use Rattle.mqb_model.specs.state.Rows.{in_row}
 use Rattle.mqb_model.specs.state.State.{State}
+use Rattle.mqb_history.specs.Acked.{is_order_ack}
 use Rattle.mqb_history.specs.Calls.{Call, Commit, CreateQueue, Hear, Pump, Purge, Resend, Send, SetRoll, Take, Tick, answerless, outcome_of}
 use Rattle.mqb_history.proofs.Asking.{IfAsked, IsOfOps, ops_asked}
-use Rattle.mqb_history.proofs.Lists.{clash, split_and}
+use Rattle.mqb_history.proofs.Lists.{clash, none_some, split_and}
 use Rattle.mqb_history.proofs.Names.{same_guid_is}
 use Rattle.mqb_history.proofs.Trying.{IfTried, ops_tried}
 
@@ -88,13 +90,25 @@ use Rattle.mqb_history.proofs.Trying.{IfTried, ops_tried}
 abbrev pub IsPlainPacket : UserPacket → Type 0
 IsPlainPacket p = (p.tx ≡ None) × (is_express p.message.delivery ≡ false)
 
+-- an order acknowledgement for a manager was heard, and acknowledges an ordinal up to a number
+pub record IsAckHeard (own : Guid) (x : Packet) (ordinal number : ℕ) : Type 0 where
+  pub given : UserPacket
+  pub heard : x ≡ packet.User given
+  pub to : given.to ≡ own
+  pub plain : given.tx ≡ None
+  pub kind : is_order_ack given.message ≡ true
+  pub ack : OrderAck
+  pub read : acked_by given.message.body ≡ Some ack
+  pub ordinal_is : ordinal ≡ ack.sequence.ordinal
+  pub number_is : number ≡ ack.number
+
 -- the packet of a part was heard, and is for this manager
 abbrev pub PartOf : Guid → Packet → Part → Type 0
 PartOf own x entry.Nothing = Unit {0}
 PartOf own x (entry.Decided p) = (x ≡ packet.User p) × (p.to ≡ own)
 PartOf own x (entry.Stored p) = (x ≡ packet.User p) × (p.to ≡ own) × IsPlainPacket p
-PartOf own x (entry.OrderAcknowledged ordinal number) = Unit {0}
-PartOf own x (entry.Final p) = (x ≡ packet.User p) × (p.to ≡ own) × IsPlainPacket p
+PartOf own x (entry.OrderAcknowledged ordinal number) = IsAckHeard own x ordinal number
+PartOf own x (entry.Final p) = (x ≡ packet.User p) × (p.to ≡ own) × IsPlainPacket p × (is_final_class p.message.class ≡ true)
 
 -- what a transaction sends is asked for, and its numbers are durable ones
 pub record IsCommitOf (s : State) (now : ℕ) (ops : List Op) (sends : List Message) : Type 0 where
@@ -242,16 +256,30 @@ module _ (p : UserPacket) (l : Listening) (own : p.to ≡ l.manager.state.identi
   stream_of tx = either_heard x l (is_ordinary p.message) (judged l p tx (verdict_of (in_row l.manager.state p.message) tx)) (discarded l)
       (judged_of tx (verdict_of (in_row l.manager.state p.message) tx)) (heard_nothing x l heard.Discarded)
 
-  order_ack_of : (ack : OrderAck) → HearsRightly x l (hear_order_ack l ack)
-  order_ack_of ack = either_heard x l (list_any (raises (peer_heard l) ack) l.manager.state.outs) (order_acked l ack) (heard_as l entry.Nothing heard.OldAck)
-      (record { entry = tt; beside = tt }) (heard_nothing x l heard.OldAck)
+  order_ack_of : p.tx ≡ None → (ack : OrderAck) → acknowledged_in l.manager.state p.message ≡ Some ack → HearsRightly x l (hear_order_ack l ack)
+  order_ack_of none ack e = either_heard x l (list_any (raises (peer_heard l) ack) l.manager.state.outs) (order_acked l ack) (heard_as l entry.Nothing heard.OldAck)
+      (record {
+        entry = record { given = p; heard = refl; to = own; plain = none; kind = tests.0; ack = ack; read = tests.1; ordinal_is = refl; number_is = refl };
+        beside = tt;
+      }) (heard_nothing x l heard.OldAck)
+    where
+      at : (b : Bool) → may_acknowledge l.manager.state p.message ≡ b → cond b (acked_by p.message.body) None ≡ Some ack → (is_order_ack p.message ≡ true) × (acked_by p.message.body ≡ Some ack)
+      at true f g = ((split_and (is_order_ack p.message) (is_for_order_layer l.manager.state p.message.destination) f).0, g)
+      at false f g = absurd (none_some g)
+
+      tests : (is_order_ack p.message ≡ true) × (acked_by p.message.body ≡ Some ack)
+      tests = at (may_acknowledge l.manager.state p.message) refl e
 
   in_order_of : p.tx ≡ None → HearsRightly x l (hear_in_order l p)
   in_order_of none = at (is_express p.message.delivery) refl
     where
-      recoverable : is_express p.message.delivery ≡ false → (b : Bool) → HearsRightly x l (cond b (hear_final l p) (hear_stored l p))
-      recoverable e true = record { entry = (refl, own, (none, e)); beside = tt }
-      recoverable e false = record { entry = (refl, own, (none, e)); beside = tt }
+      recoverable : is_express p.message.delivery ≡ false → (b : Bool) → is_final l.manager.state p.message ≡ b → HearsRightly x l (cond b (hear_final l p) (hear_stored l p))
+      recoverable e true f = record { entry = (refl, own, (none, e), final_class f); beside = tt }
+        where
+          final_class : is_final l.manager.state p.message ≡ true → is_final_class p.message.class ≡ true
+          final_class g = (split_and (is_recoverable p.message.delivery) (is_final_class p.message.class)
+              (split_and (is_recoverable p.message.delivery && is_final_class p.message.class) (is_for_order_layer l.manager.state p.message.destination) g).0).1
+      recoverable e false f = record { entry = (refl, own, (none, e)); beside = tt }
 
       at : (b : Bool) → is_express p.message.delivery ≡ b → HearsRightly x l (cond b (hear_express l p) (hear_recoverable l p))
       at true e = either_heard x l (is_for_order_layer l.manager.state p.message.destination) (discarded l) (hear_arriving l p.message (refusal_of l.manager.state p))
@@ -260,7 +288,7 @@ module _ (p : UserPacket) (l : Listening) (own : p.to ≡ l.manager.state.identi
             entry = some_unless l.manager.state (Hear l.now x) (length (numbers_released l) == 0) (entry.Arrived l.now (numbers_released l) entry.Nothing) tt;
             beside = (p, refl, refl, e);
           })
-      at false e = recoverable e (is_final l.manager.state p.message)
+      at false e = recoverable e (is_final l.manager.state p.message) refl
 
   user_of : (in_order : Bool) → HearsRightly x l (hear_user l in_order p)
   user_of in_order = by p.tx refl
@@ -269,12 +297,12 @@ module _ (p : UserPacket) (l : Listening) (own : p.to ≡ l.manager.state.identi
       message none true = in_order_of none
       message none false = heard_nothing x l heard.Discarded
 
-      acks : p.tx ≡ None → (o : Option OrderAck) → HearsRightly x l (option_map_or (hear_order_ack l) o (hear_message l in_order p))
-      acks none None = message none in_order
-      acks none (Some ack) = order_ack_of ack
+      acks : p.tx ≡ None → (o : Option OrderAck) → acknowledged_in l.manager.state p.message ≡ o → HearsRightly x l (option_map_or (hear_order_ack l) o (hear_message l in_order p))
+      acks none None e = message none in_order
+      acks none (Some ack) e = order_ack_of none ack e
 
       by : (o : Option TxHead) → p.tx ≡ o → HearsRightly x l (option_map_or (hear_in_stream l p) o (hear_plain l in_order p))
-      by None e = acks e (acknowledged_in l.manager.state p.message)
+      by None e = acks e (acknowledged_in l.manager.state p.message) refl
       by (Some tx) e = stream_of tx
 
 closed_of : (m : Manager) (now : ℕ) (p : UserPacket) (why : Cause) (session : one_end.State) → IsOutcomeOf m.state (Hear now (packet.User p)) (hear_behind m now p (head.Closed why) session)

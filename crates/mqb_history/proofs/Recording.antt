@@ -8,7 +8,7 @@ use Rattle.mqb_base.specs.declared.ledger.Line.{Line}
 use Rattle.mqb_base.specs.declared.message.Lane.TheVariants as lane
 use Rattle.mqb_base.specs.declared.queue_names.QueueName.{QueueName}
 use Rattle.mqb_entries.specs.declared.members.Mark.{Mark}
-use Rattle.mqb_exactly_once.specs.World.{Channel, Commitment, Position, StreamWorld}
+use Rattle.mqb_exactly_once.specs.World.{Channel, Commitment, OrderAck, Position, StreamWorld}
 use Rattle.mqb_model.specs.declared.target.Target.TheVariants.{AtPeer}
 use Rattle.mqb_model.specs.records.Applying.{apply, lines_of}
 use Rattle.mqb_model.specs.records.Commit.{sends_of, takes_made}
@@ -24,6 +24,7 @@ use Rattle.mqb_model.specs.state.State.{State}
 use Rattle.mqb_network.specs.Courses.{Written}
 use Rattle.mqb_network.specs.Laws.{lines_written}
 use Rattle.mqb_orders.specs.Rows.{Row}
+use Rattle.mqb_packet.specs.declared.packet.UserPacket.{UserPacket}
 use Rattle.mqb_history.specs.Committed.{commitments, commitments_in}
 use Rattle.mqb_history.specs.Expired.{expiries_told, expiry_told}
 use Rattle.mqb_history.specs.Made.{IsMade}
@@ -31,7 +32,7 @@ use Rattle.mqb_history.specs.Shown.{expiries_to, expiry_to}
 use Rattle.mqb_history.proofs.Applying.{releases_rows, takes_made_rows}
 use Rattle.mqb_history.proofs.Committing.{OrdinalsRise}
 use Rattle.mqb_history.proofs.Enlisting.{leads_same, sends_sourced}
-use Rattle.mqb_history.proofs.Finishing.{IsAckedTruly, final_sourced, order_sourced}
+use Rattle.mqb_history.proofs.Finishing.{IsAckedTruly, MayAck, MayFinish, final_sourced, order_sourced}
 use Rattle.mqb_history.proofs.Lists.{append_nothing}
 use Rattle.mqb_history.proofs.Marked.{AreMarked, IsMarkOf, made_marks}
 use Rattle.mqb_history.proofs.Numbering.{made_offers}
@@ -50,6 +51,16 @@ none_expire d (l ∷ ls) e = at (expiry_told l) refl e (none_expire d ls)
     at : (o : Option Position) → expiry_told l ≡ o → cons_option o (expiries_told ls) ≡ [] → (expiries_told ls ≡ [] → expiries_to d ls ≡ []) → expiries_to d (l ∷ ls) ≡ []
     at None f g rest = ap (λ x. cons_option x (expiries_to d ls)) (no_expiry d l f) ∙ rest g
     at (Some p) f g rest = absurd (let none : ⊥ = cc in none)
+
+-- where a record tells of an order acknowledgement, that is of this connection
+abbrev pub Awaits : QueueName → List OrderAck → ℕ → List Row → Record → Type 0
+Awaits d acks connection outs (entry.Arrived now numbers (entry.OrderAcknowledged ordinal number)) = MayAck d acks connection outs ordinal number
+Awaits d acks connection outs _ = Unit {0}
+
+-- and where it tells of a final one, the fate that this tells is known
+abbrev pub Finishes : QueueName → StreamWorld → List Row → Record → Type 0
+Finishes d v outs (entry.Arrived now numbers (entry.Final p)) = MayFinish d v outs p.message
+Finishes d v outs _ = Unit {0}
 
 module _ (d : QueueName) (peer : ℕ) (c : Channel) (v : StreamWorld) (connected : v.connected ≡ true) (s : State) (ws : List Written) (held : AreMarked s ws) (leads : resolved s d ≡ AtPeer peer)
     (h : IsSourced d peer c v s.outs (commitments ws) (lines_written ws)) where
@@ -93,36 +104,36 @@ module _ (d : QueueName) (peer : ℕ) (c : Channel) (v : StreamWorld) (connected
   releases_outs numbers = (releases_rows (begun s) numbers).outs
 
   acknowledged_part : (now : ℕ) (numbers : List ℕ) (ordinal number : ℕ) → IsAckedTruly d peer v (apply s (entry.Arrived now numbers (entry.OrderAcknowledged ordinal number))).outs
-      → IsSourced d peer c v (apply s (entry.Arrived now numbers (entry.OrderAcknowledged ordinal number))).outs cs ls
-  acknowledged_part now numbers ordinal number truly = order_sourced d peer c v cs ls connected (releases_made s numbers).state.outs ordinal number
-      (subst OrdinalsRise (sym (releases_outs numbers)) rise) truly (sourced_outs d peer c v s.outs (releases_made s numbers).state.outs cs ls (releases_outs numbers) h)
+      → MayAck d v.order_acks v.connection s.outs ordinal number → IsSourced d peer c v (apply s (entry.Arrived now numbers (entry.OrderAcknowledged ordinal number))).outs cs ls
+  acknowledged_part now numbers ordinal number truly may = order_sourced d peer c v cs ls connected (releases_made s numbers).state.outs ordinal number
+      (subst OrdinalsRise (sym (releases_outs numbers)) rise) truly (subst (λ outs. MayAck d v.order_acks v.connection outs ordinal number) (sym (releases_outs numbers)) may) (sourced_outs d peer c v s.outs (releases_made s numbers).state.outs cs ls (releases_outs numbers) h)
 
-  final_part : (now : ℕ) (numbers : List ℕ) (p : _) → IsAckedTruly d peer v (apply s (entry.Arrived now numbers (entry.Final p))).outs
+  final_part : (now : ℕ) (numbers : List ℕ) (p : UserPacket) → IsAckedTruly d peer v (apply s (entry.Arrived now numbers (entry.Final p))).outs → MayFinish d v s.outs p.message
       → IsSourced d peer c v (apply s (entry.Arrived now numbers (entry.Final p))).outs cs ls
-  final_part now numbers p truly = final_sourced d peer c v cs ls connected (releases_made s numbers).state p.message
-      (subst OrdinalsRise (sym (releases_outs numbers)) rise) truly (sourced_outs d peer c v s.outs (releases_made s numbers).state.outs cs ls (releases_outs numbers) h)
+  final_part now numbers p truly may = final_sourced d peer c v cs ls connected (releases_made s numbers).state p.message
+      (subst OrdinalsRise (sym (releases_outs numbers)) rise) truly (subst (λ outs. MayFinish d v outs p.message) (sym (releases_outs numbers)) may) (sourced_outs d peer c v s.outs (releases_made s numbers).state.outs cs ls (releases_outs numbers) h)
 
   marks_part : (marks : List Mark) → IsMade s (entry.Offered marks) → IsSourced d peer c v (apply s (entry.Offered marks)).outs cs ls
   marks_part marks made = offered_sourced d peer c v s ws held.0.0 h marks (made_offers s (entry.Offered marks) rise made).1
       (all_of (IsMarkOf s.outs) marks (λ mark i. made_marks s (entry.Offered marks) made mark i))
 
-  pub record_sourced : (r : Record) → IsMade s r → IsAckedTruly d peer v (apply s r).outs → IsSourced d peer c v (apply s r).outs (cs ++ commitments_in s r) (ls ++ lines_of s r)
-  record_sourced (entry.Identity identity) made truly = quiet (entry.Identity identity) tt refl refl
-  record_sourced (entry.Peer other) made truly = absurd made
-  record_sourced (entry.CreateQueue number plan) made truly = quiet (entry.CreateQueue number plan) tt refl refl
-  record_sourced (entry.Commit now ops) made truly = with_lines (entry.Commit now ops) (apply s (entry.Commit now ops)).outs (cs ++ commitments_in s (entry.Commit now ops)) tt (committed now ops)
-  record_sourced (entry.Plain now p) made truly = quiet (entry.Plain now p) tt refl (plain_sent_rows (numbers_taken s 1) p.message now).outs
-  record_sourced (entry.Offered marks) made truly = with_outs (entry.Offered marks) tt refl (marks_part marks made)
-  record_sourced (entry.Arrived now numbers entry.Nothing) made truly = quiet (entry.Arrived now numbers entry.Nothing) tt refl (releases_outs numbers)
-  record_sourced (entry.Arrived now numbers (entry.Decided p)) made truly = quiet (entry.Arrived now numbers (entry.Decided p)) tt refl
+  pub record_sourced : (r : Record) → IsMade s r → IsAckedTruly d peer v (apply s r).outs → Awaits d v.order_acks v.connection s.outs r → Finishes d v s.outs r → IsSourced d peer c v (apply s r).outs (cs ++ commitments_in s r) (ls ++ lines_of s r)
+  record_sourced (entry.Identity identity) made truly awaits ends = quiet (entry.Identity identity) tt refl refl
+  record_sourced (entry.Peer other) made truly awaits ends = absurd made
+  record_sourced (entry.CreateQueue number plan) made truly awaits ends = quiet (entry.CreateQueue number plan) tt refl refl
+  record_sourced (entry.Commit now ops) made truly awaits ends = with_lines (entry.Commit now ops) (apply s (entry.Commit now ops)).outs (cs ++ commitments_in s (entry.Commit now ops)) tt (committed now ops)
+  record_sourced (entry.Plain now p) made truly awaits ends = quiet (entry.Plain now p) tt refl (plain_sent_rows (numbers_taken s 1) p.message now).outs
+  record_sourced (entry.Offered marks) made truly awaits ends = with_outs (entry.Offered marks) tt refl (marks_part marks made)
+  record_sourced (entry.Arrived now numbers entry.Nothing) made truly awaits ends = quiet (entry.Arrived now numbers entry.Nothing) tt refl (releases_outs numbers)
+  record_sourced (entry.Arrived now numbers (entry.Decided p)) made truly awaits ends = quiet (entry.Arrived now numbers (entry.Decided p)) tt refl
       (decided_outs now (releases_made s numbers) p p.tx ∙ releases_outs numbers)
-  record_sourced (entry.Arrived now numbers (entry.Stored p)) made truly = let e = releases_made s numbers in quiet (entry.Arrived now numbers (entry.Stored p)) tt refl
+  record_sourced (entry.Arrived now numbers (entry.Stored p)) made truly awaits ends = let e = releases_made s numbers in quiet (entry.Arrived now numbers (entry.Stored p)) tt refl
       ((arrived_rows e.state p.message now (storing_refusal e.state p)).outs ∙ releases_outs numbers)
-  record_sourced (entry.Arrived now numbers (entry.OrderAcknowledged ordinal number)) made truly = with_outs (entry.Arrived now numbers (entry.OrderAcknowledged ordinal number)) tt refl
-      (acknowledged_part now numbers ordinal number truly)
-  record_sourced (entry.Arrived now numbers (entry.Final p)) made truly = with_outs (entry.Arrived now numbers (entry.Final p)) tt refl (final_part now numbers p truly)
-  record_sourced (entry.Taken now at id) made truly = quiet (entry.Taken now at id) tt refl (taken_rows at id now (begun s)).outs
-  record_sourced (entry.Purged now at) made truly = quiet (entry.Purged now at) tt refl (purged_rows lane.Durable at now (begun s)).outs
-  record_sourced (entry.Ticked now) made truly = subst (λ xs. IsSourced d peer c v (apply s (entry.Ticked now)).outs xs (ls ++ lines_of s (entry.Ticked now))) (sym (append_nothing cs))
+  record_sourced (entry.Arrived now numbers (entry.OrderAcknowledged ordinal number)) made truly awaits ends = with_outs (entry.Arrived now numbers (entry.OrderAcknowledged ordinal number)) tt refl
+      (acknowledged_part now numbers ordinal number truly awaits)
+  record_sourced (entry.Arrived now numbers (entry.Final p)) made truly awaits ends = with_outs (entry.Arrived now numbers (entry.Final p)) tt refl (final_part now numbers p truly ends)
+  record_sourced (entry.Taken now at id) made truly awaits ends = quiet (entry.Taken now at id) tt refl (taken_rows at id now (begun s)).outs
+  record_sourced (entry.Purged now at) made truly awaits ends = quiet (entry.Purged now at) tt refl (purged_rows lane.Durable at now (begun s)).outs
+  record_sourced (entry.Ticked now) made truly awaits ends = subst (λ xs. IsSourced d peer c v (apply s (entry.Ticked now)).outs xs (ls ++ lines_of s (entry.Ticked now))) (sym (append_nothing cs))
       (ticked_sourced d peer c v cs s ws now held.0 h)
-  record_sourced (entry.Roll count) made truly = quiet (entry.Roll count) tt refl refl
+  record_sourced (entry.Roll count) made truly awaits ends = quiet (entry.Roll count) tt refl refl

@@ -1,5 +1,5 @@
 -- Each record at a destination: a stream world goes on by what it decides in the channel.
-use Rattle.std.proofs.Common.{refl, ap, sym, subst, ◌∙◌}
+use Rattle.std.proofs.Common.{refl, ap, sym, subst, ◌∙◌, inl, inr}
 use Rattle.std.specs.List.{cons_option}
 use Rattle.std.specs.Option.{option_map_or}
 use Rattle.std.specs.Prelude.{[], ◌&&◌, ◌++◌, ◌==◌, ◌∷◌, ◌≡◌, Bool, List, None, Option, Some, cond, false, find, nat_le, not, option_map, reverse, true, ℕ}
@@ -9,10 +9,11 @@ use Rattle.mqb_base.specs.declared.class.TheConstants.Class.{BAD_DESTINATION, ME
 use Rattle.mqb_base.specs.declared.heads.TxHead.{TxHead}
 use Rattle.mqb_base.specs.declared.message.Delivery.{Delivery}
 use Rattle.mqb_base.specs.declared.message.Message.{Message}
-use Rattle.mqb_exactly_once.specs.Outcomes.{Outcome, is_late}
-use Rattle.mqb_exactly_once.specs.Steps.{Arrive, decided_after, decision, happens, verdict}
+use Rattle.mqb_exactly_once.proofs.Growing.{in_decided_after}
+use Rattle.mqb_exactly_once.specs.Outcomes.{Departure, Outcome, Put, Refused, Was_put, is_late}
+use Rattle.mqb_exactly_once.specs.Steps.{Arrive, decided_after, decision, fates_after, happens, verdict}
 use Rattle.mqb_exactly_once.specs.Words.{In, position_of, row}
-use Rattle.mqb_exactly_once.specs.World.{Channel, Decision, StreamWorld, Transfer}
+use Rattle.mqb_exactly_once.specs.World.{Channel, Decision, KnownFate, Position, StreamWorld, Transfer}
 use Rattle.mqb_model.specs.Lists.{first_where}
 use Rattle.mqb_model.specs.declared.target.Target.{Target}
 use Rattle.mqb_model.specs.declared.target.Target.TheVariants.{AtPeer, Here, Nowhere}
@@ -26,6 +27,7 @@ use Rattle.mqb_model.specs.state.Rows.{is_row_of}
 use Rattle.mqb_model.specs.state.State.{State}
 use Rattle.mqb_network.specs.Courses.{Written}
 use Rattle.mqb_orders.specs.Judging.{verdict_of}
+use Rattle.mqb_orders.specs.declared.judging.Verdict.{Verdict}
 use Rattle.mqb_orders.specs.declared.judging.Verdict.TheVariants as verdicts
 use Rattle.mqb_orders.specs.declared.rows.InRow.{InRow}
 use Rattle.mqb_packet.specs.declared.packet.UserPacket.{UserPacket}
@@ -122,12 +124,27 @@ pub record IsSameAtSource (v w : StreamWorld) : Type 0 where
 pub same_at_source : (w : StreamWorld) → IsSameAtSource w w
 same_at_source w = record { channel = refl; committed = refl; expired = refl; offered = refl; acknowledged = refl; transfers = refl; order_acks = refl; connection = refl; connected = refl }
 
+-- a message that was put came to this fate
+abbrev pub IsOfPut : KnownFate → Type 0
+IsOfPut f = (departure : Departure) × (f.fate ≡ Was_put departure)
+
+-- an arrival tells no such fate
+arrival_fates : (v : Verdict) (p : Position) (outcome : Outcome) (fs : List KnownFate) (f : KnownFate) → IsOfPut f → In f (fates_after v p outcome fs) → In f fs
+arrival_fates verdicts.Next p Put fs f put i = i
+arrival_fates verdicts.Next p (Refused reason) fs f put (inl e) = absurd (let same = ap (λ (x : KnownFate). x.fate) e ∙ put.1 in let none : ⊥ = cc in none)
+arrival_fates verdicts.Next p (Refused reason) fs f put (inr i) = i
+arrival_fates verdicts.Duplicate p outcome fs f put i = i
+arrival_fates verdicts.Gap p outcome fs f put i = i
+arrival_fates verdicts.Stale p outcome fs f put i = i
+
 -- from a world a run goes on at the destination to one that shows these rows and records
 pub record IsRuled (c : Channel) (v : StreamWorld) (ins : List InRow) (ws : List Written) : Type 0 where
   pub world : StreamWorld
   pub reached : Reached c world
   pub same : IsSameAtSource v world
   pub shown : ShowsDestination c ins ws world.decided
+  pub more : (d : Decision) → In d v.decided → In d world.decided
+  pub puts : (f : KnownFate) → IsOfPut f → In f world.fates → In f v.fates
 
 -- decisions of one record more
 made_more : (c : Channel) (ws : List Written) (w : Written) → decisions_made c (ws ++ w ∷ []) ≡ decisions_made c ws ++ cons_option (decision_in c w.before w.entry) []
@@ -142,6 +159,8 @@ module _ (c : Channel) (v : StreamWorld) (reached : Reached c v) (channel : v.ch
     world = v;
     reached = reached;
     same = same_at_source v;
+    more = λ d i. i;
+    puts = λ f put i. i;
     shown = record {
       decisions = h.decisions ∙ ap reverse (sym (made_more c ws (record { by = i; before = s; entry = r }) ∙ ap (λ o. decisions_made c ws ++ cons_option o []) none ∙ append_nothing (decisions_made c ws)));
       row = same ∙ h.row;
@@ -184,6 +203,8 @@ module _ (c : Channel) (v : StreamWorld) (reached : Reached c v) (channel : v.ch
       world = z;
       reached = more c v (Arrive g.transfer outcome) reached ((connected, g.connection), g.there, late_by s p ∙ sym g.late ∙ ap (λ (m : Message). m.reach == 0) (sym g.message));
       same = record { channel = refl; committed = refl; expired = refl; offered = refl; acknowledged = refl; transfers = refl; order_acks = refl; connection = refl; connected = refl };
+      more = λ x i. in_decided_after (verdict v g.transfer) (decision g.transfer outcome) v.decided x i;
+      puts = λ f put i. arrival_fates (verdict v g.transfer) (position_of g.transfer.head) outcome v.fates f put i;
       shown = record {
         decisions = after ∙ ap (λ ds. made ∷ ds) h.decisions ∙ sym (ap reverse (made_more c ws (record { by = i; before = s; entry = r }) ∙ ap (λ o. decisions_made c ws ++ cons_option o []) (own_decision e))
             ∙ reverse_last (decisions_made c ws) made);

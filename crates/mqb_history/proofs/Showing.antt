@@ -2,42 +2,54 @@
 use Rattle.mqb_packet.specs.declared.packet.Packet.TheVariants as packet
 use Rattle.mqb_packet.specs.declared.packet.UserPacket.{UserPacket}
 use Rattle.mqb_history.specs.Calls.{Pump, outcome_of}
-use Rattle.mqb_history.specs.Acked.{is_order_ack}
+use Rattle.mqb_history.specs.Acked.{IsDecidedThere, is_order_ack}
 use Rattle.mqb_history.proofs.Spelling.{SpellsRow}
 use Rattle.mqb_history.proofs.Receipting.{AreTelling}
 use Rattle.std.proofs.Common.{refl, ap, sym, subst, ◌∙◌, inl, inr}
 use Rattle.std.specs.List.{list_any}
 use Rattle.std.specs.Prelude.{[], ◌-◌, ◌<◌, ◌==◌, ◌||◌, ◌∷◌, ◌≡◌, Bool, IfSome, List, None, Option, Some, cond, false, option_map, slice_get, suc, true, unwrap_or, zero, ℕ}
 use Rattle.mqb_base.specs.declared.ids.Identity.{Identity}
+use Rattle.mqb_base.specs.Same.{same_name}
+use Rattle.mqb_base.specs.declared.ledger.Line.{Line}
 use Rattle.mqb_base.specs.declared.queue_names.QueueName.{QueueName}
 use Rattle.mqb_exactly_once.proofs.Always.{always, is_exactly_once}
 use Rattle.mqb_exactly_once.specs.Runs.{IsRun, after}
 use Rattle.mqb_exactly_once.specs.Steps.{Connect, End, happens}
 use Rattle.mqb_exactly_once.specs.Words.{In}
-use Rattle.mqb_exactly_once.specs.World.{Channel, StreamWorld, start}
+use Rattle.mqb_exactly_once.specs.Outcomes.{Departure, Put}
+use Rattle.mqb_exactly_once.specs.World.{Channel, Commitment, Decision, KnownFate, StreamWorld, start}
 use Rattle.mqb_model.specs.Lists.{first_where}
 use Rattle.mqb_model.specs.managers.Manager.{Manager, doubt_of}
 use Rattle.mqb_model.specs.state.Rows.{is_row_of}
 use Rattle.mqb_model.specs.state.State.{State, empty}
 use Rattle.mqb_network.specs.Courses.{Course}
-use Rattle.mqb_network.specs.Laws.{AreApart}
+use Rattle.mqb_network.specs.Laws.{AreApart, lines_written}
 use Rattle.mqb_network.specs.Network.{Connection, Note, formatted, is_end, manager_at, nobody, others}
 use Rattle.mqb_network.specs.Runs.{beginning}
 use Rattle.mqb_queue.specs.Places.{numbered}
+use Rattle.mqb_orders.specs.Rows.{Row}
+use Rattle.mqb_history.specs.Committed.{commitments}
 use Rattle.mqb_history.specs.Decided.{written_of}
+use Rattle.mqb_history.specs.Fates.{ShowsFates, departure_line}
+use Rattle.mqb_history.specs.Finals.{AreFatesTold, KnowsFate}
 use Rattle.mqb_history.specs.Orderly.{IsItself, IsOrderly}
-use Rattle.mqb_history.specs.Shown.{AreExactlyOnce, AreShown, IsShown, Leads, Shows, ShowsDestination, ShowsPackets, channel_of, joins, ShowsReceipts}
+use Rattle.mqb_history.specs.Shown.{AreExactlyOnce, AreShown, IsShown, Leads, Shows, ShowsDestination, ShowsFinals, ShowsPackets, ShowsReceipts, channel_of, commitments_to, decisions_made, fate_of, joins, to_destination}
+use Rattle.mqb_history.proofs.Answering.{IsCredible}
 use Rattle.mqb_history.proofs.Between.{AreEnds}
 use Rattle.mqb_history.proofs.Carrying.{IsCarrying, carrying_begins, carrying_closed}
 use Rattle.mqb_history.proofs.Chained.{Route, change_linked, channel_on, route_apart}
 use Rattle.mqb_history.proofs.Deciding.{joined_ins}
 use Rattle.mqb_history.proofs.Enlisting.{leads_same}
 use Rattle.mqb_history.proofs.Keeping.{IsClosed}
-use Rattle.mqb_history.proofs.Linked.{IsAckedAt, IsLinked}
-use Rattle.mqb_history.proofs.Lists.{clash, equal_numbers, get_within, none_some, split_and, within_get}
+use Rattle.mqb_history.proofs.Linked.{FinalsDepart, IsAckedAt, IsLinked}
+use Rattle.mqb_history.proofs.Lists.{clash, equal_numbers, get_within, none_some, some_is, split_and, within_get}
+use Rattle.mqb_history.proofs.Names.{same_name_is}
 use Rattle.mqb_history.proofs.Numbering.{joined_outs}
 use Rattle.mqb_history.proofs.Orderly.{begins_orderly, map_get}
+use Rattle.mqb_history.proofs.Reaching.{Reached, chosen_from, in_reverse, in_reversed}
+use Rattle.mqb_history.proofs.Recording.{Awaits}
 use Rattle.mqb_history.proofs.Ruling.{MayRule}
+use Rattle.mqb_history.proofs.Settling.{ArePutsTold, all_told, settled, settled_reached, shows_fates, told_all, told_now, told_reached}
 use Rattle.mqb_history.proofs.Sourcing.{AreRowsShown}
 use Rattle.mqb_history.proofs.Storage.{IsStoring, begins_storing, storing_closed}
 
@@ -86,6 +98,8 @@ begins_linked known i j d r = record {
   packets = λ k note p tx e. absurd (none_numbered k note e);
   receipts = λ k note p e. absurd (none_numbered k note e);
   doubt = subst (λ o. IfSome o (MayRule ch [] 1)) (sym (begun_doubt known j)) tt;
+  fates = λ p departure inside. absurd inside;
+  awaits = subst (λ o. IfSome o (Awaits d [] 1 (manager_at (beginning known).network i).state.outs)) (sym (begun_doubt known i)) tt;
 }
   where
     ch : Channel
@@ -96,7 +110,10 @@ module _ (known : List Identity) (apart : AreApart known) (A : Course → Type 0
     (acked : (c : Course) → A c → (i j : ℕ) (d : QueueName) (r : Route known i j d) → IsAckedAt c i j (channel_on known i j d r) d r.peer)
     (telling : (c : Course) → A c → (a : ℕ) → AreTelling (manager_at c.network a).state (written_of a c.written))
     (spells : (c : Course) → A c → (a now : ℕ) (p : UserPacket) → In (packet.User p) (outcome_of (manager_at c.network a) (Pump now)).packets → p.tx ≡ None → is_order_ack p.message ≡ true
-    → SpellsRow (manager_at c.network a).state p.to p.message) where
+    → SpellsRow (manager_at c.network a).state p.to p.message)
+    (credible : (c : Course) → A c → IsCredible known c)
+    (decider_is : (c : Course) → A c → (i j : ℕ) (d : QueueName) (r : Route known i j d) (row : Row) (n : ℕ) → row.peer ≡ r.peer → (there : IsDecidedThere c i row n) → there.decider ≡ j)
+    (departs : (c : Course) → A c → (i : ℕ) → FinalsDepart c i) where
   pub record IsChained (c : Course) : Type 0 where
     pub carrying : IsCarrying known c
     pub storing : IsStoring known c
@@ -110,8 +127,8 @@ module _ (known : List Identity) (apart : AreApart known) (A : Course → Type 0
       carrying = carrying;
       storing = (storing_closed known apart).keeps c x may h.storing;
       acks = acks;
-      linked = λ i j d r. change_linked known apart i j d r c h.carrying.0.0 h.carrying.0.1 h.carrying h.storing.1 (spells c h.acks) x may (acked _ acks i j d r) carrying.0.1 (telling _ acks)
-          (h.linked i j d r);
+      linked = λ i j d r. change_linked known apart i j d r c h.carrying.0.0 h.carrying.0.1 h.carrying h.storing.1 (spells c h.acks) (credible c h.acks) (decider_is c h.acks i j d r) x may
+          (acked _ acks i j d r) carrying.0.1 (telling _ acks) (departs _ acks i) (h.linked i j d r);
     };
   }
 
@@ -168,20 +185,82 @@ ends_of i j e differ h = at (e.first == i) refl (e.second == i) refl (e.first ==
     at false f true g false k false l x y = absurd (clash (sym y))
     at false f false g r k s l x y = absurd (clash (sym x))
 
-module _ (known : List Identity) (c : Course) (i j : ℕ) (d : QueueName) (o : IsOrderly known c) (r : Route known i j d) (h : IsLinked c i j (channel_on known i j d r) d r.peer) where
+-- what left a queue left that of the manager which put it
+abbrev pub LeaveTheirQueues : Course → Type 0
+LeaveTheirQueues c = (j : ℕ) (channel : Channel) (x : Decision) (departure : Departure) → In x (decisions_made channel (written_of j c.written)) → x.outcome ≡ Put
+    → In (departure_line departure x.message.id) (lines_written c.written) → In (departure_line departure x.message.id) (lines_written (written_of j c.written))
+
+module _ (known : List Identity) (c : Course) (i j : ℕ) (d : QueueName) (o : IsOrderly known c) (r : Route known i j d) (leave : LeaveTheirQueues c) (finals : AreFatesTold c)
+    (h : IsLinked c i j (channel_on known i j d r) d r.peer) where
   abbrev own_channel : Channel
   own_channel = channel_of c.network i d
 
-  same : channel_on known i j d r ≡ own_channel
+  abbrev ch : Channel
+  ch = channel_on known i j d r
+
+  same : ch ≡ own_channel
   same = ap (λ g. record { source = g; destination = d }) (sym (ap (λ (x : Identity). x.guid) (subst (λ x. IfSome x (λ y. IsItself known y (manager_at c.network i).state)) r.own_there (o.themselves i)).identity))
 
   standing : (e : Connection) → In e c.network.connections → joins i j e ≡ true → e.number ≡ h.number
   standing e inside t = h.standing e inside (ends_of i j e (route_apart known i j d r) t)
 
+  -- Whatever left its queue is known, and told.
+
+  abbrev ledger : List Line
+  ledger = lines_written (written_of j c.written)
+
+  decided_in : (x : Decision) → In x h.world.decided → In x (decisions_made ch (written_of j c.written))
+  decided_in x inside = in_reversed (decisions_made ch (written_of j c.written)) x (subst (In x) h.decided.decisions inside)
+
+  puts_own : ArePutsTold ledger h.world.decided h.world.fates
+  puts_own p departure inside = let x = h.fates p departure inside in
+      record { decision = x.decision; there = x.there; position = x.position; put = x.put; told = leave j ch x.decision departure (decided_in x.decision x.there) x.put x.told }
+
+  abbrev with_fates : StreamWorld
+  with_fates = settled h.world ledger
+
+  abbrev world : StreamWorld
+  world = all_told with_fates
+
+  fates : ShowsFates ledger world.decided world.fates
+  fates = shows_fates ch h.world ledger h.reached puts_own
+
+  reached : Reached ch world
+  reached = told_reached ch with_fates (settled_reached ch h.world ledger h.reached) h.connected
+
+  finals_shown : ShowsFinals i j world.committed c.network.notes c.sent h.number world.connection world.final_acks
+  finals_shown k note p x e f t is sender receiver inside named = (told_now world.connection fate, told_all with_fates fate (fates.known knows.decision (fate_of p.message.class) there knows.fate), knows.position, refl, λ n. refl)
+    where
+      from : (y : Commitment) × In y (commitments (written_of i c.written)) × (to_destination d y ≡ Some x)
+      from = chosen_from (to_destination d) (commitments (written_of i c.written)) x (in_reversed (commitments_to d (commitments (written_of i c.written))) x (subst (In x) h.committed inside))
+
+      is_to : (y : Commitment) → to_destination d y ≡ Some x → (y ≡ x) × (y.message.destination ≡ d)
+      is_to y g = at (same_name y.message.destination d) refl g
+        where
+          at : (b : Bool) → same_name y.message.destination d ≡ b → cond b (Some y) None ≡ Some x → (y ≡ x) × (y.message.destination ≡ d)
+          at true m n = (some_is y x n, same_name_is y.message.destination d m)
+          at false m n = absurd (none_some n)
+
+      to : (from.0 ≡ x) × (from.0.message.destination ≡ d)
+      to = is_to from.0 from.2
+
+      knows : KnowsFate c i j x p.message.class
+      knows = subst (λ n. KnowsFate c i n x p.message.class) sender (finals k note p e f t is i x (λ n. route_apart known i j d r (n ∙ sender))
+          (subst (λ y. In y (commitments (written_of i c.written))) to.0 from.1) named)
+
+      fate : KnownFate
+      fate = record { position = knows.decision.position; fate = fate_of p.message.class }
+
+      there : In knows.decision h.world.decided
+      there = subst (In knows.decision) (sym h.decided.decisions) (in_reverse (decisions_made ch (written_of j c.written)) knows.decision
+          (subst (λ z. In knows.decision (decisions_made z (written_of j c.written))) (sym same)
+          (subst (λ n. In knows.decision (decisions_made (channel_of c.network i n) (written_of j c.written))) (ap (λ (y : Commitment). y.message.destination) (sym to.0) ∙ to.1) knows.there)))
+
   -- with the connection as it is
   shown_by : (w : StreamWorld) → w.channel ≡ h.world.channel → w.committed ≡ h.world.committed → w.expired ≡ h.world.expired → w.offered ≡ h.world.offered → w.acknowledged ≡ h.world.acknowledged
-      → w.decided ≡ h.world.decided → w.connection ≡ h.world.connection → w.transfers ≡ h.world.transfers → w.order_acks ≡ h.world.order_acks → w.connected ≡ list_any (joins i j) c.network.connections → Shows c i j d w
-  shown_by w channel committed expired offered acknowledged decided connection transfers order_acks connected = record {
+      → w.decided ≡ h.world.decided → w.fates ≡ world.fates → w.connection ≡ h.world.connection → w.transfers ≡ h.world.transfers → w.order_acks ≡ h.world.order_acks → w.final_acks ≡ world.final_acks
+      → w.connected ≡ list_any (joins i j) c.network.connections → Shows c i j d w
+  shown_by w channel committed expired offered acknowledged decided known_fates connection transfers order_acks final_acks connected = record {
     channel = channel ∙ h.channel ∙ same;
     at_source = record {
       commits = committed ∙ h.committed;
@@ -190,6 +269,7 @@ module _ (known : List Identity) (c : Course) (i j : ℕ) (d : QueueName) (o : I
     };
     at_destination = subst (λ ds. ShowsDestination own_channel (manager_at c.network j).state.ins (written_of j c.written) ds) (sym decided)
         (subst (λ (x : Channel). ShowsDestination x (manager_at c.network j).state.ins (written_of j c.written) h.world.decided) same h.decided);
+    fates = subst (λ ds. ShowsFates ledger ds w.fates) (sym decided) (subst (ShowsFates ledger h.world.decided) (sym known_fates) fates);
     number = h.number;
     standing = standing;
     between = subst (λ ts. ShowsPackets i j d c.network.notes c.sent h.number w.connection ts) (sym transfers)
@@ -197,30 +277,33 @@ module _ (known : List Identity) (c : Course) (i j : ℕ) (d : QueueName) (o : I
     back = subst (λ acks. ShowsReceipts i j own_channel (written_of j c.written) c.network.notes c.sent h.number w.connection acks) (sym order_acks)
         (subst (λ n. ShowsReceipts i j own_channel (written_of j c.written) c.network.notes c.sent h.number n h.world.order_acks) (sym connection)
         (subst (λ (x : Channel). ShowsReceipts i j x (written_of j c.written) c.network.notes c.sent h.number h.world.connection h.world.order_acks) same h.receipts));
+    finals = subst (λ cs. ShowsFinals i j cs c.network.notes c.sent h.number w.connection w.final_acks) (sym committed)
+        (subst (λ n. ShowsFinals i j h.world.committed c.network.notes c.sent h.number n w.final_acks) (sym connection)
+        (subst (ShowsFinals i j h.world.committed c.network.notes c.sent h.number h.world.connection) (sym final_acks) finals_shown));
     connected = connected;
   }
 
-  shown_from : IsRun own_channel h.reached.steps → after own_channel h.reached.steps ≡ h.world → IsShown c i j d
+  shown_from : IsRun own_channel reached.steps → after own_channel reached.steps ≡ world → IsShown c i j d
   shown_from run end = at (list_any (joins i j) c.network.connections) refl
     where
       at : (b : Bool) → list_any (joins i j) c.network.connections ≡ b → IsShown c i j d
       at true e = record {
-        steps = h.reached.steps;
+        steps = reached.steps;
         run = run;
-        shown = subst (Shows c i j d) (sym end) (shown_by h.world refl refl refl refl refl refl refl refl refl (h.connected ∙ sym e));
+        shown = subst (Shows c i j d) (sym end) (shown_by world refl refl refl refl refl refl refl refl refl refl refl (h.connected ∙ sym e));
       }
       at false e = record {
-        steps = End ∷ h.reached.steps;
+        steps = End ∷ reached.steps;
         run = (tt, run);
-        shown = subst (λ w. Shows c i j d (happens w End)) (sym end) (shown_by (happens h.world End) refl refl refl refl refl refl refl refl refl (sym e));
+        shown = subst (λ w. Shows c i j d (happens w End)) (sym end) (shown_by (happens world End) refl refl refl refl refl refl refl refl refl refl refl (sym e));
       }
 
   pub is_shown : IsShown c i j d
-  is_shown = shown_from (subst (λ x. IsRun x h.reached.steps) same h.reached.run) (subst (λ x. after x h.reached.steps ≡ h.world) same h.reached.end)
+  is_shown = shown_from (subst (λ x. IsRun x reached.steps) same reached.run) (subst (λ x. after x reached.steps ≡ world) same reached.end)
 
 -- each channel of a course
-pub are_shown : (known : List Identity) (c : Course) → IsOrderly known c → ((i j : ℕ) (d : QueueName) (r : Route known i j d) → IsLinked c i j (channel_on known i j d r) d r.peer) → AreShown c
-are_shown known c o h i j d leads = let r = route_of known c i j d o leads in is_shown known c i j d o r (h i j d r)
+pub are_shown : (known : List Identity) (c : Course) → IsOrderly known c → LeaveTheirQueues c → AreFatesTold c → ((i j : ℕ) (d : QueueName) (r : Route known i j d) → IsLinked c i j (channel_on known i j d r) d r.peer) → AreShown c
+are_shown known c o leave finals h i j d leads = let r = route_of known c i j d o leads in is_shown known c i j d o r leave finals (h i j d r)
 
 -- and it is exactly once
 pub are_exactly_once : (c : Course) → AreShown c → AreExactlyOnce c

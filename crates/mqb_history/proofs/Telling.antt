@@ -134,7 +134,7 @@ lines_tell_decisions = lines_tell
 
 -- The commitments that lines tell.
 
-abbrev told_joins : List Line → List Joined
+abbrev pub told_joins : List Line → List Joined
 told_joins ls = filter_map commitment_told ls
 
 -- the last row that leads to a destination has that one
@@ -238,7 +238,7 @@ record_joins s (entry.Roll count) = refl
 
 -- The law.
 
-abbrev AreJoinsTold : State → List Written → Type 0
+abbrev pub AreJoinsTold : State → List Written → Type 0
 AreJoinsTold s ws = told_joins (lines_written ws) ≡ map (joined_by s.identity.guid) (commitments ws)
 
 pub lines_more : (ws : List Written) (w : Written) → lines_written (ws ++ w ∷ []) ≡ lines_written ws ++ lines_of w.before w.entry
@@ -249,7 +249,7 @@ map_append : (own : Guid) (xs ys : List Commitment) → map (joined_by own) (xs 
 map_append own [] ys = refl
 map_append own (x ∷ xs) ys = ap (λ js. joined_by own x ∷ js) (map_append own xs ys)
 
-joins_by_records : IsByRecords AreJoinsTold
+pub joins_by_records : IsByRecords AreJoinsTold
 joins_by_records = record {
   starts = λ own peers. refl;
   quiet = λ a b ws same h. h ∙ ap (λ (i : Identity). map (joined_by i.guid) (commitments ws)) (sym same.manager.identity);

@@ -95,7 +95,7 @@ module _ (known : List Identity) (apart : AreApart known) (c : Course) (o : IsOr
 
   -- What was put.
 
-  put_line : (id : MessageId) → In id (told_by put_in c) → (stream : Stream) × (number : ℕ) × Told c (line.Put stream number id)
+  pub put_line : (id : MessageId) → In id (told_by put_in c) → (stream : Stream) × (number : ℕ) × Told c (line.Put stream number id)
   put_line id i = let l = told_from put_in (lines_written c.written) id i in by l.0 l.2 l.1
     where
       by : (x : Line) → put_in x ≡ Some id → Told c x → (stream : Stream) × (number : ℕ) × Told c (line.Put stream number id)

@@ -57,15 +57,15 @@ abbrev HasPeer : State → Type 0
 HasPeer s = (k : ℕ) × (peer : Identity) × (slice_get s.peers k ≡ Some peer)
 
 -- a packet of a stream is offered, and did not expire
-record StandsFor (s : State) (ws : List Written) (tx : TxHead) : Type 0 where
+pub record StandsFor (s : State) (ws : List Written) (tx : TxHead) : Type 0 where
   pub stands : StandsIn s (mark_of tx)
   pub lasts : HasExpired (lines_written ws) tx.sequence tx.number → ⊥
 
 -- the packets that a manager sent are
-abbrev AreKept : List Packet → State → List Written → Type 0
+abbrev pub AreKept : List Packet → State → List Written → Type 0
 AreKept sent s ws = (p : UserPacket) (tx : TxHead) → In (packet.User p) sent → p.tx ≡ Some tx → p.message.id.qm ≡ s.identity.guid → HasPeer s → StandsFor s ws tx
 
-abbrev Holds : List Packet → State → List Written → Type 0
+abbrev pub Holds : List Packet → State → List Written → Type 0
 Holds sent s ws = KeepsLeft s ws × AreKept sent s ws
 
 -- what a record lets expire stands above
@@ -236,7 +236,7 @@ hearing_sent None p now failure c = refl
 hearing_sent (Some note) None now failure c = refl
 hearing_sent (Some note) (Some p) now failure c = calls_sent note.receiver (Hear now p) failure c
 
-abbrev AllHold : Course → Type 0
+abbrev pub AllHold : Course → Type 0
 AllHold c = (i : ℕ) → OfManager (Holds c.sent) i c
 
 quiet_holds : (known : List Identity) (c : Course) (x : Change) → may_change c x ≡ true → IsOrderly known c → (changed x c).sent ≡ c.sent → AllHold c → AllHold (changed x c)
@@ -254,30 +254,30 @@ change_holds known apart c (Restarts i) may o led h = quiet_holds known c (Resta
 change_holds known apart c (Finds i) may o led h = quiet_holds known c (Finds i) may o refl h
 change_holds known apart c (Fails i) may o led h = quiet_holds known c (Fails i) may o refl h
 
-abbrev IsHolding : List Identity → Course → Type 0
+abbrev pub IsHolding : List Identity → Course → Type 0
 IsHolding known c = IsOrderlyWith known AreLed c × AllHold c
 
-holding_closed : (known : List Identity) → AreApart known → IsClosed known (IsHolding known)
+pub holding_closed : (known : List Identity) → AreApart known → IsClosed known (IsHolding known)
 holding_closed known apart = record {
   orderly = λ c h. h.0.0;
   keeps = λ c x may h. ((by_records known AreLed apart led_by_records).keeps c x may h.0, change_holds known apart c x may h.0.0 h.0.1 h.1);
 }
 
-begins_holding : (known : List Identity) → AllHold (beginning known)
-begins_holding known i = ((begins_with known KeepsLeft left_by_records).1 i, λ p tx inside e qm peer. absurd inside)
+pub begins_holding : (known : List Identity) → IsHolding known (beginning known)
+begins_holding known = (begins_with known AreLed led_by_records, λ i. ((begins_with known KeepsLeft left_by_records).1 i, λ p tx inside e qm peer. absurd inside))
+
+pub unexpired_of : (known : List Identity) (c : Course) → IsHolding known c → (j : ℕ) (own : Identity) → slice_get known j ≡ Some own → (p : UserPacket) (tx : TxHead) → In (packet.User p) c.sent
+    → p.tx ≡ Some tx → p.message.id.qm ≡ own.guid → (k : ℕ) (peer : Identity) → slice_get (others known own) k ≡ Some peer
+    → In (position_of tx) (expiries_told (lines_written (written_of j c.written))) → ⊥
+unexpired_of known c h j own there p tx inside e qm k peer has = ((h.1 j).1 p tx inside e (qm ∙ ap (λ (x : Identity). x.guid) (sym self.identity)) (k, peer, ap (λ ps. slice_get ps k) self.peers ∙ has)).lasts
+  where
+    self : IsItself known own (manager_at c.network j).state
+    self = subst (λ x. IfSome x (λ y. IsItself known y (manager_at c.network j).state)) there (h.0.0.themselves j)
 
 -- At each point of each run.
 pub always_unexpired : (known : List Identity) → AreApart known → (ms : List Move) → IsRun known ms → (kept : ℕ → Bool) → (j : ℕ) (own : Identity) → slice_get known j ≡ Some own
     → (p : UserPacket) (tx : TxHead) → In (packet.User p) (settled kept (after_run known ms)).sent → p.tx ≡ Some tx → p.message.id.qm ≡ own.guid
     → (k : ℕ) (peer : Identity) → slice_get (others known own) k ≡ Some peer
     → In (position_of tx) (expiries_told (lines_written (written_of j (settled kept (after_run known ms)).written))) → ⊥
-always_unexpired known apart ms run kept j own there p tx inside e qm k peer has = ((h.1 j).1 p tx inside e (qm ∙ ap (λ (x : Identity). x.guid) (sym self.identity)) (k, peer, ap (λ ps. slice_get ps k) self.peers ∙ has)).lasts
-  where
-    c : Course
-    c = settled kept (after_run known ms)
-
-    h : IsHolding known (settled kept (after_run known ms))
-    h = always_kept known (IsHolding known) (holding_closed known apart) ms run kept (begins_with known AreLed led_by_records, begins_holding known)
-
-    self : IsItself known own (manager_at (settled kept (after_run known ms)).network j).state
-    self = subst (λ x. IfSome x (λ y. IsItself known y (manager_at (settled kept (after_run known ms)).network j).state)) there (h.0.0.themselves j)
+always_unexpired known apart ms run kept = unexpired_of known (settled kept (after_run known ms))
+    (always_kept known (IsHolding known) (holding_closed known apart) ms run kept (begins_holding known))

@@ -28,7 +28,7 @@ use Rattle.mqb_queue.specs.First.{index_named, is_queue}
 use Rattle.mqb_queue.specs.Lists.{Lists, messages_in}
 use Rattle.mqb_queue.specs.Places.{Queue, lists_at, numbered}
 use Rattle.mqb_history.proofs.Committing.{in_append, in_end}
-use Rattle.mqb_history.proofs.Fates.{Frame, IsFair, IsFairExpress, IsFailureOf, IsMissOf, IsTold, IsWaiting, Keeps, ListsFair, PlainFair, WaitsFairly, from_get, keeps_more, late_fate, purged_fate, received_fate, swept_fate}
+use Rattle.mqb_history.proofs.Fates.{Frame, IsFair, IsFairExpress, IsFailureOf, IsMetBy, IsMissOf, IsTold, IsWaiting, Keeps, ListsFair, PlainFair, WaitsFairly, from_get, keeps_more, late_fate, purged_fate, received_fate, swept_fate}
 use Rattle.mqb_history.proofs.Fairly.{dropped_fair, meets_keeps, plain_keeps, put_keeps, without_keeps}
 use Rattle.mqb_history.proofs.Lists.{all_append, all_weaker}
 use Rattle.mqb_history.proofs.Staying.{after_purge_rows, after_take_rows, lapsed_one, swept_one}
@@ -153,20 +153,22 @@ take_rightly f n at m = by (is_queue at)
     by true = tt
     by false = tt
 
-after_take_keeps : (f : Frame) (T : Line → Type 0) (s : State) (at : EntryPlace) (m : Message) (now : ℕ) → IsFair T m → Keeps f T s → Keeps f T (after_take s at m now)
-after_take_keeps f T s (place.Queue n) m now g h = meets_keeps f T (copied s n m) m RECEIVED now g (received_fate T m.id) (by (numbered s.places.queues n))
+after_take_keeps : (kind : Lane) (f : Frame) (T : Line → Type 0) (s : State) (at : EntryPlace) (m : Message) (now : ℕ) → (kind ≡ lane.Durable → T (take_line at m)) → LaneFair kind T m
+    → Keeps f T s → Keeps f T (after_take s at m now)
+after_take_keeps kind f T s (place.Queue n) m now known g h = meets_keeps f T (copied s n m) m RECEIVED now g.0
+    (received_fate T m.id (told_by kind T (IsMetBy RECEIVED) (line.Took m.id) m known (refl, refl) g.0 g.1)) (by (numbered s.places.queues n))
   where
     journal : (b : Bool) → Keeps f T (cond b (put_at s (place.JournalOf n) m) s)
-    journal true = put_keeps f T s (place.JournalOf n) m g h
+    journal true = put_keeps f T s (place.JournalOf n) m g.0 h
     journal false = h
 
     by : (o : Option Queue) → Keeps f T (option_map_or (λ q. cond q.plan.journal (put_at s (place.JournalOf n) m) s) o s)
     by None = h
     by (Some q) = journal q.plan.journal
-after_take_keeps f T s (place.JournalOf n) m now g h = h
-after_take_keeps f T s place.Dead m now g h = h
-after_take_keeps f T s place.DeadXact m now g h = h
-after_take_keeps f T s place.Journal m now g h = h
+after_take_keeps kind f T s (place.JournalOf n) m now known g h = h
+after_take_keeps kind f T s place.Dead m now known g h = h
+after_take_keeps kind f T s place.DeadXact m now known g h = h
+after_take_keeps kind f T s place.Journal m now known g h = h
 
 pub taken_at_walks : (kind : Lane) (f : Frame) (ls : List Line) (at : EntryPlace) (k now : ℕ) (e : Effect) → OfLane kind f ls e → OfLane kind f ls (taken_at kind at k now e)
 taken_at_walks kind f ls at k now e h = by (message_at kind e.state at k) refl
@@ -174,7 +176,7 @@ taken_at_walks kind f ls at k now e h = by (message_at kind e.state at k) refl
     by : (o : Option Message) → message_at kind e.state at k ≡ o → OfLane kind f ls (option_map_or (λ m. joined e (message_taken kind at k now e.state m)) o e)
     by None f = h
     by (Some m) there = leaves kind f ls e (take_line at m) (after_take (without_at kind e.state at k) at m now)
-        (λ T known g. after_take_keeps f T (without_at kind e.state at k) at m now (some_of (LaneFair kind T) (message_at kind e.state at k) m there (placed_fair kind f T e.state at k g)).0
+        (λ T known g. after_take_keeps kind f T (without_at kind e.state at k) at m now known (some_of (LaneFair kind T) (message_at kind e.state at k) m there (placed_fair kind f T e.state at k g))
         (without_keeps f T kind e.state at k g))
         (after_take_rows (without_at kind e.state at k) at m now).numbers (inl (take_rightly f (after_take (without_at kind e.state at k) at m now).next_number at m)) h
 
@@ -207,7 +209,8 @@ oldest_walks kind f ls at now e h = by (message_at kind e.state at 0) refl
         → OfLane kind f ls (joined e (with_line (cond b (line.Purged m.id) (line.Emptied m.id)) (cond b (meets left m QUEUE_PURGED now) left)))
     purges m there true le = leaves kind f ls e (line.Purged m.id) (meets left m QUEUE_PURGED now)
         (λ T known g. let fair = some_of (LaneFair kind T) (message_at kind e.state at 0) m there (placed_fair kind f T e.state at 0 g) in
-        meets_keeps f T left m QUEUE_PURGED now fair.0 (purged_fate T m.id (told_by kind T IsMissOf (line.Purged m.id) m known refl fair.0 fair.1)) (without_keeps f T kind e.state at 0 g))
+        meets_keeps f T left m QUEUE_PURGED now fair.0 (purged_fate T m.id (told_by kind T IsMissOf (line.Purged m.id) m known refl fair.0 fair.1)
+        (told_by kind T (IsMetBy QUEUE_PURGED) (line.Purged m.id) m known (refl, refl) fair.0 fair.1)) (without_keeps f T kind e.state at 0 g))
         le (inl tt) h
     purges m there false le = leaves kind f ls e (line.Emptied m.id) left (λ T known g. without_keeps f T kind e.state at 0 g) le (inl tt) h
 
@@ -245,7 +248,8 @@ lapsed_walks kind f ls now k e h = at (slice_get e.state.plain k) refl
     one : (p : PlainLists) → slice_get e.state.plain k ≡ Some p → (index : ℕ) (o : Outgoing) → slice_get (outgoing_in kind p) index ≡ Some o
         → OfLane kind f ls (joined e (message_lapsed kind now k index e.state o.message))
     one p there index o inside = leaves kind f ls e (line.Lapsed m.id) after
-        (λ T known g. let fair = (waiting T g).fair in meets_keeps f T left m REACH_TIMEOUT now fair.0 (late_fate T m.id (told_by kind T IsFailureOf (line.Lapsed m.id) m known refl fair.0 fair.1))
+        (λ T known g. let fair = (waiting T g).fair in meets_keeps f T left m REACH_TIMEOUT now fair.0 (late_fate T m.id (told_by kind T IsFailureOf (line.Lapsed m.id) m known refl fair.0 fair.1)
+        (told_by kind T (IsMetBy REACH_TIMEOUT) (line.Lapsed m.id) m known refl fair.0 fair.1))
         (plain_keeps f T e.state k (without kind index) g (λ q d. dropped_fair f T g.goes e.state.next_number k kind index q d)))
         le (rightly kind refl) h
       where
@@ -293,7 +297,8 @@ swept_walks kind f ls now k e h = at (slice_get e.state.places.queues k) refl
     one : (q : Queue) → slice_get e.state.places.queues k ≡ Some q → (index : ℕ) (m : Message) → slice_get (messages_in kind q.lists) index ≡ Some m
         → OfLane kind f ls (joined e (message_swept kind now (k + 1) index e.state m))
     one q there index m inside = leaves kind f ls e (line.Swept m.id) (meets left m RECEIVE_TIMEOUT now)
-        (λ T known g. let fair = held T g in meets_keeps f T left m RECEIVE_TIMEOUT now fair.0 (swept_fate T m.id (told_by kind T IsMissOf (line.Swept m.id) m known refl fair.0 fair.1))
+        (λ T known g. let fair = held T g in meets_keeps f T left m RECEIVE_TIMEOUT now fair.0 (swept_fate T m.id (told_by kind T IsMissOf (line.Swept m.id) m known refl fair.0 fair.1)
+        (told_by kind T (IsMetBy RECEIVE_TIMEOUT) (line.Swept m.id) m known (refl, refl) fair.0 fair.1))
         (without_keeps f T kind e.state (place.Queue (k + 1)) index g))
         (swept_one kind now (k + 1) index e.state m).numbers (inl tt) h
       where

@@ -50,7 +50,7 @@ module _ (known : List Identity) (apart : AreApart known) (c : Course) (o : IsOr
     theirs : IsItself known r.other (state_at j)
     theirs = subst (λ x. IfSome x (λ y. IsItself known y (state_at j))) r.other_there (o.themselves j)
 
-    it_is : (row : Row) (n : ℕ) → row.peer ≡ r.peer → (there : IsDecidedThere c i row n) → there.decider ≡ j
+    pub it_is : (row : Row) (n : ℕ) → row.peer ≡ r.peer → (there : IsDecidedThere c i row n) → there.decider ≡ j
     it_is row n same there = one_manager known c there.decider j apart (decider_known there.decider channel (record { sequence = row.sequence; number = n }) there.decided)
         (record { own = r.other; there = r.other_there; guid = guid }) (there.leads.is ∙ peer ∙ sym guid)
       where

@@ -17,7 +17,9 @@ pub mod Acked
 pub mod Led
 pub mod Laws
 pub mod Stored
+pub mod Fates
 pub mod Shown
+pub mod Finals
 pub mod Invariants
 pub mod Choosing
 pub mod Leading

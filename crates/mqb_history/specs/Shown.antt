@@ -1,26 +1,28 @@
 -- How a course shows a stream world: there is one for each ordered pair of managers, and each destination that leads from one to the other.
 use Rattle.std.specs.List.{list_any}
-use Rattle.std.specs.Prelude.{◌&&◌, ◌<◌, ◌==◌, ◌≡◌, Bool, IsTrue, List, None, Option, Some, filter_map, if◌then◌else◌, length, option_map, reverse, slice_get, ℕ}
+use Rattle.std.specs.Prelude.{◌&&◌, ◌<◌, ◌==◌, ◌≡◌, Bool, IsTrue, List, None, Option, Some, filter_map, if◌then◌else◌, length, not, option_map, reverse, slice_get, ℕ}
 use Rattle.mqb_base.specs.Same.{same_name}
 use Rattle.mqb_base.specs.declared.class.Class.{Class}
-use Rattle.mqb_base.specs.declared.class.TheConstants.Class.{BAD_DESTINATION, QUEUE_NOT_TRANSACTIONAL, REACH_TIMEOUT}
+use Rattle.mqb_base.specs.declared.class.TheConstants.Class.{BAD_DESTINATION, QUEUE_NOT_TRANSACTIONAL, QUEUE_PURGED, REACH_TIMEOUT, RECEIVED, RECEIVE_TIMEOUT}
 use Rattle.mqb_base.specs.declared.heads.TxHead.{TxHead}
 use Rattle.mqb_base.specs.declared.ledger.Line.{Line}
 use Rattle.mqb_base.specs.declared.ledger.Line.TheVariants as line
+use Rattle.mqb_base.specs.declared.message.Message.{Message}
 use Rattle.mqb_base.specs.declared.queue_names.QueueName.{QueueName}
 use Rattle.mqb_exactly_once.specs.ExactlyOnce.{ExactlyOnce}
-use Rattle.mqb_exactly_once.specs.Outcomes.{Bad_destination, Outcome, Put, Queue_not_transactional, Quota_exceeded, Reach_timeout, Refusal, Refused}
+use Rattle.mqb_exactly_once.specs.Outcomes.{Bad_destination, MessageFate, Outcome, Put, Queue_not_transactional, Queue_purged, Quota_exceeded, Reach_timeout, Receive_timeout, Received, Refusal, Refused, Was_put, Was_refused}
 use Rattle.mqb_exactly_once.specs.Runs.{IsRun, after}
 use Rattle.mqb_exactly_once.specs.Steps.{StreamStep}
 use Rattle.mqb_exactly_once.specs.Words.{In, row}
-use Rattle.mqb_exactly_once.specs.World.{Channel, Commitment, Decision, Expiry, OrderAck, Position, StreamWorld, Transfer}
+use Rattle.mqb_exactly_once.specs.World.{Channel, Commitment, Decision, Expiry, FinalAck, OrderAck, Position, StreamWorld, Transfer}
 use Rattle.mqb_base.specs.declared.ids.SequenceId.{SequenceId}
-use Rattle.mqb_fate.specs.Orders.{ack_body}
+use Rattle.mqb_fate.specs.Orders.{ack_body, is_final_class}
 use Rattle.mqb_model.specs.Lists.{first_where}
 use Rattle.mqb_model.specs.declared.target.Target.TheVariants.{AtPeer}
 use Rattle.mqb_model.specs.records.Record.{Record}
 use Rattle.mqb_model.specs.records.Record as entry
 use Rattle.mqb_model.specs.rules.Arrivals.{refusal_of}
+use Rattle.mqb_model.specs.state.Places.{is_express}
 use Rattle.mqb_model.specs.state.Resolving.{resolved}
 use Rattle.mqb_model.specs.state.Rows.{is_row_of}
 use Rattle.mqb_model.specs.state.State.{State}
@@ -36,6 +38,7 @@ use Rattle.mqb_queue.specs.Places.{numbered}
 use Rattle.mqb_history.specs.Committed.{commitments}
 use Rattle.mqb_history.specs.Acked.{is_order_ack}
 use Rattle.mqb_history.specs.Decided.{decisions, position_in, written_of}
+use Rattle.mqb_history.specs.Fates.{ShowsFates}
 
 -- The channel of a manager and a destination.
 
@@ -140,20 +143,41 @@ abbrev pub ShowsReceipts : (i j : ℕ) → Channel → List Written → List Not
 ShowsReceipts i j c written notes sent number connection acks = (k : ℕ) (note : Note) (p : UserPacket) → numbered notes k ≡ Some note → numbered sent k ≡ Some (packet.User p)
     → p.tx ≡ None → IsTrue (is_order_ack p.message) → note.sender ≡ j → note.receiver ≡ i → IsReceipt c written note p number connection acks
 
+-- the fate that the class of a final acknowledgement tells
+abbrev pub fate_of : Class → MessageFate
+fate_of class = if class.0 == RECEIVED.0 then Was_put Received
+    else if class.0 == QUEUE_PURGED.0 then Was_put Queue_purged
+    else if class.0 == RECEIVE_TIMEOUT.0 then Was_put Receive_timeout
+    else Was_refused (reason_of class)
+
+-- a message of a class by which a source hears of the end of another one
+abbrev pub is_final_ack : Message → Bool
+is_final_ack m = not (is_express m.delivery) && is_final_class m.class
+
+-- Each such message that ever went back and names one of the channel is a final acknowledgement of the world, of the fate that its class tells. Those of the connection of a number are of the
+-- present one.
+abbrev pub ShowsFinals : (i j : ℕ) → List Commitment → List Note → List Packet → (number connection : ℕ) → List FinalAck → Type 0
+ShowsFinals i j committed notes sent number connection acks = (k : ℕ) (note : Note) (p : UserPacket) (x : Commitment)
+    → numbered notes k ≡ Some note → numbered sent k ≡ Some (packet.User p) → p.tx ≡ None → IsTrue (is_final_ack p.message)
+    → note.sender ≡ j → note.receiver ≡ i → In x committed → x.message.id ≡ p.message.correlation
+    → (a : FinalAck) × In a acks × (a.position ≡ x.position) × (a.fate ≡ fate_of p.message.class) × (note.connection ≡ number → a.connection ≡ connection)
+
 -- two managers are the ends of a connection
 abbrev pub joins : ℕ → ℕ → Connection → Bool
 joins i j d = is_end i d && is_end j d
 
--- The course shows this world of the channel from one manager to another. Its fates and final acknowledgements are left open.
+-- The course shows this world of the channel from one manager to another.
 pub record Shows (c : Course) (i j : ℕ) (destination : QueueName) (w : StreamWorld) : Type 0 where
   pub channel : w.channel ≡ channel_of c.network i destination
   pub at_source : ShowsSource destination (manager_at c.network i).state.outs (written_of i c.written) w.committed w.expired w.offered w.acknowledged
   pub at_destination : ShowsDestination (channel_of c.network i destination) (manager_at c.network j).state.ins (written_of j c.written) w.decided
+  pub fates : ShowsFates (lines_written (written_of j c.written)) w.decided w.fates
   -- the packets of the connection that stands, if one does, are of the present one
   pub number : ℕ
   pub standing : (d : Connection) → In d c.network.connections → IsTrue (joins i j d) → d.number ≡ number
   pub between : ShowsPackets i j destination c.network.notes c.sent number w.connection w.transfers
   pub back : ShowsReceipts i j (channel_of c.network i destination) (written_of j c.written) c.network.notes c.sent number w.connection w.order_acks
+  pub finals : ShowsFinals i j w.committed c.network.notes c.sent number w.connection w.final_acks
   pub connected : w.connected ≡ list_any (joins i j) c.network.connections
 
 -- a run of the stream world reaches a world that the course shows

@@ -6,6 +6,7 @@
 ghost use Rattle.mqb_history.specs.Laws.{AlwaysAcknowledgedTruly, AlwaysAcknowledgingTruly, AlwaysBegunInOrder, AlwaysCarriedTruly, AlwaysCommittedInOrder, AlwaysDecidedAcross, AlwaysDecidedByOne, AlwaysDecidedInOrder, AlwaysDecidedTruly, AlwaysDecidedWhereLed, AlwaysExactlyOnce, AlwaysExpiredDuly, AlwaysMachineInvariant, AlwaysOffersKept, AlwaysShown, AlwaysStreamInvariant, AlwaysToldCommitments, AlwaysUndecided, AlwaysUnskipped, AlwaysWaiting, AlwaysWaitingUntilDecided, DecisionsHaveReasons, DownStays, ExpiriesHaveReasons, FailuresAreSettled, HistoriesAreOrderly, LinesTellDecisions, RunsHaveHistories, SentNeverExpires};
 ghost use Rattle.mqb_history.specs.Asked.{CommittedIsAsked};
 ghost use Rattle.mqb_history.specs.Put.{PutIsTheCommittedMessage};
+ghost use Rattle.mqb_history.specs.Finals.{FinalsTellFates};
 ghost use Rattle.mqb_history.specs.Finished.{FinalsHaveReasons};
 ghost use Rattle.mqb_history.specs.Stored.{StorageIsAlwaysKept};
 ghost use Rattle.mqb_history.specs.Truths.{AlwaysTruthful};
@@ -86,6 +87,12 @@ pub fn expiries_have_reasons()
 /// A final acknowledgement changes no row but one that leads to the manager from which it came, and keeps a message that it names and that was offered.
 pub fn finals_have_reasons()
     ensures { FinalsHaveReasons }
+{}
+
+/// A final acknowledgement that names another manager's committed message tells a fate that its sender knows: it refused the message for that reason, or put it
+/// and has a line that says how it left its queue.
+pub fn finals_tell_fates()
+    ensures { FinalsTellFates }
 {}
 
 /// Whatever expires at a manager was committed there, and its time to reach its queue was over.
@@ -197,7 +204,7 @@ pub fn sequences_always_decided_in_order()
 {}
 
 /// Each run of the network is a run of the stream world, for each channel: steps lead to a world that shows what the source committed and let expire, the marks of its
-/// rows, what the destination decided, each packet of the channel, each order acknowledgement that went back, and whether the two are connected.
+/// rows, what the destination decided and which fates it knows, each packet of the channel, each acknowledgement that went back, and whether the two are connected.
 pub fn always_shown()
     ensures { AlwaysShown }
 {}
