@@ -76,7 +76,7 @@ use Rattle.mqb_history.proofs.Truthful.{always_truthful}
 use Rattle.mqb_history.proofs.Undecided.{always_undecided}
 
 -- a member under a number
-numbered_in : {X : Type 0} (xs : List X) (k : ℕ) (x : X) → numbered xs k ≡ Some x → In x xs
+pub numbered_in : {X : Type 0} (xs : List X) (k : ℕ) (x : X) → numbered xs k ≡ Some x → In x xs
 numbered_in {X} xs k x e = at (k == 0) e
   where
     at : (b : Bool) → cond b None (slice_get xs (k - 1)) ≡ Some x → In x xs

@@ -158,3 +158,5 @@ mod Awaiting
 mod Attesting
 mod Informed
 mod Leaves
+mod Counts
+mod Parts

@@ -4,6 +4,8 @@ use Rattle.std.specs.Prelude.{List, ◌<◌, ℕ}
 use Rattle.mqb_base.specs.declared.ids.Guid.{Guid}
 use Rattle.mqb_base.specs.declared.ids.Identity.{Identity}
 use Rattle.mqb_base.specs.declared.ids.MessageId.{MessageId}
+use Rattle.mqb_base.specs.declared.message.Message.{Message}
+use Rattle.mqb_exactly_once.specs.World.{Commitment}
 use Rattle.mqb_network.specs.Courses.{Course}
 use Rattle.mqb_network.specs.Doubts.{settled}
 use Rattle.mqb_network.specs.Network.{manager_at}
@@ -13,7 +15,9 @@ use Rattle.mqb_plain.specs.Plain.{PlainLists}
 use Rattle.mqb_plain.specs.declared.outgoing.Outgoing.{Outgoing}
 use Rattle.mqb_history.specs.Committed.{commitments}
 use Rattle.mqb_history.specs.Decided.{written_of}
-use Rattle.mqb_history.specs.Invariants.{AreListedApart, AreListedBelow, AreOwnBelow, AreSentApart, AreSentBelow}
+use Rattle.mqb_history.specs.Carried.{AreDecidedTruly}
+use Rattle.mqb_history.specs.Told.{AreCommitmentsTold}
+use Rattle.mqb_history.specs.Invariants.{AreListedApart, AreListedBelow, AreOwnBelow, AreSentApart, AreSentBelow, AreTransactional}
 use Rattle.mqb_history.specs.Laws.{AlwaysMachineInvariant}
 use Rattle.mqb_history.proofs.Acknowledged.{always_acknowledged_truly, always_acknowledging_truly, always_waiting_until_decided}
 use Rattle.mqb_history.proofs.Across.{always_decided_across}
@@ -31,11 +35,21 @@ use Rattle.mqb_history.proofs.Numbering.{always_committed_in_order}
 use Rattle.mqb_history.proofs.Offering.{always_offers_kept}
 use Rattle.mqb_history.proofs.Runs.{always_kept}
 use Rattle.mqb_history.proofs.Skipping.{always_unskipped}
-use Rattle.mqb_history.proofs.Storage.{storage_is_always_kept}
+use Rattle.mqb_history.proofs.Storage.{IsStoring, begins_storing, storage_is_always_kept, storing_closed}
 use Rattle.mqb_history.proofs.Telling.{always_told_commitments}
 use Rattle.mqb_history.proofs.Undecided.{IsKnown, always_undecided, committed_one}
 use Rattle.mqb_history.proofs.Waiting.{always_waiting}
 use Rattle.mqb_history.proofs.Witnessing.{always_shown}
+use Rattle.mqb_history.proofs.AskedFor.{committed_is_asked}
+use Rattle.mqb_history.proofs.Copies.{always_copied_rightly}
+use Rattle.mqb_history.proofs.Counts.{sessions_counted}
+use Rattle.mqb_history.proofs.Finality.{finals_tell_fates}
+use Rattle.mqb_history.proofs.Gone.{IsAccounted, always_accounted}
+use Rattle.mqb_history.proofs.Orderly.{begins_orderly}
+use Rattle.mqb_history.proofs.Parts.{express_above, listed_unsent, next_apart, packets_unsent, streams_away}
+use Rattle.mqb_history.proofs.Puts.{IsOfTransaction, all_transact, put_is_the_committed_message}
+use Rattle.mqb_history.proofs.Received.{always_received_truly}
+use Rattle.mqb_history.proofs.Truthful.{always_truthful}
 
 module _ (known : List Identity) (c : Course) (h : IsCredible known c) where
   own_below : AreOwnBelow c
@@ -79,6 +93,12 @@ always_machine_invariant known ms apart run kept = record {
   sent_below = sent_below known c h;
   listed_apart = listed_apart known c h;
   sent_apart = sent_apart known c h;
+  listed_unsent = listed_unsent known apart c accounts told truly;
+  packets_unsent = packets_unsent known apart c accounts told truly;
+  streams_away = streams_away known apart c accounts told truly h (always_carried_truly known ms apart run kept) (always_expired_duly known ms apart run kept) (always_decided_in_order known ms apart run kept);
+  express_above = express_above known apart c accounts;
+  next_apart = next_apart known apart c accounts;
+  transactional = transactional;
   waiting = always_waiting known ms apart run kept;
   waiting_until_decided = always_waiting_until_decided known ms apart run kept;
   expired_duly = always_expired_duly known ms apart run kept;
@@ -94,6 +114,12 @@ always_machine_invariant known ms apart run kept = record {
   acknowledged_truly = always_acknowledged_truly known ms apart run kept;
   begun_in_order = always_begun_in_order known ms apart run kept;
   decided_across = always_decided_across known ms apart run kept;
+  put_truly = put_is_the_committed_message known ms apart run kept;
+  copies_right = always_copied_rightly known ms apart run kept;
+  truthful = always_truthful known ms apart run kept;
+  received_truly = always_received_truly known ms apart run kept;
+  fates_told = finals_tell_fates known ms apart run kept;
+  sessions_counted = sessions_counted c (always_kept known (IsStoring known) (storing_closed known apart) ms run kept (begins_orderly known, begins_storing known)).1;
   released_truly = (storage_is_always_kept known ms apart run kept).0;
   storage_is_kept = (storage_is_always_kept known ms apart run kept).1;
   shown = always_shown known ms apart run kept;
@@ -104,3 +130,18 @@ always_machine_invariant known ms apart run kept = record {
 
     h : IsCredible known c
     h = always_kept known (IsCredible known) (credible_closed known apart) ms run kept (credible_begins known)
+
+    accounts : IsAccounted known c
+    accounts = always_accounted known apart ms run kept
+
+    told : AreCommitmentsTold c
+    told = always_told_commitments known ms apart run kept
+
+    truly : AreDecidedTruly c
+    truly = always_decided_truly known ms apart run kept
+
+    transactional : AreTransactional c
+    transactional i m inside = (
+      all_in (λ (x : Commitment). IsOfTransaction x.message) (commitments (written_of i c.written)) m (all_transact (written_of i c.written)) inside,
+      let asked = committed_is_asked known ms apart run kept i m inside in ap (λ (x : Message). x.class) asked.message,
+    )

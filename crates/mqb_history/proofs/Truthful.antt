@@ -70,7 +70,7 @@ module _ (known : List Identity) (apart : AreApart known) (c : Course) (o : IsOr
       by (line.Lapsed other) e w = absurd (none_some e)
       by (line.Emptied other) e w = absurd (none_some e)
 
-  local_line : (id : MessageId) → In id (told_by local_in c) → Told c (line.Local id)
+  pub local_line : (id : MessageId) → In id (told_by local_in c) → Told c (line.Local id)
   local_line id i = let l = told_from local_in (lines_written c.written) id i in by l.0 l.2 l.1
     where
       by : (x : Line) → local_in x ≡ Some id → Told c x → Told c (line.Local id)

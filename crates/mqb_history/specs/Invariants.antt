@@ -1,14 +1,19 @@
 -- What holds at each point of each run, part by part: of the stream world that a course shows, and of the course itself.
 use Rattle.std.specs.Prelude.{◌<◌, ◌≡◌, ◌≤◌, ◌↔◌, IsFalse, IsTrue, List, None, Some, length, ℕ}
 use Rattle.mqb_base.specs.Sequences.{earlier}
+use Rattle.mqb_base.specs.declared.class.TheConstants.Class.{NORMAL}
+use Rattle.mqb_base.specs.declared.heads.TxHead.{TxHead}
 use Rattle.mqb_base.specs.declared.ids.Identity.{Identity}
 use Rattle.mqb_base.specs.declared.ids.SequenceId.{SequenceId}
+use Rattle.mqb_base.specs.declared.message.Delivery.TheVariants.{Transactional}
+use Rattle.mqb_base.specs.declared.message.Message.{Message}
 use Rattle.mqb_base.specs.declared.queue_names.QueueName.{QueueName}
 use Rattle.mqb_exactly_once.specs.ExactlyOnce.{Differ, IsNumbered, Rises}
 use Rattle.mqb_exactly_once.specs.Steps.{EarlierAcknowledged}
 use Rattle.mqb_exactly_once.specs.Truths.{IsAcknowledgement, IsFate, IsTold, IsTruthful, MarksStand}
 use Rattle.mqb_exactly_once.specs.Words.{In, due, is_decided, kept, last, newest}
 use Rattle.mqb_exactly_once.specs.World.{Commitment, Decision, Expiry, FinalAck, KnownFate, OrderAck, Position, StreamWorld, Transfer}
+use Rattle.mqb_model.specs.declared.limits.TheConstants.{FIRST_EXPRESS}
 use Rattle.mqb_model.specs.state.Places.{is_express}
 use Rattle.mqb_network.specs.Courses.{Course}
 use Rattle.mqb_network.specs.Network.{Note, manager_at}
@@ -21,15 +26,22 @@ use Rattle.mqb_history.specs.Acked.{AreAcknowledgedTruly, AreAcknowledgingTruly,
 use Rattle.mqb_history.specs.Begun.{AreBegunInOrder, AreDecidedAcross}
 use Rattle.mqb_history.specs.Carried.{AreCarriedTruly, AreDecidedTruly}
 use Rattle.mqb_history.specs.Committed.{AreCommittedInOrder, commitments}
+use Rattle.mqb_history.specs.Copies.{AreCopiesRight, sent_in}
 use Rattle.mqb_history.specs.Decided.{IsDecidedInOrder, written_of}
 use Rattle.mqb_history.specs.Expired.{AreExpiredDuly, AreOffersKept}
+use Rattle.mqb_history.specs.Finals.{AreFatesTold}
 use Rattle.mqb_history.specs.Led.{AreDecidedByOne, AreDecidedWhereLed}
 use Rattle.mqb_history.specs.Offered.{AreUndecided}
 use Rattle.mqb_history.specs.Orderly.{IsOrderly}
+use Rattle.mqb_history.specs.Put.{ArePutTruly}
+use Rattle.mqb_history.specs.Received.{IsReceivedTruly}
+use Rattle.mqb_history.specs.Sessions.{AreSessionsCounted}
 use Rattle.mqb_history.specs.Shown.{AreShown, Leads, Shows}
 use Rattle.mqb_history.specs.Skipped.{AreUnskipped}
 use Rattle.mqb_history.specs.Stored.{AreReleasedTruly, IsStorageKept}
 use Rattle.mqb_history.specs.Told.{AreCommitmentsTold}
+use Rattle.mqb_history.specs.Truths.{local_in, noticed, told_by}
+use Rattle.mqb_history.specs.Truths as notices
 use Rattle.mqb_history.specs.Waiting.{AreWaiting}
 
 -- Of a stream world.
@@ -91,6 +103,33 @@ abbrev pub AreSentApart : Course → Type 0
 AreSentApart c = (i k : ℕ) (m : Commitment) (note : Note) (p : UserPacket) → In m (commitments (written_of i c.written)) → numbered c.network.notes k ≡ Some note
     → numbered c.sent k ≡ Some (packet.User p) → p.tx ≡ None → IsFalse (is_express p.message.delivery) → p.message.id ≡ m.message.id → ⊥
 
+-- an express message bears a number from the first express one on, whoever has it, and whatever packet it went in
+abbrev pub AreExpressAbove : Course → Type 0
+AreExpressAbove c = (m : Message) → In m (noticed c) → IsTrue (is_express m.delivery) → FIRST_EXPRESS ≤ m.id.number
+
+-- so does each that a manager will make, and no other does
+abbrev pub AreNextApart : Course → Type 0
+AreNextApart c = (i : ℕ) → i < length c.network.managers
+    → ((manager_at c.network i).state.next_number ≤ FIRST_EXPRESS) × (FIRST_EXPRESS ≤ (manager_at c.network i).state.next_express)
+
+-- a committed message is transactional, and ordinary
+abbrev pub AreTransactional : Course → Type 0
+AreTransactional c = (i : ℕ) (m : Commitment) → In m (commitments (written_of i c.written)) → (m.message.delivery ≡ Transactional) × (m.message.class ≡ NORMAL)
+
+-- no message that waits outside of the streams was sent in a transaction, or put where it was sent
+abbrev pub AreListedUnsent : Course → Type 0
+AreListedUnsent c = (i : ℕ) (p : PlainLists) (o : Outgoing) → In p (manager_at c.network i).state.plain → In o p.recoverable → In o.message.id (told_by sent_in c) → ⊥
+
+-- nor was one that went in a packet outside of the streams, unless it is express
+abbrev pub ArePacketsUnsent : Course → Type 0
+ArePacketsUnsent c = (k : ℕ) (note : Note) (p : UserPacket) → numbered c.network.notes k ≡ Some note → numbered c.sent k ≡ Some (packet.User p) → p.tx ≡ None
+    → IsFalse (is_express p.message.delivery) → In p.message.id (told_by sent_in c) → ⊥
+
+-- and none that went in a packet of a stream was put where it was sent
+abbrev pub AreStreamsAway : Course → Type 0
+AreStreamsAway c = (k : ℕ) (note : Note) (p : UserPacket) (tx : TxHead) → numbered c.network.notes k ≡ Some note → numbered c.sent k ≡ Some (packet.User p) → p.tx ≡ Some tx
+    → In p.message.id (told_by local_in c) → ⊥
+
 pub record MachineInvariant (known : List Identity) (c : Course) : Type 0 where
   -- sessions are connections, there is a note for each packet, and managers stay who they are
   pub orderly : IsOrderly known c
@@ -103,6 +142,15 @@ pub record MachineInvariant (known : List Identity) (c : Course) : Type 0 where
   pub sent_below : AreSentBelow c
   pub listed_apart : AreListedApart c
   pub sent_apart : AreSentApart c
+  -- and none of a transaction, or that was put where it was sent, is one that went or waits in no stream
+  pub listed_unsent : AreListedUnsent c
+  pub packets_unsent : ArePacketsUnsent c
+  pub streams_away : AreStreamsAway c
+  -- express messages have numbers of their own
+  pub express_above : AreExpressAbove c
+  pub next_apart : AreNextApart c
+  -- what is committed is transactional and ordinary
+  pub transactional : AreTransactional c
   -- each of them waits in its row until it is acknowledged, that is decided, or it expired
   pub waiting : AreWaiting c
   pub waiting_until_decided : AreWaitingUntilDecided c
@@ -124,6 +172,15 @@ pub record MachineInvariant (known : List Identity) (c : Course) : Type 0 where
   -- of two sequences to one destination the earlier one is done with first, and is decided first
   pub begun_in_order : AreBegunInOrder c
   pub decided_across : AreDecidedAcross c
+  -- a queue gets the committed message, and each message that is sent in a transaction, or put where it is sent, is in one queue at most, once, and leaves it once
+  pub put_truly : ArePutTruly c
+  pub copies_right : AreCopiesRight c
+  -- notices, and final acknowledgements, tell the truth
+  pub truthful : notices.IsTruthful c
+  pub received_truly : IsReceivedTruly c
+  pub fates_told : AreFatesTold c
+  -- each end of a connection counts what it sends and gets, and what is stored
+  pub sessions_counted : AreSessionsCounted c
   -- what is released was stored where it arrived
   pub released_truly : AreReleasedTruly c
   pub storage_is_kept : IsStorageKept c

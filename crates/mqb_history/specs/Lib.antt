@@ -31,3 +31,4 @@ pub mod Finished
 pub mod Received
 pub mod Copies
 pub mod Twice
+pub mod Sessions

@@ -1,0 +1,94 @@
+-- Each end of a connection counts what it sends and gets, and what is stored.
+use Rattle.std.proofs.Common.{refl, ap, sym, subst, ◌∙◌, arith}
+use Rattle.std.specs.List.{AllByRecursion}
+use Rattle.std.specs.Prelude.{[], ◌&&◌, ◌+◌, ◌++◌, ◌==◌, ◌∷◌, ◌≡◌, ◌≤◌, Bool, IfSome, List, None, Some, cond, false, length, slice_get, suc, take, true, zero, ℕ}
+use Rattle.mqb_base.specs.declared.ids.MessageId.{MessageId}
+use Rattle.mqb_exactly_once.specs.Words.{In}
+use Rattle.mqb_model.specs.managers.Manager.{Manager}
+use Rattle.mqb_network.specs.Courses.{Course, Written}
+use Rattle.mqb_network.specs.Network.{Note, manager_at}
+use Rattle.mqb_packet.specs.declared.packet.Packet.{Packet}
+use Rattle.mqb_packet.specs.declared.packet.Packet.TheVariants as packet
+use Rattle.mqb_packet.specs.declared.packet.UserPacket.{UserPacket}
+use Rattle.mqb_plain.specs.Plain.{PlainLists}
+use Rattle.mqb_plain.specs.declared.outgoing.Outgoing.{Outgoing}
+use Rattle.mqb_queue.specs.Places.{numbered}
+use Rattle.mqb_history.specs.Sessions.{AreSessionsCounted, CountsRightly, packets_from, recoverables, says_stored, session_number, user_packets}
+use Rattle.mqb_history.specs.Stored.{IsStoredIn}
+use Rattle.mqb_history.proofs.Between.{all_in, from_sender}
+use Rattle.mqb_history.proofs.Flowing.{Flows}
+use Rattle.mqb_history.proofs.Heard.{stored_told}
+use Rattle.mqb_history.proofs.Lists.{append_length, none_some, some_is}
+use Rattle.mqb_history.proofs.Pumped.{AreInTurn, IsNumberOf, storable_ids, users_of}
+use Rattle.mqb_history.proofs.Storing.{FlowsIn, KeepsStorage}
+use Rattle.mqb_history.proofs.Unreleased.{IsBorne, PlainWaits}
+
+-- The words of sessions.
+
+packets_same : (d i : ℕ) (notes : List Note) (xs : List Packet) → packets_from d i notes xs ≡ from_sender d i notes xs
+packets_same d i [] [] = refl
+packets_same d i [] (x ∷ xs) = refl
+packets_same d i (note ∷ notes) [] = refl
+packets_same d i (note ∷ notes) (x ∷ xs) = at ((note.connection == d) && (note.sender == i)) (packets_same d i notes xs)
+  where
+    at : (b : Bool) → packets_from d i notes xs ≡ from_sender d i notes xs → cond b (x ∷ packets_from d i notes xs) (packets_from d i notes xs) ≡ cond b (x ∷ from_sender d i notes xs) (from_sender d i notes xs)
+    at true e = ap (λ ys. x ∷ ys) e
+    at false e = e
+
+users_same : (xs : List Packet) → user_packets xs ≡ users_of xs
+users_same [] = refl
+users_same (packet.User p ∷ xs) = ap (λ ps. p ∷ ps) (users_same xs)
+users_same (packet.Establish e ∷ xs) = users_same xs
+users_same (packet.Parameters q ∷ xs) = users_same xs
+users_same (packet.Ack h ∷ xs) = users_same xs
+
+said_same : (x : Packet) → says_stored x ≡ stored_told x
+said_same (packet.User p) = refl
+said_same (packet.Establish e) = refl
+said_same (packet.Parameters q) = refl
+said_same (packet.Ack h) = refl
+
+-- Lists.
+
+in_turn : (n : ℕ) (ps : List UserPacket) (k : ℕ) (p : UserPacket) → AreInTurn n ps → slice_get ps k ≡ Some p → session_number p ≡ n + k + 1
+in_turn n [] k p h e = absurd (none_some e)
+in_turn n (q ∷ ps) zero p h e = let first = h.0 in subst (λ (x : UserPacket). session_number x ≡ n + zero + 1) (some_is q p e) (omega (arith, first))
+in_turn n (q ∷ ps) (suc k) p h e = let rest = in_turn (n + 1) ps k p h.1 e in omega (arith, rest)
+
+taken_first : (got left : List UserPacket) → take (length got) (got ++ left) ≡ got
+taken_first [] left = refl
+taken_first (p ∷ got) left = ap (λ ps. p ∷ ps) (taken_first got left)
+
+-- The ends of a connection.
+
+counts_rightly : (mi mj : Manager) (xs ys : List Packet) (ws : List Written) (h : Flows mi mj xs ys ws) → CountsRightly h.source h.target mi.state.plain xs ys ws
+counts_rightly mi mj xs ys ws h = record {
+  sent = h.sent ∙ ap (λ (ps : List UserPacket). length ps) (sym (users_same xs));
+  recoverable = h.recoverable_sent ∙ ap (λ (ps : List UserPacket). length (recoverables ps)) (sym (users_same xs));
+  numbers = λ k p e. let n = in_turn 0 (users_of xs) k p h.numbered (ap (λ (ps : List UserPacket). slice_get ps k) (sym (users_same xs)) ∙ e) in omega (arith, n);
+  marks = λ lists o n there waits marked. subst (λ (ps : List UserPacket). numbered (recoverables ps) n ≡ Some o.message.id) (sym (users_same xs))
+      (subst (λ m. IfSome m (λ k. IsNumberOf (storable_ids (users_of xs)) k o.message.id)) marked
+      (all_in (IsBorne h.own (IsNumberOf (storable_ids (users_of xs)))) lists.recoverable o (all_in (PlainWaits h.own (IsNumberOf (storable_ids (users_of xs)))) mi.state.plain lists h.waits.plain there).recoverable waits).mark);
+  got = let n = h.count in let all = ap (λ (ps : List UserPacket). length ps) (users_same xs ∙ h.split) in let sum = append_length h.got h.left in omega (arith, n, all, sum);
+  stored = h.stored ∙ ap (λ (ps : List UserPacket). length (recoverables ps)) (sym firsts);
+  kept = λ id inside. all_in (IsStoredIn ws) (storable_ids h.got) id h.kept (subst (λ ps. In id (recoverables ps)) firsts inside);
+  said = λ x inside. subst (λ n. n ≤ h.target.stored) (sym (said_same x)) (all_in (λ y. stored_told y ≤ h.target.stored) ys x h.told inside);
+  acknowledged = h.acked;
+}
+  where
+    firsts : take h.target.got (user_packets xs) ≡ h.got
+    firsts = ap (λ n. take n (user_packets xs)) h.count ∙ ap (take (length h.got)) (users_same xs ∙ h.split) ∙ taken_first h.got h.left
+
+pub sessions_counted : (c : Course) → KeepsStorage c → AreSessionsCounted c
+sessions_counted c k d i j inside ends = record {
+  source = h.source;
+  target = h.target;
+  sends = h.sends;
+  hears = h.hears;
+  counts = subst (λ xs. CountsRightly h.source h.target (manager_at c.network i).state.plain xs (packets_from d.number j c.network.notes c.sent) c.written) (sym (packets_same d.number i c.network.notes c.sent))
+      (subst (λ ys. CountsRightly h.source h.target (manager_at c.network i).state.plain (from_sender d.number i c.network.notes c.sent) ys c.written) (sym (packets_same d.number j c.network.notes c.sent))
+      (counts_rightly (manager_at c.network i) (manager_at c.network j) (from_sender d.number i c.network.notes c.sent) (from_sender d.number j c.network.notes c.sent) c.written h));
+}
+  where
+    h : FlowsIn c.network c.sent c.written i j d.number
+    h = k.flows d inside i j ends
