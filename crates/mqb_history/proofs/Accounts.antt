@@ -44,7 +44,7 @@ use Rattle.mqb_history.proofs.Committing.{in_append}
 use Rattle.mqb_history.proofs.Fated.{IsSent, PartFair, sent_fair}
 use Rattle.mqb_history.proofs.Besides.{BesideFair}
 use Rattle.mqb_history.proofs.Fates.{IsFair, fair_more}
-use Rattle.mqb_history.proofs.Lists.{all_weaker, append_nothing, apart_numbers, equal_numbers, get_within, set_there}
+use Rattle.mqb_history.proofs.Lists.{all_weaker, append_nothing, apart_numbers, clash, equal_numbers, get_within, set_there}
 use Rattle.mqb_history.proofs.Recorded.{BesideOf, IsPlainOf, IsPlainPacket, PartOf, RecordOf, calls_are_of}
 use Rattle.mqb_history.proofs.Written.{other_more, own_more}
 
@@ -265,7 +265,7 @@ recorded_stands all mine past sent s (Some r) fair made may heard h = record_sta
 -- what is sent or heard beside it is fair
 beside_fair : (all : List Line) (sent : List Packet) (s : State) (call : Call) (b : Beside) → AllFair all sent → CallSent sent call → FIRST_EXPRESS ≤ s.next_express → BesideOf s call b → BesideFair (λ l. In l all) b
 beside_fair all sent s call beside.Nothing fair i high h = tt
-beside_fair all sent s (Send now recoverable parts) (beside.SendsExpress at m) fair i high h = (sent_fair (λ l. In l all) m h.1 (λ e. let n = ap (λ (x : MessageId). x.number) h.0 in omega (arith, n, high)), h.2)
+beside_fair all sent s (Send now recoverable parts) (beside.SendsExpress at m) fair i high h = (sent_fair (λ l. In l all) m h.1 (λ e. let n = ap (λ (x : MessageId). x.number) h.0 in omega (arith, n, high)) (λ e. absurd (clash (sym h.2 ∙ e))), h.2)
 beside_fair all sent s (Commit now ops) (beside.SendsExpress at m) fair i high h = absurd h
 beside_fair all sent s (CreateQueue plan) (beside.SendsExpress at m) fair i high h = absurd h
 beside_fair all sent s (SetRoll count) (beside.SendsExpress at m) fair i high h = absurd h

@@ -80,13 +80,16 @@ module _ (all mine : List Line) (past : List State) (sent : List Packet) (s : St
       source : p.message.id.qm ≡ s.identity.guid
       source = ap (λ (i : MessageId). i.qm) may.1
 
+      low : p.message.id.number < FIRST_EXPRESS
+      low = let high = may.2 in omega (arith, number, high)
+
       -- it is put here
       here : is_here (resolved s p.message.destination) ≡ true ⊎ is_here (resolved s p.message.destination) ≡ false → ((k : ℕ) → resolved s p.message.destination ≡ AtPeer k → ⊥)
           → Stands (all ++ lines_of s (entry.Plain now p)) (mine ++ lines_of s (entry.Plain now p)) (past ++ s ∷ []) sent (apply s (entry.Plain now p))
       here b none = let k = begins old.went (s.next_number + 1) (s.next_number + 1) (λ n lt. refl) (omega arith) (omega arith) may.2 in
           walked_stands true all mine past sent s old.went (s.next_number + 1) (effect_of s (entry.Plain now p)) old (λ n lt. refl) manager (record_apart s (entry.Plain now p) tt)
           (record_walks (frame_for s old.went mine (s.next_number + 1)) all s (entry.Plain now p) k.0
-          (may.0, λ j e. absurd (none j e), λ e. record { source = source; low = omega (arith, number); below = omega (arith, number) }))
+          (may.0, λ j e. absurd (none j e), λ e. record { source = source; low = omega (arith, number); below = omega (arith, number) }, low))
 
       by : (t : Target) → resolved s p.message.destination ≡ t → Stands (all ++ lines_of s (entry.Plain now p)) (mine ++ lines_of s (entry.Plain now p)) (past ++ s ∷ []) sent (apply s (entry.Plain now p))
       by (Here queue) e = here (inl (ap is_here e)) (λ j f. let none : ⊥ = cc in none)
@@ -102,6 +105,7 @@ module _ (all mine : List Line) (past : List State) (sent : List Packet) (s : St
               known = inr (omega (arith, number));
             },
             λ f. absurd (clash (sym f ∙ ap is_here e)),
+            low,
           ))
         where
           new : ℕ → ℕ

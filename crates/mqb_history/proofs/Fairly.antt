@@ -229,7 +229,7 @@ module _ (f : Frame) (T : Line → Type 0) where
   made_notice : (s : State) (m : Message) (class : Class) (x : Delivery) (to : QueueName) (number now : ℕ) → HasFate T m.id class → IsLeft s x number
       → IsNotice s (notice_about m class x to (record { qm = s.identity.guid; number = number }) now)
   made_notice s m class x to number now fate left = record {
-    fair = record { fate = fate; express = left.0 };
+    fair = record { fate = fate; express = left.0; durable = λ e. let g = left.1 e in let same = g.0 in let lt = g.1 in omega (arith, same, lt) };
     next = λ e. (ap (λ n. record { qm = s.identity.guid; number = n }) (left.1 e).0, (left.1 e).1);
   }
 

@@ -2,7 +2,7 @@
 use Rattle.std.proofs.Common.{refl, ap, sym, subst, ◌∙◌, arith, inl}
 use Rattle.std.specs.List.{AllByRecursion}
 use Rattle.std.specs.Option.{option_map_or}
-use Rattle.std.specs.Prelude.{[], ◌&&◌, ◌+◌, ◌==◌, ◌||◌, ◌∷◌, ◌≡◌, ◌≤◌, Bool, IfSome, List, None, Option, Some, cond, false, fold, length, max, nat_le, nat_lt, not, option_and_then, position, slice_get, suc, true, zero, ℕ}
+use Rattle.std.specs.Prelude.{[], ◌&&◌, ◌+◌, ◌==◌, ◌||◌, ◌∷◌, ◌<◌, ◌≡◌, ◌≤◌, Bool, IfSome, List, None, Option, Some, cond, false, fold, length, max, nat_le, nat_lt, not, option_and_then, position, slice_get, suc, true, zero, ℕ}
 use Rattle.mqb_base.specs.Bits.{keeps_dead}
 use Rattle.mqb_base.specs.Classes.{is_negative}
 use Rattle.mqb_base.specs.declared.class.Class.{Class}
@@ -135,11 +135,12 @@ ops_walk f ls now e (entry.Take queue id ∷ ops) h = ops_walk f ls now (taken (
 abbrev pub IsSent : Message → Type 0
 IsSent m = (m.class ≡ NORMAL) × (is_express m.delivery ≡ false)
 
-pub sent_fair : (T : Line → Type 0) (m : Message) → m.class ≡ NORMAL → (is_express m.delivery ≡ true → FIRST_EXPRESS ≤ m.id.number) → IsFair T m
-sent_fair T m e express = record { fate = subst (HasFate T m.correlation) (sym e) (normal_fate T m.correlation); express = express }
+pub sent_fair : (T : Line → Type 0) (m : Message) → m.class ≡ NORMAL → (is_express m.delivery ≡ true → FIRST_EXPRESS ≤ m.id.number)
+    → (is_express m.delivery ≡ false → m.id.number < FIRST_EXPRESS) → IsFair T m
+sent_fair T m e express durable = record { fate = subst (HasFate T m.correlation) (sym e) (normal_fate T m.correlation); express = express; durable = durable }
 
-send_fair : (T : Line → Type 0) (m : Message) → IsSent m → IsFair T m
-send_fair T m h = sent_fair T m h.0 (λ e. absurd (clash (sym e ∙ h.1)))
+send_fair : (T : Line → Type 0) (m : Message) → IsSent m → m.id.number < FIRST_EXPRESS → IsFair T m
+send_fair T m h low = sent_fair T m h.0 (λ e. absurd (clash (sym e ∙ h.1))) (λ e. low)
 
 join_keeps : (f : Frame) (T : Line → Type 0) (s : State) (peer now : ℕ) (m : Message) → IsFair T m → Keeps f T s → Keeps f T (join s peer now m)
 join_keeps f T s peer now m g h = at (sequence_in_use s peer m.destination)
@@ -203,15 +204,18 @@ sends_walk f ls now e (m ∷ ms) fair h = sends_walk f ls now (send_made now e m
     same : e.state.next_number ≤ s.next_number
     same = (journalled_rows e.state m).numbers
 
+    low : m.id.number < FIRST_EXPRESS
+    low = let lt = fair.0.1.below in let base = h.keeps.low in let high = h.keeps.high in omega (arith, lt, base, high)
+
     at : (t : Target) → Walks f ls (joined e (committed_to now s t m))
     at (AtPeer k) = one_line f ls e (committed_line s (sequence_for s k m.destination now) m) (join s k now m)
-        (λ T old known g. join_keeps f T s k now m (send_fair T m fair.0.0) (journalled_keeps f T e.state m (send_fair T m fair.0.0) g))
+        (λ T old known g. join_keeps f T s k now m (send_fair T m fair.0.0 low) (journalled_keeps f T e.state m (send_fair T m fair.0.0 low) g))
         (let n = join_numbers s k now m in omega (arith, n, same)) fair.0.1 h
     at (Here queue) = one_line f ls e (line.Local m.id) (delivered s (Here queue) m now)
-        (λ T old known g. delivered_keeps f T s (Here queue) m now (journalled_keeps f T e.state m (send_fair T m fair.0.0) g) (send_fair T m fair.0.0) (λ k other. absurd (not_here queue k other)))
+        (λ T old known g. delivered_keeps f T s (Here queue) m now (journalled_keeps f T e.state m (send_fair T m fair.0.0 low) g) (send_fair T m fair.0.0 low) (λ k other. absurd (not_here queue k other)))
         (let n = (delivered_rows s (Here queue) m now).numbers in omega (arith, n, same)) fair.0.1 h
     at Nowhere = one_line f ls e (line.Local m.id) (delivered s Nowhere m now)
-        (λ T old known g. delivered_keeps f T s Nowhere m now (journalled_keeps f T e.state m (send_fair T m fair.0.0) g) (send_fair T m fair.0.0) (λ k other. absurd (not_nowhere k other)))
+        (λ T old known g. delivered_keeps f T s Nowhere m now (journalled_keeps f T e.state m (send_fair T m fair.0.0 low) g) (send_fair T m fair.0.0 low) (λ k other. absurd (not_nowhere k other)))
         (let n = (delivered_rows s Nowhere m now).numbers in omega (arith, n, same)) fair.0.1 h
 
 -- Arrivals.
@@ -406,7 +410,7 @@ numbered_for s _ = s
 abbrev pub RecordFair : Frame → (ℕ → ℕ) → (Line → Type 0) → State → Record → Type 0
 RecordFair f goes T s (entry.Commit now ops) = AllByRecursion (λ m. IsSent m × IsGiven f m.id) (sends_of ops)
 RecordFair f goes T s (entry.Plain now p) = IsSent p.message × ((k : ℕ) → resolved s p.message.destination ≡ AtPeer k → IsWaiting f goes (s.next_number + 1) k p.message)
-    × (is_here (resolved s p.message.destination) ≡ true → IsGiven f p.message.id)
+    × (is_here (resolved s p.message.destination) ≡ true → IsGiven f p.message.id) × (p.message.id.number < FIRST_EXPRESS)
 RecordFair f goes T s (entry.Arrived now numbers part) = PartFair T part
 RecordFair f goes T s (entry.Peer peer) = ⊥
 RecordFair f goes T s _ = Unit {0}
@@ -448,7 +452,7 @@ record_walks f ls s (entry.Plain now p) h fair = record {
     t = numbers_taken s 1
 
     sent : IsFair (λ l. In l ls) p.message
-    sent = send_fair (λ l. In l ls) p.message fair.0
+    sent = send_fair (λ l. In l ls) p.message fair.0 fair.3
 
     copied : Keeps f (λ l. In l ls) (journalled t p.message)
     copied = journalled_keeps f (λ l. In l ls) t p.message sent h

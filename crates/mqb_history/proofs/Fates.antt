@@ -62,10 +62,11 @@ pub record HasFate (T : Line → Type 0) (id : MessageId) (class : Class) : Type
   pub misses : nat_le 0xC000 class.0 ≡ true → IsTold T IsMissOf id
   pub final : is_final_class class ≡ true → IsTold T (IsMetBy class) id
 
--- a message says what is told, and an express one has an express number
+-- a message says what is told, and an express one has an express number, as no other has
 pub record IsFair (T : Line → Type 0) (m : Message) : Type 0 where
   pub fate : HasFate T m.correlation m.class
   pub express : is_express m.delivery ≡ true → FIRST_EXPRESS ≤ m.id.number
+  pub durable : is_express m.delivery ≡ false → m.id.number < FIRST_EXPRESS
 
 told_more : (T U : Line → Type 0) (Of : MessageId → Line → Type 0) (id : MessageId) → ((l : Line) → T l → U l) → IsTold T Of id → IsTold U Of id
 told_more T U Of id more (inl (l, t, o)) = inl (l, more l t, o)
@@ -79,7 +80,7 @@ fate_more T U id class more h = record {
 }
 
 pub fair_more : (T U : Line → Type 0) → ((l : Line) → T l → U l) → (m : Message) → IsFair T m → IsFair U m
-fair_more T U more m h = record { fate = fate_more T U m.correlation m.class more h.fate; express = h.express }
+fair_more T U more m h = record { fate = fate_more T U m.correlation m.class more h.fate; express = h.express; durable = h.durable }
 
 -- Classes.
 

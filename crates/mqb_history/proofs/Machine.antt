@@ -46,7 +46,7 @@ use Rattle.mqb_history.proofs.Counts.{sessions_counted}
 use Rattle.mqb_history.proofs.Finality.{finals_tell_fates}
 use Rattle.mqb_history.proofs.Gone.{IsAccounted, always_accounted}
 use Rattle.mqb_history.proofs.Orderly.{begins_orderly}
-use Rattle.mqb_history.proofs.Parts.{express_above, listed_unsent, next_apart, packets_unsent, streams_away}
+use Rattle.mqb_history.proofs.Parts.{durable_below, express_above, kept_committed, listed_unsent, locals_apart, next_apart, packets_unsent, streams_away}
 use Rattle.mqb_history.proofs.Puts.{IsOfTransaction, all_transact, put_is_the_committed_message}
 use Rattle.mqb_history.proofs.Received.{always_received_truly}
 use Rattle.mqb_history.proofs.Truthful.{always_truthful}
@@ -93,10 +93,13 @@ always_machine_invariant known ms apart run kept = record {
   sent_below = sent_below known c h;
   listed_apart = listed_apart known c h;
   sent_apart = sent_apart known c h;
+  kept_committed = kept_committed known apart c accounts told truly h (always_carried_truly known ms apart run kept) (always_expired_duly known ms apart run kept) (always_decided_in_order known ms apart run kept);
+  locals_apart = locals_apart known apart c accounts told truly h (always_carried_truly known ms apart run kept) (always_expired_duly known ms apart run kept) (always_decided_in_order known ms apart run kept);
   listed_unsent = listed_unsent known apart c accounts told truly;
   packets_unsent = packets_unsent known apart c accounts told truly;
   streams_away = streams_away known apart c accounts told truly h (always_carried_truly known ms apart run kept) (always_expired_duly known ms apart run kept) (always_decided_in_order known ms apart run kept);
   express_above = express_above known apart c accounts;
+  durable_below = durable_below known apart c accounts;
   next_apart = next_apart known apart c accounts;
   transactional = transactional;
   waiting = always_waiting known ms apart run kept;

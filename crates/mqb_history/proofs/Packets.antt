@@ -81,7 +81,7 @@ module _ (all mine : List Line) (past : List State) (sent : List Packet) (m : Ma
   acks_go : (k : ℕ) (peer : Identity) (now number : ℕ) (rows : List (ℕ × InRow)) → FIRST_EXPRESS ≤ number → AllByRecursion (MayGo k) (acks s peer now number rows)
   acks_go k peer now number [] high = tt
   acks_go k peer now number (row ∷ rows) high = (
-    (record { fate = acknowledged_fate Told _; express = λ e. high }, λ none e. absurd (clash e), λ tx f. absurd (none_some f)),
+    (record { fate = acknowledged_fate Told _; express = λ e. high; durable = λ e. absurd (clash e) }, λ none e. absurd (clash e), λ tx f. absurd (none_some f)),
     acks_go k peer now (express_after number) rows (above_first number high),
   )
 
@@ -147,7 +147,7 @@ module _ (all mine : List Line) (past : List State) (sent : List Packet) (m : Ma
 
   packet_right : (now k : ℕ) (peer : Identity) → slice_get s.peers k ≡ Some peer → (c : Candidate) (head : SessionHead) → MayGo k c → IsRight (packet_for peer.guid now (c, head))
   packet_right now k peer there c head g p e = subst IsRightPacket (user_is (carried_user c.message (carriage_for peer.guid now (c, head))) p e) (
-    record { fate = g.0.fate; express = g.0.express },
+    record { fate = g.0.fate; express = g.0.express; durable = g.0.durable },
     λ plain. of (g.1 plain.0 plain.1),
     λ tx f. (k, g.2 tx f, record { peer = peer; there = there; same = refl }),
   )

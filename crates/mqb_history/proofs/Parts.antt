@@ -17,12 +17,15 @@ use Rattle.mqb_packet.specs.declared.packet.Packet.TheVariants as packet
 use Rattle.mqb_packet.specs.declared.packet.UserPacket.{UserPacket}
 use Rattle.mqb_plain.specs.Plain.{PlainLists}
 use Rattle.mqb_plain.specs.declared.outgoing.Outgoing.{Outgoing}
-use Rattle.mqb_history.specs.Carried.{AreCarriedTruly, AreDecidedTruly, IsCommittedBy}
+use Rattle.mqb_history.specs.Carried.{AreCarriedTruly, AreDecidedTruly}
 use Rattle.mqb_history.specs.Decided.{IsDecidedInOrder, written_of}
 use Rattle.mqb_history.specs.Expired.{AreExpiredDuly}
-use Rattle.mqb_history.specs.Invariants.{AreExpressAbove, AreListedUnsent, AreNextApart, ArePacketsUnsent, AreStreamsAway}
+use Rattle.mqb_history.specs.Invariants.{AreDurableBelow, AreExpressAbove, AreKeptCommitted, AreListedUnsent, AreLocalsApart, AreNextApart, ArePacketsUnsent, AreStreamsAway}
 use Rattle.mqb_history.specs.Orderly.{IsOrderly}
+use Rattle.mqb_history.specs.Committed.{commitments}
 use Rattle.mqb_history.specs.Told.{AreCommitmentsTold}
+use Rattle.mqb_history.specs.Truths.{local_in, told_by}
+use Rattle.mqb_history.proofs.Committing.{IsCounted}
 use Rattle.mqb_history.proofs.Accounted.{IsApart, IsPlainId, Stands, resting}
 use Rattle.mqb_history.proofs.Accounts.{befores}
 use Rattle.mqb_history.proofs.Acknowledged.{committer}
@@ -34,7 +37,7 @@ use Rattle.mqb_history.proofs.Fates.{AllFrom, IsWaiting, PlainFair, WaitsFairly}
 use Rattle.mqb_history.proofs.Finality.{numbered_in}
 use Rattle.mqb_history.proofs.Gone.{IsAccounted}
 use Rattle.mqb_history.proofs.Lists.{get_within, within_get}
-use Rattle.mqb_history.proofs.Noticed.{Told, guid_of, not_plain, noticed_fair, written_in}
+use Rattle.mqb_history.proofs.Noticed.{guid_of, not_plain, noticed_fair, written_in}
 use Rattle.mqb_history.proofs.Numbering.{AreCounted}
 use Rattle.mqb_history.proofs.Recorded.{IsPlainPacket}
 use Rattle.mqb_history.proofs.Sources.{IsCommittedAt, not_here}
@@ -59,6 +62,9 @@ module _ (known : List Identity) (apart : AreApart known) (c : Course) (accounts
 
   pub express_above : AreExpressAbove c
   express_above m inside e = (noticed_fair known c o h m inside).express e
+
+  pub durable_below : AreDurableBelow c
+  durable_below m inside e = (noticed_fair known c o h m inside).durable e
 
   pub next_apart : AreNextApart c
   next_apart i low = let own = there_known i low in let keeps = (h.stand i own.0 own.1).keeps in (keeps.high, keeps.express)
@@ -106,24 +112,18 @@ module _ (known : List Identity) (apart : AreApart known) (c : Course) (accounts
       counted : (i : ℕ) → AreCounted (manager_at c.network i).state (written_of i c.written)
       counted i = (accounts.tallied i).counted
 
-      pub streams_away : AreStreamsAway c
-      streams_away k note p tx e f t local = not_here known apart c o h counted told p.message.id source w.0 w.1 w.2
+      pub locals_apart : AreLocalsApart c
+      locals_apart i m inside local = not_here known apart c o h counted told m.message.id source w.0 w.1 w.2
         where
-          x : IsCommittedBy note.sender c.written note.moment p tx
-          x = carried k note p tx e f t
+          source : IsCommittedAt known c m.message.id
+          source = let is = committer known apart c credible i m inside in record { source = i; own = is.own; there = is.there; commitment = m; inside = inside; names = refl }
 
-          source : IsCommittedAt known c p.message.id
-          source = let is = committer known apart c credible note.sender x.commitment x.there in record {
-            source = note.sender;
-            own = is.own;
-            there = is.there;
-            commitment = x.commitment;
-            inside = x.there;
-            names = ap (λ (m : Message). m.id) (sym x.message);
-          }
+          w : (w : Written) × In w c.written × In (line.Local m.message.id) (lines_of w.before w.entry)
+          w = written_in known apart c o h (line.Local m.message.id) (local_line known apart c o h counted told duly truly rise m.message.id local)
 
-          l : Told c (line.Local p.message.id)
-          l = local_line known apart c o h counted told duly truly rise p.message.id local
+      pub streams_away : AreStreamsAway c
+      streams_away k note p tx e f t local = let x = carried k note p tx e f t in
+          locals_apart note.sender x.commitment x.there (subst (λ (m : Message). In m.id (told_by local_in c)) x.message local)
 
-          w : (w : Written) × In w c.written × In (line.Local p.message.id) (lines_of w.before w.entry)
-          w = written_in known apart c o h (line.Local p.message.id) l
+      pub kept_committed : AreKeptCommitted c
+      kept_committed i row k inside kept = (all_in (IsCounted (commitments (written_of i c.written))) (manager_at c.network i).state.outs row (counted i).rows inside).kept k kept

@@ -17,6 +17,8 @@ use Rattle.mqb_model.specs.declared.limits.TheConstants.{FIRST_EXPRESS}
 use Rattle.mqb_model.specs.state.Places.{is_express}
 use Rattle.mqb_network.specs.Courses.{Course}
 use Rattle.mqb_network.specs.Network.{Note, manager_at}
+use Rattle.mqb_orders.specs.Rows.{Row}
+use Rattle.mqb_orders.specs.declared.kept.Kept.{Kept}
 use Rattle.mqb_packet.specs.declared.packet.Packet.TheVariants as packet
 use Rattle.mqb_packet.specs.declared.packet.UserPacket.{UserPacket}
 use Rattle.mqb_plain.specs.Plain.{PlainLists}
@@ -107,10 +109,23 @@ AreSentApart c = (i k : ℕ) (m : Commitment) (note : Note) (p : UserPacket) →
 abbrev pub AreExpressAbove : Course → Type 0
 AreExpressAbove c = (m : Message) → In m (noticed c) → IsTrue (is_express m.delivery) → FIRST_EXPRESS ≤ m.id.number
 
--- so does each that a manager will make, and no other does
+-- and no other message does
+abbrev pub AreDurableBelow : Course → Type 0
+AreDurableBelow c = (m : Message) → In m (noticed c) → IsFalse (is_express m.delivery) → m.id.number < FIRST_EXPRESS
+
+-- so it is with those that a manager will make
 abbrev pub AreNextApart : Course → Type 0
 AreNextApart c = (i : ℕ) → i < length c.network.managers
     → ((manager_at c.network i).state.next_number ≤ FIRST_EXPRESS) × (FIRST_EXPRESS ≤ (manager_at c.network i).state.next_express)
+
+-- no message that a manager committed was put where it was sent
+abbrev pub AreLocalsApart : Course → Type 0
+AreLocalsApart c = (i : ℕ) (m : Commitment) → In m (commitments (written_of i c.written)) → In m.message.id (told_by local_in c) → ⊥
+
+-- what a row keeps was committed to it
+abbrev pub AreKeptCommitted : Course → Type 0
+AreKeptCommitted c = (i : ℕ) (row : Row) (k : Kept) → In row (manager_at c.network i).state.outs → In k row.kept
+    → In (record { position = record { sequence = row.sequence; number = k.number }; message = k.message }) (commitments (written_of i c.written))
 
 -- a committed message is transactional, and ordinary
 abbrev pub AreTransactional : Course → Type 0
@@ -138,6 +153,8 @@ pub record MachineInvariant (known : List Identity) (c : Course) : Type 0 where
   pub commitments_are_told : AreCommitmentsTold c
   -- identifiers are their manager's own, and those of its committed messages are no other message's that is not express
   pub own_below : AreOwnBelow c
+  pub kept_committed : AreKeptCommitted c
+  pub locals_apart : AreLocalsApart c
   pub listed_below : AreListedBelow c
   pub sent_below : AreSentBelow c
   pub listed_apart : AreListedApart c
@@ -148,6 +165,7 @@ pub record MachineInvariant (known : List Identity) (c : Course) : Type 0 where
   pub streams_away : AreStreamsAway c
   -- express messages have numbers of their own
   pub express_above : AreExpressAbove c
+  pub durable_below : AreDurableBelow c
   pub next_apart : AreNextApart c
   -- what is committed is transactional and ordinary
   pub transactional : AreTransactional c
