@@ -13,13 +13,13 @@ use Rattle.mqb_packet.specs.declared.packet.UserPacket.{UserPacket}
 use Rattle.mqb_plain.specs.Plain.{PlainLists}
 use Rattle.mqb_plain.specs.declared.outgoing.Outgoing.{Outgoing}
 use Rattle.mqb_queue.specs.Places.{numbered}
-use Rattle.mqb_history.specs.Sessions.{AreSessionsCounted, CountsRightly, packets_from, recoverables, says_stored, session_number, user_packets}
+use Rattle.mqb_history.specs.Sessions.{AreSessionsCounted, CountsRightly, packets_from, recoverable_number, recoverables, says_got, says_stored, session_number, user_packets}
 use Rattle.mqb_history.specs.Stored.{IsStoredIn}
 use Rattle.mqb_history.proofs.Between.{all_in, from_sender}
-use Rattle.mqb_history.proofs.Flowing.{Flows}
-use Rattle.mqb_history.proofs.Heard.{stored_told}
+use Rattle.mqb_history.proofs.Flowing.{Flows, ids_append}
+use Rattle.mqb_history.proofs.Heard.{got_told, stored_told}
 use Rattle.mqb_history.proofs.Lists.{append_length, none_some, some_is}
-use Rattle.mqb_history.proofs.Pumped.{AreInTurn, IsNumberOf, storable_ids, users_of}
+use Rattle.mqb_history.proofs.Pumped.{AreCounted, AreInTurn, IsNumberOf, storable_ids, users_of}
 use Rattle.mqb_history.proofs.Storing.{FlowsIn, KeepsStorage}
 use Rattle.mqb_history.proofs.Unreleased.{IsBorne, PlainWaits}
 
@@ -48,7 +48,21 @@ said_same (packet.Establish e) = refl
 said_same (packet.Parameters q) = refl
 said_same (packet.Ack h) = refl
 
+got_same : (x : Packet) → says_got x ≡ got_told x
+got_same (packet.User p) = refl
+got_same (packet.Establish e) = refl
+got_same (packet.Parameters q) = refl
+got_same (packet.Ack h) = refl
+
 -- Lists.
+
+in_count : (n : ℕ) (ps : List UserPacket) (k : ℕ) (p : UserPacket) → AreCounted n ps → slice_get ps k ≡ Some p → recoverable_number p ≡ n + length (recoverables (take (k + 1) ps))
+in_count n [] k p h e = absurd (none_some e)
+in_count n (q ∷ ps) zero p h e = subst (λ (x : UserPacket). recoverable_number x ≡ n + length (storable_ids (q ∷ []))) (some_is q p e) h.0
+in_count n (q ∷ ps) (suc k) p h e = let rest = in_count (n + length (storable_ids (q ∷ []))) ps k p h.1 e in
+    let sum = ap (λ (ids : List MessageId). length ids) (ids_append (q ∷ []) (take (k + 1) ps)) ∙ append_length (storable_ids (q ∷ [])) (storable_ids (take (k + 1) ps)) in
+    let f : recoverable_number p ≡ n + length (storable_ids (q ∷ take (k + 1) ps)) = omega (arith, rest, sum) in
+    let g : suc (k + 1) ≡ suc k + 1 = omega arith in subst (λ j. recoverable_number p ≡ n + length (recoverables (take j (q ∷ ps)))) g f
 
 in_turn : (n : ℕ) (ps : List UserPacket) (k : ℕ) (p : UserPacket) → AreInTurn n ps → slice_get ps k ≡ Some p → session_number p ≡ n + k + 1
 in_turn n [] k p h e = absurd (none_some e)
@@ -66,12 +80,17 @@ counts_rightly mi mj xs ys ws h = record {
   sent = h.sent ∙ ap (λ (ps : List UserPacket). length ps) (sym (users_same xs));
   recoverable = h.recoverable_sent ∙ ap (λ (ps : List UserPacket). length (recoverables ps)) (sym (users_same xs));
   numbers = λ k p e. let n = in_turn 0 (users_of xs) k p h.numbered (ap (λ (ps : List UserPacket). slice_get ps k) (sym (users_same xs)) ∙ e) in omega (arith, n);
+  recoverable_numbers = λ k p e. subst (λ (ps : List UserPacket). recoverable_number p ≡ length (recoverables (take (k + 1) ps))) (sym (users_same xs))
+      (in_count 0 (users_of xs) k p h.counted (ap (λ (ps : List UserPacket). slice_get ps k) (sym (users_same xs)) ∙ e)
+      ∙ (let f : 0 + length (recoverables (take (k + 1) (users_of xs))) ≡ length (recoverables (take (k + 1) (users_of xs))) = omega arith in f));
   marks = λ lists o n there waits marked. subst (λ (ps : List UserPacket). numbered (recoverables ps) n ≡ Some o.message.id) (sym (users_same xs))
       (subst (λ m. IfSome m (λ k. IsNumberOf (storable_ids (users_of xs)) k o.message.id)) marked
       (all_in (IsBorne h.own (IsNumberOf (storable_ids (users_of xs)))) lists.recoverable o (all_in (PlainWaits h.own (IsNumberOf (storable_ids (users_of xs)))) mi.state.plain lists h.waits.plain there).recoverable waits).mark);
   got = let n = h.count in let all = ap (λ (ps : List UserPacket). length ps) (users_same xs ∙ h.split) in let sum = append_length h.got h.left in omega (arith, n, all, sum);
   stored = h.stored ∙ ap (λ (ps : List UserPacket). length (recoverables ps)) (sym firsts);
   kept = λ id inside. all_in (IsStoredIn ws) (storable_ids h.got) id h.kept (subst (λ ps. In id (recoverables ps)) firsts inside);
+  said_got = λ x inside. subst (λ n. n ≤ h.target.got) (sym (got_same x)) (all_in (λ y. got_told y ≤ h.target.got) ys x h.told_got inside);
+  got_acknowledged = h.got_acked;
   said = λ x inside. subst (λ n. n ≤ h.target.stored) (sym (said_same x)) (all_in (λ y. stored_told y ≤ h.target.stored) ys x h.told inside);
   acknowledged = h.acked;
 }

@@ -23,11 +23,11 @@ use Rattle.mqb_model.specs.state.State.{State}
 use Rattle.mqb_network.specs.Courses.{Written}
 use Rattle.mqb_history.specs.Stored.{IsStoredIn, WaitsIn}
 use Rattle.mqb_history.proofs.Between.{all_in}
-use Rattle.mqb_history.proofs.Heard.{Counts, HasGot, IsReleasable, Stores, is_storable, no_more, one_more, stored_told}
+use Rattle.mqb_history.proofs.Heard.{Counts, HasGot, IsReleasable, Stores, is_storable, no_more, one_more, got_told, stored_told}
 use Rattle.mqb_history.proofs.Between.{in_any}
 use Rattle.mqb_history.proofs.Lists.{all_append, append_length, append_nothing, join_and, none_some, same_number, some_is}
 use Rattle.mqb_history.proofs.Names.{same_guid_refl}
-use Rattle.mqb_history.proofs.Pumped.{AreInTurn, IsNumberOf, Sends, filter_append, ids_cons, storable_ids, user_in, user_number, users_of}
+use Rattle.mqb_history.proofs.Pumped.{AreCounted, AreInTurn, IsNumberOf, Sends, filter_append, ids_cons, storable_ids, user_in, user_number, users_of}
 use Rattle.mqb_history.proofs.Unreleased.{IsBorne, PlainWaits, Waits}
 
 -- What is known of the packets from one manager to another, and of those in return.
@@ -39,6 +39,7 @@ pub record Flows (mi mj : Manager) (xs ys : List Packet) (ws : List Written) : T
   pub sent : source.sent ≡ length (users_of xs)
   pub recoverable_sent : source.recoverable_sent ≡ length (storable_ids (users_of xs))
   pub numbered : AreInTurn 0 (users_of xs)
+  pub counted : AreCounted 0 (users_of xs)
   -- those that were got come first
   pub got : List UserPacket
   pub left : List UserPacket
@@ -49,6 +50,9 @@ pub record Flows (mi mj : Manager) (xs ys : List Packet) (ws : List Written) : T
   -- no more is acknowledged than was stored
   pub acked : source.recoverable_acked ≤ target.stored
   pub told : AllByRecursion (λ y. stored_told y ≤ target.stored) ys
+  -- nor more than was got
+  pub got_acked : source.acked ≤ target.got
+  pub told_got : AllByRecursion (λ y. got_told y ≤ target.got) ys
   -- marks are numbers of packets
   pub own : Guid
   pub waits : Waits own (IsNumberOf (storable_ids (users_of xs))) mi.state
@@ -80,6 +84,7 @@ flows_more mi mj xs ys ws more h = record {
   sent = h.sent;
   recoverable_sent = h.recoverable_sent;
   numbered = h.numbered;
+  counted = h.counted;
   got = h.got;
   left = h.left;
   split = h.split;
@@ -88,6 +93,8 @@ flows_more mi mj xs ys ws more h = record {
   kept = all_stored_more ws more (storable_ids h.got) h.kept;
   acked = h.acked;
   told = h.told;
+  got_acked = h.got_acked;
+  told_got = h.told_got;
   own = h.own;
   waits = h.waits;
 }
@@ -108,6 +115,7 @@ source_works mi mj next xs ys ws h e keeps = record {
   sent = h.sent;
   recoverable_sent = h.recoverable_sent;
   numbered = h.numbered;
+  counted = h.counted;
   got = h.got;
   left = h.left;
   split = h.split;
@@ -116,14 +124,16 @@ source_works mi mj next xs ys ws h e keeps = record {
   kept = h.kept;
   acked = h.acked;
   told = h.told;
+  got_acked = h.got_acked;
+  told_got = h.told_got;
   own = h.own;
   waits = keeps (IsNumberOf (storable_ids (users_of xs))) h.waits;
 }
 
 pub source_hears : (mi mj next : Manager) (xs ys : List Packet) (ws : List Written) (y : Packet) (before after : one_end.State) (h : Flows mi mj xs ys ws) → In y ys
     → mi.rest.session ≡ Some before → next.rest.session ≡ Some after → after.sent ≡ before.sent → after.recoverable_sent ≡ before.recoverable_sent
-    → after.recoverable_acked ≤ max before.recoverable_acked (stored_told y) → KeepsWaiting h.own mi.state next.state → Flows next mj xs ys ws
-source_hears mi mj next xs ys ws y before after h inside there goes sent recoverable acked keeps = record {
+    → after.recoverable_acked ≤ max before.recoverable_acked (stored_told y) → after.acked ≤ max before.acked (got_told y) → KeepsWaiting h.own mi.state next.state → Flows next mj xs ys ws
+source_hears mi mj next xs ys ws y before after h inside there goes sent recoverable acked got_acked keeps = record {
   source = after;
   target = h.target;
   sends = goes;
@@ -131,6 +141,7 @@ source_hears mi mj next xs ys ws y before after h inside there goes sent recover
   sent = sent ∙ ap (λ (s : one_end.State). s.sent) same ∙ h.sent;
   recoverable_sent = recoverable ∙ ap (λ (s : one_end.State). s.recoverable_sent) same ∙ h.recoverable_sent;
   numbered = h.numbered;
+  counted = h.counted;
   got = h.got;
   left = h.left;
   split = h.split;
@@ -140,6 +151,9 @@ source_hears mi mj next xs ys ws y before after h inside there goes sent recover
   acked = let low = subst (λ (s : one_end.State). s.recoverable_acked ≤ h.target.stored) (sym same) h.acked in
       let high = all_in (λ z. stored_told z ≤ h.target.stored) ys y h.told inside in omega (arith, low, high, acked);
   told = h.told;
+  got_acked = let low = subst (λ (s : one_end.State). s.acked ≤ h.target.got) (sym same) h.got_acked in
+      let high = all_in (λ z. got_told z ≤ h.target.got) ys y h.told_got inside in omega (arith, low, high, got_acked);
+  told_got = h.told_got;
   own = h.own;
   waits = keeps (IsNumberOf (storable_ids (users_of xs))) h.waits;
 }
@@ -150,12 +164,21 @@ source_hears mi mj next xs ys ws y before after h inside there goes sent recover
 users_append : (xs zs : List Packet) → users_of (xs ++ zs) ≡ users_of xs ++ users_of zs
 users_append xs zs = filter_append user_in xs zs
 
-ids_append : (ps qs : List UserPacket) → storable_ids (ps ++ qs) ≡ storable_ids ps ++ storable_ids qs
+pub ids_append : (ps qs : List UserPacket) → storable_ids (ps ++ qs) ≡ storable_ids ps ++ storable_ids qs
 ids_append ps qs = filter_append (λ (p : UserPacket). cond (is_storable p.tx p.message) (Some p.message.id) None) ps qs
 
 in_turn_append : (n : ℕ) (ps qs : List UserPacket) → AreInTurn n ps → AreInTurn (n + length ps) qs → AreInTurn n (ps ++ qs)
 in_turn_append n [] qs h g = subst (λ k. AreInTurn k qs) (let e : n + 0 ≡ n = omega arith in e) g
 in_turn_append n (p ∷ ps) qs h g = (h.0, in_turn_append (n + 1) ps qs h.1 (subst (λ k. AreInTurn k qs) (let e : n + suc (length ps) ≡ n + 1 + length ps = omega arith in e) g))
+
+counted_append : (n : ℕ) (ps qs : List UserPacket) → AreCounted n ps → AreCounted (n + length (storable_ids ps)) qs → AreCounted n (ps ++ qs)
+counted_append n [] qs h g = subst (λ k. AreCounted k qs) (let e : n + 0 ≡ n = omega arith in e) g
+counted_append n (p ∷ ps) qs h g = (
+  h.0,
+  counted_append (n + length (storable_ids (p ∷ []))) ps qs h.1 (subst (λ k. AreCounted k qs)
+      (let sum = ap (λ (ids : List MessageId). length ids) (ids_append (p ∷ []) ps) ∙ append_length (storable_ids (p ∷ [])) (storable_ids ps) in
+      let e : n + length (storable_ids (p ∷ ps)) ≡ n + length (storable_ids (p ∷ [])) + length (storable_ids ps) = omega (arith, sum) in e) g),
+)
 
 pub source_pumps : (mi mj next : Manager) (xs ys zs : List Packet) (ws : List Written) (before after : one_end.State) (h : Flows mi mj xs ys ws)
     → mi.rest.session ≡ Some before → next.rest.session ≡ Some after → Sends before after (users_of zs)
@@ -170,6 +193,8 @@ source_pumps mi mj next xs ys zs ws before after h there goes sends waits = reco
       ∙ sym (ap (λ (ids : List MessageId). length ids) all_ids ∙ append_length (storable_ids (users_of xs)) (storable_ids (users_of zs)));
   numbered = subst (AreInTurn 0) (sym (users_append xs zs)) (in_turn_append 0 (users_of xs) (users_of zs) h.numbered
       (subst (λ k. AreInTurn k (users_of zs)) (was_sent ∙ (let e : length (users_of xs) ≡ 0 + length (users_of xs) = omega arith in e)) sends.numbered));
+  counted = subst (AreCounted 0) (sym (users_append xs zs)) (counted_append 0 (users_of xs) (users_of zs) h.counted
+      (subst (λ k. AreCounted k (users_of zs)) (was_stored ∙ (let e : length (storable_ids (users_of xs)) ≡ 0 + length (storable_ids (users_of xs)) = omega arith in e)) sends.counted));
   got = h.got;
   left = h.left ++ users_of zs;
   split = users_append xs zs ∙ ap (λ ps. ps ++ users_of zs) h.split ∙ append_assoc h.got h.left (users_of zs);
@@ -178,6 +203,8 @@ source_pumps mi mj next xs ys zs ws before after h there goes sends waits = reco
   kept = h.kept;
   acked = let e = sends.acked ∙ ap (λ (s : one_end.State). s.recoverable_acked) same in let low = h.acked in omega (arith, e, low);
   told = h.told;
+  got_acked = let e = sends.got_acked ∙ ap (λ (s : one_end.State). s.acked) same in let low = h.got_acked in omega (arith, e, low);
+  told_got = h.told_got;
   own = h.own;
   waits = subst (λ ids. Waits h.own (IsNumberOf ids) next.state) (sym all_ids) waits;
 }
@@ -205,6 +232,7 @@ target_works mi mj next xs ys ws h e = record {
   sent = h.sent;
   recoverable_sent = h.recoverable_sent;
   numbered = h.numbered;
+  counted = h.counted;
   got = h.got;
   left = h.left;
   split = h.split;
@@ -213,6 +241,8 @@ target_works mi mj next xs ys ws h e = record {
   kept = h.kept;
   acked = h.acked;
   told = h.told;
+  got_acked = h.got_acked;
+  told_got = h.told_got;
   own = h.own;
   waits = h.waits;
 }
@@ -221,10 +251,14 @@ told_weaker : (a b : ℕ) → a ≤ b → (ys : List Packet) → AllByRecursion 
 told_weaker a b le [] h = tt
 told_weaker a b le (y ∷ ys) h = (let low = h.0 in omega (arith, low, le), told_weaker a b le ys h.1)
 
+got_weaker : (a b : ℕ) → a ≤ b → (ys : List Packet) → AllByRecursion (λ y. got_told y ≤ a) ys → AllByRecursion (λ y. got_told y ≤ b) ys
+got_weaker a b le [] h = tt
+got_weaker a b le (y ∷ ys) h = (let low = h.0 in omega (arith, low, le), got_weaker a b le ys h.1)
+
 pub target_pumps : (mi mj next : Manager) (xs ys zs : List Packet) (ws : List Written) (before after : one_end.State) → Flows mi mj xs ys ws
     → mj.rest.session ≡ Some before → next.rest.session ≡ Some after → after.got ≡ before.got → after.stored ≡ before.stored
-    → AllByRecursion (λ z. stored_told z ≤ before.stored) zs → Flows mi next xs (ys ++ zs) ws
-target_pumps mi mj next xs ys zs ws before after h there goes got stored told = record {
+    → AllByRecursion (λ z. stored_told z ≤ before.stored) zs → AllByRecursion (λ z. got_told z ≤ before.got) zs → Flows mi next xs (ys ++ zs) ws
+target_pumps mi mj next xs ys zs ws before after h there goes got stored told told_got = record {
   source = h.source;
   target = after;
   sends = h.sends;
@@ -232,6 +266,7 @@ target_pumps mi mj next xs ys zs ws before after h there goes got stored told = 
   sent = h.sent;
   recoverable_sent = h.recoverable_sent;
   numbered = h.numbered;
+  counted = h.counted;
   got = h.got;
   left = h.left;
   split = h.split;
@@ -241,6 +276,9 @@ target_pumps mi mj next xs ys zs ws before after h there goes got stored told = 
   acked = let low = h.acked in omega (arith, low, as_before);
   told = all_append (λ y. stored_told y ≤ after.stored) ys zs (told_weaker h.target.stored after.stored (omega (arith, as_before)) ys h.told)
       (told_weaker before.stored after.stored (omega (arith, stored)) zs told);
+  got_acked = let low = h.got_acked in omega (arith, low, had_got);
+  told_got = all_append (λ y. got_told y ≤ after.got) ys zs (got_weaker h.target.got after.got (omega (arith, had_got)) ys h.told_got)
+      (got_weaker before.got after.got (omega (arith, got)) zs told_got);
   own = h.own;
   waits = h.waits;
 }
@@ -250,6 +288,9 @@ target_pumps mi mj next xs ys zs ws before after h there goes got stored told = 
 
     as_before : after.stored ≡ h.target.stored
     as_before = stored ∙ ap (λ (s : one_end.State). s.stored) same
+
+    had_got : after.got ≡ h.target.got
+    had_got = got ∙ ap (λ (s : one_end.State). s.got) same
 
 -- the packet of the next number is the first that was not got
 turn_above : (n : ℕ) (ps : List UserPacket) (p : UserPacket) → AreInTurn n ps → In p ps → n + 1 ≤ user_number p
@@ -282,6 +323,14 @@ target_hears mi mj next xs ys ws x o before after h inside there goes counts sto
     same : before ≡ h.target
     same = some_is before h.target (sym there ∙ h.hears)
 
+    -- no fewer were got than before
+    had_got : h.target.got ≤ after.got
+    had_got = by counts
+      where
+        by : Counts before x o after → h.target.got ≤ after.got
+        by (no_more e f) = let m = ap (λ (s : one_end.State). s.got) same in omega (arith, e, m)
+        by (one_more p e n got g) = let m = ap (λ (s : one_end.State). s.got) same in omega (arith, got, m)
+
     -- so many were got, and stored
     with_got : (got left : List UserPacket) → users_of xs ≡ got ++ left → after.got ≡ length got → after.stored ≡ length (storable_ids got) → h.target.stored ≤ after.stored
         → AllByRecursion (IsStoredIn ws) (storable_ids got) → Flows mi next xs ys ws
@@ -293,6 +342,7 @@ target_hears mi mj next xs ys ws x o before after h inside there goes counts sto
       sent = h.sent;
       recoverable_sent = h.recoverable_sent;
       numbered = h.numbered;
+      counted = h.counted;
       got = got;
       left = left;
       split = split;
@@ -301,6 +351,8 @@ target_hears mi mj next xs ys ws x o before after h inside there goes counts sto
       kept = kept;
       acked = let low = h.acked in omega (arith, low, more);
       told = told_weaker h.target.stored after.stored more ys h.told;
+      got_acked = let low = h.got_acked in omega (arith, low, had_got);
+      told_got = got_weaker h.target.got after.got had_got ys h.told_got;
       own = h.own;
       waits = h.waits;
     }

@@ -58,6 +58,12 @@ stored_told (packet.User p) = (unwrap_or p.session no_head).stored
 stored_told (packet.Ack h) = h.stored
 stored_told _ = 0
 
+-- and how many packets it got
+abbrev pub got_told : Packet → ℕ
+got_told (packet.User p) = (unwrap_or p.session no_head).ack
+got_told (packet.Ack h) = h.ack
+got_told _ = 0
+
 -- A number is that of a recoverable message that waits, and was sent up to a number.
 pub record IsReleasable (s : State) (acked n : ℕ) : Type 0 where
   pub peer : ℕ
@@ -213,6 +219,7 @@ pub record Hears (own : Guid) (s : State) (before : one_end.State) (x : Packet) 
   pub sent : after.sent ≡ before.sent
   pub recoverable_sent : after.recoverable_sent ≡ before.recoverable_sent
   pub acked : after.recoverable_acked ≤ max before.recoverable_acked (stored_told x)
+  pub got_acked : after.acked ≤ max before.acked (got_told x)
   pub counts : Counts before x outcome.entry after
 
 max_left : (a b : ℕ) → a ≤ max a b
@@ -222,14 +229,15 @@ max_itself : (a b : ℕ) → max a b ≤ max a b
 max_itself a b = omega arith
 
 closed_hears : (own : Guid) (m : Manager) (now : ℕ) (p : UserPacket) (why : Cause) (before after : one_end.State) → after.sent ≡ before.sent → after.recoverable_sent ≡ before.recoverable_sent
-    → after.recoverable_acked ≡ before.recoverable_acked → after.got ≡ before.got → after.stored ≡ before.stored
+    → after.recoverable_acked ≡ before.recoverable_acked → after.got ≡ before.got → after.stored ≡ before.stored → after.acked ≡ before.acked
     → Hears own m.state before (packet.User p) (hear_behind m now p (head.Closed why) after)
-closed_hears own m now p why before after a b c d e = record {
+closed_hears own m now p why before after a b c d e f = record {
   after = after;
   answers = record { session = refl; entry = tt; beside = tt };
   sent = a;
   recoverable_sent = b;
   acked = subst (λ n. n ≤ max before.recoverable_acked (stored_told (packet.User p))) (sym c) (max_left before.recoverable_acked (stored_told (packet.User p)));
+  got_acked = subst (λ n. n ≤ max before.acked (got_told (packet.User p))) (sym f) (max_left before.acked (got_told (packet.User p)));
   counts = no_more d e;
 }
 
@@ -250,7 +258,7 @@ ready_hears own m now p before = at (h.user == 0) (h.user == before.got + 1) ref
     same given session = hear_behind m now p given session
 
     quiet : (outcome : HeardOutcome) → Listens own (listening m known now) outcome → Hears own m.state before (packet.User p) outcome
-    quiet outcome g = record { after = known; answers = g; sent = refl; recoverable_sent = refl; acked = max_itself before.recoverable_acked h.stored; counts = no_more refl refl }
+    quiet outcome g = record { after = known; answers = g; sent = refl; recoverable_sent = refl; acked = max_itself before.recoverable_acked h.stored; got_acked = max_itself before.acked h.ack; counts = no_more refl refl }
 
     number : (h.user == before.got + 1) ≡ true → h.user ≡ before.got + 1
     number e = grind (arith, nat_tests)
@@ -263,6 +271,7 @@ ready_hears own m now p before = at (h.user == 0) (h.user == before.got + 1) ref
       sent = refl;
       recoverable_sent = refl;
       acked = max_itself before.recoverable_acked h.stored;
+      got_acked = max_itself before.acked h.ack;
       counts = one_more p refl n refl (subst (λ b. HasGot b p before.stored (before.stored + 1) (hear_user (listening m more now) true p).entry) (sym e) (refl, g.1));
     }
     counting false e n g = record {
@@ -271,6 +280,7 @@ ready_hears own m now p before = at (h.user == 0) (h.user == before.got + 1) ref
       sent = refl;
       recoverable_sent = refl;
       acked = max_itself before.recoverable_acked h.stored;
+      got_acked = max_itself before.acked h.ack;
       counts = one_more p refl n refl (subst (λ b. HasGot b p before.stored before.stored (hear_user (listening m more now) true p).entry) (sym e) refl);
     }
 
@@ -289,14 +299,14 @@ user_hears own m now p before = by (is_ready before.phase && is_foreign m.state 
 
     bad : (b : Bool) → let given = cond b (closing cause.BadAck before) (order_of h before, counted (order_of h before) (acknowledged h before)) in
         Hears own m.state before (packet.User p) (hear_behind m now p given.0 given.1)
-    bad true = closed_hears own m now p cause.BadAck before (closing cause.BadAck before).1 refl refl refl refl refl
+    bad true = closed_hears own m now p cause.BadAck before (closing cause.BadAck before).1 refl refl refl refl refl refl
     bad false = ready_hears own m now p before
 
     early : Hears own m.state before (packet.User p) (hear_behind m now p (head.Closed cause.Early) (closing cause.Early before).1)
-    early = closed_hears own m now p cause.Early before (closing cause.Early before).1 refl refl refl refl refl
+    early = closed_hears own m now p cause.Early before (closing cause.Early before).1 refl refl refl refl refl refl
 
     in_phase : (f : Phase) → Hears own m.state before (packet.User p) (hear_behind m now p (head_in f h before).0 (head_in f h before).1)
-    in_phase (phase.Closed why) = closed_hears own m now p why before before refl refl refl refl refl
+    in_phase (phase.Closed why) = closed_hears own m now p why before before refl refl refl refl refl refl
     in_phase phase.Ready = bad (is_bad_ack h before)
     in_phase phase.Start = early
     in_phase phase.WaitEstablish = early
@@ -307,7 +317,7 @@ user_hears own m now p before = by (is_ready before.phase && is_foreign m.state 
 
     by : (b : Bool) → let given = cond b (closing cause.Foreign before) (head_in before.phase h before) in
         Hears own m.state before (packet.User p) (hear_behind m now p given.0 given.1)
-    by true = closed_hears own m now p cause.Foreign before (closing cause.Foreign before).1 refl refl refl refl refl
+    by true = closed_hears own m now p cause.Foreign before (closing cause.Foreign before).1 refl refl refl refl refl refl
     by false = in_phase before.phase
 
 ack_hears : (own : Guid) (m : Manager) (now : ℕ) (given : SessionHead) (before : one_end.State)
@@ -318,34 +328,36 @@ ack_hears own m now given before = in_phase before.phase
     h = record given { user = 0 }
 
     closed : (why : Cause) (after : one_end.State) → after.sent ≡ before.sent → after.recoverable_sent ≡ before.recoverable_sent
-        → after.recoverable_acked ≡ before.recoverable_acked → after.got ≡ before.got → after.stored ≡ before.stored
+        → after.recoverable_acked ≡ before.recoverable_acked → after.got ≡ before.got → after.stored ≡ before.stored → after.acked ≡ before.acked
         → Hears own m.state before (packet.Ack given) (hear_acknowledgement m now (head.Closed why) after)
-    closed why after a b c d e = record {
+    closed why after a b c d e f = record {
       after = after;
       answers = record { session = refl; entry = tt; beside = tt };
       sent = a;
       recoverable_sent = b;
       acked = subst (λ n. n ≤ max before.recoverable_acked given.stored) (sym c) (max_left before.recoverable_acked given.stored);
+      got_acked = subst (λ n. n ≤ max before.acked given.ack) (sym f) (max_left before.acked given.ack);
       counts = no_more d e;
     }
 
     bad : (b : Bool) → let found = cond b (closing cause.BadAck before) (order_of h before, counted (order_of h before) (acknowledged h before)) in
         Hears own m.state before (packet.Ack given) (hear_acknowledgement m now found.0 found.1)
-    bad true = closed cause.BadAck (closing cause.BadAck before).1 refl refl refl refl refl
+    bad true = closed cause.BadAck (closing cause.BadAck before).1 refl refl refl refl refl refl
     bad false = record {
       after = acknowledged h before;
       answers = heard_nothing own (listening m (acknowledged h before) now) heard.Session;
       sent = refl;
       recoverable_sent = refl;
       acked = max_itself before.recoverable_acked given.stored;
+      got_acked = max_itself before.acked given.ack;
       counts = no_more refl refl;
     }
 
     early : Hears own m.state before (packet.Ack given) (hear_acknowledgement m now (head.Closed cause.Early) (closing cause.Early before).1)
-    early = closed cause.Early (closing cause.Early before).1 refl refl refl refl refl
+    early = closed cause.Early (closing cause.Early before).1 refl refl refl refl refl refl
 
     in_phase : (f : Phase) → Hears own m.state before (packet.Ack given) (hear_acknowledgement m now (head_in f h before).0 (head_in f h before).1)
-    in_phase (phase.Closed why) = closed why before refl refl refl refl refl
+    in_phase (phase.Closed why) = closed why before refl refl refl refl refl refl
     in_phase phase.Ready = bad (is_bad_ack h before)
     in_phase phase.Start = early
     in_phase phase.WaitEstablish = early
@@ -361,6 +373,7 @@ linked_hears own m now (packet.Establish e) before = record {
   sent = refl;
   recoverable_sent = refl;
   acked = max_left before.recoverable_acked 0;
+  got_acked = max_left before.acked 0;
   counts = no_more refl refl;
 }
 linked_hears own m now (packet.Parameters p) before = record {
@@ -369,6 +382,7 @@ linked_hears own m now (packet.Parameters p) before = record {
   sent = refl;
   recoverable_sent = refl;
   acked = max_left before.recoverable_acked 0;
+  got_acked = max_left before.acked 0;
   counts = no_more refl refl;
 }
 linked_hears own m now (packet.Ack h) before = ack_hears own m now h before

@@ -193,7 +193,7 @@ module _ (c : Course) (k : KeepsStorage c) (x sender now : ℕ) (p : Packet) (d 
       first : Flows (manager_at (with_manager n x next) i) (manager_at n j) xs ys more
       first = with_at (λ y. Flows y (manager_at n j) xs ys more) n x i next all
           (λ same. source_hears (manager_at n i) (manager_at n j) next xs ys more p before (hears all.own).after all (from_second same)
-          (subst (λ y. (manager_at n y).rest.session ≡ Some before) same linked) (hears all.own).answers.session (hears all.own).sent (hears all.own).recoverable_sent (hears all.own).acked
+          (subst (λ y. (manager_at n y).rest.session ≡ Some before) same linked) (hears all.own).answers.session (hears all.own).sent (hears all.own).recoverable_sent (hears all.own).acked (hears all.own).got_acked
           (λ Bears w. keeps_waiting all.own Bears (subst (λ y. Waits all.own Bears (manager_at n y).state) (sym same) w)))
 
   pub heard_keeps : (disjoint : AreAllDisjoint c.network.connections) (failure : Option Failure) → KeepsStorage (calling x (Hear now p) failure c)

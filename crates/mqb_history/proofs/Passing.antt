@@ -182,7 +182,7 @@ module _ (known : List Identity) (c : Course) (o : IsOrderly known c) (k : Keeps
   target_now e i j mi xs ys true f h = let same = equal_numbers x j f in let p = own_pumps in
       subst (λ y. Flows mi y xs (ys ++ zs) more) (sym (here j same))
       (target_pumps mi (manager_at c.network j) next xs ys zs more before p.after h (subst (λ y. (manager_at c.network y).rest.session ≡ Some before) same linked)
-      p.session p.sends.got p.sends.stored p.told)
+      p.session p.sends.got p.sends.stored p.told p.told_got)
   target_now e i j mi xs ys false f h = subst (λ y. Flows mi y xs (ys ++ []) more) (sym (apart j f)) (subst (λ zs. Flows mi (manager_at c.network j) xs zs more) (sym (append_nothing ys)) h)
 
   flows_now : (e : Connection) → In e c.network.connections → (i j : ℕ) → AreEnds e i j → FlowsIn after (c.sent ++ zs) more i j e.number

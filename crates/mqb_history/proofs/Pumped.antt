@@ -34,7 +34,7 @@ use Rattle.mqb_model.specs.managers.Manager.{Rest}
 use Rattle.mqb_model.specs.rules.Numbers.{express_after}
 use Rattle.mqb_model.specs.state.Places.{with_plain}
 use Rattle.mqb_model.specs.state.State.{State}
-use Rattle.mqb_history.proofs.Heard.{is_storable, stored_told}
+use Rattle.mqb_history.proofs.Heard.{got_told, is_storable, stored_told}
 use Rattle.mqb_history.proofs.Lists.{all_append, append_length, append_nothing, changed_there, none_some, numbered_behind, some_is}
 use Rattle.mqb_history.proofs.Unreleased.{IsBorne, IsExpress, PlainWaits, Waits, plain_waits}
 
@@ -62,6 +62,14 @@ abbrev pub AreInTurn : ℕ → List UserPacket → Type 0
 AreInTurn n [] = Unit {0}
 AreInTurn n (p ∷ ps) = (user_number p ≡ n + 1) × AreInTurn (n + 1) ps
 
+-- and each tells how many were recoverable up to it
+abbrev pub recoverable_number : UserPacket → ℕ
+recoverable_number p = (unwrap_or p.session no_head).recoverable
+
+abbrev pub AreCounted : ℕ → List UserPacket → Type 0
+AreCounted n [] = Unit {0}
+AreCounted n (p ∷ ps) = (recoverable_number p ≡ n + length (storable_ids (p ∷ []))) × AreCounted (n + length (storable_ids (p ∷ []))) ps
+
 -- a number stands for an identifier in a list
 abbrev pub IsNumberOf : List MessageId → ℕ → MessageId → Type 0
 IsNumberOf ids n id = numbered ids n ≡ Some id
@@ -71,9 +79,11 @@ pub record Sends (before after : one_end.State) (ps : List UserPacket) : Type 0 
   pub sent : after.sent ≡ before.sent + length ps
   pub recoverable_sent : after.recoverable_sent ≡ before.recoverable_sent + length (storable_ids ps)
   pub numbered : AreInTurn before.sent ps
+  pub counted : AreCounted before.recoverable_sent ps
   pub got : after.got ≡ before.got
   pub stored : after.stored ≡ before.stored
   pub acked : after.recoverable_acked ≡ before.recoverable_acked
+  pub got_acked : after.acked ≡ before.acked
 
 abbrev pub from_recoverable : Origin → Bool
 from_recoverable OfRecoverable = true
@@ -87,15 +97,28 @@ ids_cons b p ps e = ap (λ x. cons_option (cond x (Some p.message.id) None) (sto
     at false = refl
 
 pub none_more : (before after : one_end.State) → after.sent ≡ before.sent → after.recoverable_sent ≡ before.recoverable_sent → after.got ≡ before.got → after.stored ≡ before.stored
-    → after.recoverable_acked ≡ before.recoverable_acked → Sends before after []
-none_more before after a b c d e = record {
-  sent = a ∙ (let f : before.sent ≡ before.sent + 0 = omega arith in f);
-  recoverable_sent = b ∙ (let f : before.recoverable_sent ≡ before.recoverable_sent + 0 = omega arith in f);
+    → after.recoverable_acked ≡ before.recoverable_acked → after.acked ≡ before.acked → Sends before after []
+none_more before after a b c d e f = record {
+  sent = a ∙ (let g : before.sent ≡ before.sent + 0 = omega arith in g);
+  recoverable_sent = b ∙ (let g : before.recoverable_sent ≡ before.recoverable_sent + 0 = omega arith in g);
   numbered = tt;
+  counted = tt;
   got = c;
   stored = d;
   acked = e;
+  got_acked = f;
 }
+
+-- one packet more is counted
+more_counted : (n : ℕ) (b : Bool) (p : UserPacket) (ps : List UserPacket) → is_storable p.tx p.message ≡ b → recoverable_number p ≡ cond b (n + 1) n → AreCounted (cond b (n + 1) n) ps → AreCounted n (p ∷ ps)
+more_counted n b p ps e f h = (f ∙ same, subst (λ k. AreCounted k ps) same h)
+  where
+    at : (b : Bool) → cond b (n + 1) n ≡ n + length (cond b (p.message.id ∷ []) [])
+    at true = refl
+    at false = let g : n ≡ n + 0 = omega arith in g
+
+    same : cond b (n + 1) n ≡ n + length (storable_ids (p ∷ []))
+    same = at b ∙ ap (λ (ids : List MessageId). n + length ids) (sym (ids_cons b p [] e))
 
 plain_more : (before after : one_end.State) (p : UserPacket) (ps : List UserPacket) → p.session ≡ Some (stamped kind.Plain before).0 → is_storable p.tx p.message ≡ false
     → Sends (stamped kind.Plain before).1 after ps → Sends before after (p ∷ ps)
@@ -103,9 +126,11 @@ plain_more before after p ps e f h = record {
   sent = h.sent ∙ (let g : before.sent + 1 + length ps ≡ before.sent + suc (length ps) = omega arith in g);
   recoverable_sent = h.recoverable_sent ∙ ap (λ (ids : List MessageId). before.recoverable_sent + length ids) (sym (ids_cons false p ps f));
   numbered = (ap (λ (o : Option SessionHead). (unwrap_or o no_head).user) e, h.numbered);
+  counted = more_counted before.recoverable_sent false p ps f (ap (λ (o : Option SessionHead). (unwrap_or o no_head).recoverable) e) h.counted;
   got = h.got;
   stored = h.stored;
   acked = h.acked;
+  got_acked = h.got_acked;
 }
 
 recoverable_more : (before after : one_end.State) (p : UserPacket) (ps : List UserPacket) → p.session ≡ Some (stamped kind.Recoverable before).0 → is_storable p.tx p.message ≡ true
@@ -116,9 +141,11 @@ recoverable_more before after p ps e f h = record {
       ∙ (let g : before.recoverable_sent + 1 + length (storable_ids ps) ≡ before.recoverable_sent + suc (length (storable_ids ps)) = omega arith in g)
       ∙ ap (λ (ids : List MessageId). before.recoverable_sent + length ids) (sym (ids_cons true p ps f));
   numbered = (ap (λ (o : Option SessionHead). (unwrap_or o no_head).user) e, h.numbered);
+  counted = more_counted before.recoverable_sent true p ps f (ap (λ (o : Option SessionHead). (unwrap_or o no_head).recoverable) e) h.counted;
   got = h.got;
   stored = h.stored;
   acked = h.acked;
+  got_acked = h.got_acked;
 }
 
 one_more : (o : Origin) (before after : one_end.State) (p : UserPacket) (ps : List UserPacket) → p.session ≡ Some (stamped (kind_of o) before).0 → is_storable p.tx p.message ≡ from_recoverable o
@@ -137,7 +164,7 @@ user_for to now given = carried_user given.0.message (carriage_for to now given)
 
 pub all_sent : (to : Guid) (now : ℕ) (session : one_end.State) (cs : List Candidate) → AllByRecursion IsRight cs
     → Sends session (session_behind session cs) (users_of (map (packet_for to now) (with_heads session cs)))
-all_sent to now session [] h = none_more session session refl refl refl refl refl
+all_sent to now session [] h = none_more session session refl refl refl refl refl refl
 all_sent to now session (c ∷ cs) h = one_more c.origin session (session_behind (session_after session c) cs) (user_for to now (c, head_for session c))
     (users_of (map (packet_for to now) (with_heads (session_after session c) cs))) refl h.0 (all_sent to now (session_after session c) cs h.1)
 
@@ -159,6 +186,26 @@ all_told to now n session [] e = tt
 all_told to now n session (c ∷ cs) e = (
   let f = after_stored c.origin session in let g : stored_told (packet_for to now (c, head_for session c)) ≤ n = omega (arith, e, f) in g,
   all_told to now n (session_after session c) cs (still_stored c.origin session ∙ e),
+)
+
+after_got : (o : Origin) (session : one_end.State) → (stamped (kind_of o) session).0.ack ≡ session.got
+after_got (Owed row) session = refl
+after_got OfRecoverable session = refl
+after_got OfExpress session = refl
+after_got (OfRow row number) session = refl
+
+still_got : (o : Origin) (session : one_end.State) → (stamped (kind_of o) session).1.got ≡ session.got
+still_got (Owed row) session = refl
+still_got OfRecoverable session = refl
+still_got OfExpress session = refl
+still_got (OfRow row number) session = refl
+
+pub all_got_told : (to : Guid) (now n : ℕ) (session : one_end.State) (cs : List Candidate) → session.got ≡ n
+    → AllByRecursion (λ x. got_told x ≤ n) (map (packet_for to now) (with_heads session cs))
+all_got_told to now n session [] e = tt
+all_got_told to now n session (c ∷ cs) e = (
+  let f = after_got c.origin session in let g : got_told (packet_for to now (c, head_for session c)) ≤ n = omega (arith, e, f) in g,
+  all_got_told to now n (session_after session c) cs (still_got c.origin session ∙ e),
 )
 
 -- Marks.

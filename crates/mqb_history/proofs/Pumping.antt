@@ -30,9 +30,9 @@ use Rattle.mqb_model.specs.records.Offered.{mark_raised}
 use Rattle.mqb_model.specs.records.Record.{Record}
 use Rattle.mqb_model.specs.records.Record as entry
 use Rattle.mqb_model.specs.state.State.{State}
-use Rattle.mqb_history.proofs.Heard.{stored_told}
+use Rattle.mqb_history.proofs.Heard.{got_told, stored_told}
 use Rattle.mqb_history.proofs.Lists.{append_nothing}
-use Rattle.mqb_history.proofs.Pumped.{AreThese, IsNumberOf, Sends, all_left, all_noted, all_sent, all_told, candidates_these, chosen_first, filter_append, none_more, recoverable_in, storable_ids, unsent_at, unsent_in, users_of}
+use Rattle.mqb_history.proofs.Pumped.{AreThese, IsNumberOf, Sends, all_got_told, all_left, all_noted, all_sent, all_told, candidates_these, chosen_first, filter_append, none_more, recoverable_in, storable_ids, unsent_at, unsent_in, users_of}
 use Rattle.mqb_history.proofs.Lasting.{applied_waits}
 use Rattle.mqb_history.proofs.Unreleased.{PlainWaits, Waits}
 
@@ -47,6 +47,7 @@ pub record Pumps (own : Guid) (ids : List MessageId) (m : Manager) (before : one
   pub session : outcome.rest.session ≡ Some after
   pub sends : Sends before after (users_of outcome.packets)
   pub told : AllByRecursion (λ x. stored_told x ≤ before.stored) outcome.packets
+  pub told_got : AllByRecursion (λ x. got_told x ≤ before.got) outcome.packets
   pub entry : IfSome outcome.entry IsOfMarks
   pub waits : Waits own (IsNumberOf (ids ++ storable_ids (users_of outcome.packets))) (state_after m outcome)
 
@@ -56,20 +57,21 @@ module _ (own : Guid) (ids : List MessageId) (m : Manager) (waits : Waits own (I
   same_state = subst (λ xs. Waits own (IsNumberOf xs) m.state) (sym (append_nothing ids)) waits
 
   nothing_pumped : (before : one_end.State) → m.rest.session ≡ Some before → Pumps own ids m before (answering m (Ok 0))
-  nothing_pumped before e = record { after = before; session = e; sends = none_more before before refl refl refl refl refl; told = tt; entry = tt; waits = same_state }
+  nothing_pumped before e = record { after = before; session = e; sends = none_more before before refl refl refl refl refl refl; told = tt; told_got = tt; entry = tt; waits = same_state }
 
-  one_pumped : (before after : one_end.State) (x : Packet) → users_of (x ∷ []) ≡ [] → stored_told x ≤ before.stored → Sends before after [] → Pumps own ids m before (sending_one m x after)
-  one_pumped before after x none told sends = record {
+  one_pumped : (before after : one_end.State) (x : Packet) → users_of (x ∷ []) ≡ [] → stored_told x ≤ before.stored → got_told x ≤ before.got → Sends before after [] → Pumps own ids m before (sending_one m x after)
+  one_pumped before after x none told got sends = record {
     after = after;
     session = refl;
     sends = subst (Sends before after) (sym none) sends;
     told = (told, tt);
+    told_got = (got, tt);
     entry = tt;
     waits = subst (λ ps. Waits own (IsNumberOf (ids ++ storable_ids ps)) m.state) (sym none) same_state;
   }
 
-  owed_pumped : (now : ℕ) (before : one_end.State) (owed : Internal) → (stored_told (set_up_packet owed) ≤ before.stored) → Pumps own ids m before (sending_one m (set_up_packet owed) (after_owed now before))
-  owed_pumped now before owed told = one_pumped before (after_owed now before) (set_up_packet owed) (none owed) told (none_more before (after_owed now before) refl refl refl refl refl)
+  owed_pumped : (now : ℕ) (before : one_end.State) (owed : Internal) → (stored_told (set_up_packet owed) ≤ before.stored) × (got_told (set_up_packet owed) ≤ before.got) → Pumps own ids m before (sending_one m (set_up_packet owed) (after_owed now before))
+  owed_pumped now before owed told = one_pumped before (after_owed now before) (set_up_packet owed) (none owed) told.0 told.1 (none_more before (after_owed now before) refl refl refl refl refl refl)
     where
       none : (owed : Internal) → users_of (set_up_packet owed ∷ []) ≡ []
       none (internal.Establish e) = refl
@@ -81,7 +83,7 @@ module _ (own : Guid) (ids : List MessageId) (m : Manager) (waits : Waits own (I
   ack_pumped before e = at before.owes
     where
       at : (b : Bool) → Pumps own ids m before (cond b (sending_one m (packet.Ack (stamped kind.Ack before).0) (stamped kind.Ack before).1) (answering m (Ok 0)))
-      at true = one_pumped before (stamped kind.Ack before).1 (packet.Ack (stamped kind.Ack before).0) refl (omega arith) (none_more before (stamped kind.Ack before).1 refl refl refl refl refl)
+      at true = one_pumped before (stamped kind.Ack before).1 (packet.Ack (stamped kind.Ack before).0) refl (omega arith) (omega arith) (none_more before (stamped kind.Ack before).1 refl refl refl refl refl refl)
       at false = nothing_pumped before e
 
   marks_plain : (s : State) (marks : List Mark) → (fold mark_raised s marks).plain ≡ s.plain
@@ -120,6 +122,7 @@ module _ (own : Guid) (ids : List MessageId) (m : Manager) (waits : Waits own (I
     session = refl;
     sends = all_sent to now before cs (all_left cs others these.right);
     told = all_told to now before.stored before cs refl;
+    told_got = all_got_told to now before.got before cs refl;
     entry = offered_only cs;
     waits = all_noted own to now k ids before cs (filter_map recoverable_in others) (recorded m.state (offered_entry m.state cs)) (all_left cs others these.right) e (record {
       waits = offered_waits cs;
@@ -133,7 +136,7 @@ module _ (own : Guid) (ids : List MessageId) (m : Manager) (waits : Waits own (I
   chosen_pumped now before k to (c ∷ cs) others ms linked e these unsent = all_pumped now before k to (c ∷ cs) others ms e these unsent
 
   spent_pumped : (before : one_end.State) → m.rest.session ≡ Some before → Pumps own ids m before (answering m (Err fault.Spent))
-  spent_pumped before e = record { after = before; session = e; sends = none_more before before refl refl refl refl refl; told = tt; entry = tt; waits = same_state }
+  spent_pumped before e = record { after = before; session = e; sends = none_more before before refl refl refl refl refl refl; told = tt; told_got = tt; entry = tt; waits = same_state }
 
   with_pumped : (now : ℕ) (before : one_end.State) (k : ℕ) (to : Guid) (cs : List Candidate) (ms : List Message) → m.rest.session ≡ Some before → before.recoverable_sent ≡ length ids
       → AreThese ms cs → unsent_at m.state.plain k ≡ ms → Pumps own ids m before (pump_with m now before k to cs)
@@ -167,7 +170,7 @@ module _ (own : Guid) (ids : List MessageId) (m : Manager) (waits : Waits own (I
       at (Some peer) = to peer (slice_get m.state.plain k) refl (lists_waits k)
 
   owed_or_pumped : (now : ℕ) (before : one_end.State) (o : Option Internal) → m.rest.session ≡ Some before → before.recoverable_sent ≡ length ids
-      → IfSome o (λ owed. stored_told (set_up_packet owed) ≤ before.stored) → Pumps own ids m before (pump_owed m now before o)
+      → IfSome o (λ owed. (stored_told (set_up_packet owed) ≤ before.stored) × (got_told (set_up_packet owed) ≤ before.got)) → Pumps own ids m before (pump_owed m now before o)
   owed_or_pumped now before (Some owed) linked e told = owed_pumped now before owed told
   owed_or_pumped now before None linked e told = at (is_ready before.phase)
     where
@@ -178,11 +181,11 @@ module _ (own : Guid) (ids : List MessageId) (m : Manager) (waits : Waits own (I
   pub linked_pumped : (now : ℕ) (before : one_end.State) → m.rest.session ≡ Some before → before.recoverable_sent ≡ length ids → Pumps own ids m before (pump_linked m now before)
   linked_pumped now before linked e = owed_or_pumped now before (owed_by before.phase now before) linked e (told before.phase)
     where
-      told : (f : Phase) → IfSome (owed_by f now before) (λ owed. stored_told (set_up_packet owed) ≤ before.stored)
-      told phase.Start = omega arith
-      told phase.OweEstablish = omega arith
-      told phase.OweRefusal = omega arith
-      told phase.OweParameters = omega arith
+      told : (f : Phase) → IfSome (owed_by f now before) (λ owed. (stored_told (set_up_packet owed) ≤ before.stored) × (got_told (set_up_packet owed) ≤ before.got))
+      told phase.Start = (omega arith, omega arith)
+      told phase.OweEstablish = (omega arith, omega arith)
+      told phase.OweRefusal = (omega arith, omega arith)
+      told phase.OweParameters = (omega arith, omega arith)
       told phase.WaitEstablish = tt
       told phase.WaitParameters = tt
       told phase.Ready = tt

@@ -52,7 +52,7 @@ use Rattle.mqb_history.proofs.Unreleased.{IsOfOwn, Waits, weaker_waits}
 -- A session that begins.
 
 abbrev IsNew : one_end.State → Type 0
-IsNew s = (s.sent ≡ 0) × (s.recoverable_sent ≡ 0) × (s.recoverable_acked ≡ 0) × (s.got ≡ 0) × (s.stored ≡ 0)
+IsNew s = (s.sent ≡ 0) × (s.recoverable_sent ≡ 0) × (s.recoverable_acked ≡ 0) × (s.got ≡ 0) × (s.stored ≡ 0) × (s.acked ≡ 0)
 
 -- a manager has a new session, if it has one, and nothing counts as sent
 record IsFresh (m : Manager) : Type 0 where
@@ -72,8 +72,8 @@ linked_fresh m end window h = at (link_refusal m end window)
       where
         by : (o : Option Identity) → IfSome (option_map (λ (peer : Identity). one_end.new_initiator m.state.identity.guid peer.guid window) o) IsNew
         by None = tt
-        by (Some peer) = (refl, refl, refl, refl, refl)
-    new role.Acceptor = (refl, refl, refl, refl, refl)
+        by (Some peer) = (refl, refl, refl, refl, refl, refl)
+    new role.Acceptor = (refl, refl, refl, refl, refl, refl)
 
     at : (o : Option LinkFault) → IsFresh (succeeded m (unless m o (linking m end window)))
     at (Some why) = record { session = h.session; own = h.own; unsent = h.unsent; doubt = h.doubt }
@@ -99,6 +99,7 @@ none_flow mi mj ws xs ys s t h e f new old none nothing = subst (λ zs. Flows mi
   sent = new.0;
   recoverable_sent = new.1;
   numbered = tt;
+  counted = tt;
   got = [];
   left = [];
   split = refl;
@@ -107,6 +108,8 @@ none_flow mi mj ws xs ys s t h e f new old none nothing = subst (λ zs. Flows mi
   kept = tt;
   acked = let a = new.2 in omega (arith, a);
   told = tt;
+  got_acked = let a = new.5 in omega (arith, a);
+  told_got = tt;
   own = h.own;
   waits = weaker_waits h.own NoMark (IsNumberOf []) (λ n id g. absurd g) mi.state h.unsent;
 }))

@@ -39,7 +39,17 @@ recoverables ps = filter_map recoverable_in ps
 abbrev pub session_number : UserPacket → ℕ
 session_number p = (unwrap_or p.session no_head).user
 
--- how many messages a packet says that its sender has stored
+-- how many recoverable messages went in its session, with its own
+abbrev pub recoverable_number : UserPacket → ℕ
+recoverable_number p = (unwrap_or p.session no_head).recoverable
+
+-- how many packets a packet says that its sender got
+abbrev pub says_got : Packet → ℕ
+says_got (packet.User p) = (unwrap_or p.session no_head).ack
+says_got (packet.Ack head) = head.ack
+says_got _ = 0
+
+-- and how many messages it says that its sender has stored
 abbrev pub says_stored : Packet → ℕ
 says_stored (packet.User p) = (unwrap_or p.session no_head).stored
 says_stored (packet.Ack head) = head.stored
@@ -51,6 +61,7 @@ pub record CountsRightly (source target : one_end.State) (waiting : List PlainLi
   pub sent : source.sent ≡ length (user_packets there)
   pub recoverable : source.recoverable_sent ≡ length (recoverables (user_packets there))
   pub numbers : (k : ℕ) (p : UserPacket) → slice_get (user_packets there) k ≡ Some p → session_number p ≡ k + 1
+  pub recoverable_numbers : (k : ℕ) (p : UserPacket) → slice_get (user_packets there) k ≡ Some p → recoverable_number p ≡ length (recoverables (take (k + 1) (user_packets there)))
   -- a message that was sent and waits is marked with its place among the recoverable ones
   pub marks : (lists : PlainLists) (o : Outgoing) (n : ℕ) → In lists waiting → In o lists.recoverable → o.mark ≡ Some n
       → numbered (recoverables (user_packets there)) n ≡ Some o.message.id
@@ -58,7 +69,9 @@ pub record CountsRightly (source target : one_end.State) (waiting : List PlainLi
   pub got : target.got ≤ length (user_packets there)
   pub stored : target.stored ≡ length (recoverables (take target.got (user_packets there)))
   pub kept : (id : MessageId) → In id (recoverables (take target.got (user_packets there))) → IsStoredIn written id
-  -- no more is said, or believed, to be stored
+  -- no more is said, or believed, to be got, or stored
+  pub said_got : (x : Packet) → In x back → says_got x ≤ target.got
+  pub got_acknowledged : source.acked ≤ target.got
   pub said : (x : Packet) → In x back → says_stored x ≤ target.stored
   pub acknowledged : source.recoverable_acked ≤ target.stored
 
