@@ -160,3 +160,4 @@ mod Informed
 mod Leaves
 mod Counts
 mod Parts
+mod Numbered

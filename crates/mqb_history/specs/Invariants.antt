@@ -34,6 +34,7 @@ use Rattle.mqb_history.specs.Expired.{AreExpiredDuly, AreOffersKept}
 use Rattle.mqb_history.specs.Finals.{AreFatesTold}
 use Rattle.mqb_history.specs.Led.{AreDecidedByOne, AreDecidedWhereLed}
 use Rattle.mqb_history.specs.Offered.{AreUndecided}
+use Rattle.mqb_history.specs.Numbers.{AreLinesNumbered, AreQueuedNumbered}
 use Rattle.mqb_history.specs.Orderly.{IsOrderly}
 use Rattle.mqb_history.specs.Put.{ArePutTruly}
 use Rattle.mqb_history.specs.Received.{IsReceivedTruly}
@@ -167,6 +168,9 @@ pub record MachineInvariant (known : List Identity) (c : Course) : Type 0 where
   pub express_above : AreExpressAbove c
   pub durable_below : AreDurableBelow c
   pub next_apart : AreNextApart c
+  -- whatever a line, or a queue, names has a number that a manager gave
+  pub lines_numbered : AreLinesNumbered c
+  pub queued_numbered : AreQueuedNumbered c
   -- what is committed is transactional and ordinary
   pub transactional : AreTransactional c
   -- each of them waits in its row until it is acknowledged, that is decided, or it expired

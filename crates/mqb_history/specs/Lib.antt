@@ -32,3 +32,4 @@ pub mod Received
 pub mod Copies
 pub mod Twice
 pub mod Sessions
+pub mod Numbers

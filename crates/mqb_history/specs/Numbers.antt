@@ -1,0 +1,44 @@
+-- Whatever lines and queues name has a number that a manager gave.
+use Rattle.std.specs.Prelude.{◌<◌, ◌≡◌, IsFalse, None, Option, Some, length, ℕ}
+use Rattle.mqb_base.specs.declared.ids.MessageId.{MessageId}
+use Rattle.mqb_base.specs.declared.ledger.Line.{Line}
+use Rattle.mqb_base.specs.declared.ledger.Line.TheVariants as line
+use Rattle.mqb_base.specs.declared.message.Message.{Message}
+use Rattle.mqb_exactly_once.specs.Words.{In}
+use Rattle.mqb_model.specs.state.Places.{is_express}
+use Rattle.mqb_network.specs.Courses.{Course}
+use Rattle.mqb_network.specs.Network.{manager_at}
+use Rattle.mqb_queue.specs.Places.{Queue}
+use Rattle.mqb_history.specs.Truths.{all_of, told_by}
+
+-- the message that a line names, unless it left a journal or a dead-letter queue
+abbrev pub named_in : Line → Option MessageId
+named_in (line.Committed stream number id) = Some id
+named_in (line.Expired stream number id moment) = Some id
+named_in (line.Put stream number id) = Some id
+named_in (line.Refused stream number class id) = Some id
+named_in (line.Local id) = Some id
+named_in (line.Stored id) = Some id
+named_in (line.Bounced class id) = Some id
+named_in (line.Released id) = Some id
+named_in (line.Took id) = Some id
+named_in (line.Purged id) = Some id
+named_in (line.Lapsed id) = Some id
+named_in (line.Swept id) = Some id
+named_in (line.Emptied id) = None
+
+-- A manager gave the number of an identifier: that is its own, and below the next number.
+pub record HasNumber (c : Course) (id : MessageId) : Type 0 where
+  pub by : ℕ
+  pub there : by < length c.network.managers
+  pub source : id.qm ≡ (manager_at c.network by).state.identity.guid
+  pub below : id.number < (manager_at c.network by).state.next_number
+
+-- so it is with what a line names
+abbrev pub AreLinesNumbered : Course → Type 0
+AreLinesNumbered c = (id : MessageId) → In id (told_by named_in c) → HasNumber c id
+
+-- and with what stands in a queue, unless it is express
+abbrev pub AreQueuedNumbered : Course → Type 0
+AreQueuedNumbered c = (i : ℕ) (q : Queue) (m : Message) → In q (manager_at c.network i).state.places.queues → In m (all_of q.lists)
+    → IsFalse (is_express m.delivery) → HasNumber c m.id
