@@ -19,7 +19,8 @@ use Rattle.mqb_history.proofs.Applying.{beside_rows}
 use Rattle.mqb_history.proofs.Between.{elsewhere}
 use Rattle.mqb_history.proofs.Carrying.{numbered_suc, place_there}
 use Rattle.mqb_history.proofs.Ending.{parted_at, parted_condition, parted_rows}
-use Rattle.mqb_history.proofs.Linked.{Goes, IsSameNoteAt}
+use Rattle.mqb_history.proofs.Linked.{Goes}
+use Rattle.mqb_history.proofs.Posted.{IsSameNoteAt}
 use Rattle.mqb_history.proofs.Lists.{append_nothing, get_within, none_some, set_get, set_there, some_is}
 use Rattle.mqb_history.proofs.Ordering.{ended_notes, with_at}
 use Rattle.mqb_history.proofs.Outside.{filtered_in}
@@ -54,6 +55,7 @@ called_goes a call c = let m = manager_at c.network a in let outcome = outcome_o
   written = refl;
   connections = λ e i. i;
   notes = same_note c.network.notes;
+  notes_kept = same_note c.network.notes;
   sent = refl;
 }
 
@@ -75,6 +77,7 @@ failed_goes a call how c = record {
   written = sym (append_nothing c.written);
   connections = λ e i. ended_in between a e i;
   notes = λ k note e. same_note c.network.notes k note (subst (λ (notes : List Note). numbered notes k ≡ Some note) (ended_notes between a) e);
+  notes_kept = λ k note e. subst (λ (notes : List Note). IsSameNoteAt notes k note) (sym (ended_notes between a)) (same_note c.network.notes k note e);
   sent = refl;
 }
   where
@@ -96,6 +99,7 @@ ends_goes a c = record {
   written = sym (append_nothing c.written);
   connections = ended_in c.network a;
   notes = λ k note e. same_note c.network.notes k note (subst (λ (notes : List Note). numbered notes k ≡ Some note) (ended_notes c.network a) e);
+  notes_kept = λ k note e. subst (λ (notes : List Note). IsSameNoteAt notes k note) (sym (ended_notes c.network a)) (same_note c.network.notes k note e);
   sent = refl;
 }
 
@@ -122,6 +126,28 @@ dropped_same notes d k note e = at (numbered notes d) refl e
     at None f e = same_note notes k note e
     at (Some x) f e = set_same notes d k x note (place_there notes d x f) e
 
+-- each note that was there is
+set_kept : (notes : List Note) (d k : ℕ) (x note : Note) → slice_get notes (d - 1) ≡ Some x → numbered notes k ≡ Some note → IsSameNoteAt (slice_set notes (d - 1) (as_dropped x)) k note
+set_kept notes d zero x note place e = absurd (none_some e)
+set_kept notes d (suc k) x note place e = set_get (λ o. slice_get (slice_set notes (d - 1) (as_dropped x)) k ≡ o → IsSameNoteAt (slice_set notes (d - 1) (as_dropped x)) (suc k) note) notes (d - 1) k (as_dropped x)
+    (λ f. same_note (slice_set notes (d - 1) (as_dropped x)) (suc k) note (numbered_suc (slice_set notes (d - 1) (as_dropped x)) k ∙ f ∙ sym (numbered_suc notes k) ∙ e))
+    (λ same lt f. let is = some_is x note (sym place ∙ ap (slice_get notes) same ∙ sym (numbered_suc notes k) ∙ e) in record {
+      old = as_dropped x;
+      there = numbered_suc (slice_set notes (d - 1) (as_dropped x)) k ∙ f;
+      sender = ap (λ (y : Note). y.sender) is;
+      receiver = ap (λ (y : Note). y.receiver) is;
+      connection = ap (λ (y : Note). y.connection) is;
+      moment = ap (λ (y : Note). y.moment) is;
+    })
+    refl
+
+dropped_kept : (notes : List Note) (d k : ℕ) (note : Note) → numbered notes k ≡ Some note → IsSameNoteAt (with_numbered notes d as_dropped) k note
+dropped_kept notes d k note e = at (numbered notes d) refl
+  where
+    at : (o : Option Note) → numbered notes d ≡ o → IsSameNoteAt (option_map_or (λ x. slice_set notes (d - 1) (as_dropped x)) o notes) k note
+    at None f = same_note notes k note e
+    at (Some x) f = set_kept notes d k x note (place_there notes d x f) e
+
 pub drops_goes : (k : ℕ) (c : Course) → Goes c (changed (Drops k) c) 0 None
 drops_goes k c = record {
   others = λ x apart. same_rows (manager_at c.network x).state;
@@ -129,6 +155,7 @@ drops_goes k c = record {
   written = sym (append_nothing c.written);
   connections = λ e i. i;
   notes = dropped_same c.network.notes k;
+  notes_kept = dropped_kept c.network.notes k;
   sent = refl;
 }
 
@@ -145,6 +172,7 @@ restarts_goes a c = let m = manager_at c.network a in record {
   written = sym (append_nothing c.written);
   connections = λ e i. i;
   notes = same_note c.network.notes;
+  notes_kept = same_note c.network.notes;
   sent = refl;
 }
 
@@ -155,6 +183,7 @@ fails_goes a c = let m = manager_at c.network a in record {
   written = sym (append_nothing c.written);
   connections = λ e i. i;
   notes = same_note c.network.notes;
+  notes_kept = same_note c.network.notes;
   sent = refl;
 }
 
@@ -165,6 +194,7 @@ finds_goes a c = let m = manager_at c.network a in record {
   written = refl;
   connections = λ e i. i;
   notes = same_note c.network.notes;
+  notes_kept = same_note c.network.notes;
   sent = refl;
 }
 

@@ -251,11 +251,27 @@ pub record IsSameButSent (v w : StreamWorld) : Type 0 where
 abbrev pub IsOfChannel : QueueName → List Packet → UserPacket → TxHead → Type 0
 IsOfChannel d zs p tx = In (packet.User p) zs × (p.tx ≡ Some tx) × (p.message.destination ≡ d)
 
+-- a transfer is of a packet of a channel
+pub record IsFromPacket (d : QueueName) (zs : List Packet) (now : ℕ) (t : Transfer) : Type 0 where
+  pub user : UserPacket
+  pub head : TxHead
+  pub of : IsOfChannel d zs user head
+  pub is_head : t.head ≡ head
+  pub message : t.message ≡ user.message
+  pub sent_at : t.sent_at ≡ now
+
 pub record AreSentOn (d : QueueName) (c : Channel) (v : StreamWorld) (now : ℕ) (zs : List Packet) : Type 0 where
   pub world : StreamWorld
   pub reached : Reached c world
   pub same : IsSameButSent v world
   pub sent : (p : UserPacket) (tx : TxHead) → IsOfChannel d zs p tx → IsSentAs world.transfers now v.connection p tx
+  -- and nothing else is
+  pub only : (t : Transfer) → In t world.transfers → In t v.transfers ⊎ IsFromPacket d zs now t
+
+-- of one packet of more
+from_more : (d : QueueName) (x : Packet) (zs : List Packet) (now : ℕ) (ts : List Transfer) (t : Transfer) → In t ts ⊎ IsFromPacket d zs now t → In t ts ⊎ IsFromPacket d (x ∷ zs) now t
+from_more d x zs now ts t (inl i) = inl i
+from_more d x zs now ts t (inr g) = inr (record { user = g.user; head = g.head; of = (inr g.of.0, g.of.1, g.of.2); is_head = g.is_head; message = g.message; sent_at = g.sent_at })
 
 sent_more : (olds news : List Transfer) (now connection : ℕ) (p : UserPacket) (tx : TxHead) → ((t : Transfer) → In t olds → In t news) → IsSentAs olds now connection p tx → IsSentAs news now connection p tx
 sent_more olds news now connection p tx more h = record { transfer = h.transfer; there = more h.transfer h.there; head = h.head; message = h.message; sent_at = h.sent_at; connection = h.connection }
@@ -266,7 +282,7 @@ module _ (d : QueueName) (c : Channel) (now : ℕ) where
     where
       -- nothing of the channel
       none : ((p : UserPacket) (tx : TxHead) → x ≡ packet.User p → p.tx ≡ Some tx → p.message.destination ≡ d → ⊥) → AreSentOn d c v now (x ∷ zs)
-      none apart = record { world = rest.world; reached = rest.reached; same = rest.same; sent = λ p tx h. by p tx h.0 h.1 h.2 }
+      none apart = record { world = rest.world; reached = rest.reached; same = rest.same; sent = λ p tx h. by p tx h.0 h.1 h.2; only = λ t i. from_more d x zs now v.transfers t (rest.only t i) }
         where
           by : (p : UserPacket) (tx : TxHead) → (x ≡ packet.User p) ⊎ In (packet.User p) zs → p.tx ≡ Some tx → p.message.destination ≡ d → IsSentAs rest.world.transfers now v.connection p tx
           by p tx (inl e) f g = absurd (apart p tx e f g)
@@ -291,6 +307,7 @@ module _ (d : QueueName) (c : Channel) (now : ℕ) where
           more = λ y i. inr (rest.same.more y i);
         };
         sent = λ q h k. by q h k.0 k.1 k.2;
+        only = λ y i. first y i;
       }
         where
           g : CanSend v now p tx
@@ -315,6 +332,17 @@ module _ (d : QueueName) (c : Channel) (now : ℕ) where
 
           own : IsSentAs z.transfers now v.connection p tx
           own = record { transfer = transfer rest.world g.commitment now; there = inl refl; head = head; message = g.message; sent_at = refl; connection = rest.same.connection }
+
+          first : (y : Transfer) → In y z.transfers → In y v.transfers ⊎ IsFromPacket d (x ∷ zs) now y
+          first y (inl same) = inr (record {
+            user = p;
+            head = tx;
+            of = (inl e, t, to);
+            is_head = ap (λ (u : Transfer). u.head) (sym same) ∙ head;
+            message = ap (λ (u : Transfer). u.message) (sym same) ∙ g.message;
+            sent_at = ap (λ (u : Transfer). u.sent_at) (sym same);
+          })
+          first y (inr i) = from_more d x zs now v.transfers y (rest.only y i)
 
           by : (q : UserPacket) (h : TxHead) → (x ≡ packet.User q) ⊎ In (packet.User q) zs → q.tx ≡ Some h → q.message.destination ≡ d → IsSentAs z.transfers now v.connection q h
           by q h (inl f) k l = let same = user_is p q (sym e ∙ f) in subst (λ y. IsSentAs z.transfers now v.connection y h) same
@@ -342,5 +370,6 @@ module _ (d : QueueName) (c : Channel) (now : ℕ) where
     reached = r;
     same = record { channel = refl; committed = refl; expired = refl; offered = refl; acknowledged = refl; decided = refl; fates = refl; order_acks = refl; connection = refl; connected = refl; more = λ t i. i };
     sent = λ p tx h. absurd h.0;
+    only = λ t i. inl i;
   }
   send_on v (x ∷ zs) r can = send_more v x zs can (send_on v zs r (λ p tx h. can p tx (inr h.0, h.1, h.2)))

@@ -161,3 +161,4 @@ mod Leaves
 mod Counts
 mod Parts
 mod Numbered
+mod Posted

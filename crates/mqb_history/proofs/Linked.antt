@@ -35,7 +35,7 @@ use Rattle.mqb_history.specs.Committed.{commitments, commitments_in}
 use Rattle.mqb_history.specs.Decided.{decided_in, decisions, written_of}
 use Rattle.mqb_history.specs.Fates.{departure_line}
 use Rattle.mqb_history.specs.Made.{IsMade}
-use Rattle.mqb_history.specs.Shown.{ShowsDestination, ShowsPackets, ShowsReceipts, commitments_to, decision_in, decisions_made, expiries_to, outcome_by}
+use Rattle.mqb_history.specs.Shown.{AreTransfersSent, ShowsDestination, ShowsPackets, ShowsReceipts, commitments_to, decision_in, decisions_made, expiries_to, outcome_by}
 use Rattle.mqb_history.specs.Truths.{put_in, told_by}
 use Rattle.mqb_history.proofs.Believing.{same_id_is}
 use Rattle.mqb_history.proofs.Between.{AreEnds}
@@ -46,6 +46,7 @@ use Rattle.mqb_history.proofs.Marked.{AreMarked}
 use Rattle.mqb_history.proofs.Noticed.{flat_in}
 use Rattle.mqb_history.proofs.Numbering.{commitments_more}
 use Rattle.mqb_history.proofs.Outside.{filtered_in}
+use Rattle.mqb_history.proofs.Posted.{IsSameNoteAt, sent_marked}
 use Rattle.mqb_history.proofs.Puts.{told_in}
 use Rattle.mqb_history.proofs.Reaching.{Reached, chosen_append, chosen_from, chosen_in, in_reverse, in_reversed, in_right, kept_invariant}
 use Rattle.mqb_history.proofs.Reasons.{decision_put}
@@ -76,6 +77,7 @@ pub record IsLinked (c : Course) (i j : ℕ) (ch : Channel) (d : QueueName) (pee
   pub number : ℕ
   pub standing : (e : Connection) → In e c.network.connections → AreEnds e i j → e.number ≡ number
   pub packets : ShowsPackets i j d c.network.notes c.sent number world.connection world.transfers
+  pub transfers_sent : AreTransfersSent i j d c.network.notes c.sent world.transfers
   pub receipts : ShowsReceipts i j ch (written_of j c.written) c.network.notes c.sent number world.connection world.order_acks
   pub doubt : IfSome (doubt_of (manager_at c.network j).condition) (MayRule ch world.transfers world.connection)
   pub fates : ArePutsTold (lines_written c.written) world.decided world.fates
@@ -91,15 +93,6 @@ abbrev pub FinalsDepart : Course → ℕ → Type 0
 FinalsDepart c i = (w : Written) (now : ℕ) (numbers : List ℕ) (p : UserPacket) → In w (written_of i c.written) → w.entry ≡ entry.Arrived now numbers (entry.Final p)
     → In p.message.correlation (told_by put_in c) → (departure : Departure) × In (departure_line departure p.message.correlation) (lines_written c.written)
 
--- a note is an old one, but for its mark
-pub record IsSameNoteAt (notes : List Note) (k : ℕ) (note : Note) : Type 0 where
-  pub old : Note
-  pub there : numbered notes k ≡ Some old
-  pub sender : old.sender ≡ note.sender
-  pub receiver : old.receiver ≡ note.receiver
-  pub connection : old.connection ≡ note.connection
-  pub moment : old.moment ≡ note.moment
-
 -- One manager writes a record, or none does, and no connection begins, and nothing is sent.
 pub record Goes (c z : Course) (a : ℕ) (o : Option Record) : Type 0 where
   pub others : (x : ℕ) → (a ≡ x → ⊥) → HasSameRows (manager_at c.network x).state (manager_at z.network x).state
@@ -107,6 +100,7 @@ pub record Goes (c z : Course) (a : ℕ) (o : Option Record) : Type 0 where
   pub written : z.written ≡ c.written ++ written_by a (manager_at c.network a) o
   pub connections : (e : Connection) → In e z.network.connections → In e c.network.connections
   pub notes : (k : ℕ) (note : Note) → numbered z.network.notes k ≡ Some note → IsSameNoteAt c.network.notes k note
+  pub notes_kept : (k : ℕ) (note : Note) → numbered c.network.notes k ≡ Some note → IsSameNoteAt z.network.notes k note
   pub sent : z.sent ≡ c.sent
 
 -- what was decided is in the world
@@ -162,6 +156,9 @@ module _ (i j : ℕ) (ch : Channel) (d : QueueName) (peer : ℕ) (c z : Course) 
   packets_stay k note p tx e f t sender receiver to = let n = g.notes k note e in
       let x = h.packets k n.old p tx n.there (ap (λ s. numbered s k) (sym g.sent) ∙ f) t (n.sender ∙ sender) (n.receiver ∙ receiver) to in
       (x.0, x.1, record { head = x.2.head; message = x.2.message; sent_at = x.2.sent_at ∙ n.moment }, λ same. x.3 (n.connection ∙ same))
+
+  transfers_stay : AreTransfersSent i j d z.network.notes z.sent w.transfers
+  transfers_stay = sent_marked i j d c.network.notes z.network.notes z.sent w.transfers g.notes_kept (subst (λ s. AreTransfersSent i j d c.network.notes s w.transfers) (sym g.sent) h.transfers_sent)
 
   -- order acknowledgements
   decided_stays : (channel : Channel) (p : Position) → In p (decisions channel (written_of j c.written)) → In p (decisions channel (written_of j z.written))
@@ -312,6 +309,7 @@ module _ (i j : ℕ) (ch : Channel) (d : QueueName) (peer : ℕ) (c z : Course) 
       standing = standing_stays;
       packets = subst (λ ts. ShowsPackets i j d z.network.notes z.sent h.number n.world.connection ts) (sym n.same.transfers)
           (subst (λ k. ShowsPackets i j d z.network.notes z.sent h.number k w.transfers) (sym n.same.connection) packets_stay);
+      transfers_sent = subst (AreTransfersSent i j d z.network.notes z.sent) (sym n.same.transfers) transfers_stay;
       receipts = subst (λ acks. ShowsReceipts i j ch (written_of j z.written) z.network.notes z.sent h.number n.world.connection acks) (sym n.same.order_acks)
           (subst (λ k. ShowsReceipts i j ch (written_of j z.written) z.network.notes z.sent h.number k w.order_acks) (sym n.same.connection) receipts_stay);
       doubt = subst (λ ts. IfSome (doubt_of (manager_at z.network j).condition) (MayRule ch ts n.world.connection)) (sym n.same.transfers)
@@ -366,6 +364,7 @@ module _ (i j : ℕ) (ch : Channel) (d : QueueName) (peer : ℕ) (c z : Course) 
       standing = standing_stays;
       packets = subst (λ ts. ShowsPackets i j d z.network.notes z.sent h.number n.world.connection ts) (sym n.same.transfers)
           (subst (λ k. ShowsPackets i j d z.network.notes z.sent h.number k w.transfers) (sym n.same.connection) packets_stay);
+      transfers_sent = subst (AreTransfersSent i j d z.network.notes z.sent) (sym n.same.transfers) transfers_stay;
       receipts = subst (λ acks. ShowsReceipts i j ch (written_of j z.written) z.network.notes z.sent h.number n.world.connection acks) (sym n.same.order_acks)
           (subst (λ k. ShowsReceipts i j ch (written_of j z.written) z.network.notes z.sent h.number k w.order_acks) (sym n.same.connection) receipts_stay);
       doubt = subst (λ ts. IfSome (doubt_of (manager_at z.network j).condition) (MayRule ch ts n.world.connection)) (sym n.same.transfers)
@@ -392,6 +391,7 @@ module _ (i j : ℕ) (ch : Channel) (d : QueueName) (peer : ℕ) (c z : Course) 
     number = h.number;
     standing = standing_stays;
     packets = packets_stay;
+    transfers_sent = transfers_stay;
     receipts = receipts_stay;
     doubt = doubt;
     fates = fates_stay;

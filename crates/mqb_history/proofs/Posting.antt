@@ -19,11 +19,12 @@ use Rattle.mqb_packet.specs.declared.packet.Packet.TheVariants as packet
 use Rattle.mqb_packet.specs.declared.packet.UserPacket.{UserPacket}
 use Rattle.mqb_queue.specs.Places.{numbered}
 use Rattle.mqb_history.specs.Decided.{written_of}
-use Rattle.mqb_history.specs.Shown.{IsTransfer, ShowsDestination, ShowsPackets, IsReceipt, ShowsReceipts}
+use Rattle.mqb_history.specs.Shown.{AreTransfersSent, IsTransfer, ShowsDestination, ShowsPackets, IsReceipt, ShowsReceipts}
 use Rattle.mqb_history.proofs.Carrying.{numbered_split, numbered_within, replicated}
 use Rattle.mqb_history.proofs.Dispatching.{AreSentOn, CanSend, IsOfChannel, send_on}
 use Rattle.mqb_history.proofs.Awaiting.{awaits_more}
 use Rattle.mqb_history.proofs.Linked.{AwaitsIn, IsLinked}
+use Rattle.mqb_history.proofs.Posted.{posted_sent, sent_behind, sent_still}
 use Rattle.mqb_history.proofs.Lists.{apart_numbers, equal_numbers}
 use Rattle.mqb_history.proofs.Ruling.{MayRule, may_more}
 use Rattle.mqb_history.proofs.Settling.{ArePutsTold}
@@ -103,6 +104,7 @@ module _ (c : Course) (i j : ℕ) (ch : Channel) (d : QueueName) (peer : ℕ) (a
       number = h.number;
       standing = h.standing;
       packets = split_shown h.world.connection h.world.transfers h.packets (λ p tx inside t from into to. absurd (differ from into));
+      transfers_sent = sent_still i j d c.network.notes (replicate (length zs) (note_by a now e)) c.sent zs h.world.transfers h.transfers_sent;
       receipts = split_told h.world.connection h.world.order_acks h.receipts (λ p inside t is from into. absurd (back from into));
       doubt = h.doubt;
       fates = h.fates;
@@ -110,8 +112,8 @@ module _ (c : Course) (i j : ℕ) (ch : Channel) (d : QueueName) (peer : ℕ) (a
     }
 
     -- those of this one
-    own_posted : a ≡ i → ((p : UserPacket) (tx : TxHead) → IsOfChannel d zs p tx → CanSend h.world now p tx) → IsLinked (after (Some e)) i j ch d peer
-    own_posted own can = record {
+    own_posted : a ≡ i → other_end a e ≡ j → ((p : UserPacket) (tx : TxHead) → IsOfChannel d zs p tx → CanSend h.world now p tx) → IsLinked (after (Some e)) i j ch d peer
+    own_posted own into_j can = record {
       world = g.world;
       reached = g.reached;
       channel = g.same.channel ∙ h.channel;
@@ -123,6 +125,7 @@ module _ (c : Course) (i j : ℕ) (ch : Channel) (d : QueueName) (peer : ℕ) (a
       number = h.number;
       standing = h.standing;
       packets = split_shown g.world.connection g.world.transfers old new;
+      transfers_sent = posted_sent i j d c.network.notes c.sent zs (note_by a now e) h.world.transfers g.world.transfers noted own into_j g.only h.transfers_sent;
       receipts = split_told g.world.connection g.world.order_acks (subst (λ acks. ShowsReceipts i j ch (written_of j c.written) c.network.notes c.sent h.number g.world.connection acks) (sym g.same.order_acks)
           (subst (λ n. ShowsReceipts i j ch (written_of j c.written) c.network.notes c.sent h.number n h.world.order_acks) (sym g.same.connection) h.receipts))
           (λ p inside t is from into. absurd (apart (sym own ∙ from)));
@@ -164,6 +167,8 @@ module _ (c : Course) (i j : ℕ) (ch : Channel) (d : QueueName) (peer : ℕ) (a
       packets = split_shown g.world.connection g.world.transfers (subst (λ ts. ShowsPackets i j d c.network.notes c.sent h.number g.world.connection ts) (sym g.same.transfers)
           (subst (λ n. ShowsPackets i j d c.network.notes c.sent h.number n h.world.transfers) (sym g.same.connection) h.packets))
           (λ p tx inside t own into to. absurd (apart (sym own ∙ from)));
+      transfers_sent = subst (AreTransfersSent i j d notes (c.sent ++ zs)) (sym g.same.transfers)
+          (sent_still i j d c.network.notes (replicate (length zs) (note_by a now e)) c.sent zs h.world.transfers h.transfers_sent);
       receipts = split_told g.world.connection g.world.order_acks old new;
       doubt = subst (λ ts. IfSome (doubt_of (manager_at c.network j).condition) (MayRule ch ts g.world.connection)) (sym g.same.transfers)
           (subst (λ n. IfSome (doubt_of (manager_at c.network j).condition) (MayRule ch h.world.transfers n)) (sym g.same.connection) h.doubt);
@@ -215,6 +220,7 @@ module _ (c : Course) (i j : ℕ) (ch : Channel) (d : QueueName) (peer : ℕ) (a
         number = h.number;
         standing = h.standing;
         packets = none_shown;
+        transfers_sent = sent_behind i j d c.network.notes c.sent zs h.world.transfers h.transfers_sent;
         receipts = none_told;
         doubt = h.doubt;
         fates = h.fates;
@@ -222,7 +228,7 @@ module _ (c : Course) (i j : ℕ) (ch : Channel) (d : QueueName) (peer : ℕ) (a
       }
 
       by : (e : Connection) → (p : Bool) → (a == i) ≡ p → (q : Bool) → (other_end a e == j) ≡ q → (r : Bool) → (a == j) ≡ r → IsLinked (after (Some e)) i j ch d peer
-      by e true f true g r k = own_posted e (equal_numbers a i f) (can (equal_numbers a i f))
+      by e true f true g r k = own_posted e (equal_numbers a i f) (equal_numbers (other_end a e) j g) (can (equal_numbers a i f))
       by e true f false g r k = other_posted e (λ from into. apart_numbers (other_end a e) j g into) (λ from into. apart (sym (equal_numbers a i f) ∙ from))
       by e false f q g true k = back_posted e (equal_numbers a j k) (tells (equal_numbers a j k))
       by e false f q g false k = other_posted e (λ from into. apart_numbers a i f from) (λ from into. apart_numbers a j k from)

@@ -129,6 +129,23 @@ ShowsPackets i j destination notes sent number connection transfers = (k : ℕ) 
     → note.sender ≡ i → note.receiver ≡ j → p.message.destination ≡ destination
     → (t : Transfer) × In t transfers × IsTransfer note p tx t × (note.connection ≡ number → t.connection ≡ connection)
 
+-- A transfer is a packet of the channel that was sent.
+pub record WasSent (i j : ℕ) (destination : QueueName) (notes : List Note) (sent : List Packet) (t : Transfer) : Type 0 where
+  pub place : ℕ
+  pub note : Note
+  pub user : UserPacket
+  pub head : TxHead
+  pub noted : numbered notes place ≡ Some note
+  pub there : numbered sent place ≡ Some (packet.User user)
+  pub stream : user.tx ≡ Some head
+  pub sender : note.sender ≡ i
+  pub receiver : note.receiver ≡ j
+  pub to : user.message.destination ≡ destination
+  pub is : IsTransfer note user head t
+
+abbrev pub AreTransfersSent : (i j : ℕ) → QueueName → List Note → List Packet → List Transfer → Type 0
+AreTransfersSent i j destination notes sent transfers = (t : Transfer) → In t transfers → WasSent i j destination notes sent t
+
 -- What an order acknowledgement tells: a position that was decided of a channel. Where it is this channel, it is an acknowledgement of the world.
 pub record IsReceipt (c : Channel) (written : List Written) (note : Note) (p : UserPacket) (number connection : ℕ) (acks : List OrderAck) : Type 0 where
   pub position : Position
@@ -176,6 +193,7 @@ pub record Shows (c : Course) (i j : ℕ) (destination : QueueName) (w : StreamW
   pub number : ℕ
   pub standing : (d : Connection) → In d c.network.connections → IsTrue (joins i j d) → d.number ≡ number
   pub between : ShowsPackets i j destination c.network.notes c.sent number w.connection w.transfers
+  pub transfers_sent : AreTransfersSent i j destination c.network.notes c.sent w.transfers
   pub back : ShowsReceipts i j (channel_of c.network i destination) (written_of j c.written) c.network.notes c.sent number w.connection w.order_acks
   pub finals : ShowsFinals i j w.committed c.network.notes c.sent number w.connection w.final_acks
   pub connected : w.connected ≡ list_any (joins i j) c.network.connections
