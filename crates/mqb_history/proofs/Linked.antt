@@ -35,7 +35,7 @@ use Rattle.mqb_history.specs.Committed.{commitments, commitments_in}
 use Rattle.mqb_history.specs.Decided.{decided_in, decisions, written_of}
 use Rattle.mqb_history.specs.Fates.{departure_line}
 use Rattle.mqb_history.specs.Made.{IsMade}
-use Rattle.mqb_history.specs.Shown.{AreTransfersSent, ShowsDestination, ShowsPackets, ShowsReceipts, commitments_to, decision_in, decisions_made, expiries_to, outcome_by}
+use Rattle.mqb_history.specs.Shown.{AreAcksSent, AreTransfersSent, ShowsDestination, ShowsPackets, ShowsReceipts, commitments_to, decision_in, decisions_made, expiries_to, outcome_by}
 use Rattle.mqb_history.specs.Truths.{put_in, told_by}
 use Rattle.mqb_history.proofs.Believing.{same_id_is}
 use Rattle.mqb_history.proofs.Between.{AreEnds}
@@ -46,7 +46,7 @@ use Rattle.mqb_history.proofs.Marked.{AreMarked}
 use Rattle.mqb_history.proofs.Noticed.{flat_in}
 use Rattle.mqb_history.proofs.Numbering.{commitments_more}
 use Rattle.mqb_history.proofs.Outside.{filtered_in}
-use Rattle.mqb_history.proofs.Posted.{IsSameNoteAt, sent_marked}
+use Rattle.mqb_history.proofs.Posted.{IsSameNoteAt, acks_marked, sent_marked}
 use Rattle.mqb_history.proofs.Puts.{told_in}
 use Rattle.mqb_history.proofs.Reaching.{Reached, chosen_append, chosen_from, chosen_in, in_reverse, in_reversed, in_right, kept_invariant}
 use Rattle.mqb_history.proofs.Reasons.{decision_put}
@@ -78,6 +78,7 @@ pub record IsLinked (c : Course) (i j : ℕ) (ch : Channel) (d : QueueName) (pee
   pub standing : (e : Connection) → In e c.network.connections → AreEnds e i j → e.number ≡ number
   pub packets : ShowsPackets i j d c.network.notes c.sent number world.connection world.transfers
   pub transfers_sent : AreTransfersSent i j d c.network.notes c.sent world.transfers
+  pub acks_sent : AreAcksSent i j c.network.notes c.sent world.order_acks
   pub receipts : ShowsReceipts i j ch (written_of j c.written) c.network.notes c.sent number world.connection world.order_acks
   pub doubt : IfSome (doubt_of (manager_at c.network j).condition) (MayRule ch world.transfers world.connection)
   pub fates : ArePutsTold (lines_written c.written) world.decided world.fates
@@ -161,6 +162,9 @@ module _ (i j : ℕ) (ch : Channel) (d : QueueName) (peer : ℕ) (c z : Course) 
   transfers_stay = sent_marked i j d c.network.notes z.network.notes z.sent w.transfers g.notes_kept (subst (λ s. AreTransfersSent i j d c.network.notes s w.transfers) (sym g.sent) h.transfers_sent)
 
   -- order acknowledgements
+  acks_stay : AreAcksSent i j z.network.notes z.sent w.order_acks
+  acks_stay = acks_marked i j c.network.notes z.network.notes z.sent w.order_acks g.notes_kept (subst (λ s. AreAcksSent i j c.network.notes s w.order_acks) (sym g.sent) h.acks_sent)
+
   decided_stays : (channel : Channel) (p : Position) → In p (decisions channel (written_of j c.written)) → In p (decisions channel (written_of j z.written))
   decided_stays channel p inside = subst (λ ws. In p (decisions channel ws)) (sym (ap (written_of j) g.written ∙ of_append j c.written (written_by a (manager_at c.network a) o)))
       (subst (In p) (sym (chosen_append (λ (x : Written). decided_in channel x.entry) (written_of j c.written) (written_of j (written_by a (manager_at c.network a) o))))
@@ -310,6 +314,7 @@ module _ (i j : ℕ) (ch : Channel) (d : QueueName) (peer : ℕ) (c z : Course) 
       packets = subst (λ ts. ShowsPackets i j d z.network.notes z.sent h.number n.world.connection ts) (sym n.same.transfers)
           (subst (λ k. ShowsPackets i j d z.network.notes z.sent h.number k w.transfers) (sym n.same.connection) packets_stay);
       transfers_sent = subst (AreTransfersSent i j d z.network.notes z.sent) (sym n.same.transfers) transfers_stay;
+      acks_sent = subst (AreAcksSent i j z.network.notes z.sent) (sym n.same.order_acks) acks_stay;
       receipts = subst (λ acks. ShowsReceipts i j ch (written_of j z.written) z.network.notes z.sent h.number n.world.connection acks) (sym n.same.order_acks)
           (subst (λ k. ShowsReceipts i j ch (written_of j z.written) z.network.notes z.sent h.number k w.order_acks) (sym n.same.connection) receipts_stay);
       doubt = subst (λ ts. IfSome (doubt_of (manager_at z.network j).condition) (MayRule ch ts n.world.connection)) (sym n.same.transfers)
@@ -365,6 +370,7 @@ module _ (i j : ℕ) (ch : Channel) (d : QueueName) (peer : ℕ) (c z : Course) 
       packets = subst (λ ts. ShowsPackets i j d z.network.notes z.sent h.number n.world.connection ts) (sym n.same.transfers)
           (subst (λ k. ShowsPackets i j d z.network.notes z.sent h.number k w.transfers) (sym n.same.connection) packets_stay);
       transfers_sent = subst (AreTransfersSent i j d z.network.notes z.sent) (sym n.same.transfers) transfers_stay;
+      acks_sent = subst (AreAcksSent i j z.network.notes z.sent) (sym n.same.order_acks) acks_stay;
       receipts = subst (λ acks. ShowsReceipts i j ch (written_of j z.written) z.network.notes z.sent h.number n.world.connection acks) (sym n.same.order_acks)
           (subst (λ k. ShowsReceipts i j ch (written_of j z.written) z.network.notes z.sent h.number k w.order_acks) (sym n.same.connection) receipts_stay);
       doubt = subst (λ ts. IfSome (doubt_of (manager_at z.network j).condition) (MayRule ch ts n.world.connection)) (sym n.same.transfers)
@@ -392,6 +398,7 @@ module _ (i j : ℕ) (ch : Channel) (d : QueueName) (peer : ℕ) (c z : Course) 
     standing = standing_stays;
     packets = packets_stay;
     transfers_sent = transfers_stay;
+    acks_sent = acks_stay;
     receipts = receipts_stay;
     doubt = doubt;
     fates = fates_stay;

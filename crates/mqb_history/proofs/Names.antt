@@ -13,10 +13,10 @@ use Rattle.mqb_base.specs.declared.queue_names.QueueName.{QueueName}
 use Rattle.mqb_base.specs.declared.queue_names.QueueName.TheVariants.{Public, Private, Direct, Machine}
 use Rattle.mqb_base.specs.Same.{same_bytes, same_flag, same_guid, same_host, same_kind, same_name}
 
-same_bytes_is : (a b : List ℕ) → same_bytes a b ≡ true → a ≡ b
+pub same_bytes_is : (a b : List ℕ) → same_bytes a b ≡ true → a ≡ b
 same_bytes_is a b h = (bytes_decides a b).0 h
 
-same_bytes_refl : (a : List ℕ) → same_bytes a a ≡ true
+pub same_bytes_refl : (a : List ℕ) → same_bytes a a ≡ true
 same_bytes_refl a = (bytes_decides a a).1 refl
 
 same_flag_is : (a b : Bool) → same_flag a b ≡ true → a ≡ b

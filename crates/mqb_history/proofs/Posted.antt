@@ -1,18 +1,18 @@
--- Each transfer of the world is a packet that was sent.
+-- Each transfer of the world, and each order acknowledgement, is a packet that was sent.
 use Rattle.std.proofs.Common.{refl, ap, sym, subst, ◌∙◌, arith, inl, inr}
 use Rattle.std.specs.Prelude.{[], ◌+◌, ◌-◌, ◌++◌, ◌<◌, ◌==◌, ◌∷◌, ◌≡◌, ◌⊎◌, Bool, List, None, Some, cond, false, length, replicate, slice_get, suc, true, zero, ℕ}
-use Rattle.mqb_base.specs.declared.heads.TxHead.{TxHead}
 use Rattle.mqb_base.specs.declared.queue_names.QueueName.{QueueName}
 use Rattle.mqb_exactly_once.specs.Words.{In}
-use Rattle.mqb_exactly_once.specs.World.{Transfer}
+use Rattle.mqb_exactly_once.specs.World.{OrderAck, Transfer}
 use Rattle.mqb_network.specs.Network.{Note}
 use Rattle.mqb_packet.specs.declared.packet.Packet.{Packet}
 use Rattle.mqb_packet.specs.declared.packet.Packet.TheVariants as packet
 use Rattle.mqb_packet.specs.declared.packet.UserPacket.{UserPacket}
 use Rattle.mqb_queue.specs.Places.{numbered}
-use Rattle.mqb_history.specs.Shown.{AreTransfersSent, WasSent}
-use Rattle.mqb_history.proofs.Dispatching.{IsFromPacket, IsOfChannel}
-use Rattle.mqb_history.proofs.Lists.{none_some, numbered_behind, some_is}
+use Rattle.mqb_history.specs.Shown.{AreAcksSent, AreTransfersSent, CarriesAck, CarriesTransfer, Went}
+use Rattle.mqb_history.proofs.Dispatching.{IsFromPacket}
+use Rattle.mqb_history.proofs.Lists.{none_some, numbered_behind}
+use Rattle.mqb_history.proofs.Receipting.{HasTold}
 
 -- a note is an old one, but for its mark
 pub record IsSameNoteAt (notes : List Note) (k : ℕ) (note : Note) : Type 0 where
@@ -49,80 +49,90 @@ replicate_get (suc len) (suc n) x lt = replicate_get len n x (omega (arith, lt))
 
 -- What was sent.
 
-module _ (i j : ℕ) (d : QueueName) where
+module _ (Is : Note → UserPacket → Type 0) where
   -- it stays sent
-  pub sent_still : (notes more : List Note) (sent zs : List Packet) (ts : List Transfer) → AreTransfersSent i j d notes sent ts → AreTransfersSent i j d (notes ++ more) (sent ++ zs) ts
-  sent_still notes more sent zs ts h t inside = let g = h t inside in record {
+  went_on : (notes more : List Note) (sent zs : List Packet) → Went notes sent Is → Went (notes ++ more) (sent ++ zs) Is
+  went_on notes more sent zs g = record {
     place = g.place;
     note = g.note;
     user = g.user;
-    head = g.head;
     noted = numbered_front notes more g.place g.note g.noted;
     there = numbered_front sent zs g.place (packet.User g.user) g.there;
-    stream = g.stream;
-    sender = g.sender;
-    receiver = g.receiver;
-    to = g.to;
     is = g.is;
   }
 
-  pub sent_behind : (notes : List Note) (sent zs : List Packet) (ts : List Transfer) → AreTransfersSent i j d notes sent ts → AreTransfersSent i j d notes (sent ++ zs) ts
-  sent_behind notes sent zs ts h t inside = let g = h t inside in record {
-    place = g.place;
-    note = g.note;
-    user = g.user;
-    head = g.head;
-    noted = g.noted;
-    there = numbered_front sent zs g.place (packet.User g.user) g.there;
-    stream = g.stream;
-    sender = g.sender;
-    receiver = g.receiver;
-    to = g.to;
-    is = g.is;
-  }
+  went_behind : (notes : List Note) (sent zs : List Packet) → Went notes sent Is → Went notes (sent ++ zs) Is
+  went_behind notes sent zs g = record { place = g.place; note = g.note; user = g.user; noted = g.noted; there = numbered_front sent zs g.place (packet.User g.user) g.there; is = g.is }
 
   -- notes may be marked
-  pub sent_marked : (notes others : List Note) (sent : List Packet) (ts : List Transfer) → ((k : ℕ) (note : Note) → numbered notes k ≡ Some note → IsSameNoteAt others k note)
-      → AreTransfersSent i j d notes sent ts → AreTransfersSent i j d others sent ts
-  sent_marked notes others sent ts keeps h t inside = let g = h t inside in let n = keeps g.place g.note g.noted in record {
-    place = g.place;
-    note = n.old;
-    user = g.user;
-    head = g.head;
-    noted = n.there;
-    there = g.there;
-    stream = g.stream;
-    sender = n.sender ∙ g.sender;
-    receiver = n.receiver ∙ g.receiver;
-    to = g.to;
-    is = record { head = g.is.head; message = g.is.message; sent_at = g.is.sent_at ∙ sym n.moment };
-  }
+  went_marked : (notes others : List Note) (sent : List Packet) → ((k : ℕ) (note : Note) → numbered notes k ≡ Some note → IsSameNoteAt others k note)
+      → ((a b : Note) (user : UserPacket) → b.sender ≡ a.sender → b.receiver ≡ a.receiver → b.moment ≡ a.moment → Is a user → Is b user) → Went notes sent Is → Went others sent Is
+  went_marked notes others sent keeps marked g = let n = keeps g.place g.note g.noted in
+      record { place = g.place; note = n.old; user = g.user; noted = n.there; there = g.there; is = marked g.note n.old g.user n.sender n.receiver n.moment g.is }
 
-  -- a packet that is posted
-  new_sent : (notes : List Note) (sent zs : List Packet) (note : Note) (t : Transfer) → length notes ≡ length sent → note.sender ≡ i → note.receiver ≡ j → IsFromPacket d zs note.moment t
-      → WasSent i j d (notes ++ replicate (length zs) note) (sent ++ zs) t
-  new_sent notes sent zs note t noted from into g = record {
+  -- a packet is posted
+  went_now : (notes : List Note) (sent zs : List Packet) (note : Note) (user : UserPacket) → length notes ≡ length sent → In (packet.User user) zs → Is note user
+      → Went (notes ++ replicate (length zs) note) (sent ++ zs) Is
+  went_now notes sent zs note user noted inside is = let place = place_in zs (packet.User user) inside in record {
     place = length notes + 1 + place.0;
     note = note;
-    user = g.user;
-    head = g.head;
+    user = user;
     noted = numbered_behind notes (replicate (length zs) note) place.0 ∙ replicate_get (length zs) place.0 note place.1;
     there = ap (λ n. numbered (sent ++ zs) (n + 1 + place.0)) noted ∙ numbered_behind sent zs place.0 ∙ place.2;
-    stream = g.of.1;
-    sender = from;
-    receiver = into;
-    to = g.of.2;
-    is = record { head = g.is_head; message = g.message; sent_at = g.sent_at };
+    is = is;
   }
-    where
-      place : (n : ℕ) × (n < length zs) × (slice_get zs n ≡ Some (packet.User g.user))
-      place = place_in zs (packet.User g.user) g.of.0
 
-  pub posted_sent : (notes : List Note) (sent zs : List Packet) (note : Note) (olds news : List Transfer) → length notes ≡ length sent → note.sender ≡ i → note.receiver ≡ j
+module _ (i j : ℕ) where
+  -- transfers
+  pub sent_still : (d : QueueName) (notes more : List Note) (sent zs : List Packet) (ts : List Transfer) → AreTransfersSent i j d notes sent ts → AreTransfersSent i j d (notes ++ more) (sent ++ zs) ts
+  sent_still d notes more sent zs ts h t inside = went_on (CarriesTransfer i j d t) notes more sent zs (h t inside)
+
+  pub sent_behind : (d : QueueName) (notes : List Note) (sent zs : List Packet) (ts : List Transfer) → AreTransfersSent i j d notes sent ts → AreTransfersSent i j d notes (sent ++ zs) ts
+  sent_behind d notes sent zs ts h t inside = went_behind (CarriesTransfer i j d t) notes sent zs (h t inside)
+
+  pub sent_marked : (d : QueueName) (notes others : List Note) (sent : List Packet) (ts : List Transfer) → ((k : ℕ) (note : Note) → numbered notes k ≡ Some note → IsSameNoteAt others k note)
+      → AreTransfersSent i j d notes sent ts → AreTransfersSent i j d others sent ts
+  sent_marked d notes others sent ts keeps h t inside = went_marked (CarriesTransfer i j d t) notes others sent keeps (λ a b user from into at g. record {
+    head = g.head;
+    stream = g.stream;
+    sender = from ∙ g.sender;
+    receiver = into ∙ g.receiver;
+    to = g.to;
+    is = record { head = g.is.head; message = g.is.message; sent_at = g.is.sent_at ∙ sym at };
+  }) (h t inside)
+
+  pub posted_sent : (d : QueueName) (notes : List Note) (sent zs : List Packet) (note : Note) (olds news : List Transfer) → length notes ≡ length sent → note.sender ≡ i → note.receiver ≡ j
       → ((t : Transfer) → In t news → In t olds ⊎ IsFromPacket d zs note.moment t) → AreTransfersSent i j d notes sent olds
       → AreTransfersSent i j d (notes ++ replicate (length zs) note) (sent ++ zs) news
-  posted_sent notes sent zs note olds news noted from into only h t inside = at (only t inside)
+  posted_sent d notes sent zs note olds news noted from into only h t inside = at (only t inside)
     where
-      at : In t olds ⊎ IsFromPacket d zs note.moment t → WasSent i j d (notes ++ replicate (length zs) note) (sent ++ zs) t
-      at (inl old) = sent_still notes (replicate (length zs) note) sent zs olds h t old
-      at (inr new) = new_sent notes sent zs note t noted from into new
+      at : In t olds ⊎ IsFromPacket d zs note.moment t → Went (notes ++ replicate (length zs) note) (sent ++ zs) (CarriesTransfer i j d t)
+      at (inl old) = sent_still d notes (replicate (length zs) note) sent zs olds h t old
+      at (inr g) = went_now (CarriesTransfer i j d t) notes sent zs note g.user noted g.of.0 (record {
+        head = g.head;
+        stream = g.of.1;
+        sender = from;
+        receiver = into;
+        to = g.of.2;
+        is = record { head = g.is_head; message = g.message; sent_at = g.sent_at };
+      })
+
+  -- order acknowledgements
+  pub acks_still : (notes more : List Note) (sent zs : List Packet) (acks : List OrderAck) → AreAcksSent i j notes sent acks → AreAcksSent i j (notes ++ more) (sent ++ zs) acks
+  acks_still notes more sent zs acks h a inside = went_on (CarriesAck i j a) notes more sent zs (h a inside)
+
+  pub acks_behind : (notes : List Note) (sent zs : List Packet) (acks : List OrderAck) → AreAcksSent i j notes sent acks → AreAcksSent i j notes (sent ++ zs) acks
+  acks_behind notes sent zs acks h a inside = went_behind (CarriesAck i j a) notes sent zs (h a inside)
+
+  pub acks_marked : (notes others : List Note) (sent : List Packet) (acks : List OrderAck) → ((k : ℕ) (note : Note) → numbered notes k ≡ Some note → IsSameNoteAt others k note)
+      → AreAcksSent i j notes sent acks → AreAcksSent i j others sent acks
+  acks_marked notes others sent acks keeps h a inside = went_marked (CarriesAck i j a) notes others sent keeps
+      (λ x y user from into at g. record { plain = g.plain; acks = g.acks; sender = from ∙ g.sender; receiver = into ∙ g.receiver; spelled = g.spelled }) (h a inside)
+
+  pub acks_posted : (notes : List Note) (sent zs : List Packet) (note : Note) (olds news : List OrderAck) → length notes ≡ length sent → note.sender ≡ j → note.receiver ≡ i
+      → ((a : OrderAck) → In a news → In a olds ⊎ HasTold zs a.position) → AreAcksSent i j notes sent olds → AreAcksSent i j (notes ++ replicate (length zs) note) (sent ++ zs) news
+  acks_posted notes sent zs note olds news noted from into only h a inside = at (only a inside)
+    where
+      at : In a olds ⊎ HasTold zs a.position → Went (notes ++ replicate (length zs) note) (sent ++ zs) (CarriesAck i j a)
+      at (inl old) = acks_still notes (replicate (length zs) note) sent zs olds h a old
+      at (inr g) = went_now (CarriesAck i j a) notes sent zs note g.user noted g.there (record { plain = g.plain; acks = g.acks; sender = from; receiver = into; spelled = g.spelled })

@@ -19,12 +19,12 @@ use Rattle.mqb_packet.specs.declared.packet.Packet.TheVariants as packet
 use Rattle.mqb_packet.specs.declared.packet.UserPacket.{UserPacket}
 use Rattle.mqb_queue.specs.Places.{numbered}
 use Rattle.mqb_history.specs.Decided.{written_of}
-use Rattle.mqb_history.specs.Shown.{AreTransfersSent, IsTransfer, ShowsDestination, ShowsPackets, IsReceipt, ShowsReceipts}
+use Rattle.mqb_history.specs.Shown.{AreAcksSent, AreTransfersSent, IsTransfer, ShowsDestination, ShowsPackets, IsReceipt, ShowsReceipts}
 use Rattle.mqb_history.proofs.Carrying.{numbered_split, numbered_within, replicated}
 use Rattle.mqb_history.proofs.Dispatching.{AreSentOn, CanSend, IsOfChannel, send_on}
 use Rattle.mqb_history.proofs.Awaiting.{awaits_more}
 use Rattle.mqb_history.proofs.Linked.{AwaitsIn, IsLinked}
-use Rattle.mqb_history.proofs.Posted.{posted_sent, sent_behind, sent_still}
+use Rattle.mqb_history.proofs.Posted.{acks_behind, acks_posted, acks_still, posted_sent, sent_behind, sent_still}
 use Rattle.mqb_history.proofs.Lists.{apart_numbers, equal_numbers}
 use Rattle.mqb_history.proofs.Ruling.{MayRule, may_more}
 use Rattle.mqb_history.proofs.Settling.{ArePutsTold}
@@ -105,6 +105,7 @@ module _ (c : Course) (i j : ℕ) (ch : Channel) (d : QueueName) (peer : ℕ) (a
       standing = h.standing;
       packets = split_shown h.world.connection h.world.transfers h.packets (λ p tx inside t from into to. absurd (differ from into));
       transfers_sent = sent_still i j d c.network.notes (replicate (length zs) (note_by a now e)) c.sent zs h.world.transfers h.transfers_sent;
+      acks_sent = acks_still i j c.network.notes (replicate (length zs) (note_by a now e)) c.sent zs h.world.order_acks h.acks_sent;
       receipts = split_told h.world.connection h.world.order_acks h.receipts (λ p inside t is from into. absurd (back from into));
       doubt = h.doubt;
       fates = h.fates;
@@ -126,6 +127,8 @@ module _ (c : Course) (i j : ℕ) (ch : Channel) (d : QueueName) (peer : ℕ) (a
       standing = h.standing;
       packets = split_shown g.world.connection g.world.transfers old new;
       transfers_sent = posted_sent i j d c.network.notes c.sent zs (note_by a now e) h.world.transfers g.world.transfers noted own into_j g.only h.transfers_sent;
+      acks_sent = subst (AreAcksSent i j notes (c.sent ++ zs)) (sym g.same.order_acks)
+          (acks_still i j c.network.notes (replicate (length zs) (note_by a now e)) c.sent zs h.world.order_acks h.acks_sent);
       receipts = split_told g.world.connection g.world.order_acks (subst (λ acks. ShowsReceipts i j ch (written_of j c.written) c.network.notes c.sent h.number g.world.connection acks) (sym g.same.order_acks)
           (subst (λ n. ShowsReceipts i j ch (written_of j c.written) c.network.notes c.sent h.number n h.world.order_acks) (sym g.same.connection) h.receipts))
           (λ p inside t is from into. absurd (apart (sym own ∙ from)));
@@ -152,8 +155,8 @@ module _ (c : Course) (i j : ℕ) (ch : Channel) (d : QueueName) (peer : ℕ) (a
         doubt (Some r) y = subst (λ n. MayRule ch g.world.transfers n r) (sym g.same.connection) (may_more ch h.world.transfers g.world.transfers h.world.connection g.same.more r y)
 
     -- those that go back
-    back_posted : a ≡ j → ((p : UserPacket) → In (packet.User p) zs → p.tx ≡ None → is_order_ack p.message ≡ true → Tells ch (written_of j c.written) h.world.decided p) → IsLinked (after (Some e)) i j ch d peer
-    back_posted from tells = record {
+    back_posted : a ≡ j → other_end a e ≡ i → ((p : UserPacket) → In (packet.User p) zs → p.tx ≡ None → is_order_ack p.message ≡ true → Tells ch (written_of j c.written) h.world.decided p) → IsLinked (after (Some e)) i j ch d peer
+    back_posted from into_i tells = record {
       world = g.world;
       reached = g.reached;
       channel = g.same.channel ∙ h.channel;
@@ -169,6 +172,7 @@ module _ (c : Course) (i j : ℕ) (ch : Channel) (d : QueueName) (peer : ℕ) (a
           (λ p tx inside t own into to. absurd (apart (sym own ∙ from)));
       transfers_sent = subst (AreTransfersSent i j d notes (c.sent ++ zs)) (sym g.same.transfers)
           (sent_still i j d c.network.notes (replicate (length zs) (note_by a now e)) c.sent zs h.world.transfers h.transfers_sent);
+      acks_sent = acks_posted i j c.network.notes c.sent zs (note_by a now e) h.world.order_acks g.world.order_acks noted from into_i g.only h.acks_sent;
       receipts = split_told g.world.connection g.world.order_acks old new;
       doubt = subst (λ ts. IfSome (doubt_of (manager_at c.network j).condition) (MayRule ch ts g.world.connection)) (sym g.same.transfers)
           (subst (λ n. IfSome (doubt_of (manager_at c.network j).condition) (MayRule ch h.world.transfers n)) (sym g.same.connection) h.doubt);
@@ -178,8 +182,8 @@ module _ (c : Course) (i j : ℕ) (ch : Channel) (d : QueueName) (peer : ℕ) (a
           (awaits_more d h.world.order_acks g.world.order_acks h.world.connection (manager_at c.network i) g.same.more h.awaits);
     }
       where
-        g : IsToldOn ch h.world
-        g = told_on ch h.world h.reached h.connected
+        g : IsToldOn ch h.world zs
+        g = told_on ch h.world zs h.reached h.connected
 
         old : ShowsReceipts i j ch (written_of j c.written) c.network.notes c.sent h.number g.world.connection g.world.order_acks
         old k note p x f t is sender receiver = let q = h.receipts k note p x f t is sender receiver in record {
@@ -199,7 +203,7 @@ module _ (c : Course) (i j : ℕ) (ch : Channel) (d : QueueName) (peer : ℕ) (a
           of = q.of;
           source = q.source;
           decided = q.decided;
-          shown = λ same. let y = g.told q.position (q.last same) in (y.0, y.1, y.2, λ now. y.3 ∙ sym g.same.connection);
+          shown = λ same. let y = g.told q.position (record { user = p; there = inside; plain = t; acks = is; spelled = q.spelled }) (q.last same) in (y.0, y.1, y.2, λ now. y.3 ∙ sym g.same.connection);
         }
 
   pub posted_linked : (a ≡ i → (p : UserPacket) (tx : TxHead) → IsOfChannel d zs p tx → CanSend h.world now p tx)
@@ -221,18 +225,20 @@ module _ (c : Course) (i j : ℕ) (ch : Channel) (d : QueueName) (peer : ℕ) (a
         standing = h.standing;
         packets = none_shown;
         transfers_sent = sent_behind i j d c.network.notes c.sent zs h.world.transfers h.transfers_sent;
+        acks_sent = acks_behind i j c.network.notes c.sent zs h.world.order_acks h.acks_sent;
         receipts = none_told;
         doubt = h.doubt;
         fates = h.fates;
         awaits = h.awaits;
       }
 
-      by : (e : Connection) → (p : Bool) → (a == i) ≡ p → (q : Bool) → (other_end a e == j) ≡ q → (r : Bool) → (a == j) ≡ r → IsLinked (after (Some e)) i j ch d peer
-      by e true f true g r k = own_posted e (equal_numbers a i f) (equal_numbers (other_end a e) j g) (can (equal_numbers a i f))
-      by e true f false g r k = other_posted e (λ from into. apart_numbers (other_end a e) j g into) (λ from into. apart (sym (equal_numbers a i f) ∙ from))
-      by e false f q g true k = back_posted e (equal_numbers a j k) (tells (equal_numbers a j k))
-      by e false f q g false k = other_posted e (λ from into. apart_numbers a i f from) (λ from into. apart_numbers a j k from)
+      by : (e : Connection) → (p : Bool) → (a == i) ≡ p → (q : Bool) → (other_end a e == j) ≡ q → (r : Bool) → (a == j) ≡ r → (s : Bool) → (other_end a e == i) ≡ s → IsLinked (after (Some e)) i j ch d peer
+      by e true f true g r k s l = own_posted e (equal_numbers a i f) (equal_numbers (other_end a e) j g) (can (equal_numbers a i f))
+      by e true f false g r k s l = other_posted e (λ from into. apart_numbers (other_end a e) j g into) (λ from into. apart (sym (equal_numbers a i f) ∙ from))
+      by e false f q g true k true l = back_posted e (equal_numbers a j k) (equal_numbers (other_end a e) i l) (tells (equal_numbers a j k))
+      by e false f q g true k false l = other_posted e (λ from into. apart_numbers a i f from) (λ from into. apart_numbers (other_end a e) i l into)
+      by e false f q g false k s l = other_posted e (λ from into. apart_numbers a i f from) (λ from into. apart_numbers a j k from)
 
       at : (o : Option Connection) → IsLinked (after o) i j ch d peer
       at None = none
-      at (Some e) = by e (a == i) refl (other_end a e == j) refl (a == j) refl
+      at (Some e) = by e (a == i) refl (other_end a e == j) refl (a == j) refl (other_end a e == i) refl

@@ -33,7 +33,7 @@ use Rattle.mqb_history.specs.Decided.{written_of}
 use Rattle.mqb_history.specs.Fates.{ShowsFates, departure_line}
 use Rattle.mqb_history.specs.Finals.{AreFatesTold, KnowsFate}
 use Rattle.mqb_history.specs.Orderly.{IsItself, IsOrderly}
-use Rattle.mqb_history.specs.Shown.{AreExactlyOnce, AreShown, AreTransfersSent, IsShown, Leads, Shows, ShowsDestination, ShowsFinals, ShowsPackets, ShowsReceipts, channel_of, commitments_to, decisions_made, fate_of, joins, to_destination}
+use Rattle.mqb_history.specs.Shown.{AreExactlyOnce, AreShown, AreAcksSent, AreTransfersSent, IsShown, Leads, Shows, ShowsDestination, ShowsFinals, ShowsPackets, ShowsReceipts, channel_of, commitments_to, decisions_made, fate_of, joins, to_destination}
 use Rattle.mqb_history.proofs.Answering.{IsCredible}
 use Rattle.mqb_history.proofs.Between.{AreEnds}
 use Rattle.mqb_history.proofs.Carrying.{IsCarrying, carrying_begins, carrying_closed}
@@ -97,6 +97,7 @@ begins_linked known i j d r = record {
   standing = λ e inside. absurd inside;
   packets = λ k note p tx e. absurd (none_numbered k note e);
   transfers_sent = λ t inside. absurd inside;
+  acks_sent = λ a inside. absurd inside;
   receipts = λ k note p e. absurd (none_numbered k note e);
   doubt = subst (λ o. IfSome o (MayRule ch [] 1)) (sym (begun_doubt known j)) tt;
   fates = λ p departure inside. absurd inside;
@@ -276,6 +277,7 @@ module _ (known : List Identity) (c : Course) (i j : ℕ) (d : QueueName) (o : I
     between = subst (λ ts. ShowsPackets i j d c.network.notes c.sent h.number w.connection ts) (sym transfers)
         (subst (λ n. ShowsPackets i j d c.network.notes c.sent h.number n h.world.transfers) (sym connection) h.packets);
     transfers_sent = subst (AreTransfersSent i j d c.network.notes c.sent) (sym transfers) h.transfers_sent;
+    acks_sent = subst (AreAcksSent i j c.network.notes c.sent) (sym order_acks) h.acks_sent;
     back = subst (λ acks. ShowsReceipts i j own_channel (written_of j c.written) c.network.notes c.sent h.number w.connection acks) (sym order_acks)
         (subst (λ n. ShowsReceipts i j own_channel (written_of j c.written) c.network.notes c.sent h.number n h.world.order_acks) (sym connection)
         (subst (λ (x : Channel). ShowsReceipts i j x (written_of j c.written) c.network.notes c.sent h.number h.world.connection h.world.order_acks) same h.receipts));

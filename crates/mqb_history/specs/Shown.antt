@@ -129,22 +129,27 @@ ShowsPackets i j destination notes sent number connection transfers = (k : ℕ) 
     → note.sender ≡ i → note.receiver ≡ j → p.message.destination ≡ destination
     → (t : Transfer) × In t transfers × IsTransfer note p tx t × (note.connection ≡ number → t.connection ≡ connection)
 
--- A transfer is a packet of the channel that was sent.
-pub record WasSent (i j : ℕ) (destination : QueueName) (notes : List Note) (sent : List Packet) (t : Transfer) : Type 0 where
+-- A packet that was sent, with its note, is so.
+pub record Went (notes : List Note) (sent : List Packet) (Is : Note → UserPacket → Type 0) : Type 0 where
   pub place : ℕ
   pub note : Note
   pub user : UserPacket
-  pub head : TxHead
   pub noted : numbered notes place ≡ Some note
   pub there : numbered sent place ≡ Some (packet.User user)
+  pub is : Is note user
+
+-- a packet of the channel is this transfer
+pub record CarriesTransfer (i j : ℕ) (destination : QueueName) (t : Transfer) (note : Note) (user : UserPacket) : Type 0 where
+  pub head : TxHead
   pub stream : user.tx ≡ Some head
   pub sender : note.sender ≡ i
   pub receiver : note.receiver ≡ j
   pub to : user.message.destination ≡ destination
   pub is : IsTransfer note user head t
 
+-- Each transfer is a packet that was sent.
 abbrev pub AreTransfersSent : (i j : ℕ) → QueueName → List Note → List Packet → List Transfer → Type 0
-AreTransfersSent i j destination notes sent transfers = (t : Transfer) → In t transfers → WasSent i j destination notes sent t
+AreTransfersSent i j destination notes sent transfers = (t : Transfer) → In t transfers → Went notes sent (CarriesTransfer i j destination t)
 
 -- What an order acknowledgement tells: a position that was decided of a channel. Where it is this channel, it is an acknowledgement of the world.
 pub record IsReceipt (c : Channel) (written : List Written) (note : Note) (p : UserPacket) (number connection : ℕ) (acks : List OrderAck) : Type 0 where
@@ -159,6 +164,18 @@ pub record IsReceipt (c : Channel) (written : List Written) (note : Note) (p : U
 abbrev pub ShowsReceipts : (i j : ℕ) → Channel → List Written → List Note → List Packet → (number connection : ℕ) → List OrderAck → Type 0
 ShowsReceipts i j c written notes sent number connection acks = (k : ℕ) (note : Note) (p : UserPacket) → numbered notes k ≡ Some note → numbered sent k ≡ Some (packet.User p)
     → p.tx ≡ None → IsTrue (is_order_ack p.message) → note.sender ≡ j → note.receiver ≡ i → IsReceipt c written note p number connection acks
+
+-- a packet that went back spells what this one acknowledges
+pub record CarriesAck (i j : ℕ) (a : OrderAck) (note : Note) (user : UserPacket) : Type 0 where
+  pub plain : user.tx ≡ None
+  pub acks : IsTrue (is_order_ack user.message)
+  pub sender : note.sender ≡ j
+  pub receiver : note.receiver ≡ i
+  pub spelled : user.message.body ≡ ack_body (record { sequence = a.position.sequence; number = a.position.number })
+
+-- Each order acknowledgement of the world is a packet that was sent.
+abbrev pub AreAcksSent : (i j : ℕ) → List Note → List Packet → List OrderAck → Type 0
+AreAcksSent i j notes sent acks = (a : OrderAck) → In a acks → Went notes sent (CarriesAck i j a)
 
 -- the fate that the class of a final acknowledgement tells
 abbrev pub fate_of : Class → MessageFate
@@ -195,6 +212,7 @@ pub record Shows (c : Course) (i j : ℕ) (destination : QueueName) (w : StreamW
   pub between : ShowsPackets i j destination c.network.notes c.sent number w.connection w.transfers
   pub transfers_sent : AreTransfersSent i j destination c.network.notes c.sent w.transfers
   pub back : ShowsReceipts i j (channel_of c.network i destination) (written_of j c.written) c.network.notes c.sent number w.connection w.order_acks
+  pub acks_sent : AreAcksSent i j c.network.notes c.sent w.order_acks
   pub finals : ShowsFinals i j w.committed c.network.notes c.sent number w.connection w.final_acks
   pub connected : w.connected ≡ list_any (joins i j) c.network.connections
 
