@@ -1,13 +1,13 @@
 -- What words count of a line.
 use Rattle.std.proofs.Common.{arith}
-use Rattle.std.specs.Prelude.{◌+◌, ◌≡◌}
+use Rattle.std.specs.Prelude.{[], ◌+◌, ◌∷◌, ◌≡◌, List}
 use Rattle.mqb_base.specs.declared.ids.MessageId.{MessageId}
 use Rattle.mqb_base.specs.declared.ledger.Line.{Line}
 use Rattle.mqb_base.specs.declared.ledger.Line.TheVariants as line
-use Rattle.mqb_history.specs.Copies.{came_in, left_in}
+use Rattle.mqb_history.specs.Copies.{came_in, left_in, sent_in}
 use Rattle.mqb_history.specs.Truths.{committed_in, local_in}
 use Rattle.mqb_history.proofs.Sums.{word}
-use Rattle.mqb_history.proofs.Tallies.{arrives, begins, left}
+use Rattle.mqb_history.proofs.Tallies.{arrives, begins, left, tally}
 
 -- what left a queue, or joined a stream
 pub left_word : (id : MessageId) (l : Line) → left id l ≡ word left_in id l + word committed_in id l
@@ -56,3 +56,22 @@ begins_word id (line.Purged other) = omega arith
 begins_word id (line.Swept other) = omega arith
 begins_word id (line.Lapsed other) = omega arith
 begins_word id (line.Emptied other) = omega arith
+
+sent_line : (id : MessageId) (l : Line) → begins id l ≡ word sent_in id l
+sent_line id (line.Committed stream number other) = omega arith
+sent_line id (line.Put stream number other) = omega arith
+sent_line id (line.Refused stream number class other) = omega arith
+sent_line id (line.Expired stream number other moment) = omega arith
+sent_line id (line.Local other) = omega arith
+sent_line id (line.Stored other) = omega arith
+sent_line id (line.Bounced class other) = omega arith
+sent_line id (line.Released other) = omega arith
+sent_line id (line.Took other) = omega arith
+sent_line id (line.Purged other) = omega arith
+sent_line id (line.Swept other) = omega arith
+sent_line id (line.Lapsed other) = omega arith
+sent_line id (line.Emptied other) = omega arith
+
+pub sent_word : (id : MessageId) (ls : List Line) → tally (word sent_in id) ls ≡ tally (begins id) ls
+sent_word id [] = omega arith
+sent_word id (l ∷ ls) = let one = sent_line id l in let rest = sent_word id ls in omega (arith, one, rest)

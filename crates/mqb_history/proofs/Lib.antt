@@ -151,6 +151,9 @@ mod Counted
 mod Arriving
 mod Balance
 mod Copies
+mod Finding
+mod Ledger
+mod Exactly
 mod Received
 mod Finality
 mod Settling

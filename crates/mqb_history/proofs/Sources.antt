@@ -123,16 +123,16 @@ pub record IsDecidedAt (known : List Identity) (c : Course) (by : ℕ) (stream :
   pub position : committed.commitment.position ≡ position_of head
   pub destination : committed.commitment.message.destination ≡ heard.message.destination
 
-record IsLineOf (stream : Stream) (number : ℕ) (id : MessageId) (m : Message) (tx : TxHead) : Type 0 where
+pub record IsLineOf (stream : Stream) (number : ℕ) (id : MessageId) (m : Message) (tx : TxHead) : Type 0 where
   pub stream_is : stream ≡ stream_heard m tx
   pub number_is : number ≡ tx.number
   pub id_is : id ≡ m.id
 
-put_line : (m : Message) (tx : TxHead) (o : Option Class) (stream : Stream) (number : ℕ) (id : MessageId) → decided_line m tx o ≡ line.Put stream number id → IsLineOf stream number id m tx
+pub put_line : (m : Message) (tx : TxHead) (o : Option Class) (stream : Stream) (number : ℕ) (id : MessageId) → decided_line m tx o ≡ line.Put stream number id → IsLineOf stream number id m tx
 put_line m tx None stream number id e = record { stream_is = cc; number_is = cc; id_is = cc }
 put_line m tx (Some class) stream number id e = absurd (let none : ⊥ = cc in none)
 
-refused_line : (m : Message) (tx : TxHead) (o : Option Class) (stream : Stream) (number : ℕ) (class : Class) (id : MessageId) → decided_line m tx o ≡ line.Refused stream number class id → IsLineOf stream number id m tx
+pub refused_line : (m : Message) (tx : TxHead) (o : Option Class) (stream : Stream) (number : ℕ) (class : Class) (id : MessageId) → decided_line m tx o ≡ line.Refused stream number class id → IsLineOf stream number id m tx
 refused_line m tx None stream number class id e = absurd (let none : ⊥ = cc in none)
 refused_line m tx (Some why) stream number class id e = record { stream_is = cc; number_is = cc; id_is = cc }
 

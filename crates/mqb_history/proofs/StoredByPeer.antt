@@ -37,12 +37,12 @@ storage_by : (s : State) (r : Record) (id : MessageId) (l : Line) → In l (line
 storage_by s r id l i (inl e) = all_in (Says (sayings r)) (lines_of s r) (line.Stored id) (says_truly s r) (subst (λ x. In x (lines_of s r)) e i)
 storage_by s r id l i (inr (class, e)) = all_in (Says (sayings r)) (lines_of s r) (line.Bounced class id) (says_truly s r) (subst (λ x. In x (lines_of s r)) e i)
 
-in_befores : (ws : List Written) (w : Written) → In w ws → In w.before (befores ws)
+pub in_befores : (ws : List Written) (w : Written) → In w ws → In w.before (befores ws)
 in_befores [] w i = absurd i
 in_befores (v ∷ ws) w (inl e) = inl (ap (λ (x : Written). x.before) e)
 in_befores (v ∷ ws) w (inr i) = inr (in_befores ws w i)
 
-middle_in : (before behind : List Written) (w : Written) → In w (before ++ w ∷ behind)
+pub middle_in : (before behind : List Written) (w : Written) → In w (before ++ w ∷ behind)
 middle_in [] behind w = inl refl
 middle_in (v ∷ before) behind w = inr (middle_in before behind w)
 

@@ -28,6 +28,7 @@ pub mod Put
 pub mod Asked
 pub mod Truths
 pub mod Finished
+pub mod Ledger
 pub mod Received
 pub mod Copies
 pub mod Twice

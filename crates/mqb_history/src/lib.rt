@@ -13,6 +13,7 @@ ghost use Rattle.mqb_history.specs.Truths.{AlwaysTruthful};
 ghost use Rattle.mqb_history.specs.Received.{AlwaysReceivedTruly, AlwaysReceivedTrulyOfPlain};
 ghost use Rattle.mqb_history.specs.Copies.{AlwaysCopiedRightly};
 ghost use Rattle.mqb_history.specs.Twice.{OneIsTakenAndMissed};
+ghost use Rattle.mqb_history.specs.Ledger.{AlwaysExactlyOnceTold};
 ghost use Rattle.mqb_history.specs.Choosing.{RepliesShowChoices, RunsAreShown};
 ghost use Rattle.mqb_history.specs.Leading.{CommitmentsLeadToManagers};
 ghost use Rattle.mqb_history.specs.Drafted.{AlwaysValid};
@@ -212,6 +213,12 @@ pub fn always_shown()
 /// So each channel is exactly once: what is decided was committed, in order and each once, and whatever was not expired before is decided or waits.
 pub fn always_exactly_once()
     ensures { AlwaysExactlyOnce }
+{}
+
+/// The ledger itself tells of each stream that it is exactly once: its messages are committed as 1, 2, and so on; what is decided was committed before, in order
+/// and each once; whatever stands before it was decided before, or expired before; and nothing that expired is decided.
+pub fn ledger_is_exactly_once()
+    ensures { AlwaysExactlyOnceTold }
 {}
 
 /// The parts of the invariant of streams hold of the world of each channel.
