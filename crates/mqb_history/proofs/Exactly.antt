@@ -23,8 +23,10 @@ use Rattle.mqb_orders.specs.Streams.{number_committed, same_stream}
 use Rattle.mqb_history.specs.Committed.{AreCommittedInOrder, commitments, number_in, numbers_in}
 use Rattle.mqb_history.specs.Copies.{sent_in}
 use Rattle.mqb_history.specs.Decided.{written_of}
+use Rattle.mqb_history.specs.Leading.{AreCommitmentsLed}
 use Rattle.mqb_history.specs.Ledger.{AlwaysExactlyOnceTold, IsExactlyOnceTold}
 use Rattle.mqb_history.specs.Orderly.{IsOrderly}
+use Rattle.mqb_history.specs.Shown.{AreExactlyOnce}
 use Rattle.mqb_history.specs.Told.{AreCommitmentsTold, Joined, commitment_told, joined_by}
 use Rattle.mqb_history.proofs.Agreeing.{agreeing}
 use Rattle.mqb_history.proofs.Balance.{begun_once}
@@ -33,8 +35,9 @@ use Rattle.mqb_history.proofs.Counted.{sent_word}
 use Rattle.mqb_history.proofs.Courses.{Agrees}
 use Rattle.mqb_history.proofs.Deciding.{always_decided_in_order}
 use Rattle.mqb_history.proofs.Due.{always_expired_duly}
-use Rattle.mqb_history.proofs.Finding.{only_by}
+use Rattle.mqb_history.proofs.Finding.{mapped_from, only_by}
 use Rattle.mqb_history.proofs.Gone.{IsAccounted, always_accounted}
+use Rattle.mqb_history.proofs.Leading.{always_commitments_led}
 use Rattle.mqb_history.proofs.Led.{always_decided_by_one}
 use Rattle.mqb_history.proofs.Ledger.{IsKnown, committed_before, expired_apart, in_order, none_skipped, one_destination, one_writer}
 use Rattle.mqb_history.proofs.Lists.{clash, join_and, none_some, same_number, split_and}
@@ -43,11 +46,13 @@ use Rattle.mqb_history.proofs.Noticed.{own_line, told_from, written_in}
 use Rattle.mqb_history.proofs.Numbering.{always_committed_in_order}
 use Rattle.mqb_history.proofs.Offering.{always_offers_kept}
 use Rattle.mqb_history.proofs.Puts.{told_in}
+use Rattle.mqb_history.proofs.Rising.{committed_rises}
 use Rattle.mqb_history.proofs.Rows.{AreRowed, rowed_by_records}
 use Rattle.mqb_history.proofs.Skipping.{always_unskipped}
 use Rattle.mqb_history.proofs.Sums.{times_is}
 use Rattle.mqb_history.proofs.Telling.{always_told_commitments}
 use Rattle.mqb_history.proofs.Undecided.{always_undecided}
+use Rattle.mqb_history.proofs.Witnessing.{always_exactly_once}
 use Rattle.mqb_history.proofs.Written.{always_by_records}
 
 -- Streams.
@@ -107,12 +112,7 @@ commits_in s l n e = at (commitment_told l) refl (sym (by_joined s l) ∙ e)
         by true same x = (j, f, same_stream_is s j.stream same)
         by false same x = absurd (none_some x)
 
-mapped_from : {X Y : Type 0} (f : X → Y) (xs : List X) (y : Y) → In y (map f xs) → (x : X) × In x xs × (f x ≡ y)
-mapped_from f [] y i = absurd i
-mapped_from f (x ∷ xs) y (inl e) = (x, inl refl, e)
-mapped_from f (x ∷ xs) y (inr i) = let g = mapped_from f xs y i in (g.0, inr g.1, g.2)
-
-module _ (known : List Identity) (apart : AreApart known) (c : Course) (k : IsKnown known c) (told : AreCommitmentsTold c) (ordered : AreCommittedInOrder c) where
+module _ (known : List Identity) (apart : AreApart known) (c : Course) (k : IsKnown known c) (told : AreCommitmentsTold c) (ordered : AreCommittedInOrder c) (led : AreCommitmentsLed c) (once : AreExactlyOnce c) where
   abbrev o : IsOrderly known c
   o = k.orderly
 
@@ -196,6 +196,7 @@ module _ (known : List Identity) (apart : AreApart known) (c : Course) (k : IsKn
   pub exactly_once_told : IsAccounted known c → IsExactlyOnceTold all
   exactly_once_told t = record {
     numbered = numbered;
+    committed_in_order = committed_rises known apart c k told led once;
     apart = λ id. let one = begun_once known apart c t id in let a = times_is sent_in id all in let same = sent_word id all in omega (arith, one, a, same);
     in_order = in_order known apart c k;
     committed = λ before behind l s n id split says. committed_before known apart c k before behind l s n id split says;
@@ -216,4 +217,5 @@ ledger_is_exactly_once known ms apart run kept = let c = settled kept (after_run
   duly = always_expired_duly known ms apart run kept;
   kept = always_offers_kept known ms apart run kept;
   undecided = always_undecided known ms apart run kept;
-}) (always_told_commitments known ms apart run kept) (always_committed_in_order known ms apart run kept) (always_accounted known apart ms run kept)
+}) (always_told_commitments known ms apart run kept) (always_committed_in_order known ms apart run kept) (always_commitments_led known ms apart run kept)
+    (always_exactly_once known ms apart run kept) (always_accounted known apart ms run kept)

@@ -1,7 +1,7 @@
 -- Which lines words find, and whose they are.
 use Rattle.std.proofs.Common.{refl, ap, sym, ◌∙◌, arith, inl, inr}
 use Rattle.std.specs.List.{AllByRecursion, cons_option}
-use Rattle.std.specs.Prelude.{[], ◌&&◌, ◌++◌, ◌==◌, ◌||◌, ◌∷◌, ◌≡◌, ◌≤◌, Bool, List, None, Option, Some, cond, false, filter_map, nat_lt, true, ℕ}
+use Rattle.std.specs.Prelude.{[], ◌&&◌, ◌++◌, ◌==◌, ◌||◌, ◌∷◌, ◌≡◌, ◌≤◌, Bool, List, None, Option, Some, cond, false, filter_map, map, nat_lt, true, ℕ}
 use Rattle.std.proofs.lemmas.Bool.Decides.{nat_tests}
 use Rattle.mqb_base.specs.Same.{same_guid, same_name}
 use Rattle.mqb_base.specs.declared.ids.MessageId.{MessageId}
@@ -47,6 +47,12 @@ only_by f i (w ∷ ws) only = at (w.by == i) refl (only_by f i ws (λ v l x j k 
       where
         apart_from : w.by ≡ i → ⊥
         apart_from same = apart_numbers w.by i e same
+
+-- what a function makes of a list it makes of a member
+pub mapped_from : {X Y : Type 0} (f : X → Y) (xs : List X) (y : Y) → In y (map f xs) → (x : X) × In x xs × (f x ≡ y)
+mapped_from f [] y i = absurd i
+mapped_from f (x ∷ xs) y (inl e) = (x, inl refl, e)
+mapped_from f (x ∷ xs) y (inr i) = let g = mapped_from f xs y i in (g.0, inr g.1, g.2)
 
 -- Positions that rise.
 

@@ -25,7 +25,7 @@ use Rattle.mqb_model.specs.rules.Sends.{journalled}
 use Rattle.mqb_model.specs.state.Resolving.{at_peer, at_queue, is_host_of, is_own_host, peer_at, peer_known, queue_named, queue_numbered, queue_registered, resolved}
 use Rattle.mqb_model.specs.state.State.{State}
 use Rattle.mqb_network.specs.Courses.{Course, Written}
-use Rattle.mqb_network.specs.Laws.{LedgerIsWritten, lines_written}
+use Rattle.mqb_network.specs.Laws.{Always, LedgerIsWritten, lines_written}
 use Rattle.mqb_network.specs.Network.{Network, manager_at, nobody}
 use Rattle.mqb_history.specs.Committed.{commitment_at, commitments_in, commitments_of}
 use Rattle.mqb_history.specs.Decided.{written_of}
@@ -318,6 +318,10 @@ streams_led known c o one written stream number id i = by (in_lines c.written (l
               leads = subst (λ d. LeadsFrom (manager_at c.network w.by).state c.network d found.0) (ap (λ (x : Joined). x.stream.destination) e) found.2;
               apart = found.3;
             }
+
+pub always_commitments_led : Always AreCommitmentsLed
+always_commitments_led known ms apart run kept = let h = always_kept known (IsOrderlyWith known AreOfOne) (by_records known AreOfOne apart one_by_records) ms run kept
+    (begins_with known AreOfOne one_by_records) in commitments_led known _ h.0 h.1
 
 pub commitments_lead_to_managers : LedgerIsWritten → CommitmentsLeadToManagers
 commitments_lead_to_managers law known ms apart run kept = let h = always_kept known (IsOrderlyWith known AreOfOne) (by_records known AreOfOne apart one_by_records) ms run kept

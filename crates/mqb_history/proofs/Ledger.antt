@@ -154,7 +154,7 @@ module _ (known : List Identity) (apart : AreApart known) (c : Course) (k : IsKn
   -- Decisions.
 
   -- the record of a line that decides, and what its packet says
-  line_decides : (w : Written) (l : Line) (s : Stream) (n : ℕ) (id : MessageId) → In l (lines_of w.before w.entry) → Decides s n id l → (d : IsDeciding w.entry) × source.IsLineOf s n id d.packet.message d.head
+  pub line_decides : (w : Written) (l : Line) (s : Stream) (n : ℕ) (id : MessageId) → In l (lines_of w.before w.entry) → Decides s n id l → (d : IsDeciding w.entry) × source.IsLineOf s n id d.packet.message d.head
   line_decides w l s n id i (inl e) = let there = subst (λ x. In x (lines_of w.before w.entry)) e i in let d = put_decides w.before w.entry s n id there in (
     d,
     put_line d.packet.message d.head (refusal_of w.before d.packet) s n id

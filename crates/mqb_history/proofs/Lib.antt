@@ -153,7 +153,9 @@ mod Balance
 mod Copies
 mod Finding
 mod Ledger
+mod Rising
 mod Exactly
+mod Late
 mod Received
 mod Finality
 mod Settling

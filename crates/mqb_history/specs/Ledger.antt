@@ -1,24 +1,29 @@
 -- What the ledger says of streams, line by line.
 use Rattle.std.specs.List.{range_with_len}
-use Rattle.std.specs.Prelude.{◌++◌, ◌<◌, ◌∷◌, ◌≡◌, ◌≤◌, ◌⊎◌, List, filter_map, length, ℕ}
+use Rattle.std.specs.Prelude.{◌++◌, ◌<◌, ◌∷◌, ◌≡◌, ◌≤◌, ◌⊎◌, List, None, Option, filter_map, length, ℕ}
 use Rattle.mqb_base.specs.declared.class.Class.{Class}
 use Rattle.mqb_base.specs.declared.ids.MessageId.{MessageId}
 use Rattle.mqb_base.specs.declared.ledger.Line.{Line}
 use Rattle.mqb_base.specs.declared.ledger.Line.TheVariants as line
 use Rattle.mqb_base.specs.declared.ledger.Stream.{Stream}
 use Rattle.mqb_exactly_once.specs.Words.{In}
-use Rattle.mqb_exactly_once.specs.World.{Channel}
+use Rattle.mqb_exactly_once.specs.World.{Channel, Position}
 use Rattle.mqb_network.specs.Laws.{Always, lines_written}
 use Rattle.mqb_orders.specs.Streams.{number_committed}
 use Rattle.mqb_history.specs.Copies.{sent_in, times}
 use Rattle.mqb_history.specs.Decided.{RiseStrictly}
-use Rattle.mqb_history.specs.Told.{decisions_told}
+use Rattle.mqb_history.specs.Told.{decisions_told, place_in}
 
 -- a line decides the message of a stream under a number: it is put, or refused
 abbrev pub Decides : Stream → ℕ → MessageId → Line → Type 0
 Decides s n id l = (l ≡ line.Put s n id) ⊎ ((class : Class) × (l ≡ line.Refused s n class id))
 
--- lines have one that does
+-- where a message of a channel joined its stream
+abbrev pub commitment_placed : Channel → Line → Option Position
+commitment_placed c (line.Committed stream number id) = place_in c stream number
+commitment_placed c _ = None
+
+-- lines have one that decides it
 pub record AreDeciding (s : Stream) (n : ℕ) (lines : List Line) : Type 0 where
   pub id : MessageId
   pub line : Line
@@ -45,6 +50,8 @@ IsNoneSkipped ledger = (before behind : List Line) (l : Line) (s : Stream) (n m 
 pub record IsExactlyOnceTold (ledger : List Line) : Type 0 where
   -- its messages are committed as 1, 2, and so on
   pub numbered : (s : Stream) → filter_map (number_committed s) ledger ≡ range_with_len 1 (length (filter_map (number_committed s) ledger))
+  -- those to one destination are committed in the order of their positions: one sequence after another
+  pub committed_in_order : (channel : Channel) → RiseStrictly (filter_map (commitment_placed channel) ledger)
   -- no two messages that were committed, or put where they were sent, have one identifier
   pub apart : (id : MessageId) → times sent_in id ledger ≤ 1
   -- those of a source and a destination are decided in order, each once, whoever decides them

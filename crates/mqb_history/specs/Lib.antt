@@ -29,6 +29,7 @@ pub mod Asked
 pub mod Truths
 pub mod Finished
 pub mod Ledger
+pub mod Late
 pub mod Received
 pub mod Copies
 pub mod Twice

@@ -14,6 +14,7 @@ ghost use Rattle.mqb_history.specs.Received.{AlwaysReceivedTruly, AlwaysReceived
 ghost use Rattle.mqb_history.specs.Copies.{AlwaysCopiedRightly};
 ghost use Rattle.mqb_history.specs.Twice.{OneIsTakenAndMissed};
 ghost use Rattle.mqb_history.specs.Ledger.{AlwaysExactlyOnceTold};
+ghost use Rattle.mqb_history.specs.Late.{AlwaysRefusedLate};
 ghost use Rattle.mqb_history.specs.Choosing.{RepliesShowChoices, RunsAreShown};
 ghost use Rattle.mqb_history.specs.Leading.{CommitmentsLeadToManagers};
 ghost use Rattle.mqb_history.specs.Drafted.{AlwaysValid};
@@ -213,6 +214,11 @@ pub fn always_shown()
 /// So each channel is exactly once: what is decided was committed, in order and each once, and whatever was not expired before is decided or waits.
 pub fn always_exactly_once()
     ensures { AlwaysExactlyOnce }
+{}
+
+/// A message that is refused because its time to reach its queue was over was sent by its source at a moment at which it was over.
+pub fn always_refused_late()
+    ensures { AlwaysRefusedLate }
 {}
 
 /// The ledger itself tells of each stream that it is exactly once: its messages are committed as 1, 2, and so on; what is decided was committed before, in order
