@@ -156,6 +156,7 @@ mod Ledger
 mod Rising
 mod Exactly
 mod Late
+mod Noting
 mod Received
 mod Finality
 mod Settling

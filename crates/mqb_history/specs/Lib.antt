@@ -30,6 +30,7 @@ pub mod Truths
 pub mod Finished
 pub mod Ledger
 pub mod Late
+pub mod Pumps
 pub mod Received
 pub mod Copies
 pub mod Twice

@@ -15,6 +15,7 @@ ghost use Rattle.mqb_history.specs.Copies.{AlwaysCopiedRightly};
 ghost use Rattle.mqb_history.specs.Twice.{OneIsTakenAndMissed};
 ghost use Rattle.mqb_history.specs.Ledger.{AlwaysExactlyOnceTold};
 ghost use Rattle.mqb_history.specs.Late.{AlwaysRefusedLate};
+ghost use Rattle.mqb_history.specs.Pumps.{NotesTellPumps};
 ghost use Rattle.mqb_history.specs.Choosing.{RepliesShowChoices, RunsAreShown};
 ghost use Rattle.mqb_history.specs.Leading.{CommitmentsLeadToManagers};
 ghost use Rattle.mqb_history.specs.Drafted.{AlwaysValid};
@@ -219,6 +220,11 @@ pub fn always_exactly_once()
 /// A message that is refused because its time to reach its queue was over was sent by its source at a moment at which it was over.
 pub fn always_refused_late()
     ensures { AlwaysRefusedLate }
+{}
+
+/// Each packet that was sent went in an event of the run in which its sender pumped, at the moment that is noted.
+pub fn notes_tell_pumps()
+    ensures { NotesTellPumps }
 {}
 
 /// The ledger itself tells of each stream that it is exactly once: its messages are committed as 1, 2, and so on; what is decided was committed before, in order
