@@ -78,7 +78,7 @@ module _ (known : List Identity) (apart : AreApart known) (c : Course) (t : IsAc
   who k lt = within_get known k (subst (λ n. k < n) o.count lt)
 
   -- each line is of a manager
-  by_manager : (w : Written) → In w c.written → w.by < count
+  pub by_manager : (w : Written) → In w c.written → w.by < count
   by_manager w i = let g = heard_in known apart c o h w i in subst (λ n. w.by < n) (sym o.count) (get_within known w.by g.0 g.1)
 
   pub over_all : (f : Line → ℕ) → tally f (lines_written c.written) ≡ summed (λ k. tally f (mine k)) count

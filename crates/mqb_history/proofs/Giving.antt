@@ -26,7 +26,7 @@ use Rattle.mqb_history.proofs.Saying.{RecordSays, Says, record_says, takes_say}
 use Rattle.mqb_history.proofs.Tallies.{begins, tally, tally_append, weight}
 
 module _ (x : MessageId) where
-  none_begin : (ls : List Line) → AllByRecursion (Says silent) ls → beginnings x ls ≡ 0
+  pub none_begin : (ls : List Line) → AllByRecursion (Says silent) ls → beginnings x ls ≡ 0
   none_begin [] h = omega arith
   none_begin (l ∷ ls) h = let one = at l h.0 in let rest = none_begin ls h.1 in omega (arith, one, rest)
     where
@@ -48,7 +48,7 @@ module _ (x : MessageId) where
   abbrev weights : List Message → ℕ
   weights ms = tally (λ (m : Message). weight x m.id) ms
 
-  sends_begin : (now : ℕ) (e : Effect) (ms : List Message) → beginnings x (fold (send_made now) e ms).lines ≡ beginnings x e.lines + weights ms
+  pub sends_begin : (now : ℕ) (e : Effect) (ms : List Message) → beginnings x (fold (send_made now) e ms).lines ≡ beginnings x e.lines + weights ms
   sends_begin now e [] = omega arith
   sends_begin now e (m ∷ ms) = let rest = sends_begin now (send_made now e m) ms in let one = at (resolved e.state m.destination) in omega (arith, rest, one)
     where

@@ -88,11 +88,11 @@ gone_steady known sent = record {
 
 -- Packets join.
 
-calling_sent : (i : ℕ) (call : Call) (failure : Option Failure) (c : Course) → (calling i call failure c).sent ≡ c.sent
+pub calling_sent : (i : ℕ) (call : Call) (failure : Option Failure) (c : Course) → (calling i call failure c).sent ≡ c.sent
 calling_sent i call None c = refl
 calling_sent i call (Some how) c = refl
 
-hearing_sent : (note : Option Note) (x : Option Packet) (now : ℕ) (failure : Option Failure) (c : Course) → (hearing note x now failure c).sent ≡ c.sent
+pub hearing_sent : (note : Option Note) (x : Option Packet) (now : ℕ) (failure : Option Failure) (c : Course) → (hearing note x now failure c).sent ≡ c.sent
 hearing_sent None x now failure c = refl
 hearing_sent (Some note) None now failure c = refl
 hearing_sent (Some note) (Some x) now failure c = calling_sent note.receiver (Hear now x) failure c

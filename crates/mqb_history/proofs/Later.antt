@@ -91,7 +91,7 @@ hearing_written None p now failure c = ([], sym (append_nothing c.written))
 hearing_written (Some note) None now failure c = ([], sym (append_nothing c.written))
 hearing_written (Some note) (Some p) now failure c = calling_written note.receiver (Hear now p) failure c
 
-change_written : (c : Course) (x : Change) → (more : List Written) × ((changed x c).written ≡ c.written ++ more)
+pub change_written : (c : Course) (x : Change) → (more : List Written) × ((changed x c).written ≡ c.written ++ more)
 change_written c (Calls i call failure) = calling_written i call failure c
 change_written c (Pumps i now failure) = calling_written i (Pump now) failure c
 change_written c (Hears k now failure) = hearing_written (numbered c.network.notes k) (numbered c.sent k) now failure c

@@ -143,6 +143,9 @@ mod Owned
 mod Queued
 mod Remaining
 mod Giving
+mod Contents
+mod Containing
+mod Bringing
 mod Steady
 mod Counting
 mod Gone
@@ -150,6 +153,8 @@ mod Sums
 mod Counted
 mod Arriving
 mod Balance
+mod Origins
+mod SentOnce
 mod Copies
 mod Finding
 mod Ledger

@@ -45,15 +45,15 @@ use Rattle.mqb_history.proofs.Saying.{RecordSays, Says, Sayings, record_says}
 
 -- Every message there is is fair.
 
-all_flat : {X Y : Type 0} (P : Y → Type 0) (f : X → List Y) (xs : List X) → AllByRecursion (λ x. AllByRecursion P (f x)) xs → AllByRecursion P (flat_map f xs)
+pub all_flat : {X Y : Type 0} (P : Y → Type 0) (f : X → List Y) (xs : List X) → AllByRecursion (λ x. AllByRecursion P (f x)) xs → AllByRecursion P (flat_map f xs)
 all_flat P f [] h = tt
 all_flat P f (x ∷ xs) h = all_append P (f x) (flat_map f xs) h.0 (all_flat P f xs h.1)
 
-all_messages : (P : Message → Type 0) (os : List Outgoing) → AllByRecursion (λ o. P o.message) os → AllByRecursion P (messages_of os)
+pub all_messages : (P : Message → Type 0) (os : List Outgoing) → AllByRecursion (λ o. P o.message) os → AllByRecursion P (messages_of os)
 all_messages P [] h = tt
 all_messages P (o ∷ os) h = (h.0, all_messages P os h.1)
 
-all_got : {X : Type 0} (P : X → Type 0) (xs : List X) → ((k : ℕ) (x : X) → slice_get xs k ≡ Some x → P x) → AllByRecursion P xs
+pub all_got : {X : Type 0} (P : X → Type 0) (xs : List X) → ((k : ℕ) (x : X) → slice_get xs k ≡ Some x → P x) → AllByRecursion P xs
 all_got P [] h = tt
 all_got P (x ∷ xs) h = (h 0 x refl, all_got P xs (λ k y e. h (suc k) y e))
 
@@ -99,7 +99,7 @@ told_from {X} {Y} word (x ∷ xs) y i = at (word x) refl i (told_from word xs y)
     at (Some z) e (inl f) rest = (x, inl refl, e ∙ ap (λ w. Some w) f)
     at (Some z) e (inr j) rest = let g = rest j in (g.0, inr g.1, g.2)
 
-message_is : (x : Packet) (m : Message) → message_in x ≡ Some m → (p : UserPacket) × (x ≡ packet.User p) × (p.message ≡ m)
+pub message_is : (x : Packet) (m : Message) → message_in x ≡ Some m → (p : UserPacket) × (x ≡ packet.User p) × (p.message ≡ m)
 message_is (packet.User p) m e = (p, refl, some_is p.message m e)
 message_is (packet.Establish e) m f = absurd (none_some f)
 message_is (packet.Parameters p) m f = absurd (none_some f)

@@ -3,6 +3,7 @@ use Rattle.std.proofs.Common.{refl, ap, sym, subst, ◌∙◌, arith}
 use Rattle.std.specs.Prelude.{[], ◌+◌, ◌++◌, ◌==◌, ◌∷◌, ◌≡◌, Bool, IfSome, List, None, Option, Some, cond, false, length, map, slice_get, true, unwrap_or, ℕ}
 use Rattle.mqb_base.specs.declared.ids.Identity.{Identity}
 use Rattle.mqb_base.specs.declared.ids.MessageId.{MessageId}
+use Rattle.mqb_base.specs.declared.message.Message.{Message}
 use Rattle.mqb_model.specs.calls.Link.{unlink}
 use Rattle.mqb_model.specs.declared.answers.Role.TheVariants as role
 use Rattle.mqb_model.specs.managers.Beside.{Beside}
@@ -31,6 +32,8 @@ use Rattle.mqb_history.proofs.Applying.{beside_rows}
 use Rattle.mqb_history.proofs.Beginning.{linked_same_state}
 use Rattle.mqb_history.proofs.Calling.{calls_are_modest, made_only}
 use Rattle.mqb_history.proofs.Ending.{parted_at, parted_rows}
+use Rattle.mqb_history.proofs.Containing.{beside_holds, durable_holds}
+use Rattle.mqb_history.proofs.Contents.{Holds, IsCarried}
 use Rattle.mqb_history.proofs.Lists.{append_nothing, apart_numbers, equal_numbers, get_within, set_apart, set_get, set_there}
 use Rattle.mqb_history.proofs.Ordering.{with_at}
 use Rattle.mqb_history.proofs.Owned.{in_list, tally_mapped, unmarked_waits}
@@ -41,9 +44,9 @@ use Rattle.mqb_history.proofs.Staying.{HasSameRows}
 use Rattle.mqb_history.proofs.Tallies.{in_queue, tally}
 use Rattle.mqb_history.proofs.Written.{absent_idle, durable_rows, noted_managers, other_more, own_more}
 
--- nothing durable moved
-abbrev pub Quiet : State → State → Type 0
-Quiet a b = HasSameRows a b × ((x : MessageId) → Still x a b)
+-- nothing durable moved, and no message came but express ones and notices
+abbrev pub Quiet : State → State → Type 1
+Quiet a b = HasSameRows a b × ((x : MessageId) → Still x a b) × ((P : Message → Type 0) → IsCarried P → Holds P a → Holds P b)
 
 -- Quiet changes.
 
@@ -52,6 +55,7 @@ durable_quiet s = (
   durable_rows s,
   λ x. let same = mapped x s.places.queues in let fewer = tally_mapped (λ (p : PlainLists). in_list x p.recoverable) durable_plain s.plain (λ p. unmarked_waits x p.recoverable) in
       without_number x 0 0 s (durable s) refl refl (omega (arith, same)) (omega (arith, same, fewer)),
+  λ P c. durable_holds P c s,
 )
   where
     mapped : (x : MessageId) (qs : List Queue) → tally (in_queue x) (map durable_queue qs) ≡ tally (in_queue x) qs
@@ -59,8 +63,12 @@ durable_quiet s = (
     mapped x (q ∷ qs) = ap (λ n. in_queue x q + n) (mapped x qs)
 
 parted_quiet : (m : Manager) → Quiet m.state (parted m).state
-parted_quiet m = (parted_rows m, λ x. at x (is_down m))
+parted_quiet m = (parted_rows m, λ x. at x (is_down m), λ P c. holds P c (is_down m))
   where
+    holds : (P : Message → Type 0) → IsCarried P → (b : Bool) → Holds P m.state → Holds P (cond b m (succeeded m (unlink m))).state
+    holds P c true h = h
+    holds P c false h = beside_holds P c beside.Unmarks tt m.state h
+
     at : (x : MessageId) (b : Bool) → Still x m.state (cond b m (succeeded m (unlink m))).state
     at x true = stays x m.state
     at x false = beside_still x beside.Unmarks tt m.state
@@ -100,7 +108,7 @@ abbrev pub OfEach : (ℕ → State → List Written → Type 0) → Course → �
 OfEach Q c j = Q j (manager_at c.network j).state (written_of j c.written)
 
 -- what holds of each manager by its index: where nothing durable moves, and by each record that a call made
-pub record IsSteady (Q : ℕ → State → List Written → Type 0) : Type 0 where
+pub record IsSteady (Q : ℕ → State → List Written → Type 0) : Type 1 where
   pub quiet : (i : ℕ) (a b : State) (ws : List Written) → Quiet a b → Q i a ws → Q i b ws
   pub grows : (i : ℕ) (s : State) (r : Record) (ws : List Written) → IsMade s r → Q i s ws → Q i (apply s r) (ws ++ record { by = i; before = s; entry = r } ∷ [])
 
@@ -139,8 +147,11 @@ module _ (Q : ℕ → State → List Written → Type 0) (q : IsSteady Q) where
 
   pub calling_steady : (i : ℕ) (call : Call) (failure : Option Failure) (c : Course) → ((j : ℕ) → OfEach Q c j) → (j : ℕ) → OfEach Q (calling i call failure c) j
   calling_steady i call None c h = let m = manager_at c.network i in let outcome = outcome_of m call in
-      some_written c.network i (succeeded m outcome) outcome.entry c.written (made_only _ m.state outcome.entry (calls_are_modest m call).entry)
-      (beside_rows outcome.beside (recorded m.state outcome.entry), λ x. beside_still x outcome.beside (express_of m.state call outcome.beside (calls_are_of m call).beside) (recorded m.state outcome.entry))
+      some_written c.network i (succeeded m outcome) outcome.entry c.written (made_only _ m.state outcome.entry (calls_are_modest m call).entry) (
+        beside_rows outcome.beside (recorded m.state outcome.entry),
+        λ x. beside_still x outcome.beside (express_of m.state call outcome.beside (calls_are_of m call).beside) (recorded m.state outcome.entry),
+        λ P k. beside_holds P k outcome.beside (express_of m.state call outcome.beside (calls_are_of m call).beside) (recorded m.state outcome.entry),
+      )
       (absent_idle c.network i call) h
   calling_steady i call (Some how) c h = λ j. let m = manager_at c.network i in let outcome = outcome_of m call in
       ended_steady (with_manager c.network i (failed m outcome)) i j (written_of j c.written)

@@ -86,6 +86,16 @@ lines_split f (w ∷ ws) n within = let own = tally_append f (lines_of w.before 
     at k true = tally_append f (lines_of w.before w.entry) (lines_written (written_of k ws))
     at k false = omega arith
 
+pub written_split : (f : Written → ℕ) (ws : List Written) (n : ℕ) → ((w : Written) → In w ws → w.by < n) → tally f ws ≡ summed (λ k. tally f (written_of k ws)) n
+written_split f [] n within = let none = summed_none (λ k. tally f (written_of k [])) n (λ k lt. omega arith) in omega (arith, none)
+written_split f (w ∷ ws) n within = let rest = written_split f ws n (λ v i. within v (inr i)) in
+    let each = summed_same (λ k. tally f (written_of k (w ∷ ws))) (λ k. cond (w.by == k) (f w) 0 + tally f (written_of k ws)) n (λ k. at k (w.by == k)) in
+    let plus = summed_plus (λ k. cond (w.by == k) (f w) 0) (λ k. tally f (written_of k ws)) n in let pick = summed_pick w.by (f w) n (within w (inl refl)) in omega (arith, rest, each, plus, pick)
+  where
+    at : (k : ℕ) (b : Bool) → tally f (cond b (w ∷ written_of k ws) (written_of k ws)) ≡ cond b (f w) 0 + tally f (written_of k ws)
+    at k true = omega arith
+    at k false = omega arith
+
 -- Words.
 
 pub tally_is : {X : Type 0} (f : X → ℕ) (xs : List X) → sum_by f xs ≡ tally f xs

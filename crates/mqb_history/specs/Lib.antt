@@ -31,6 +31,7 @@ pub mod Finished
 pub mod Ledger
 pub mod Late
 pub mod Pumps
+pub mod Sent
 pub mod Received
 pub mod Copies
 pub mod Twice

@@ -16,6 +16,7 @@ ghost use Rattle.mqb_history.specs.Twice.{OneIsTakenAndMissed};
 ghost use Rattle.mqb_history.specs.Ledger.{AlwaysExactlyOnceTold};
 ghost use Rattle.mqb_history.specs.Late.{AlwaysRefusedLate};
 ghost use Rattle.mqb_history.specs.Pumps.{NotesTellPumps};
+ghost use Rattle.mqb_history.specs.Sent.{AlwaysSentRightly};
 ghost use Rattle.mqb_history.specs.Choosing.{RepliesShowChoices, RunsAreShown};
 ghost use Rattle.mqb_history.specs.Leading.{CommitmentsLeadToManagers};
 ghost use Rattle.mqb_history.specs.Drafted.{AlwaysValid};
@@ -225,6 +226,11 @@ pub fn always_refused_late()
 /// Each packet that was sent went in an event of the run in which its sender pumped, at the moment that is noted.
 pub fn notes_tell_pumps()
     ensures { NotesTellPumps }
+{}
+
+/// Each message that is there, or went in a packet, is a notice, or express, or the one that was sent under its identifier, in every field but the time to reach its queue.
+pub fn always_sent_rightly()
+    ensures { AlwaysSentRightly }
 {}
 
 /// The ledger itself tells of each stream that it is exactly once: its messages are committed as 1, 2, and so on; what is decided was committed before, in order

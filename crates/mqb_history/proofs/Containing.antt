@@ -1,0 +1,312 @@
+-- Where something holds of all messages that a manager has, it holds of them behind each record whose messages it holds of, and beside it.
+use Rattle.std.proofs.Common.{refl, inl}
+use Rattle.std.specs.List.{AllByRecursion}
+use Rattle.std.specs.Option.{option_map_or}
+use Rattle.std.specs.Prelude.{[], ◌&&◌, ◌+◌, ◌==◌, ◌||◌, ◌∷◌, Bool, IfSome, List, None, Option, Some, cond, false, fold, is_none, length, map, max, nat_le, nat_lt, not, option_and_then, position, slice_get, true, ℕ}
+use Rattle.mqb_base.specs.Bits.{keeps_dead}
+use Rattle.mqb_base.specs.Classes.{is_negative}
+use Rattle.mqb_base.specs.declared.class.TheConstants.Class.{BAD_DESTINATION, MESSAGE_NOT_TRANSACTIONAL, QUEUE_NOT_TRANSACTIONAL, QUOTA_EXCEEDED, REACH_TIMEOUT}
+use Rattle.mqb_base.specs.declared.heads.SessionHead.{SessionHead}
+use Rattle.mqb_base.specs.declared.heads.TxHead.{TxHead}
+use Rattle.mqb_base.specs.declared.message.Delivery.{Delivery}
+use Rattle.mqb_base.specs.declared.message.Delivery.TheVariants as delivery
+use Rattle.mqb_base.specs.declared.message.Lane.{Lane}
+use Rattle.mqb_base.specs.declared.message.Lane.TheVariants as lane
+use Rattle.mqb_base.specs.declared.message.Message.{Message}
+use Rattle.mqb_base.specs.declared.queues.EntryPlace.TheVariants as place
+use Rattle.mqb_entries.specs.declared.members.Mark.{Mark}
+use Rattle.mqb_fate.specs.Asking.{is_transactional}
+use Rattle.mqb_model.specs.Lists.{first_where, with_changed, with_first_changed, without_first}
+use Rattle.mqb_model.specs.declared.target.Target.{Target}
+use Rattle.mqb_model.specs.declared.target.Target.TheVariants.{AtPeer, Here, Nowhere}
+use Rattle.mqb_model.specs.managers.Beside.{Beside, Origin, all_unmarked, noted, noted_as, with_marked, without_acked}
+use Rattle.mqb_model.specs.managers.Beside as beside
+use Rattle.mqb_model.specs.records.Applying.{apply}
+use Rattle.mqb_model.specs.records.Arrived.{part_made}
+use Rattle.mqb_model.specs.records.Commit.{op_taken, send_made, sends_numbered, sends_of, takes_made}
+use Rattle.mqb_model.specs.records.Decisions.{message_decided, with_decided}
+use Rattle.mqb_model.specs.records.Finals.{dead_for, finished_at, finished_by, finished_row, index_finished, is_offered_as, kept_named, with_finished}
+use Rattle.mqb_model.specs.records.Offered.{mark_raised, with_offered}
+use Rattle.mqb_model.specs.records.Record.{Part, Record, RecordOp}
+use Rattle.mqb_model.specs.records.Record as entry
+use Rattle.mqb_model.specs.records.Releases.{has_recoverable, is_released_by, message_released, releases_made, without_recoverable}
+use Rattle.mqb_model.specs.rules.Arrivals.{is_recorded, refusal_by, refusal_of, storing_refusal, target_refusal}
+use Rattle.mqb_model.specs.rules.Effects.{Effect, begun, joined}
+use Rattle.mqb_model.specs.rules.Numbers.{number_taken, numbers_taken}
+use Rattle.mqb_model.specs.rules.Sends.{committed_to, journalled}
+use Rattle.mqb_model.specs.rules.Sequences.{join, new_sequence, sequence_in_use, with_kept, with_sequence}
+use Rattle.mqb_model.specs.rules.Takes.{taken}
+use Rattle.mqb_model.specs.rules.Timeouts.{expires, expiring, expiring_in, message_expired, next_expired, row_expired, rows_expired, with_expired, without_expired}
+use Rattle.mqb_model.specs.state.Durable.{durable, durable_lists, durable_plain, durable_queue}
+use Rattle.mqb_model.specs.state.Places.{put_at, with_plain}
+use Rattle.mqb_model.specs.state.Resolving.{is_for_order_layer, peer_known, resolved}
+use Rattle.mqb_model.specs.state.Rows.{has_ordinal, with_row}
+use Rattle.mqb_model.specs.state.State.{State}
+use Rattle.mqb_orders.specs.Rows.{Row, acknowledged}
+use Rattle.mqb_orders.specs.declared.kept.Kept.{Kept}
+use Rattle.mqb_packet.specs.declared.packet.UserPacket.{UserPacket}
+use Rattle.mqb_plain.specs.Lists.{is_sent_by, marked_next, unmarked}
+use Rattle.mqb_plain.specs.Plain.{PlainLists, no_plain}
+use Rattle.mqb_plain.specs.declared.outgoing.Outgoing.{Outgoing}
+use Rattle.mqb_queue.specs.Arrival.{length_met, queue_refusal}
+use Rattle.mqb_queue.specs.Lists.{Lists}
+use Rattle.mqb_queue.specs.Places.{Queue, new_queue, numbered}
+use Rattle.mqb_history.proofs.Contents.{Holds, IsCarried, IsOfNotices, ListsHold, PlainHolds, RowHolds, Waits, arrived_holds, delivered_holds, each_holds, holds_or, journalled_holds, meets_holds, number_holds, plain_holds, purged_holds, put_holds, repeated_holds, taken_at_holds, taken_holds, tellable, tellable_express, ticked_holds}
+use Rattle.mqb_history.proofs.Having.{QueueHas, get_holds}
+use Rattle.mqb_history.proofs.Lists.{all_append, all_filter}
+use Rattle.mqb_history.proofs.Remaining.{IsExpressBeside}
+use Rattle.mqb_history.proofs.Unreleased.{changed_all, without_all}
+
+-- A refusal is of another class than ordinary messages are.
+
+queue_class : (q : Queue) (messages : ℕ) (t : Bool) → IfSome (queue_refusal q.plan messages t) IsOfNotices
+queue_class q messages t = at (t && not q.plan.transactional) (not t && q.plan.transactional) (nat_le q.plan.quota messages)
+  where
+    at : (a b c : Bool) → IfSome (cond a (Some QUEUE_NOT_TRANSACTIONAL) (cond b (Some MESSAGE_NOT_TRANSACTIONAL) (cond c (Some QUOTA_EXCEEDED) None))) IsOfNotices
+    at true b c = refl
+    at false true c = refl
+    at false false true = refl
+    at false false false = tt
+
+target_class : (s : State) (t : Target) (x : Delivery) → IfSome (target_refusal s t x) IsOfNotices
+target_class s (Here None) x = refl
+target_class s (AtPeer k) x = refl
+target_class s Nowhere x = refl
+target_class s (Here (Some n)) x = at (numbered s.places.queues n)
+  where
+    at : (o : Option Queue) → IfSome (option_map_or (refusal_by x) o (Some BAD_DESTINATION)) IsOfNotices
+    at None = refl
+    at (Some q) = queue_class q (length_met (is_recorded x) q.lists) (is_transactional x)
+
+refusal_class : (s : State) (p : UserPacket) → IfSome (refusal_of s p) IsOfNotices
+refusal_class s p = at (p.remaining == 0)
+  where
+    at : (b : Bool) → IfSome (cond b (Some REACH_TIMEOUT) (target_refusal s (resolved s p.message.destination) p.message.delivery)) IsOfNotices
+    at true = refl
+    at false = target_class s (resolved s p.message.destination) p.message.delivery
+
+storing_class : (s : State) (p : UserPacket) → IfSome (storing_refusal s p) IsOfNotices
+storing_class s p = at (is_for_order_layer s p.message.destination)
+  where
+    at : (b : Bool) → IfSome (cond b (Some BAD_DESTINATION) (refusal_of s p)) IsOfNotices
+    at true = refl
+    at false = refusal_class s p
+
+-- Lists of which a first member is found or changed.
+
+found_holds : {X : Type 0} (Q : X → Type 0) (test : X → Bool) (xs : List X) → AllByRecursion Q xs → IfSome (first_where test xs) Q
+found_holds Q test xs h = at (position test xs)
+  where
+    at : (o : Option ℕ) → IfSome (option_and_then (slice_get xs) o) Q
+    at None = tt
+    at (Some k) = get_holds Q xs k h
+
+first_holds : {X : Type 0} (Q : X → Type 0) (change : X → X) (test : X → Bool) (xs : List X) → ((x : X) → Q x → Q (change x)) → AllByRecursion Q xs → AllByRecursion Q (with_first_changed change test xs)
+first_holds Q change test xs keeps h = at (position test xs)
+  where
+    at : (o : Option ℕ) → AllByRecursion Q (option_map_or (with_changed change xs) o xs)
+    at None = h
+    at (Some k) = changed_all Q change xs k keeps h
+
+mapped_holds : {X : Type 0} (Q : X → Type 0) (change : X → X) (xs : List X) → ((x : X) → Q x → Q (change x)) → AllByRecursion Q xs → AllByRecursion Q (map change xs)
+mapped_holds Q change [] keeps h = tt
+mapped_holds Q change (x ∷ xs) keeps h = (keeps x h.0, mapped_holds Q change xs keeps h.1)
+
+module _ (P : Message → Type 0) where
+  -- what a record sends, and what it lets arrive
+  abbrev pub PartFine : Part → Type 0
+  PartFine (entry.Decided p) = P p.message
+  PartFine (entry.Stored p) = P p.message
+  PartFine _ = Unit {0}
+
+  abbrev pub IsFine : Record → Type 0
+  IsFine (entry.Commit now ops) = AllByRecursion P (sends_of ops)
+  IsFine (entry.Plain now p) = P p.message
+  IsFine (entry.Arrived now numbers part) = PartFine part
+  IsFine _ = Unit {0}
+
+module _ (P : Message → Type 0) (c : IsCarried P) where
+  abbrev Of : Kept → Type 0
+  Of k = P k.message
+
+  -- Rows.
+
+  rows_hold : (s : State) (outs : List Row) → AllByRecursion (RowHolds P) outs → Holds P s → Holds P (record s { outs = outs })
+  rows_hold s outs g h = record { places = h.places; plain = h.plain; outs = g }
+
+  row_holds : (change : Row → Row) (s : State) (ordinal : ℕ) → ((row : Row) → RowHolds P row → RowHolds P (change row)) → Holds P s → Holds P (with_row change s ordinal)
+  row_holds change s ordinal keeps h = rows_hold s (with_first_changed change (has_ordinal ordinal) s.outs) (first_holds (RowHolds P) change (has_ordinal ordinal) s.outs keeps h.outs) h
+
+  join_holds : (s : State) (peer now : ℕ) (m : Message) → P m → Holds P s → Holds P (join s peer now m)
+  join_holds s peer now m g h = at (sequence_in_use s peer m.destination)
+    where
+      at : (o : Option Row) → Holds P (option_map_or (λ row. with_row (with_kept m) s row.sequence.ordinal) o (with_sequence s (with_kept m (new_sequence s peer m.destination now))))
+      at None = record { places = h.places; plain = h.plain; outs = all_append (RowHolds P) s.outs (with_kept m (new_sequence s peer m.destination now) ∷ []) h.outs ((g, tt), tt) }
+      at (Some row) = row_holds (with_kept m) s row.sequence.ordinal (λ x k. all_append Of x.kept (record { number = x.committed + 1; message = m } ∷ []) k (g, tt)) h
+
+  expired_holds : (now k : ℕ) (e : Effect) → Holds P e.state → Holds P (next_expired now k e).state
+  expired_holds now k e h = by (slice_get e.state.outs k) (get_holds (RowHolds P) e.state.outs k h.outs)
+    where
+      gone : Holds P (with_expired now e.state k)
+      gone = rows_hold e.state (with_changed (without_expired now) e.state.outs k) (changed_all (RowHolds P) (without_expired now) e.state.outs k (λ row. without_all Of (expires now row) row.kept) h.outs) h
+
+      at : (row : Row) (o : Option Kept) → IfSome o Of → Holds P (option_map_or (λ kept. joined e (message_expired now k e.state row kept)) o e).state
+      at row None g = h
+      at row (Some kept) g = meets_holds P c (with_expired now e.state k) kept.message REACH_TIMEOUT now (inl refl) g gone
+
+      by : (o : Option Row) → IfSome o (RowHolds P) → Holds P (option_map_or (λ (row : Row). option_map_or (λ kept. joined e (message_expired now k e.state row kept)) (expiring now row) e) o e).state
+      by None g = h
+      by (Some row) g = at row (expiring now row) (found_holds Of (expires now row) row.kept g)
+
+  expiring_holds : (now : ℕ) (e : Effect) → Holds P e.state → Holds P (rows_expired now e).state
+  expiring_holds now e h = each_holds P c (row_expired now) (λ k d. repeated_holds P c (next_expired now k) (expired_holds now k) (option_map_or (expiring_in now) (slice_get d.state.outs k) 0) d) (length e.state.outs) e h
+
+  acked_holds : (number : ℕ) (row : Row) → RowHolds P row → RowHolds P (acknowledged number row)
+  acked_holds number row h = all_filter Of (λ (x : Kept). nat_lt (max row.acked number) x.number || keeps_dead x.message) row.kept h
+
+  finished_holds : (s : State) (m : Message) (index : ℕ) → Holds P s → Holds P (finished_at s m index)
+  finished_holds s m index h = at (option_and_then (kept_named m.correlation) (slice_get s.outs index)) (there (slice_get s.outs index) (get_holds (RowHolds P) s.outs index h.outs))
+    where
+      there : (o : Option Row) → IfSome o (RowHolds P) → IfSome (option_and_then (kept_named m.correlation) o) Of
+      there None g = tt
+      there (Some row) g = found_holds Of (is_offered_as m.correlation row) row.kept g
+
+      gone : (k : Kept) → Holds P (with_finished m.correlation s index k)
+      gone k = rows_hold s (with_changed (finished_row m.correlation k.number) s.outs index) (changed_all (RowHolds P) (finished_row m.correlation k.number) s.outs index
+          (λ row g. all_filter Of (λ (x : Kept). nat_lt (max row.acked k.number) x.number || keeps_dead x.message) (without_first (is_offered_as m.correlation row) row.kept) (without_all Of (is_offered_as m.correlation row) row.kept g)) h.outs) h
+
+      dead : (k : Kept) (b : Bool) → P k.message → Holds P (cond b (put_at (with_finished m.correlation s index k) place.DeadXact k.message) (with_finished m.correlation s index k))
+      dead k true g = put_holds P c (with_finished m.correlation s index k) place.DeadXact k.message g (gone k)
+      dead k false g = gone k
+
+      at : (o : Option Kept) → IfSome o Of → Holds P (option_map_or (λ k. dead_for m.class (with_finished m.correlation s index k) k.message) o s)
+      at None g = h
+      at (Some k) g = dead k (is_negative m.class.0) g
+
+  -- Sends.
+
+  sends_hold : (now : ℕ) (e : Effect) (ms : List Message) → AllByRecursion P ms → Holds P e.state → Holds P (fold (send_made now) e ms).state
+  sends_hold now e [] g h = h
+  sends_hold now e (m ∷ ms) g h = sends_hold now (send_made now e m) ms g.1 (at (resolved e.state m.destination))
+    where
+      at : (target : Target) → Holds P (committed_to now (journalled e.state m) target m).state
+      at (AtPeer k) = join_holds (journalled e.state m) k now m g.0 (journalled_holds P c e.state m g.0 h)
+      at (Here queue) = delivered_holds P c (journalled e.state m) (Here queue) m now g.0 (journalled_holds P c e.state m g.0 h)
+      at Nowhere = delivered_holds P c (journalled e.state m) Nowhere m now g.0 (journalled_holds P c e.state m g.0 h)
+
+  ops_hold : (now : ℕ) (e : Effect) (ops : List RecordOp) → Holds P e.state → Holds P (fold (op_taken now) e ops).state
+  ops_hold now e [] h = h
+  ops_hold now e (entry.Send p ∷ ops) h = ops_hold now e ops h
+  ops_hold now e (entry.Take queue id ∷ ops) h = ops_hold now (taken (place.Queue queue) id now e) ops (taken_holds P c (place.Queue queue) id now e h)
+
+  -- Arrivals.
+
+  releases_hold : (e : Effect) (numbers : List ℕ) → Holds P e.state → Holds P (fold message_released e numbers).state
+  releases_hold e [] h = h
+  releases_hold e (n ∷ ns) h = releases_hold (message_released e n) ns (record {
+    places = h.places;
+    plain = first_holds (PlainHolds P) (without_recoverable e.state n) (has_recoverable e.state n) e.state.plain (λ p g. (without_all (Waits P) (is_released_by e.state n) p.recoverable g.0, g.1)) h.plain;
+    outs = h.outs;
+  })
+
+  part_holds : (now : ℕ) (e : Effect) (part : Part) → PartFine P part → Holds P e.state → Holds P (part_made now e part).state
+  part_holds now e entry.Nothing g h = h
+  part_holds now e (entry.Decided p) g h = at p.tx
+    where
+      at : (o : Option TxHead) → Holds P (option_map_or (λ tx. joined e (message_decided now e.state p tx)) o e).state
+      at None = h
+      at (Some tx) = arrived_holds P c (with_decided e.state p.message tx) p.message now (refusal_of e.state p) (tellable p.message (refusal_of e.state p) (refusal_class e.state p)) g (record { places = h.places; plain = h.plain; outs = h.outs })
+  part_holds now e (entry.Stored p) g h = arrived_holds P c e.state p.message now (storing_refusal e.state p) (tellable p.message (storing_refusal e.state p) (storing_class e.state p)) g h
+  part_holds now e (entry.OrderAcknowledged ordinal number) g h = row_holds (acknowledged number) e.state ordinal (acked_holds number) h
+  part_holds now e (entry.Final p) g h = holds_or P c e.state (λ peer. finished_by e.state peer p.message) (peer_known e.state p.message.id.qm) h
+      (λ peer. holds_or P c e.state (finished_at e.state p.message) (index_finished e.state peer p.message) h (λ index. finished_holds e.state p.message index h))
+
+  -- Records.
+
+  marks_hold : (s : State) (marks : List Mark) → Holds P s → Holds P (fold mark_raised s marks)
+  marks_hold s [] h = h
+  marks_hold s (mark ∷ marks) h = marks_hold (mark_raised s mark) marks (row_holds (with_offered mark.number) s mark.ordinal (λ row g. g) h)
+
+  pub record_holds : (s : State) (r : Record) → IsFine P r → Holds P s → Holds P (apply s r)
+  record_holds s (entry.Identity identity) g h = h
+  record_holds s (entry.Peer peer) g h = record { places = h.places; plain = all_append (PlainHolds P) s.plain (no_plain ∷ []) h.plain ((tt, tt), tt); outs = h.outs }
+  record_holds s (entry.CreateQueue number plan) g h = record {
+    places = record {
+      queues = all_append (QueueHas (ListsHold P)) s.places.queues (new_queue plan ∷ []) h.places.queues (((tt, tt), (tt, tt)), tt);
+      dead = h.places.dead;
+      dead_xact = h.places.dead_xact;
+      journal = h.places.journal;
+    };
+    plain = h.plain;
+    outs = h.outs;
+  }
+  record_holds s (entry.Commit now ops) g h = sends_hold now (takes_made s now ops) (sends_of ops) g (ops_hold now (sends_numbered s ops) ops (record { places = h.places; plain = h.plain; outs = h.outs }))
+  record_holds s (entry.Plain now p) g h = let t = numbers_taken s 1 in
+      delivered_holds P c (journalled t p.message) (resolved t p.message.destination) p.message now g (journalled_holds P c t p.message g (record { places = h.places; plain = h.plain; outs = h.outs }))
+  record_holds s (entry.Offered marks) g h = marks_hold s marks h
+  record_holds s (entry.Arrived now numbers part) g h = part_holds now (releases_made s numbers) part g (releases_hold (begun s) numbers h)
+  record_holds s (entry.Taken now at id) g h = taken_holds P c at id now (begun s) h
+  record_holds s (entry.Purged now at) g h = purged_holds P c lane.Durable at now (begun s) h
+  record_holds s (entry.Ticked now) g h = ticked_holds P c lane.Durable now (rows_expired now (begun s)) (expiring_holds now (begun s) h)
+  record_holds s (entry.Roll count) g h = record { places = h.places; plain = h.plain; outs = h.outs }
+
+  -- Beside them.
+
+  unmarked_holds : (os : List Outgoing) → AllByRecursion (Waits P) os → AllByRecursion (Waits P) (unmarked os)
+  unmarked_holds [] h = tt
+  unmarked_holds (o ∷ os) h = (h.0, unmarked_holds os h.1)
+
+  marked_list : (n : ℕ) (os : List Outgoing) → AllByRecursion (Waits P) os → AllByRecursion (Waits P) (marked_next n os)
+  marked_list n [] h = tt
+  marked_list n (o ∷ os) h = at (is_none o.mark) (marked_list n os h.1)
+    where
+      at : (b : Bool) → AllByRecursion (Waits P) (marked_next n os) → AllByRecursion (Waits P) (cond b (record o { mark = Some n } ∷ os) (o ∷ marked_next n os))
+      at true rest = (h.0, h.1)
+      at false rest = (h.0, rest)
+
+  marked_holds : (kind : Lane) (n : ℕ) (p : PlainLists) → PlainHolds P p → PlainHolds P (with_marked kind n p)
+  marked_holds lane.Durable n p h = (marked_list n p.recoverable h.0, h.1)
+  marked_holds lane.Express n p h = (h.0, marked_list n p.express h.1)
+
+  acked_plain : (number : ℕ) (p : PlainLists) → PlainHolds P p → PlainHolds P (without_acked number p)
+  acked_plain number p h = (h.0, all_filter (Waits P) (λ o. not (is_sent_by number o)) p.express h.1)
+
+  noted_holds : (peer : ℕ) (s : State) (origin : Origin) (head : SessionHead) → Holds P s → Holds P (noted_as peer head s origin)
+  noted_holds peer s (beside.Owed row) head h = number_holds P c s delivery.Express h
+  noted_holds peer s beside.OfRecoverable head h = plain_holds P c (with_marked lane.Durable head.recoverable) s peer (marked_holds lane.Durable head.recoverable) h
+  noted_holds peer s beside.OfExpress head h = plain_holds P c (with_marked lane.Express head.user) s peer (marked_holds lane.Express head.user) h
+  noted_holds peer s (beside.OfRow row number) head h = h
+
+  all_noted_holds : (peer : ℕ) (s : State) (sent : List (Origin × SessionHead)) → Holds P s → Holds P (fold (noted peer) s sent)
+  all_noted_holds peer s [] h = h
+  all_noted_holds peer s (g ∷ gs) h = all_noted_holds peer (noted peer s g) gs (noted_holds peer s g.0 g.1 h)
+
+  pub beside_holds : (b : Beside) → IsExpressBeside b → (s : State) → Holds P s → Holds P (beside.beside_done b s)
+  beside_holds beside.Nothing e s h = h
+  beside_holds (beside.SendsExpress now m) e s h = let t = number_taken s delivery.Express in
+      delivered_holds P c (journalled t m) (resolved t m.destination) m now (c.express m e) (journalled_holds P c t m (c.express m e) (number_holds P c s delivery.Express h))
+  beside_holds (beside.TakesExpress now at index) e s h = taken_at_holds P c lane.Express at index now (begun s) h
+  beside_holds (beside.PurgesExpress now at) e s h = purged_holds P c lane.Express at now (begun s) h
+  beside_holds (beside.TicksExpress now) e s h = ticked_holds P c lane.Express now (begun s) h
+  beside_holds beside.Unmarks e s h = record { places = h.places; plain = mapped_holds (PlainHolds P) all_unmarked s.plain (λ p g. (unmarked_holds p.recoverable g.0, unmarked_holds p.express g.1)) h.plain; outs = h.outs }
+  beside_holds (beside.DropsExpress peer number) e s h = plain_holds P c (without_acked number) s peer (acked_plain number) h
+  beside_holds (beside.HearsExpress peer number now m refusal) e s h =
+      arrived_holds P c (with_plain (without_acked number) s peer) m now refusal (tellable_express m refusal e) (c.express m e) (plain_holds P c (without_acked number) s peer (acked_plain number) h)
+  beside_holds (beside.NotesSent peer sent) e s h = all_noted_holds peer s sent h
+
+  -- A store.
+
+  lists_last : (l : Lists) → ListsHold P l → ListsHold P (durable_lists l)
+  lists_last l h = (h.0, tt)
+
+  pub durable_holds : (s : State) → Holds P s → Holds P (durable s)
+  durable_holds s h = record {
+    places = record {
+      queues = mapped_holds (QueueHas (ListsHold P)) durable_queue s.places.queues (λ q g. (lists_last q.lists g.0, lists_last q.journal g.1)) h.places.queues;
+      dead = lists_last s.places.dead h.places.dead;
+      dead_xact = lists_last s.places.dead_xact h.places.dead_xact;
+      journal = lists_last s.places.journal h.places.journal;
+    };
+    plain = mapped_holds (PlainHolds P) durable_plain s.plain (λ p g. (unmarked_holds p.recoverable g.0, tt)) h.plain;
+    outs = h.outs;
+  }
