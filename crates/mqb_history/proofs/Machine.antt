@@ -45,11 +45,12 @@ use Rattle.mqb_history.proofs.Copies.{always_copied_rightly}
 use Rattle.mqb_history.proofs.Counts.{sessions_counted}
 use Rattle.mqb_history.proofs.Finality.{finals_tell_fates}
 use Rattle.mqb_history.proofs.Gone.{IsAccounted, always_accounted}
-use Rattle.mqb_history.proofs.Numbered.{lines_numbered, queued_numbered}
+use Rattle.mqb_history.proofs.Numbered.{lines_numbered, ordinary_numbered, queued_numbered}
 use Rattle.mqb_history.proofs.Orderly.{begins_orderly}
 use Rattle.mqb_history.proofs.Parts.{durable_below, express_above, kept_committed, listed_unsent, locals_apart, next_apart, packets_unsent, streams_away}
 use Rattle.mqb_history.proofs.Puts.{IsOfTransaction, all_transact, put_is_the_committed_message}
 use Rattle.mqb_history.proofs.Received.{always_received_truly}
+use Rattle.mqb_history.proofs.SentOnce.{always_numbered, always_sent_rightly}
 use Rattle.mqb_history.proofs.Truthful.{always_truthful}
 
 module _ (known : List Identity) (c : Course) (h : IsCredible known c) where
@@ -103,6 +104,9 @@ always_machine_invariant known ms apart run kept = record {
   durable_below = durable_below known apart c accounts;
   next_apart = next_apart known apart c accounts;
   lines_numbered = lines_numbered known apart c accounts (own_below known c h) truly (always_expired_duly known ms apart run kept) (storage_is_always_kept known ms apart run kept).1;
+  ordinary_numbered = ordinary_numbered known apart c accounts (own_below known c h) truly (always_expired_duly known ms apart run kept) (storage_is_always_kept known ms apart run kept).1
+      (always_sent_rightly known ms apart run kept).as_sent (λ id. always_numbered id known apart ms run kept);
+  sent_rightly = always_sent_rightly known ms apart run kept;
   queued_numbered = queued_numbered known apart c accounts (own_below known c h) truly (always_expired_duly known ms apart run kept) (storage_is_always_kept known ms apart run kept).1;
   transactional = transactional;
   waiting = always_waiting known ms apart run kept;

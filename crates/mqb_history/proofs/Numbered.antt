@@ -22,12 +22,13 @@ use Rattle.mqb_history.specs.Carried.{AreDecidedTruly}
 use Rattle.mqb_history.specs.Decided.{written_of}
 use Rattle.mqb_history.specs.Expired.{AreExpiredDuly}
 use Rattle.mqb_history.specs.Invariants.{AreOwnBelow}
-use Rattle.mqb_history.specs.Numbers.{AreLinesNumbered, AreQueuedNumbered, HasNumber, named_in}
+use Rattle.mqb_history.specs.Numbers.{AreLinesNumbered, AreOrdinaryNumbered, AreQueuedNumbered, HasNumber, named_in}
 use Rattle.mqb_history.specs.Orderly.{IsOrderly}
+use Rattle.mqb_history.specs.Sent.{AreAsSent, sends_in}
 use Rattle.mqb_history.specs.Stored.{IsStorageKept, IsStorageOf}
 use Rattle.mqb_history.proofs.Accounted.{IsPlainId, NamesOwn}
 use Rattle.mqb_history.proofs.Arriving.{IsPut, arrived, own_by, stored_from}
-use Rattle.mqb_history.proofs.Balance.{given_own}
+use Rattle.mqb_history.proofs.Balance.{by_manager, given_own}
 use Rattle.mqb_history.proofs.Between.{all_in, in_either}
 use Rattle.mqb_history.proofs.Committing.{in_append}
 use Rattle.mqb_history.proofs.Courses.{Agrees, HasSender}
@@ -35,13 +36,15 @@ use Rattle.mqb_history.proofs.Fates.{IsFairExpress, ListsFair}
 use Rattle.mqb_history.proofs.Gone.{IsAccounted}
 use Rattle.mqb_history.proofs.Having.{QueueHas}
 use Rattle.mqb_history.proofs.Lists.{get_within, none_some, some_is, true_not_false, within_get}
-use Rattle.mqb_history.proofs.Noticed.{IsStoring, StoredBy, Told, guid_of, heard_in, in_flat, names_in, own_line, sayings, says_truly, told_from, written_in}
+use Rattle.mqb_history.proofs.Noticed.{IsStoring, StoredBy, Told, guid_of, heard_in, in_flat, names_in, own_line, own_written, sayings, says_truly, told_from, written_in}
 use Rattle.mqb_history.proofs.Numbering.{AreCounted}
 use Rattle.mqb_history.proofs.Outside.{filtered_in}
 use Rattle.mqb_history.proofs.Owned.{given}
 use Rattle.mqb_history.proofs.Remaining.{arrivals, lefts}
 use Rattle.mqb_history.proofs.Saying.{Says}
+use Rattle.mqb_history.proofs.SentOnce.{IsNumbered, bears, by_record}
 use Rattle.mqb_history.proofs.Sources.{IsCommittedAt, expired_at, put_at, refused_at}
+use Rattle.mqb_history.proofs.Steady.{OfEach}
 use Rattle.mqb_history.proofs.Tallies.{arrives, copies, in_queue, left, one_if, tally, tally_from, tally_there, weight, weight_own}
 
 -- a number that was given is below the next one
@@ -122,6 +125,19 @@ module _ (known : List Identity) (apart : AreApart known) (c : Course) (t : IsAc
       at : (n : ℕ) → given id (state i) ≡ n → HasNumber c id
       at zero e = let le = (t.tallied i).remains id in let l = tally_from (arrives id) (mine i) (omega (arith, le, one, e)) in came l.0 l.1 l.2
       at (suc n) e = record { by = i; there = low; source = given_own id (state i) (omega (arith, e)); below = given_low id (state i) (omega (arith, e)) }
+
+  -- what a record sent
+  of_sent : (id : MessageId) (w : Written) → In w c.written → (m : Message) → In m (sends_in w.entry) → m.id ≡ id
+      → OfEach (IsNumbered id) c w.by → HasNumber c id
+  of_sent id w i m inside same numbered = record { by = w.by; there = by_manager known apart c t id w i; source = given_own id (state w.by) one; below = given_low id (state w.by) one }
+    where
+      one : 1 ≤ given id (state w.by)
+      one = let own = ap (weight id) same ∙ weight_own id in let first = tally_there (bears id) (sends_in w.entry) m inside in
+          let many = tally_there (λ (v : Written). by_record id v.entry) (written_of w.by c.written) w (own_written c.written w i) in omega (arith, own, first, many, numbered)
+
+  pub ordinary_numbered : AreAsSent c → ((id : MessageId) (j : ℕ) → OfEach (IsNumbered id) c j) → AreOrdinaryNumbered c
+  ordinary_numbered sent numbered m i ordinary durable = let one = sent m i ordinary durable in let w = in_flat (λ (v : Written). sends_in v.entry) c.written one.send one.inside in
+      of_sent m.id w.0 w.1 one.send w.2 (ap (λ (x : Message). x.id) (sym one.same)) (numbered m.id w.0.by)
 
   -- Lines.
 

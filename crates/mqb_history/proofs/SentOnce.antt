@@ -49,11 +49,11 @@ tally_flat g f [] = omega arith
 tally_flat g f (x ∷ xs) = let both = tally_append g (f x) (flat_map f xs) in let rest = tally_flat g f xs in omega (arith, both, rest)
 
 module _ (x : MessageId) where
-  abbrev bears : Message → ℕ
+  abbrev pub bears : Message → ℕ
   bears m = weight x m.id
 
   -- how often a record sends it
-  abbrev by_record : Record → ℕ
+  abbrev pub by_record : Record → ℕ
   by_record r = tally bears (sends_in r)
 
   abbrev pub by_records : List Written → ℕ

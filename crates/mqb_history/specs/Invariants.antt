@@ -34,10 +34,11 @@ use Rattle.mqb_history.specs.Expired.{AreExpiredDuly, AreOffersKept}
 use Rattle.mqb_history.specs.Finals.{AreFatesTold}
 use Rattle.mqb_history.specs.Led.{AreDecidedByOne, AreDecidedWhereLed}
 use Rattle.mqb_history.specs.Offered.{AreUndecided}
-use Rattle.mqb_history.specs.Numbers.{AreLinesNumbered, AreQueuedNumbered}
+use Rattle.mqb_history.specs.Numbers.{AreLinesNumbered, AreOrdinaryNumbered, AreQueuedNumbered}
 use Rattle.mqb_history.specs.Orderly.{IsOrderly}
 use Rattle.mqb_history.specs.Put.{ArePutTruly}
 use Rattle.mqb_history.specs.Received.{IsReceivedTruly}
+use Rattle.mqb_history.specs.Sent.{AreSentRightly}
 use Rattle.mqb_history.specs.Sessions.{AreSessionsCounted}
 use Rattle.mqb_history.specs.Shown.{AreShown, Leads, Shows}
 use Rattle.mqb_history.specs.Skipped.{AreUnskipped}
@@ -171,6 +172,9 @@ pub record MachineInvariant (known : List Identity) (c : Course) : Type 0 where
   -- whatever a line, or a queue, names has a number that a manager gave
   pub lines_numbered : AreLinesNumbered c
   pub queued_numbered : AreQueuedNumbered c
+  pub ordinary_numbered : AreOrdinaryNumbered c
+  -- each ordinary message is one that was sent under its identifier, and transactional where it joined a stream
+  pub sent_rightly : AreSentRightly c
   -- what is committed is transactional and ordinary
   pub transactional : AreTransactional c
   -- each of them waits in its row until it is acknowledged, that is decided, or it expired

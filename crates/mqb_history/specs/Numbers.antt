@@ -1,15 +1,16 @@
 -- Whatever lines and queues name has a number that a manager gave.
-use Rattle.std.specs.Prelude.{◌<◌, ◌≡◌, IsFalse, None, Option, Some, length, ℕ}
+use Rattle.std.specs.Prelude.{◌<◌, ◌≡◌, IsFalse, IsTrue, None, Option, Some, length, ℕ}
 use Rattle.mqb_base.specs.declared.ids.MessageId.{MessageId}
 use Rattle.mqb_base.specs.declared.ledger.Line.{Line}
 use Rattle.mqb_base.specs.declared.ledger.Line.TheVariants as line
 use Rattle.mqb_base.specs.declared.message.Message.{Message}
 use Rattle.mqb_exactly_once.specs.Words.{In}
+use Rattle.mqb_fate.specs.Asking.{is_ordinary}
 use Rattle.mqb_model.specs.state.Places.{is_express}
 use Rattle.mqb_network.specs.Courses.{Course}
 use Rattle.mqb_network.specs.Network.{manager_at}
 use Rattle.mqb_queue.specs.Places.{Queue}
-use Rattle.mqb_history.specs.Truths.{all_of, told_by}
+use Rattle.mqb_history.specs.Truths.{all_of, noticed, told_by}
 
 -- the message that a line names, unless it left a journal or a dead-letter queue
 abbrev pub named_in : Line → Option MessageId
@@ -42,3 +43,7 @@ AreLinesNumbered c = (id : MessageId) → In id (told_by named_in c) → HasNumb
 abbrev pub AreQueuedNumbered : Course → Type 0
 AreQueuedNumbered c = (i : ℕ) (q : Queue) (m : Message) → In q (manager_at c.network i).state.places.queues → In m (all_of q.lists)
     → IsFalse (is_express m.delivery) → HasNumber c m.id
+
+-- Each ordinary message that a manager has, or that went in a packet, has one, unless it is express.
+abbrev pub AreOrdinaryNumbered : Course → Type 0
+AreOrdinaryNumbered c = (m : Message) → In m (noticed c) → IsTrue (is_ordinary m) → IsFalse (is_express m.delivery) → HasNumber c m.id
