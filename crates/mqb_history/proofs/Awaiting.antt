@@ -6,7 +6,6 @@ use Rattle.mqb_exactly_once.specs.Words.{In}
 use Rattle.mqb_exactly_once.specs.World.{OrderAck}
 use Rattle.mqb_model.specs.managers.Manager.{Manager, doubt_of, is_down}
 use Rattle.mqb_model.specs.managers.Outcomes.{failed, succeeded}
-use Rattle.mqb_model.specs.managers.Restarts.{unread}
 use Rattle.mqb_model.specs.records.Record.{Part, Record}
 use Rattle.mqb_model.specs.records.Record as entry
 use Rattle.mqb_model.specs.state.State.{State}
@@ -17,11 +16,10 @@ use Rattle.mqb_network.specs.Network.{Network, manager_at, with_manager}
 use Rattle.mqb_orders.specs.Rows.{Row}
 use Rattle.mqb_packet.specs.declared.packet.Packet.{Packet}
 use Rattle.mqb_history.specs.Calls.{Call, Commit, CreateQueue, Hear, Pump, Purge, Resend, Send, SetRoll, Take, Tick, outcome_of}
-use Rattle.mqb_history.specs.Changes.{calling, is_of_packets}
+use Rattle.mqb_history.specs.Changes.{calling}
 use Rattle.mqb_history.proofs.Ending.{parted_at, parted_condition, parted_rows}
 use Rattle.mqb_history.proofs.Finishing.{MayAck}
 use Rattle.mqb_history.proofs.Linked.{AwaitsIn}
-use Rattle.mqb_history.proofs.Lists.{clash}
 use Rattle.mqb_history.proofs.Ordering.{with_at}
 use Rattle.mqb_history.proofs.Recorded.{IsAckHeard, RecordOf}
 use Rattle.mqb_history.proofs.Recording.{Awaits}

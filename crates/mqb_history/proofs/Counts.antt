@@ -1,7 +1,6 @@
 -- Each end of a connection counts what it sends and gets, and what is stored.
 use Rattle.std.proofs.Common.{refl, ap, sym, subst, ◌∙◌, arith}
-use Rattle.std.specs.List.{AllByRecursion}
-use Rattle.std.specs.Prelude.{[], ◌&&◌, ◌+◌, ◌++◌, ◌==◌, ◌∷◌, ◌≡◌, ◌≤◌, Bool, IfSome, List, None, Some, cond, false, length, slice_get, suc, take, true, zero, ℕ}
+use Rattle.std.specs.Prelude.{[], ◌&&◌, ◌+◌, ◌++◌, ◌==◌, ◌∷◌, ◌≡◌, ◌≤◌, Bool, IfSome, List, Some, cond, false, length, slice_get, suc, take, true, zero, ℕ}
 use Rattle.mqb_base.specs.declared.ids.MessageId.{MessageId}
 use Rattle.mqb_exactly_once.specs.Words.{In}
 use Rattle.mqb_model.specs.managers.Manager.{Manager}
@@ -10,8 +9,6 @@ use Rattle.mqb_network.specs.Network.{Note, manager_at}
 use Rattle.mqb_packet.specs.declared.packet.Packet.{Packet}
 use Rattle.mqb_packet.specs.declared.packet.Packet.TheVariants as packet
 use Rattle.mqb_packet.specs.declared.packet.UserPacket.{UserPacket}
-use Rattle.mqb_plain.specs.Plain.{PlainLists}
-use Rattle.mqb_plain.specs.declared.outgoing.Outgoing.{Outgoing}
 use Rattle.mqb_queue.specs.Places.{numbered}
 use Rattle.mqb_history.specs.Sessions.{AreSessionsCounted, CountsRightly, packets_from, recoverable_number, recoverables, says_got, says_stored, session_number, user_packets}
 use Rattle.mqb_history.specs.Stored.{IsStoredIn}

@@ -1,6 +1,6 @@
 -- What every course knows of final acknowledgements: where one finishes a message that was put, a line tells how that left its queue.
-use Rattle.std.proofs.Common.{ap, sym, subst, ◌∙◌, arith, inl, inr}
-use Rattle.std.specs.Prelude.{◌==◌, ◌≡◌, ◌⊎◌, List, Some, slice_get, true, ℕ}
+use Rattle.std.proofs.Common.{subst, arith, inl, inr}
+use Rattle.std.specs.Prelude.{◌==◌, ◌⊎◌, List, ℕ}
 use Rattle.mqb_base.specs.declared.ids.Identity.{Identity}
 use Rattle.mqb_base.specs.declared.ids.MessageId.{MessageId}
 use Rattle.mqb_base.specs.declared.ledger.Line.{Line}
@@ -8,23 +8,20 @@ use Rattle.mqb_base.specs.declared.ledger.Line.TheVariants as line
 use Rattle.mqb_base.specs.declared.ledger.Stream.{Stream}
 use Rattle.mqb_exactly_once.specs.Outcomes.{Departure}
 use Rattle.mqb_exactly_once.specs.Words.{In}
-use Rattle.mqb_fate.specs.Orders.{is_final_class}
 use Rattle.mqb_model.specs.records.Applying.{lines_of}
 use Rattle.mqb_model.specs.records.Record as entry
 use Rattle.mqb_network.specs.Courses.{Course, Written}
 use Rattle.mqb_network.specs.Laws.{AreApart, lines_written}
 use Rattle.mqb_network.specs.Network.{manager_at}
 use Rattle.mqb_network.specs.Runs.{beginning}
-use Rattle.mqb_packet.specs.declared.packet.UserPacket.{UserPacket}
 use Rattle.mqb_history.specs.Carried.{AreDecidedTruly}
 use Rattle.mqb_history.specs.Decided.{IsDecidedInOrder, written_of}
 use Rattle.mqb_history.specs.Expired.{AreExpiredDuly}
 use Rattle.mqb_history.specs.Fates.{departure_line}
 use Rattle.mqb_history.specs.Orderly.{IsOrderly}
-use Rattle.mqb_history.specs.Truths.{IsNoFailurePut, put_in, told_by}
+use Rattle.mqb_history.specs.Truths.{IsNoFailurePut}
 use Rattle.mqb_history.proofs.Agreeing.{IsAgreed, agreed_begins, agreeing_closed}
 use Rattle.mqb_history.proofs.Answering.{IsCredible, credible_begins, credible_closed}
-use Rattle.mqb_history.proofs.Between.{all_in}
 use Rattle.mqb_history.proofs.Carrying.{carrying_decided}
 use Rattle.mqb_history.proofs.Courses.{Agrees, HeardIn}
 use Rattle.mqb_history.proofs.Deciding.{AreInOrder, in_order_by_records}
@@ -36,7 +33,7 @@ use Rattle.mqb_history.proofs.Linked.{FinalsDepart}
 use Rattle.mqb_history.proofs.Noticed.{IsSentBy, Told, failure_of, heard_in, written_in}
 use Rattle.mqb_history.proofs.Numbering.{AreCounted}
 use Rattle.mqb_history.proofs.Outside.{filtered_in}
-use Rattle.mqb_history.proofs.Sources.{IsDecidedAt, put_at}
+use Rattle.mqb_history.proofs.Sources.{put_at}
 use Rattle.mqb_history.proofs.Telling.{AreJoinsTold, joins_by_records}
 use Rattle.mqb_history.proofs.Truthful.{not_put, put_line}
 use Rattle.mqb_history.proofs.Unexpired.{IsHolding, begins_holding, holding_closed, unexpired_of}

@@ -1,6 +1,5 @@
 -- Whatever left a queue left that of the manager which put it.
 use Rattle.std.specs.Prelude.{◌≡◌, Some, ℕ}
-use Rattle.mqb_base.specs.declared.ids.MessageId.{MessageId}
 use Rattle.mqb_base.specs.declared.ledger.Line.TheVariants as line
 use Rattle.mqb_base.specs.declared.ledger.Stream.{Stream}
 use Rattle.mqb_exactly_once.specs.Words.{In}

@@ -1,7 +1,6 @@
 -- Whatever lines and queues name has a number that a manager gave.
 use Rattle.std.proofs.Common.{refl, ap, sym, subst, ◌∙◌, arith, inl, inr}
 use Rattle.std.proofs.lemmas.Bool.Decides.{nat_tests}
-use Rattle.std.specs.List.{AllByRecursion}
 use Rattle.std.specs.Prelude.{[], ◌&&◌, ◌+◌, ◌++◌, ◌<◌, ◌==◌, ◌∷◌, ◌≡◌, ◌≤◌, ◌⊎◌, Bool, List, None, Option, Some, false, length, nat_lt, slice_get, suc, true, unwrap_or, zero, ℕ}
 use Rattle.mqb_base.specs.Same.{same_guid}
 use Rattle.mqb_base.specs.declared.ids.Identity.{Identity}
@@ -17,7 +16,6 @@ use Rattle.mqb_model.specs.state.State.{State}
 use Rattle.mqb_network.specs.Courses.{Course, Written}
 use Rattle.mqb_network.specs.Laws.{AreApart, lines_written}
 use Rattle.mqb_network.specs.Network.{manager_at, nobody}
-use Rattle.mqb_queue.specs.Places.{Queue}
 use Rattle.mqb_history.specs.Carried.{AreDecidedTruly}
 use Rattle.mqb_history.specs.Decided.{written_of}
 use Rattle.mqb_history.specs.Expired.{AreExpiredDuly}
@@ -27,7 +25,7 @@ use Rattle.mqb_history.specs.Orderly.{IsOrderly}
 use Rattle.mqb_history.specs.Sent.{AreAsSent, sends_in}
 use Rattle.mqb_history.specs.Stored.{IsStorageKept, IsStorageOf}
 use Rattle.mqb_history.proofs.Accounted.{IsPlainId, NamesOwn}
-use Rattle.mqb_history.proofs.Arriving.{IsPut, arrived, own_by, stored_from}
+use Rattle.mqb_history.proofs.Arriving.{IsPut, arrived, stored_from}
 use Rattle.mqb_history.proofs.Balance.{by_manager, given_own}
 use Rattle.mqb_history.proofs.Between.{all_in, in_either}
 use Rattle.mqb_history.proofs.Committing.{in_append}
@@ -40,12 +38,12 @@ use Rattle.mqb_history.proofs.Noticed.{IsStoring, StoredBy, Told, guid_of, heard
 use Rattle.mqb_history.proofs.Numbering.{AreCounted}
 use Rattle.mqb_history.proofs.Outside.{filtered_in}
 use Rattle.mqb_history.proofs.Owned.{given}
-use Rattle.mqb_history.proofs.Remaining.{arrivals, lefts}
+use Rattle.mqb_history.proofs.Remaining.{lefts}
 use Rattle.mqb_history.proofs.Saying.{Says}
 use Rattle.mqb_history.proofs.SentOnce.{IsNumbered, bears, by_record}
 use Rattle.mqb_history.proofs.Sources.{IsCommittedAt, expired_at, put_at, refused_at}
 use Rattle.mqb_history.proofs.Steady.{OfEach}
-use Rattle.mqb_history.proofs.Tallies.{arrives, copies, in_queue, left, one_if, tally, tally_from, tally_there, weight, weight_own}
+use Rattle.mqb_history.proofs.Tallies.{arrives, copies, in_queue, left, one_if, tally_from, tally_there, weight, weight_own}
 
 -- a number that was given is below the next one
 given_low : (x : MessageId) (s : State) → 1 ≤ given x s → x.number < s.next_number

@@ -1,22 +1,16 @@
 -- Parts of the invariant of the network: which numbers messages bear, and what never went in a stream.
-use Rattle.std.proofs.Common.{refl, ap, sym, subst, ◌∙◌, arith, inl, inr}
-use Rattle.std.specs.Prelude.{[], ◌+◌, ◌<◌, ◌∷◌, ◌≡◌, ◌≤◌, ◌⊎◌, List, None, Option, Some, length, slice_get, suc, unwrap_or, zero, ℕ}
+use Rattle.std.proofs.Common.{refl, sym, subst, ◌∙◌, arith, inl, inr}
+use Rattle.std.specs.Prelude.{[], ◌+◌, ◌<◌, ◌∷◌, ◌≡◌, ◌≤◌, ◌⊎◌, List, None, Option, Some, length, slice_get, unwrap_or, ℕ}
 use Rattle.mqb_base.specs.declared.ids.Identity.{Identity}
-use Rattle.mqb_base.specs.declared.ids.MessageId.{MessageId}
-use Rattle.mqb_base.specs.declared.ledger.Line.{Line}
 use Rattle.mqb_base.specs.declared.ledger.Line.TheVariants as line
 use Rattle.mqb_base.specs.declared.message.Message.{Message}
 use Rattle.mqb_exactly_once.specs.Words.{In}
-use Rattle.mqb_exactly_once.specs.World.{Commitment}
 use Rattle.mqb_model.specs.managers.Manager.{Manager}
 use Rattle.mqb_model.specs.records.Applying.{lines_of}
 use Rattle.mqb_network.specs.Courses.{Course, Written}
 use Rattle.mqb_network.specs.Laws.{AreApart, lines_written}
 use Rattle.mqb_network.specs.Network.{manager_at, nobody}
 use Rattle.mqb_packet.specs.declared.packet.Packet.TheVariants as packet
-use Rattle.mqb_packet.specs.declared.packet.UserPacket.{UserPacket}
-use Rattle.mqb_plain.specs.Plain.{PlainLists}
-use Rattle.mqb_plain.specs.declared.outgoing.Outgoing.{Outgoing}
 use Rattle.mqb_history.specs.Carried.{AreCarriedTruly, AreDecidedTruly}
 use Rattle.mqb_history.specs.Decided.{IsDecidedInOrder, written_of}
 use Rattle.mqb_history.specs.Expired.{AreExpiredDuly}
@@ -39,7 +33,6 @@ use Rattle.mqb_history.proofs.Gone.{IsAccounted}
 use Rattle.mqb_history.proofs.Lists.{get_within, within_get}
 use Rattle.mqb_history.proofs.Noticed.{guid_of, not_plain, noticed_fair, written_in}
 use Rattle.mqb_history.proofs.Numbering.{AreCounted}
-use Rattle.mqb_history.proofs.Recorded.{IsPlainPacket}
 use Rattle.mqb_history.proofs.Sources.{IsCommittedAt, not_here}
 use Rattle.mqb_history.proofs.Truthful.{local_line}
 

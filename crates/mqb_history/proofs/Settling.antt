@@ -6,9 +6,8 @@ use Rattle.mqb_base.specs.Same.{same_guid, same_id}
 use Rattle.mqb_base.specs.declared.ids.MessageId.{MessageId}
 use Rattle.mqb_base.specs.declared.ledger.Line.{Line}
 use Rattle.mqb_base.specs.declared.ledger.Line.TheVariants as line
-use Rattle.mqb_exactly_once.specs.Outcomes.{Departure, Follows, MessageFate, Outcome, Put, Queue_purged, Receive_timeout, Received, Refusal, Refused, Was_put, Was_refused}
-use Rattle.mqb_exactly_once.specs.Steps.{Fate, Tell, happens}
-use Rattle.mqb_exactly_once.specs.Truths.{IsFate}
+use Rattle.mqb_exactly_once.specs.Outcomes.{Departure, Follows, MessageFate, Outcome, Put, Queue_purged, Receive_timeout, Received, Refused, Was_put, Was_refused}
+use Rattle.mqb_exactly_once.specs.Steps.{Fate, Tell}
 use Rattle.mqb_exactly_once.specs.Words.{In}
 use Rattle.mqb_exactly_once.specs.World.{Channel, Decision, FinalAck, KnownFate, Position, StreamWorld}
 use Rattle.mqb_history.specs.Fates.{CameTo, ShowsFates, departure_line}

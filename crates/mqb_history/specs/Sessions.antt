@@ -1,5 +1,5 @@
 -- What two connected managers count of the packets that one of them sent to the other.
-use Rattle.std.specs.Prelude.{[], ◌&&◌, ◌+◌, ◌==◌, ◌∷◌, ◌≡◌, ◌≤◌, ◌⊎◌, Bool, List, None, Option, Some, filter_map, if◌then◌else◌, is_none, length, not, slice_get, take, unwrap_or, ℕ}
+use Rattle.std.specs.Prelude.{[], ◌&&◌, ◌+◌, ◌==◌, ◌∷◌, ◌≡◌, ◌≤◌, ◌⊎◌, List, None, Option, Some, filter_map, if◌then◌else◌, is_none, length, not, slice_get, take, unwrap_or, ℕ}
 use Rattle.mqb_base.specs.declared.ids.MessageId.{MessageId}
 use Rattle.mqb_exactly_once.specs.Words.{In}
 use Rattle.mqb_model.specs.calls.hear.Session.{no_head}
