@@ -17,6 +17,7 @@ use Rattle.mqb_model.specs.state.Resolving.{resolved}
 use Rattle.mqb_model.specs.state.State.{State}
 use Rattle.mqb_network.specs.Choices.{Failure}
 use Rattle.mqb_network.specs.Courses.{Course, Written}
+use Rattle.mqb_network.specs.Events.{Event}
 use Rattle.mqb_network.specs.Events as event
 use Rattle.mqb_network.specs.Laws.{AreApart}
 use Rattle.mqb_network.specs.Network.{manager_at}
@@ -31,7 +32,7 @@ use Rattle.mqb_history.specs.Orderly.{IsOrderly}
 use Rattle.mqb_history.proofs.Asking.{IsOfOps}
 use Rattle.mqb_history.proofs.Between.{in_either}
 use Rattle.mqb_history.proofs.Each.{EachRecord, OfChange, each_begins, each_change}
-use Rattle.mqb_history.proofs.Keeping.{CommitsNone, IsClosedUnder}
+use Rattle.mqb_history.proofs.Keeping.{IsClosedUnder, IsGiven, SendsNone}
 use Rattle.mqb_history.proofs.Lists.{all_weaker, equal_numbers}
 use Rattle.mqb_history.proofs.Orderly.{begins_orderly, change_orderly}
 use Rattle.mqb_history.proofs.Recorded.{RecordOf, calls_are_of}
@@ -42,16 +43,35 @@ abbrev AsksFor : List Move → ℕ → Record → Type 0
 AsksFor ms i (entry.Commit now ops) = AllByRecursion (IsAskedFor ms i) (sends_of ops)
 AsksFor ms i _ = Unit {0}
 
--- a commit is one of these moves
-abbrev IsMoveOf : List Move → Change → Type 0
+-- a commit, or a send, is one of these moves
+abbrev pub IsMoveOf : List Move → Change → Type 0
 IsMoveOf ms (Calls i (Commit now ops) failure) = (m : Move) × In m ms × (m.event ≡ event.Commit i now ops)
+IsMoveOf ms (Calls i (Send now recoverable parts) failure) = (m : Move) × In m ms × (m.event ≡ event.Send i now recoverable parts)
 IsMoveOf ms _ = Unit {0}
 
-none_moves : (ms : List Move) (x : Change) → CommitsNone x → IsMoveOf ms x
+pub moves_given : (ms : List Move) (m : Move) → In m ms → (e : Event) → m.event ≡ e → IsGiven (IsMoveOf ms) e
+moves_given ms m there (event.Queue i plan) same = tt
+moves_given ms m there (event.Roll i count) same = tt
+moves_given ms m there (event.Commit i now ops) same = λ failure. (m, there, same)
+moves_given ms m there (event.Send i now recoverable parts) same = λ failure. (m, there, same)
+moves_given ms m there (event.Take i now place) same = tt
+moves_given ms m there (event.Purge i now place) same = tt
+moves_given ms m there (event.Tick i now) same = tt
+moves_given ms m there (event.Connect a b now window_a window_b) same = tt
+moves_given ms m there (event.Disconnect i) same = tt
+moves_given ms m there (event.Resend i) same = tt
+moves_given ms m there (event.Pump i now) same = tt
+moves_given ms m there (event.Deliver number now) same = tt
+moves_given ms m there (event.Drop number) same = tt
+moves_given ms m there (event.Flow i now) same = tt
+moves_given ms m there (event.Arm i) same = tt
+moves_given ms m there (event.Restart i) same = tt
+
+pub none_moves : (ms : List Move) (x : Change) → SendsNone x → IsMoveOf ms x
 none_moves ms (Calls i (Commit now ops) failure) h = absurd h
 none_moves ms (Calls i (CreateQueue plan) failure) h = tt
 none_moves ms (Calls i (SetRoll count) failure) h = tt
-none_moves ms (Calls i (Send now recoverable parts) failure) h = tt
+none_moves ms (Calls i (Send now recoverable parts) failure) h = absurd h
 none_moves ms (Calls i (Take now place) failure) h = tt
 none_moves ms (Calls i (Purge now place) failure) h = tt
 none_moves ms (Calls i (Tick now) failure) h = tt
@@ -68,7 +88,7 @@ none_moves ms (Finds i) h = tt
 none_moves ms (Fails i) h = tt
 
 -- the record of a call that is one of the moves, or commits nothing
-commit_asks : (ms : List Move) (i : ℕ) (s : State) (call : Call) (failure : Option Failure) (ops : List _) → IsMoveOf ms (Calls i call failure) → (now : ℕ)
+pub commit_asks : (ms : List Move) (i : ℕ) (s : State) (call : Call) (failure : Option Failure) (ops : List _) → IsMoveOf ms (Calls i call failure) → (now : ℕ)
     → RecordOf s call (entry.Commit now ops) → AllByRecursion (IsAskedFor ms i) (sends_of ops)
 commit_asks ms i s (Commit at asked) failure ops move now h = all_weaker (IsOfOps at asked) (IsAskedFor ms i)
     (λ m g. record { move = move.0; now = at; ops = asked; parts = g.parts; there = move.1; asks = move.2; send = g.send; message = g.message }) (sends_of ops) h.asked
@@ -161,5 +181,5 @@ all_asked ms i (w ∷ ws) x h inside = at (w.by == i) (λ e. equal_numbers w.by 
 
 pub committed_is_asked : CommittedIsAsked
 committed_is_asked known ms apart run kept = λ i x inside. all_asked ms i (settled kept (after_run known ms)).written x
-    (always_given (IsMoveOf ms) known (λ c. IsOrderly known c × EachRecord (AsksFor ms) c) (asks_closed known ms apart) ms (λ m there i now ops failure e. (m, there, e)) run kept
+    (always_given (IsMoveOf ms) known (λ c. IsOrderly known c × EachRecord (AsksFor ms) c) (asks_closed known ms apart) ms (λ m there. moves_given ms m there m.event refl) run kept
     (begins_orderly known, each_begins (AsksFor ms) known)).1.written inside

@@ -1,12 +1,12 @@
 -- Where something holds of all messages that a manager has, it holds of those of the packets that it pumps.
-use Rattle.std.proofs.Common.{refl, subst}
+use Rattle.std.proofs.Common.{subst}
 use Rattle.std.specs.List.{AllByRecursion, cons_option, enumerate_from, flat_map}
 use Rattle.std.specs.Option.{option_map_or}
 use Rattle.std.specs.Prelude.{[], ◌&&◌, ◌+◌, ◌++◌, ◌==◌, ◌∷◌, ◌≡◌, Bool, Err, IfSome, List, None, Ok, Option, Some, cond, filter_map, false, is_none, length, map, max, nat_lt, not, slice_get, true, zip, ℕ}
 use Rattle.mqb_base.specs.declared.ids.Guid.{Guid}
 use Rattle.mqb_base.specs.declared.ids.Identity.{Identity}
 use Rattle.mqb_base.specs.declared.message.Message.{Message}
-use Rattle.mqb_model.specs.calls.pump.Candidates.{Candidate, acks, candidates, of_row, plain_candidates, row_candidates, rows_owing, unsent_from, unsent_of, waiting}
+use Rattle.mqb_model.specs.calls.pump.Candidates.{Candidate, ack_of, acks, candidates, of_row, plain_candidates, row_candidates, rows_owing, unsent_from, unsent_of, waiting}
 use Rattle.mqb_model.specs.calls.pump.Choosing.{chosen, head_for, session_after, with_heads}
 use Rattle.mqb_model.specs.calls.pump.Pump.{PumpOutcome, carriage_for, packet_for, pump_at, pump_linked, pump_owed, pump_refusal, pump_to, sending_chosen, sending_one, set_up_packet}
 use Rattle.mqb_model.specs.declared.faults.PumpFault.{PumpFault}
@@ -14,7 +14,7 @@ use Rattle.mqb_model.specs.declared.faults.PumpFault.TheVariants as fault
 use Rattle.mqb_model.specs.managers.Beside.{OfExpress, OfRecoverable, Origin}
 use Rattle.mqb_model.specs.managers.Manager.{Manager, Rest, linked_peer}
 use Rattle.mqb_model.specs.managers.Outcomes.{answering, unless}
-use Rattle.mqb_model.specs.rules.Numbers.{express_after}
+use Rattle.mqb_model.specs.rules.Numbers.{express_after, own_id}
 use Rattle.mqb_model.specs.state.State.{State}
 use Rattle.mqb_orders.specs.Rows.{Row, is_open}
 use Rattle.mqb_orders.specs.declared.kept.Kept.{Kept}
@@ -53,7 +53,7 @@ module _ (P : Message → Type 0) (c : IsCarried P) (m : Manager) (h : Holds P m
 
   acks_go : (peer : Identity) (now number : ℕ) (rows : List (ℕ × InRow)) → AllByRecursion MayGo (acks s peer now number rows)
   acks_go peer now number [] = tt
-  acks_go peer now number (row ∷ rows) = (c.express _ refl, acks_go peer now (express_after number) rows)
+  acks_go peer now number (row ∷ rows) = (c.acks (ack_of row.1) peer.host (own_id s number) now, acks_go peer now (express_after number) rows)
 
   waits_go : (origin : Origin) (os : List Outgoing) → AllByRecursion (Waits P) os → AllByRecursion MayGo (filter_map (unsent_from origin) os)
   waits_go origin [] g = tt

@@ -1,5 +1,5 @@
 -- Where something holds of all messages that a manager has, it holds of them behind each record whose messages it holds of, and beside it.
-use Rattle.std.proofs.Common.{refl, inl}
+use Rattle.std.proofs.Common.{refl}
 use Rattle.std.specs.List.{AllByRecursion}
 use Rattle.std.specs.Option.{option_map_or}
 use Rattle.std.specs.Prelude.{[], ◌&&◌, ◌+◌, ◌==◌, ◌||◌, ◌∷◌, Bool, IfSome, List, None, Option, Some, cond, false, fold, is_none, length, map, max, nat_le, nat_lt, not, option_and_then, position, slice_get, true, ℕ}
@@ -51,10 +51,9 @@ use Rattle.mqb_plain.specs.declared.outgoing.Outgoing.{Outgoing}
 use Rattle.mqb_queue.specs.Arrival.{length_met, queue_refusal}
 use Rattle.mqb_queue.specs.Lists.{Lists}
 use Rattle.mqb_queue.specs.Places.{Queue, new_queue, numbered}
-use Rattle.mqb_history.proofs.Contents.{Holds, IsCarried, IsOfNotices, ListsHold, PlainHolds, RowHolds, Waits, arrived_holds, delivered_holds, each_holds, holds_or, journalled_holds, meets_holds, number_holds, plain_holds, purged_holds, put_holds, repeated_holds, taken_at_holds, taken_holds, tellable, tellable_express, ticked_holds}
+use Rattle.mqb_history.proofs.Contents.{Holds, IsCarried, IsOfNotices, ListsHold, PlainHolds, RowHolds, Waits, arrived_holds, delivered_holds, each_holds, holds_or, journalled_holds, meets_holds, number_holds, plain_holds, purged_holds, put_holds, repeated_holds, taken_at_holds, taken_holds, ticked_holds}
 use Rattle.mqb_history.proofs.Having.{QueueHas, get_holds}
 use Rattle.mqb_history.proofs.Lists.{all_append, all_filter}
-use Rattle.mqb_history.proofs.Remaining.{IsExpressBeside}
 use Rattle.mqb_history.proofs.Unreleased.{changed_all, without_all}
 
 -- A refusal is of another class than ordinary messages are.
@@ -78,7 +77,7 @@ target_class s (Here (Some n)) x = at (numbered s.places.queues n)
     at None = refl
     at (Some q) = queue_class q (length_met (is_recorded x) q.lists) (is_transactional x)
 
-refusal_class : (s : State) (p : UserPacket) → IfSome (refusal_of s p) IsOfNotices
+pub refusal_class : (s : State) (p : UserPacket) → IfSome (refusal_of s p) IsOfNotices
 refusal_class s p = at (p.remaining == 0)
   where
     at : (b : Bool) → IfSome (cond b (Some REACH_TIMEOUT) (target_refusal s (resolved s p.message.destination) p.message.delivery)) IsOfNotices
@@ -125,6 +124,12 @@ module _ (P : Message → Type 0) where
   IsFine (entry.Arrived now numbers part) = PartFine part
   IsFine _ = Unit {0}
 
+  -- what is sent, or heard, beside a record
+  abbrev pub IsFineBeside : Beside → Type 0
+  IsFineBeside (beside.SendsExpress now m) = P m
+  IsFineBeside (beside.HearsExpress peer number now m refusal) = P m × IfSome refusal IsOfNotices
+  IsFineBeside _ = Unit {0}
+
 module _ (P : Message → Type 0) (c : IsCarried P) where
   abbrev Of : Kept → Type 0
   Of k = P k.message
@@ -152,7 +157,7 @@ module _ (P : Message → Type 0) (c : IsCarried P) where
 
       at : (row : Row) (o : Option Kept) → IfSome o Of → Holds P (option_map_or (λ kept. joined e (message_expired now k e.state row kept)) o e).state
       at row None g = h
-      at row (Some kept) g = meets_holds P c (with_expired now e.state k) kept.message REACH_TIMEOUT now (inl refl) g gone
+      at row (Some kept) g = meets_holds P c (with_expired now e.state k) kept.message REACH_TIMEOUT now refl g gone
 
       by : (o : Option Row) → IfSome o (RowHolds P) → Holds P (option_map_or (λ (row : Row). option_map_or (λ kept. joined e (message_expired now k e.state row kept)) (expiring now row) e) o e).state
       by None g = h
@@ -215,8 +220,8 @@ module _ (P : Message → Type 0) (c : IsCarried P) where
     where
       at : (o : Option TxHead) → Holds P (option_map_or (λ tx. joined e (message_decided now e.state p tx)) o e).state
       at None = h
-      at (Some tx) = arrived_holds P c (with_decided e.state p.message tx) p.message now (refusal_of e.state p) (tellable p.message (refusal_of e.state p) (refusal_class e.state p)) g (record { places = h.places; plain = h.plain; outs = h.outs })
-  part_holds now e (entry.Stored p) g h = arrived_holds P c e.state p.message now (storing_refusal e.state p) (tellable p.message (storing_refusal e.state p) (storing_class e.state p)) g h
+      at (Some tx) = arrived_holds P c (with_decided e.state p.message tx) p.message now (refusal_of e.state p) (refusal_class e.state p) g (record { places = h.places; plain = h.plain; outs = h.outs })
+  part_holds now e (entry.Stored p) g h = arrived_holds P c e.state p.message now (storing_refusal e.state p) (storing_class e.state p) g h
   part_holds now e (entry.OrderAcknowledged ordinal number) g h = row_holds (acknowledged number) e.state ordinal (acked_holds number) h
   part_holds now e (entry.Final p) g h = holds_or P c e.state (λ peer. finished_by e.state peer p.message) (peer_known e.state p.message.id.qm) h
       (λ peer. holds_or P c e.state (finished_at e.state p.message) (index_finished e.state peer p.message) h (λ index. finished_holds e.state p.message index h))
@@ -281,17 +286,17 @@ module _ (P : Message → Type 0) (c : IsCarried P) where
   all_noted_holds peer s [] h = h
   all_noted_holds peer s (g ∷ gs) h = all_noted_holds peer (noted peer s g) gs (noted_holds peer s g.0 g.1 h)
 
-  pub beside_holds : (b : Beside) → IsExpressBeside b → (s : State) → Holds P s → Holds P (beside.beside_done b s)
+  pub beside_holds : (b : Beside) → IsFineBeside P b → (s : State) → Holds P s → Holds P (beside.beside_done b s)
   beside_holds beside.Nothing e s h = h
   beside_holds (beside.SendsExpress now m) e s h = let t = number_taken s delivery.Express in
-      delivered_holds P c (journalled t m) (resolved t m.destination) m now (c.express m e) (journalled_holds P c t m (c.express m e) (number_holds P c s delivery.Express h))
+      delivered_holds P c (journalled t m) (resolved t m.destination) m now e (journalled_holds P c t m e (number_holds P c s delivery.Express h))
   beside_holds (beside.TakesExpress now at index) e s h = taken_at_holds P c lane.Express at index now (begun s) h
   beside_holds (beside.PurgesExpress now at) e s h = purged_holds P c lane.Express at now (begun s) h
   beside_holds (beside.TicksExpress now) e s h = ticked_holds P c lane.Express now (begun s) h
   beside_holds beside.Unmarks e s h = record { places = h.places; plain = mapped_holds (PlainHolds P) all_unmarked s.plain (λ p g. (unmarked_holds p.recoverable g.0, unmarked_holds p.express g.1)) h.plain; outs = h.outs }
   beside_holds (beside.DropsExpress peer number) e s h = plain_holds P c (without_acked number) s peer (acked_plain number) h
   beside_holds (beside.HearsExpress peer number now m refusal) e s h =
-      arrived_holds P c (with_plain (without_acked number) s peer) m now refusal (tellable_express m refusal e) (c.express m e) (plain_holds P c (without_acked number) s peer (acked_plain number) h)
+      arrived_holds P c (with_plain (without_acked number) s peer) m now refusal e.1 e.0 (plain_holds P c (without_acked number) s peer (acked_plain number) h)
   beside_holds (beside.NotesSent peer sent) e s h = all_noted_holds peer s sent h
 
   -- A store.

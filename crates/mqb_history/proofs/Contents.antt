@@ -1,8 +1,8 @@
 -- Where something holds of all messages that a manager has, it holds of them behind each put, take, purge, tick and notice.
-use Rattle.std.proofs.Common.{refl, ap, sym, ◌∙◌, inl, inr}
+use Rattle.std.proofs.Common.{refl}
 use Rattle.std.specs.List.{AllByRecursion}
 use Rattle.std.specs.Option.{option_map_or}
-use Rattle.std.specs.Prelude.{[], ◌&&◌, ◌+◌, ◌==◌, ◌∷◌, ◌≡◌, ◌⊎◌, Bool, IfSome, None, Option, Some, cond, false, length, not, option_and_then, option_map, slice_get, suc, true, zero, ℕ}
+use Rattle.std.specs.Prelude.{[], ◌&&◌, ◌+◌, ◌==◌, ◌∷◌, ◌≡◌, Bool, IfSome, None, Option, Some, cond, false, length, not, option_and_then, option_map, slice_get, suc, true, zero, ℕ}
 use Rattle.mqb_base.specs.Bits.{keeps_copy, keeps_dead}
 use Rattle.mqb_base.specs.Lanes.{lane_of}
 use Rattle.mqb_base.specs.declared.class.Class.{Class}
@@ -16,12 +16,14 @@ use Rattle.mqb_base.specs.declared.message.Delivery.TheVariants as delivery
 use Rattle.mqb_base.specs.declared.message.Lane.{Lane}
 use Rattle.mqb_base.specs.declared.message.Lane.TheVariants as lane
 use Rattle.mqb_base.specs.declared.message.Message.{Message}
+use Rattle.mqb_base.specs.declared.names.Name.{Name}
 use Rattle.mqb_base.specs.declared.queue_names.QueueName.{QueueName}
 use Rattle.mqb_base.specs.declared.queues.EntryPlace.{EntryPlace}
 use Rattle.mqb_base.specs.declared.queues.EntryPlace.TheVariants as place
 use Rattle.mqb_fate.specs.Asking.{asks_for, final_is_due, is_ordinary, is_transactional}
 use Rattle.mqb_fate.specs.Notices.{admin_delivery, notice_about}
-use Rattle.mqb_fate.specs.Orders.{order_layer}
+use Rattle.mqb_fate.specs.Orders.{order_acknowledgement, order_layer}
+use Rattle.mqb_fate.specs.declared.orders.OrderAck.{OrderAck}
 use Rattle.mqb_model.specs.Loops.{for_each_below, repeated}
 use Rattle.mqb_model.specs.declared.target.Target.{Target}
 use Rattle.mqb_model.specs.declared.target.Target.TheVariants.{AtPeer, Here, Nowhere}
@@ -32,7 +34,7 @@ use Rattle.mqb_model.specs.rules.Purges.{after_purge, count_at, message_purged, 
 use Rattle.mqb_model.specs.rules.Sends.{delivered, journalled}
 use Rattle.mqb_model.specs.rules.Takes.{after_take, copied, message_at, message_taken, taken, taken_at}
 use Rattle.mqb_model.specs.rules.Timeouts.{lane_ticked, lapsing, lapsing_in, message_lapsed, message_swept, next_lapsed, next_swept, peer_lapsed, queue_swept, sweeping, sweeping_in}
-use Rattle.mqb_model.specs.state.Places.{is_express, placed, put_at, with_plain, without_at}
+use Rattle.mqb_model.specs.state.Places.{placed, put_at, with_plain, without_at}
 use Rattle.mqb_model.specs.state.Resolving.{peer_known, resolved}
 use Rattle.mqb_model.specs.state.State.{State}
 use Rattle.mqb_orders.specs.Rows.{Row}
@@ -45,45 +47,25 @@ use Rattle.mqb_queue.specs.Lists.{Lists, messages_in, put}
 use Rattle.mqb_queue.specs.Lists as held
 use Rattle.mqb_queue.specs.Places.{Queue, lists_at, numbered}
 use Rattle.mqb_history.proofs.Having.{PlacesHave, QueueHas, changed_have, get_holds, lists_have}
-use Rattle.mqb_history.proofs.Lists.{all_append, clash, split_and}
+use Rattle.mqb_history.proofs.Lists.{all_append, split_and}
 use Rattle.mqb_history.proofs.Unreleased.{changed_all, removed_all}
-
--- It is said of each express message and of each notice, and does not look at the time that is left to reach a queue.
-pub record IsCarried (P : Message → Type 0) : Type 0 where
-  pub express : (m : Message) → is_express m.delivery ≡ true → P m
-  pub notice : (m : Message) → is_ordinary m ≡ false → P m
-  pub left : (m : Message) (n : ℕ) → P m → P (record m { reach = n })
 
 -- a class is that of a notice
 abbrev pub IsOfNotices : Class → Type 0
 IsOfNotices class = (class.0 == NORMAL.0) ≡ false
 
--- what is told of a message and a class is a notice, or express
-abbrev pub IsTellable : Message → Class → Type 0
-IsTellable m class = IsOfNotices class ⊎ (is_express m.delivery ≡ true)
+-- It is said of each order acknowledgement, of each notice about an ordinary message of which it is said, and does not look at the time that is
+-- left to reach a queue.
+pub record IsCarried (P : Message → Type 0) : Type 0 where
+  pub notice : (m : Message) (class : Class) (d : Delivery) (to : QueueName) (id : MessageId) (now : ℕ) → is_ordinary m ≡ true → IsOfNotices class → P m → P (notice_about m class d to id now)
+  pub acks : (a : OrderAck) (host : Name) (id : MessageId) (now : ℕ) → P (order_acknowledgement a host id now)
+  pub left : (m : Message) (n : ℕ) → P m → P (record m { reach = n })
 
-pub tellable : (m : Message) (o : Option Class) → IfSome o IsOfNotices → IfSome o (IsTellable m)
-tellable m None h = tt
-tellable m (Some class) h = inl h
-
-pub tellable_express : (m : Message) (o : Option Class) → is_express m.delivery ≡ true → IfSome o (IsTellable m)
-tellable_express m None h = tt
-tellable_express m (Some class) h = inr h
-
-admin_express : (d : Delivery) → is_express d ≡ true → is_express (admin_delivery d) ≡ true
-admin_express delivery.Express e = refl
-admin_express delivery.Recoverable e = absurd (clash (sym e))
-admin_express delivery.Transactional e = absurd (clash (sym e))
-
--- no final acknowledgement is due to an express message
-never_due : (m : Message) (class : Class) (own : Guid) → is_express m.delivery ≡ true → final_is_due m class own ≡ true → ⊥
-never_due m class own e due = at m.delivery e (split_and (is_ordinary m && is_transactional m.delivery) (not (same_guid m.id.qm own)) (split_and ((is_ordinary m && is_transactional m.delivery) && not (same_guid m.id.qm own)) (keeps_dead m)
-    (split_and (((is_ordinary m && is_transactional m.delivery) && not (same_guid m.id.qm own)) && keeps_dead m) (not (class.0 == REACHED_QUEUE.0)) due).0).0).0
-  where
-    at : (d : Delivery) → is_express d ≡ true → (is_ordinary m && is_transactional d) ≡ true → ⊥
-    at delivery.Express e f = clash (sym (split_and (is_ordinary m) false f).1)
-    at delivery.Recoverable e f = clash (sym e)
-    at delivery.Transactional e f = clash (sym e)
+-- it is an ordinary message of which a final acknowledgement is due
+due_ordinary : (m : Message) (class : Class) (own : Guid) → final_is_due m class own ≡ true → is_ordinary m ≡ true
+due_ordinary m class own due = (split_and (is_ordinary m) (is_transactional m.delivery) (split_and (is_ordinary m && is_transactional m.delivery) (not (same_guid m.id.qm own))
+    (split_and ((is_ordinary m && is_transactional m.delivery) && not (same_guid m.id.qm own)) (keeps_dead m)
+    (split_and (((is_ordinary m && is_transactional m.delivery) && not (same_guid m.id.qm own)) && keeps_dead m) (not (class.0 == REACHED_QUEUE.0)) due).0).0).0).0
 
 module _ (P : Message → Type 0) where
   abbrev pub ListsHold : Lists → Type 0
@@ -121,7 +103,7 @@ module _ (P : Message → Type 0) (c : IsCarried P) where
   without_list lane.Durable k l h = (removed_all P l.durable k h.0, h.1)
   without_list lane.Express k l h = (h.0, removed_all P l.express k h.1)
 
-  without_holds : (kind : Lane) (s : State) (at : EntryPlace) (k : ℕ) → Holds P s → Holds P (without_at kind s at k)
+  pub without_holds : (kind : Lane) (s : State) (at : EntryPlace) (k : ℕ) → Holds P s → Holds P (without_at kind s at k)
   without_holds kind s at k h = record {
     places = changed_have (ListsHold P) s.places at (held.without kind k) (without_list kind k) h.places;
     plain = h.plain;
@@ -163,33 +145,25 @@ module _ (P : Message → Type 0) (c : IsCarried P) where
       at true = placed_holds (number_taken s n.delivery) t n g (number_holds s n.delivery h)
       at false = h
 
-  admin_fine : (s : State) (m : Message) (class : Class) (now : ℕ) → IsTellable m class → IfSome (admin_about s m class now) P
-  admin_fine s m class now other = at (number_left s (admin_delivery m.delivery))
+  admin_fine : (s : State) (m : Message) (class : Class) (now : ℕ) → IsOfNotices class → P m → IfSome (admin_about s m class now) P
+  admin_fine s m class now other g = at (number_left s (admin_delivery m.delivery))
     where
-      fine : (n : Message) → n.class ≡ class → n.delivery ≡ admin_delivery m.delivery → IsTellable m class → P n
-      fine n same goes (inl f) = c.notice n (ap (λ (x : Class). x.0 == NORMAL.0) same ∙ f)
-      fine n same goes (inr f) = c.express n (ap is_express goes ∙ admin_express m.delivery f)
-
-      made : (number : ℕ) (b : Bool) (admin : Option QueueName)
+      made : (number : ℕ) (b : Bool) (admin : Option QueueName) → (is_ordinary m && asks_for m class) ≡ b
           → IfSome (cond b (option_map (λ a. notice_about m class (admin_delivery m.delivery) a (record { qm = s.identity.guid; number = number }) now) admin) None) P
-      made number true None = tt
-      made number true (Some a) = fine (notice_about m class (admin_delivery m.delivery) a (record { qm = s.identity.guid; number = number }) now) refl refl other
-      made number false admin = tt
+      made number true None asks = tt
+      made number true (Some a) asks = c.notice m class (admin_delivery m.delivery) a (record { qm = s.identity.guid; number = number }) now (split_and (is_ordinary m) (asks_for m class) asks).0 other g
+      made number false admin asks = tt
 
       at : (o : Option ℕ) → IfSome (option_and_then (λ number. cond (is_ordinary m && asks_for m class)
           (option_map (λ a. notice_about m class (admin_delivery m.delivery) a (record { qm = s.identity.guid; number = number }) now) m.admin) None) o) P
       at None = tt
-      at (Some number) = made number (is_ordinary m && asks_for m class) m.admin
+      at (Some number) = made number (is_ordinary m && asks_for m class) m.admin refl
 
-  final_fine : (s : State) (peer : Identity) (m : Message) (class : Class) (now : ℕ) → IsTellable m class → IfSome (final_about s peer m class now) P
-  final_fine s peer m class now other = at (number_left s delivery.Recoverable)
+  final_fine : (s : State) (peer : Identity) (m : Message) (class : Class) (now : ℕ) → IsOfNotices class → P m → IfSome (final_about s peer m class now) P
+  final_fine s peer m class now other g = at (number_left s delivery.Recoverable)
     where
-      fine : (n : Message) → n.class ≡ class → final_is_due m class s.identity.guid ≡ true → IsTellable m class → P n
-      fine n same due (inl f) = c.notice n (ap (λ (x : Class). x.0 == NORMAL.0) same ∙ f)
-      fine n same due (inr f) = absurd (never_due m class s.identity.guid f due)
-
       made : (number : ℕ) (b : Bool) → final_is_due m class s.identity.guid ≡ b → IfSome (cond b (Some (notice_about m class delivery.Recoverable (order_layer peer.host) (record { qm = s.identity.guid; number = number }) now)) None) P
-      made number true due = fine (notice_about m class delivery.Recoverable (order_layer peer.host) (record { qm = s.identity.guid; number = number }) now) refl due other
+      made number true due = c.notice m class delivery.Recoverable (order_layer peer.host) (record { qm = s.identity.guid; number = number }) now (due_ordinary m class s.identity.guid due) other g
       made number false due = tt
 
       at : (o : Option ℕ) → IfSome (option_and_then (λ number. cond (final_is_due m class s.identity.guid)
@@ -197,27 +171,27 @@ module _ (P : Message → Type 0) (c : IsCarried P) where
       at None = tt
       at (Some number) = made number (final_is_due m class s.identity.guid) refl
 
-  admin_holds : (s : State) (m : Message) (class : Class) (now : ℕ) → IsTellable m class → Holds P s → Holds P (admin_told s m class now)
-  admin_holds s m class now other h = at (admin_about s m class now) (admin_fine s m class now other)
+  admin_holds : (s : State) (m : Message) (class : Class) (now : ℕ) → IsOfNotices class → P m → Holds P s → Holds P (admin_told s m class now)
+  admin_holds s m class now other fine h = at (admin_about s m class now) (admin_fine s m class now other fine)
     where
       at : (o : Option Message) → IfSome o P → Holds P (option_map_or (λ n. told s (resolved s n.destination) n) o s)
       at None g = h
       at (Some n) g = told_holds s (resolved s n.destination) n g h
 
-  final_holds : (s : State) (m : Message) (class : Class) (now : ℕ) → IsTellable m class → Holds P s → Holds P (final_told s m class now)
-  final_holds s m class now other h = holds_or s (λ k. option_map_or (λ peer. final_told_at s k peer m class now) (slice_get s.peers k) s) (peer_known s m.id.qm) h
-      (λ k. holds_or s (λ peer. final_told_at s k peer m class now) (slice_get s.peers k) h (λ peer. made k (final_about s peer m class now) (final_fine s peer m class now other)))
+  final_holds : (s : State) (m : Message) (class : Class) (now : ℕ) → IsOfNotices class → P m → Holds P s → Holds P (final_told s m class now)
+  final_holds s m class now other fine h = holds_or s (λ k. option_map_or (λ peer. final_told_at s k peer m class now) (slice_get s.peers k) s) (peer_known s m.id.qm) h
+      (λ k. holds_or s (λ peer. final_told_at s k peer m class now) (slice_get s.peers k) h (λ peer. made k (final_about s peer m class now) (final_fine s peer m class now other fine)))
     where
       made : (k : ℕ) (o : Option Message) → IfSome o P → Holds P (option_map_or (told s (AtPeer k)) o s)
       made k None g = h
       made k (Some n) g = told_holds s (AtPeer k) n g h
 
-  pub meets_holds : (s : State) (m : Message) (class : Class) (now : ℕ) → IsTellable m class → P m → Holds P s → Holds P (meets s m class now)
-  meets_holds s m class now other g h = let one = admin_told s m class now in let two = final_told one m class now in let then = final_holds one m class now other (admin_holds s m class now other h) in
+  pub meets_holds : (s : State) (m : Message) (class : Class) (now : ℕ) → IsOfNotices class → P m → Holds P s → Holds P (meets s m class now)
+  meets_holds s m class now other g h = let one = admin_told s m class now in let two = final_told one m class now in let then = final_holds one m class now other g (admin_holds s m class now other g h) in
       holds_or two (λ at. put_at two at m) (dead_place two m class) then (λ at. put_holds two at m g then)
 
-  pub arrived_holds : (s : State) (m : Message) (now : ℕ) (refusal : Option Class) → IfSome refusal (IsTellable m) → P m → Holds P s → Holds P (arrived s m now refusal)
-  arrived_holds s m now None other g h = meets_holds (placed s (resolved s m.destination) m) m REACHED_QUEUE now (inl refl) g (placed_holds s (resolved s m.destination) m g h)
+  pub arrived_holds : (s : State) (m : Message) (now : ℕ) (refusal : Option Class) → IfSome refusal IsOfNotices → P m → Holds P s → Holds P (arrived s m now refusal)
+  arrived_holds s m now None other g h = meets_holds (placed s (resolved s m.destination) m) m REACHED_QUEUE now refl g (placed_holds s (resolved s m.destination) m g h)
   arrived_holds s m now (Some class) other g h = meets_holds s m class now other g h
 
   pub journalled_holds : (s : State) (m : Message) → P m → Holds P s → Holds P (journalled s m)
@@ -229,8 +203,8 @@ module _ (P : Message → Type 0) (c : IsCarried P) where
 
   pub delivered_holds : (s : State) (t : Target) (m : Message) (now : ℕ) → P m → Holds P s → Holds P (delivered s t m now)
   delivered_holds s (AtPeer k) m now g h = placed_holds s (AtPeer k) m g h
-  delivered_holds s (Here queue) m now g h = meets_holds (placed s (Here queue) m) m REACHED_QUEUE now (inl refl) g (placed_holds s (Here queue) m g h)
-  delivered_holds s Nowhere m now g h = meets_holds s m REACHED_QUEUE now (inl refl) g h
+  delivered_holds s (Here queue) m now g h = meets_holds (placed s (Here queue) m) m REACHED_QUEUE now refl g (placed_holds s (Here queue) m g h)
+  delivered_holds s Nowhere m now g h = meets_holds s m REACHED_QUEUE now refl g h
 
   -- What leaves.
 
@@ -238,7 +212,7 @@ module _ (P : Message → Type 0) (c : IsCarried P) where
   in_lane lane.Durable l h = h.0
   in_lane lane.Express l h = h.1
 
-  message_holds : (kind : Lane) (s : State) (at : EntryPlace) (k : ℕ) → Holds P s → IfSome (message_at kind s at k) P
+  pub message_holds : (kind : Lane) (s : State) (at : EntryPlace) (k : ℕ) → Holds P s → IfSome (message_at kind s at k) P
   message_holds kind s at k h = by (lists_at s.places at) (lists_have (ListsHold P) s.places at h.places)
     where
       by : (o : Option Lists) → IfSome o (ListsHold P) → IfSome (option_and_then (λ l. slice_get (messages_in kind l) k) o) P
@@ -253,7 +227,7 @@ module _ (P : Message → Type 0) (c : IsCarried P) where
       at false = h
 
   after_take_holds : (s : State) (at : EntryPlace) (m : Message) (now : ℕ) → P m → Holds P s → Holds P (after_take s at m now)
-  after_take_holds s (place.Queue n) m now g h = meets_holds (copied s n m) m RECEIVED now (inl refl) g (copied_holds s n m g h)
+  after_take_holds s (place.Queue n) m now g h = meets_holds (copied s n m) m RECEIVED now refl g (copied_holds s n m g h)
   after_take_holds s (place.JournalOf n) m now g h = h
   after_take_holds s place.Dead m now g h = h
   after_take_holds s place.DeadXact m now g h = h
@@ -285,7 +259,7 @@ module _ (P : Message → Type 0) (c : IsCarried P) where
   after_purge_holds s at m now g h = by (is_queue at)
     where
       by : (b : Bool) → Holds P (cond b (meets s m QUEUE_PURGED now) s)
-      by true = meets_holds s m QUEUE_PURGED now (inl refl) g h
+      by true = meets_holds s m QUEUE_PURGED now refl g h
       by false = h
 
   oldest_holds : (kind : Lane) (at : EntryPlace) (now : ℕ) (e : Effect) → Holds P e.state → Holds P (oldest_purged kind at now e).state
@@ -307,7 +281,7 @@ module _ (P : Message → Type 0) (c : IsCarried P) where
     where
       one : (p : PlainLists) (index : ℕ) (o : Option Outgoing) → IfSome o (Waits P) → Holds P (option_map_or (λ (o : Outgoing). joined e (message_lapsed kind now k index e.state o.message)) o e).state
       one p index None g = h
-      one p index (Some o) g = meets_holds (with_plain (without kind index) e.state k) o.message REACH_TIMEOUT now (inl refl) g (plain_holds (without kind index) e.state k (dropped_list kind index) h)
+      one p index (Some o) g = meets_holds (with_plain (without kind index) e.state k) o.message REACH_TIMEOUT now refl g (plain_holds (without kind index) e.state k (dropped_list kind index) h)
 
       at : (p : PlainLists) → PlainHolds P p → (i : Option ℕ)
           → Holds P (option_map_or (λ index. option_map_or (λ (o : Outgoing). joined e (message_lapsed kind now k index e.state o.message)) (slice_get (outgoing_in kind p) index) e) i e).state
@@ -324,7 +298,7 @@ module _ (P : Message → Type 0) (c : IsCarried P) where
     where
       one : (index : ℕ) (o : Option Message) → IfSome o P → Holds P (option_map_or (λ m. joined e (message_swept kind now (k + 1) index e.state m)) o e).state
       one index None g = h
-      one index (Some m) g = meets_holds (without_at kind e.state (place.Queue (k + 1)) index) m RECEIVE_TIMEOUT now (inl refl) g (without_holds kind e.state (place.Queue (k + 1)) index h)
+      one index (Some m) g = meets_holds (without_at kind e.state (place.Queue (k + 1)) index) m RECEIVE_TIMEOUT now refl g (without_holds kind e.state (place.Queue (k + 1)) index h)
 
       at : (q : Queue) → QueueHas (ListsHold P) q → (i : Option ℕ)
           → Holds P (option_map_or (λ index. option_map_or (λ m. joined e (message_swept kind now (k + 1) index e.state m)) (slice_get (messages_in kind q.lists) index) e) i e).state

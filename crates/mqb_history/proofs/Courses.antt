@@ -93,7 +93,7 @@ pub who_is : (known : List Identity) (c : Course) (i : ℕ) (own : Identity) →
 who_is known c i own o e = (subst (λ x. IfSome x (λ y. IsItself known y (manager_at c.network i).state)) e (o.themselves i)).identity
 
 -- one that is not known is as if it were down
-unknown_down : (known : List Identity) (n : Network) (i : ℕ) → AreKnown known n → slice_get known i ≡ None → is_down (manager_at n i) ≡ true
+pub unknown_down : (known : List Identity) (n : Network) (i : ℕ) → AreKnown known n → slice_get known i ≡ None → is_down (manager_at n i) ≡ true
 unknown_down known n i o e = at (slice_get n.managers i) refl
   where
     at : (x : Option Manager) → slice_get n.managers i ≡ x → is_down (manager_at n i) ≡ true
@@ -187,7 +187,7 @@ module _ (known : List Identity) (c : Course) (o : AreKnown known c.network) (h 
       each (Some how) = each_change (HeardIn known c.sent) c (Calls i call (Some how)) call_heard h.heard
 
 -- a call that has nothing to do with packets hears none
-none_heard : (sent : List Packet) (call : Call) → is_of_packets call ≡ false → CallSent sent call
+pub none_heard : (sent : List Packet) (call : Call) → is_of_packets call ≡ false → CallSent sent call
 none_heard sent (CreateQueue plan) e = tt
 none_heard sent (SetRoll count) e = tt
 none_heard sent (Commit now ops) e = tt

@@ -4,7 +4,6 @@ use Rattle.std.proofs.lemmas.List.{append_assoc}
 use Rattle.std.specs.List.{AllByRecursion, enumerate_from}
 use Rattle.std.specs.Option.{option_map_or}
 use Rattle.std.specs.Prelude.{[], ◌&&◌, ◌+◌, ◌++◌, ◌==◌, ◌||◌, ◌∷◌, ◌≡◌, Bool, Err, List, None, Ok, Option, Result, Some, cond, false, fold, is_none, is_some, length, not, slice_get, true, ℕ}
-use Rattle.mqb_base.specs.declared.draft.Op.{Op}
 use Rattle.mqb_base.specs.declared.ids.Identity.{Identity}
 use Rattle.mqb_model.specs.calls.Commit.{commit}
 use Rattle.mqb_model.specs.calls.CreateQueue.{create_queue}
@@ -37,7 +36,7 @@ use Rattle.mqb_network.specs.Step.{answer_to}
 use Rattle.mqb_packet.specs.declared.packet.Packet.{Packet}
 use Rattle.mqb_queue.specs.Places.{numbered}
 use Rattle.mqb_history.specs.Calls.{Call, Commit, CreateQueue, Purge, Resend, Send, SetRoll, Take, Tick, answerless, outcome_of}
-use Rattle.mqb_history.specs.Changes.{Change, calling, changed, given_out, hearing, is_of_packets, may_change, may_hear}
+use Rattle.mqb_history.specs.Changes.{Change, changed, given_out, hearing, is_of_packets, may_change, may_hear}
 use Rattle.mqb_history.specs.Changes as change
 use Rattle.mqb_history.specs.Orderly.{IsOrderly}
 use Rattle.mqb_history.proofs.Ending.{parted_at, parted_condition}
@@ -49,15 +48,16 @@ pub record IsClosed (known : List Identity) (P : Course → Type 0) : Type 0 whe
   pub orderly : (c : Course) → P c → IsOrderly known c
   pub keeps : (c : Course) (x : Change) → may_change c x ≡ true → P c → P (changed x c)
 
--- a change commits nothing
-abbrev pub CommitsNone : Change → Type 0
-CommitsNone (change.Calls i (Commit now ops) failure) = ⊥
-CommitsNone _ = Unit {0}
+-- a change sends nothing
+abbrev pub SendsNone : Change → Type 0
+SendsNone (change.Calls i (Commit now ops) failure) = ⊥
+SendsNone (change.Calls i (Send now recoverable parts) failure) = ⊥
+SendsNone _ = Unit {0}
 
--- the same where changes are given, of which each that commits nothing is one
+-- the same where changes are given, of which each that sends nothing is one
 pub record IsClosedUnder (A : Change → Type 0) (known : List Identity) (P : Course → Type 0) : Type 0 where
   pub orderly : (c : Course) → P c → IsOrderly known c
-  pub others : (x : Change) → CommitsNone x → A x
+  pub others : (x : Change) → SendsNone x → A x
   pub keeps : (c : Course) (x : Change) → A x → may_change c x ≡ true → P c → P (changed x c)
 
 -- Calls.
@@ -300,25 +300,31 @@ restart_keeps A known P k i choice c doubt h = reopen_keeps A known P k i choice
 
 -- Every event.
 
+-- what an event sends is given
+abbrev pub IsGiven : (Change → Type 0) → Event → Type 0
+IsGiven A (event.Commit i now ops) = (failure : Option Failure) → A (change.Calls i (Commit now ops) failure)
+IsGiven A (event.Send i now recoverable parts) = (failure : Option Failure) → A (change.Calls i (Send now recoverable parts) failure)
+IsGiven A _ = Unit {0}
+
 pub event_keeps_under : (A : Change → Type 0) (known : List Identity) (P : Course → Type 0) → IsClosedUnder A known P → (c : Course) (e : Event) (choice : Choice)
-    → ((i now : ℕ) (ops : List Op) (failure : Option Failure) → e ≡ event.Commit i now ops → A (change.Calls i (Commit now ops) failure)) → may c e choice ≡ true → P c
+    → IsGiven A e → may c e choice ≡ true → P c
     → P (answer_to e (packet_of c.sent e) choice c).after
-event_keeps_under A known P k c (event.Queue i plan) choice commits m h = call_keeps A known P k i (CreateQueue plan) (create_queue (manager_at c.network i) plan) choice c refl refl (k.others (change.Calls i (CreateQueue plan) (failure_in choice (create_queue (manager_at c.network i) plan))) tt) h
-event_keeps_under A known P k c (event.Roll i count) choice commits m h = call_keeps A known P k i (SetRoll count) (set_roll (manager_at c.network i) count) choice c refl refl (k.others (change.Calls i (SetRoll count) (failure_in choice (set_roll (manager_at c.network i) count))) tt) h
-event_keeps_under A known P k c (event.Commit i now ops) choice commits m h = call_keeps A known P k i (Commit now ops) (commit (manager_at c.network i) ops now) choice c refl refl (commits i now ops (failure_in choice (commit (manager_at c.network i) ops now)) refl) h
-event_keeps_under A known P k c (event.Send i now recoverable parts) choice commits m h = call_keeps A known P k i (Send now recoverable parts) (send (manager_at c.network i) parts recoverable now) choice c refl refl (k.others (change.Calls i (Send now recoverable parts) (failure_in choice (send (manager_at c.network i) parts recoverable now))) tt) h
-event_keeps_under A known P k c (event.Take i now place) choice commits m h = call_keeps A known P k i (Take now place) (take_message (manager_at c.network i) place now) choice c refl refl (k.others (change.Calls i (Take now place) (failure_in choice (take_message (manager_at c.network i) place now))) tt) h
-event_keeps_under A known P k c (event.Purge i now place) choice commits m h = call_keeps A known P k i (Purge now place) (purge (manager_at c.network i) place now) choice c refl refl (k.others (change.Calls i (Purge now place) (failure_in choice (purge (manager_at c.network i) place now))) tt) h
-event_keeps_under A known P k c (event.Tick i now) choice commits m h = call_keeps A known P k i (Tick now) (tick (manager_at c.network i) now) choice c refl refl (k.others (change.Calls i (Tick now) (failure_in choice (tick (manager_at c.network i) now))) tt) h
-event_keeps_under A known P k c (event.Connect a b now window_a window_b) choice commits m h = connect_keeps A known P k a b now window_a window_b c h
-event_keeps_under A known P k c (event.Disconnect i) choice commits m h = disconnect_keeps A known P k i c h
-event_keeps_under A known P k c (event.Resend i) choice commits m h = resend_keeps A known P k i c h
-event_keeps_under A known P k c (event.Pump i now) choice commits m h = pump_keeps A known P k i now choice c h
-event_keeps_under A known P k c (event.Deliver number now) choice commits m h = deliver_keeps A known P k number now choice c h
-event_keeps_under A known P k c (event.Drop number) choice commits m h = drop_keeps A known P k number c h
-event_keeps_under A known P k c (event.Flow i now) choice commits m h = flow_keeps A known P k i now choice c h
-event_keeps_under A known P k c (event.Arm i) choice commits m h = h
-event_keeps_under A known P k c (event.Restart i) choice commits m h = restart_keeps A known P k i choice c (doubt choice m) h
+event_keeps_under A known P k c (event.Queue i plan) choice given m h = call_keeps A known P k i (CreateQueue plan) (create_queue (manager_at c.network i) plan) choice c refl refl (k.others (change.Calls i (CreateQueue plan) (failure_in choice (create_queue (manager_at c.network i) plan))) tt) h
+event_keeps_under A known P k c (event.Roll i count) choice given m h = call_keeps A known P k i (SetRoll count) (set_roll (manager_at c.network i) count) choice c refl refl (k.others (change.Calls i (SetRoll count) (failure_in choice (set_roll (manager_at c.network i) count))) tt) h
+event_keeps_under A known P k c (event.Commit i now ops) choice given m h = call_keeps A known P k i (Commit now ops) (commit (manager_at c.network i) ops now) choice c refl refl (given (failure_in choice (commit (manager_at c.network i) ops now))) h
+event_keeps_under A known P k c (event.Send i now recoverable parts) choice given m h = call_keeps A known P k i (Send now recoverable parts) (send (manager_at c.network i) parts recoverable now) choice c refl refl (given (failure_in choice (send (manager_at c.network i) parts recoverable now))) h
+event_keeps_under A known P k c (event.Take i now place) choice given m h = call_keeps A known P k i (Take now place) (take_message (manager_at c.network i) place now) choice c refl refl (k.others (change.Calls i (Take now place) (failure_in choice (take_message (manager_at c.network i) place now))) tt) h
+event_keeps_under A known P k c (event.Purge i now place) choice given m h = call_keeps A known P k i (Purge now place) (purge (manager_at c.network i) place now) choice c refl refl (k.others (change.Calls i (Purge now place) (failure_in choice (purge (manager_at c.network i) place now))) tt) h
+event_keeps_under A known P k c (event.Tick i now) choice given m h = call_keeps A known P k i (Tick now) (tick (manager_at c.network i) now) choice c refl refl (k.others (change.Calls i (Tick now) (failure_in choice (tick (manager_at c.network i) now))) tt) h
+event_keeps_under A known P k c (event.Connect a b now window_a window_b) choice given m h = connect_keeps A known P k a b now window_a window_b c h
+event_keeps_under A known P k c (event.Disconnect i) choice given m h = disconnect_keeps A known P k i c h
+event_keeps_under A known P k c (event.Resend i) choice given m h = resend_keeps A known P k i c h
+event_keeps_under A known P k c (event.Pump i now) choice given m h = pump_keeps A known P k i now choice c h
+event_keeps_under A known P k c (event.Deliver number now) choice given m h = deliver_keeps A known P k number now choice c h
+event_keeps_under A known P k c (event.Drop number) choice given m h = drop_keeps A known P k number c h
+event_keeps_under A known P k c (event.Flow i now) choice given m h = flow_keeps A known P k i now choice c h
+event_keeps_under A known P k c (event.Arm i) choice given m h = h
+event_keeps_under A known P k c (event.Restart i) choice given m h = restart_keeps A known P k i choice c (doubt choice m) h
   where
     doubt : (choice : Choice) → may c (event.Restart i) choice ≡ true → choice ≡ Kept → is_some (doubt_of (manager_at c.network i).condition) ≡ true
     doubt Kept m e = m
@@ -327,7 +333,26 @@ event_keeps_under A known P k c (event.Restart i) choice commits m h = restart_k
     doubt Lost m e = absurd (let none : ⊥ = cc in none)
     doubt Unread m e = absurd (let none : ⊥ = cc in none)
 
+-- where all is given, it is
+all_given : (e : Event) → IsGiven (λ x. Unit {0}) e
+all_given (event.Queue i plan) = tt
+all_given (event.Roll i count) = tt
+all_given (event.Commit i now ops) = λ failure. tt
+all_given (event.Send i now recoverable parts) = λ failure. tt
+all_given (event.Take i now place) = tt
+all_given (event.Purge i now place) = tt
+all_given (event.Tick i now) = tt
+all_given (event.Connect a b now window_a window_b) = tt
+all_given (event.Disconnect i) = tt
+all_given (event.Resend i) = tt
+all_given (event.Pump i now) = tt
+all_given (event.Deliver number now) = tt
+all_given (event.Drop number) = tt
+all_given (event.Flow i now) = tt
+all_given (event.Arm i) = tt
+all_given (event.Restart i) = tt
+
 pub event_keeps : (known : List Identity) (P : Course → Type 0) → IsClosed known P → (c : Course) (e : Event) (choice : Choice) → may c e choice ≡ true → P c
     → P (answer_to e (packet_of c.sent e) choice c).after
 event_keeps known P k c e choice m h = event_keeps_under (λ x. Unit {0}) known P (record { orderly = k.orderly; others = λ x none. tt; keeps = λ c x given may h. k.keeps c x may h })
-    c e choice (λ i now ops failure same. tt) m h
+    c e choice (all_given e) m h

@@ -155,6 +155,9 @@ mod Arriving
 mod Balance
 mod Origins
 mod SentOnce
+mod Taking
+mod Tracing
+mod Causing
 mod Copies
 mod Finding
 mod Ledger

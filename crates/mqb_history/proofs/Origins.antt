@@ -50,7 +50,7 @@ use Rattle.mqb_history.proofs.Orderly.{map_get}
 use Rattle.mqb_history.proofs.Outside.{filtered_in}
 use Rattle.mqb_history.proofs.Runs.{always_kept}
 use Rattle.mqb_history.proofs.Sparing.{all_of as all_from}
-use Rattle.mqb_history.proofs.Steady.{IsSteady, change_steady}
+use Rattle.mqb_history.proofs.Steady.{IsSteady, OfExpress, change_steady}
 use Rattle.mqb_history.proofs.Written.{begins_with}
 
 -- What is held.
@@ -76,7 +76,7 @@ module _ (P : Message → Type 0) where
   row_all [] h = tt
   row_all (k ∷ ks) h = (h.0, row_all ks h.1)
 
-  held_all : (s : State) → Holds P s → AllByRecursion P (held s)
+  pub held_all : (s : State) → Holds P s → AllByRecursion P (held s)
   held_all s h = all_append P (in_places s.places ++ flat_map for_peer s.plain) (flat_map in_row s.outs)
       (all_append P (in_places s.places) (flat_map for_peer s.plain) (places_all s.places h.places)
       (all_flat P for_peer s.plain (all_weaker (PlainHolds P) (λ p. AllByRecursion P (for_peer p)) peer_all s.plain h.plain)))
@@ -94,24 +94,27 @@ module _ (P : Message → Type 0) where
 abbrev Follows : (Message → Type 0) → ℕ → State → List Written → Type 0
 Follows P i s ws = ((w : Written) → In w ws → IsFine P w.entry) → Holds P s
 
-follows_steady : (P : Message → Type 0) → IsCarried P → IsSteady (Follows P)
-follows_steady P c = record {
-  quiet = λ i a b ws q h fine. q.2 P c (h fine);
+follows_steady : (P : Message → Type 0) → IsCarried P → OfExpress P → IsSteady (Follows P)
+follows_steady P c express = record {
+  quiet = λ i a b ws q h fine. q.2 P c express (h fine);
   grows = λ i s r ws made h fine. record_holds P c s r (fine (record { by = i; before = s; entry = r }) (in_end ws (record { by = i; before = s; entry = r })))
       (h (λ w inside. fine w (in_append ws (record { by = i; before = s; entry = r } ∷ []) w inside)));
 }
 
 -- What was sent.
 
-abbrev IsSent : List Written → Message → Type 0
+abbrev pub IsSent : List Written → Message → Type 0
 IsSent ws m = is_ordinary m ≡ true → is_express m.delivery ≡ false → IsOneOf (all_sends ws) m
 
-sent_carried : (ws : List Written) → IsCarried (IsSent ws)
+pub sent_carried : (ws : List Written) → IsCarried (IsSent ws)
 sent_carried ws = record {
-  express = λ m e ordinary durable. absurd (clash (sym e ∙ durable));
-  notice = λ m e ordinary durable. absurd (clash (sym ordinary ∙ e));
+  notice = λ m class d to id now o e g ordinary durable. absurd (clash (sym ordinary ∙ e));
+  acks = λ a host id now ordinary durable. absurd (clash (sym ordinary));
   left = λ m n g ordinary durable. let one = g ordinary durable in record { send = one.send; inside = one.inside; same = ap (λ (x : Message). record x { reach = n }) one.same };
 }
+
+sent_express : (ws : List Written) → OfExpress (IsSent ws)
+sent_express ws m e ordinary durable = absurd (clash (sym e ∙ durable))
 
 sent_more : (ws more all : List Written) → all ≡ ws ++ more → (m : Message) → IsSent ws m → IsSent all m
 sent_more ws more all e m g = λ ordinary durable. let one = g ordinary durable in let w = in_flat (λ (v : Written). sends_in v.entry) ws one.send one.inside in record {
@@ -199,7 +202,7 @@ module _ (known : List Identity) (apart : AreApart known) (c : Course) (t : AreS
   change_sent : AreSent known d
   change_sent = record {
     agreed = agreed_now;
-    managers = λ j. change_steady (Follows P) (follows_steady P (sent_carried d.written)) known c x may t.agreed.0.0
+    managers = λ j. change_steady (Follows P) (follows_steady P (sent_carried d.written) (sent_express d.written)) known c x may t.agreed.0.0
         (λ k fine. holds_weaker (IsSent c.written) P more (manager_at c.network k).state (t.managers k)) j
         (λ w i. written_fine w (filtered_in (λ (v : Written). v.by == j) d.written w i));
     packets = packets_now;

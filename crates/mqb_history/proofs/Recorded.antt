@@ -139,7 +139,7 @@ RecordOf s _ _ = ⊥
 abbrev pub BesideOf : State → Call → Beside → Type 0
 BesideOf s (Send now recoverable parts) (beside.SendsExpress at m) = (m.id ≡ own_id s s.next_express) × (m.class ≡ NORMAL) × (is_express m.delivery ≡ true)
 BesideOf s call (beside.SendsExpress at m) = ⊥
-BesideOf s (Hear now x) (beside.HearsExpress peer number at m refusal) = (p : UserPacket) × (x ≡ packet.User p) × (p.message ≡ m) × (is_express m.delivery ≡ true)
+BesideOf s (Hear now x) (beside.HearsExpress peer number at m refusal) = (p : UserPacket) × (x ≡ packet.User p) × (p.message ≡ m) × (is_express m.delivery ≡ true) × (refusal ≡ refusal_of s p)
 BesideOf s call (beside.HearsExpress peer number at m refusal) = ⊥
 BesideOf s call _ = Unit {0}
 
@@ -286,7 +286,7 @@ module _ (p : UserPacket) (l : Listening) (own : p.to ≡ l.manager.state.identi
           (heard_nothing x l heard.Discarded)
           (record {
             entry = some_unless l.manager.state (Hear l.now x) (length (numbers_released l) == 0) (entry.Arrived l.now (numbers_released l) entry.Nothing) tt;
-            beside = (p, refl, refl, e);
+            beside = (p, refl, refl, e, refl);
           })
       at false e = recoverable e (is_final l.manager.state p.message) refl
 

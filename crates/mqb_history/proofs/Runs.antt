@@ -16,12 +16,8 @@ use Rattle.mqb_history.specs.Histories.{HasHistory}
 use Rattle.mqb_history.specs.Laws.{RunsHaveHistories}
 use Rattle.mqb_history.specs.Orderly.{IsOrderly}
 use Rattle.mqb_exactly_once.specs.Words.{In}
-use Rattle.mqb_base.specs.declared.draft.Op.{Op}
-use Rattle.mqb_network.specs.Choices.{Failure}
-use Rattle.mqb_network.specs.Events as event
-use Rattle.mqb_history.specs.Calls.{Commit}
-use Rattle.mqb_history.specs.Changes.{Calls, Change}
-use Rattle.mqb_history.proofs.Keeping.{IsClosed, IsClosedUnder, event_keeps, event_keeps_under}
+use Rattle.mqb_history.specs.Changes.{Change}
+use Rattle.mqb_history.proofs.Keeping.{IsClosed, IsClosedUnder, IsGiven, event_keeps, event_keeps_under}
 use Rattle.mqb_history.proofs.Lists.{join_and}
 use Rattle.mqb_history.proofs.Orderly.{histories_are_orderly}
 use Rattle.mqb_history.proofs.Parting.{doubt_free}
@@ -72,16 +68,16 @@ pub always_kept : (known : List Identity) (P : Course → Type 0) → IsClosed k
 always_kept known P k ms run kept h = settled_keeps known P k kept (after_run known ms) (range_with_len 0 (length (after_run known ms).network.managers))
     (moves_keep known P k (beginning known) ms run h)
 
--- The same of what only the given changes keep, where the commits of the moves are given.
+-- The same of what only the given changes keep, where what the moves send is given.
 
--- each commit of these moves is given
+-- it is
 abbrev pub AreGiven : (Change → Type 0) → List Move → Type 0
-AreGiven A ms = (m : Move) → In m ms → (i now : ℕ) (ops : List Op) (failure : Option Failure) → m.event ≡ event.Commit i now ops → A (Calls i (Commit now ops) failure)
+AreGiven A ms = (m : Move) → In m ms → IsGiven A m.event
 
 given_keep : (A : Change → Type 0) (known : List Identity) (P : Course → Type 0) → IsClosedUnder A known P → (c : Course) (ms : List Move) → AreGiven A ms → IsRunFrom c ms → P c → P (course_after c ms)
 given_keep A known P k c [] given run h = h
 given_keep A known P k c (m ∷ ms) given run h = given_keep A known P k (moved_on c m) ms (λ x i. given x (inr i)) run.1
-    (subst P (sym (move_in_course c m)) (event_keeps_under A known P k c m.event m.choice (λ i now ops failure e. given m (inl refl) i now ops failure e) run.0 h))
+    (subst P (sym (move_in_course c m)) (event_keeps_under A known P k c m.event m.choice (given m (inl refl)) run.0 h))
 
 settles_given : (A : Change → Type 0) (known : List Identity) (P : Course → Type 0) → IsClosedUnder A known P → (kept : ℕ → Bool) (c : Course) (is : List ℕ) → P c → P (fold (settled_at kept) c is)
 settles_given A known P k kept c [] h = h

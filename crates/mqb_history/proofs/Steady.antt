@@ -1,6 +1,7 @@
 -- What holds where nothing durable moves, and is kept by each record, is kept by each change.
 use Rattle.std.proofs.Common.{refl, ap, sym, subst, ◌∙◌, arith}
 use Rattle.std.specs.Prelude.{[], ◌+◌, ◌++◌, ◌==◌, ◌∷◌, ◌≡◌, Bool, IfSome, List, None, Option, Some, cond, false, length, map, slice_get, true, unwrap_or, ℕ}
+use Rattle.mqb_base.specs.declared.class.Class.{Class}
 use Rattle.mqb_base.specs.declared.ids.Identity.{Identity}
 use Rattle.mqb_base.specs.declared.ids.MessageId.{MessageId}
 use Rattle.mqb_base.specs.declared.message.Message.{Message}
@@ -14,6 +15,7 @@ use Rattle.mqb_model.specs.managers.Restarts.{restarted, unread}
 use Rattle.mqb_model.specs.records.Applying.{apply}
 use Rattle.mqb_model.specs.records.Record.{Record}
 use Rattle.mqb_model.specs.state.Durable.{durable, durable_plain, durable_queue}
+use Rattle.mqb_model.specs.state.Places.{is_express}
 use Rattle.mqb_model.specs.state.State.{State}
 use Rattle.mqb_network.specs.Changes.{ended, parted}
 use Rattle.mqb_network.specs.Choices.{Failure}
@@ -32,8 +34,8 @@ use Rattle.mqb_history.proofs.Applying.{beside_rows}
 use Rattle.mqb_history.proofs.Beginning.{linked_same_state}
 use Rattle.mqb_history.proofs.Calling.{calls_are_modest, made_only}
 use Rattle.mqb_history.proofs.Ending.{parted_at, parted_rows}
-use Rattle.mqb_history.proofs.Containing.{beside_holds, durable_holds}
-use Rattle.mqb_history.proofs.Contents.{Holds, IsCarried}
+use Rattle.mqb_history.proofs.Containing.{IsFineBeside, beside_holds, durable_holds, refusal_class}
+use Rattle.mqb_history.proofs.Contents.{Holds, IsCarried, IsOfNotices}
 use Rattle.mqb_history.proofs.Lists.{append_nothing, apart_numbers, equal_numbers, get_within, set_apart, set_get, set_there}
 use Rattle.mqb_history.proofs.Ordering.{with_at}
 use Rattle.mqb_history.proofs.Owned.{in_list, tally_mapped, unmarked_waits}
@@ -44,9 +46,13 @@ use Rattle.mqb_history.proofs.Staying.{HasSameRows}
 use Rattle.mqb_history.proofs.Tallies.{in_queue, tally}
 use Rattle.mqb_history.proofs.Written.{absent_idle, durable_rows, noted_managers, other_more, own_more}
 
+-- it is said of each express message
+abbrev pub OfExpress : (Message → Type 0) → Type 0
+OfExpress P = (m : Message) → is_express m.delivery ≡ true → P m
+
 -- nothing durable moved, and no message came but express ones and notices
 abbrev pub Quiet : State → State → Type 1
-Quiet a b = HasSameRows a b × ((x : MessageId) → Still x a b) × ((P : Message → Type 0) → IsCarried P → Holds P a → Holds P b)
+Quiet a b = HasSameRows a b × ((x : MessageId) → Still x a b) × ((P : Message → Type 0) → IsCarried P → OfExpress P → Holds P a → Holds P b)
 
 -- Quiet changes.
 
@@ -55,7 +61,7 @@ durable_quiet s = (
   durable_rows s,
   λ x. let same = mapped x s.places.queues in let fewer = tally_mapped (λ (p : PlainLists). in_list x p.recoverable) durable_plain s.plain (λ p. unmarked_waits x p.recoverable) in
       without_number x 0 0 s (durable s) refl refl (omega (arith, same)) (omega (arith, same, fewer)),
-  λ P c. durable_holds P c s,
+  λ P c express. durable_holds P c s,
 )
   where
     mapped : (x : MessageId) (qs : List Queue) → tally (in_queue x) (map durable_queue qs) ≡ tally (in_queue x) qs
@@ -63,7 +69,7 @@ durable_quiet s = (
     mapped x (q ∷ qs) = ap (λ n. in_queue x q + n) (mapped x qs)
 
 parted_quiet : (m : Manager) → Quiet m.state (parted m).state
-parted_quiet m = (parted_rows m, λ x. at x (is_down m), λ P c. holds P c (is_down m))
+parted_quiet m = (parted_rows m, λ x. at x (is_down m), λ P c express. holds P c (is_down m))
   where
     holds : (P : Message → Type 0) → IsCarried P → (b : Bool) → Holds P m.state → Holds P (cond b m (succeeded m (unlink m))).state
     holds P c true h = h
@@ -101,6 +107,30 @@ express_of s call (beside.TicksExpress now) h = tt
 express_of s call beside.Unmarks h = tt
 express_of s call (beside.DropsExpress peer number) h = tt
 express_of s call (beside.NotesSent peer sent) h = tt
+
+-- what is refused beside a record meets a class of notices
+pub class_beside : (s : State) (call : Call) (peer number now : ℕ) (m : Message) (refusal : Option Class) → BesideOf s call (beside.HearsExpress peer number now m refusal) → IfSome refusal IsOfNotices
+class_beside s (Hear at x) peer number now m refusal h = subst (λ o. IfSome o IsOfNotices) (sym h.4) (refusal_class s h.0)
+class_beside s (Send at recoverable parts) peer number now m refusal h = absurd h
+class_beside s (CreateQueue plan) peer number now m refusal h = absurd h
+class_beside s (SetRoll count) peer number now m refusal h = absurd h
+class_beside s (Commit at ops) peer number now m refusal h = absurd h
+class_beside s (Take at p) peer number now m refusal h = absurd h
+class_beside s (Purge at p) peer number now m refusal h = absurd h
+class_beside s (Tick at) peer number now m refusal h = absurd h
+class_beside s Resend peer number now m refusal h = absurd h
+class_beside s (Pump at) peer number now m refusal h = absurd h
+
+fine_of : (P : Message → Type 0) → OfExpress P → (s : State) (call : Call) (b : Beside) → BesideOf s call b → IsFineBeside P b
+fine_of P fine s call (beside.SendsExpress at m) h = fine m (express_of s call (beside.SendsExpress at m) h)
+fine_of P fine s call (beside.HearsExpress peer number at m refusal) h = (fine m (express_of s call (beside.HearsExpress peer number at m refusal) h), class_beside s call peer number at m refusal h)
+fine_of P fine s call beside.Nothing h = tt
+fine_of P fine s call (beside.TakesExpress now at index) h = tt
+fine_of P fine s call (beside.PurgesExpress now at) h = tt
+fine_of P fine s call (beside.TicksExpress now) h = tt
+fine_of P fine s call beside.Unmarks h = tt
+fine_of P fine s call (beside.DropsExpress peer number) h = tt
+fine_of P fine s call (beside.NotesSent peer sent) h = tt
 
 -- Changes.
 
@@ -150,7 +180,7 @@ module _ (Q : ℕ → State → List Written → Type 0) (q : IsSteady Q) where
       some_written c.network i (succeeded m outcome) outcome.entry c.written (made_only _ m.state outcome.entry (calls_are_modest m call).entry) (
         beside_rows outcome.beside (recorded m.state outcome.entry),
         λ x. beside_still x outcome.beside (express_of m.state call outcome.beside (calls_are_of m call).beside) (recorded m.state outcome.entry),
-        λ P k. beside_holds P k outcome.beside (express_of m.state call outcome.beside (calls_are_of m call).beside) (recorded m.state outcome.entry),
+        λ P k express. beside_holds P k outcome.beside (fine_of P express m.state call outcome.beside (calls_are_of m call).beside) (recorded m.state outcome.entry),
       )
       (absent_idle c.network i call) h
   calling_steady i call (Some how) c h = λ j. let m = manager_at c.network i in let outcome = outcome_of m call in

@@ -32,6 +32,7 @@ pub mod Ledger
 pub mod Late
 pub mod Pumps
 pub mod Sent
+pub mod Traced
 pub mod Received
 pub mod Copies
 pub mod Twice

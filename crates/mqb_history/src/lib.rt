@@ -17,6 +17,7 @@ ghost use Rattle.mqb_history.specs.Ledger.{AlwaysExactlyOnceTold};
 ghost use Rattle.mqb_history.specs.Late.{AlwaysRefusedLate};
 ghost use Rattle.mqb_history.specs.Pumps.{NotesTellPumps};
 ghost use Rattle.mqb_history.specs.Sent.{AlwaysSentRightly};
+ghost use Rattle.mqb_history.specs.Traced.{TakenIsAsked};
 ghost use Rattle.mqb_history.specs.Choosing.{RepliesShowChoices, RunsAreShown};
 ghost use Rattle.mqb_history.specs.Leading.{CommitmentsLeadToManagers};
 ghost use Rattle.mqb_history.specs.Drafted.{AlwaysValid};
@@ -231,6 +232,11 @@ pub fn notes_tell_pumps()
 /// Each message that is there, or went in a packet, is a notice, or express, or the one that was sent under its identifier, in every field but the time to reach its queue.
 pub fn always_sent_rightly()
     ensures { AlwaysSentRightly }
+{}
+
+/// What a take answers is what an event of the run asked to send, of the manager that its identifier names, or a notice about such a message.
+pub fn taken_is_asked()
+    ensures { TakenIsAsked }
 {}
 
 /// The ledger itself tells of each stream that it is exactly once: its messages are committed as 1, 2, and so on; what is decided was committed before, in order
