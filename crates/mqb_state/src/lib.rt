@@ -8,6 +8,7 @@ mod prepared;
 mod preparing;
 mod readers;
 mod state;
+mod typed;
 
 pub use mqb_records::RecordFault as PrepareFault;
 pub use prepared::Prepared;

@@ -1,5 +1,5 @@
 ghost use Rattle.std.specs.Prelude.{◌≡◌, ◌*◌, ◌≤◌, Err, IfOk, IsSomeAnd, true};
-ghost use Rattle.mqb_contents.specs.Changes.{AllReady, messages, redone, rooms_redone};
+ghost use Rattle.mqb_contents.specs.Changes.{messages, redone, rooms_redone};
 ghost use Rattle.mqb_contents.specs.Rooms.{IsGrown};
 ghost use Rattle.mqb_model.specs.records.Applying.{effect_of, fits};
 ghost use Rattle.mqb_model.specs.records.Counting.{named_count};
@@ -7,14 +7,16 @@ ghost use Rattle.mqb_model.specs.records.Reading.{record_in};
 ghost use Rattle.mqb_model.specs.state.Valid.{IsValidState};
 ghost use Rattle.mqb_records.specs.Unfit.{IsUnfit};
 ghost use Rattle.mqb_arrivals.specs.declared.faults.RecordFault.TheVariants as fault;
-ghost use Rattle.mqb_state.specs.Prepared.{IsPrepared};
+ghost use Rattle.mqb_state.specs.Prepared.{IsPrepared, IsPreparedFrom};
 
 use crate::prepared::Prepared;
 use crate::state::State;
+use crate::typed::entry_is_read;
 use core::mem::replace_with;
 use mqb_contents::Contents;
 use mqb_drafts::{Draft, redo};
 use mqb_entries::Entry;
+use mqb_model::applied_is_valid;
 use mqb_records::{RecordFault, apply_record};
 use std::alloc::Global;
 
@@ -37,7 +39,11 @@ fn try_in(
     let tried = apply_record(&mut draft, entry);
     let (contents, log, lines) = draft.finish();
     match tried {
-        Ok(()) => (contents, Ok(Prepared { log, lines })),
+        Ok(()) => {
+            entry_is_read(entry);
+            applied_is_valid();
+            (contents, Ok(Prepared { log, lines }))
+        }
         Err(fault) => (contents, Err(fault)),
     }
 }
@@ -49,7 +55,6 @@ impl State {
     /// # Errors
     /// `Unfit` where the entry does not fit the state, and `Memory`.
     pub fn prepare(&mut self, entry: &Entry<'_>) -> Result<Prepared, RecordFault>
-        requires { IsValidState self.old.lists }
         ensures lists { self.new.lists ≡ self.old.lists }
         ensures grown { IsGrown self.old.rooms self.new.rooms }
         ensures ok { IfOk result (λ p. IsSomeAnd (record_in entry.now)
@@ -63,7 +68,7 @@ impl State {
 
     /// Makes what was prepared from this state as it stands. It takes no memory.
     pub fn install(&mut self, prepared: Prepared)
-        requires { AllReady self.old prepared.changes }
+        requires { IsPreparedFrom self.old prepared }
         ensures lists { self.new.lists ≡ redone self.old.lists prepared.changes }
         ensures rooms { self.new.rooms ≡ rooms_redone self.old.rooms prepared.changes }
     {

@@ -86,7 +86,7 @@ impl State {
 
     /// Adds the bytes of what a store stands for: express messages and marks are left out.
     pub fn spell(&self, out: &mut Vec<u8>) -> Result<(), Memory>
-        requires { IsValidState self.now.lists }
+        ensures valid { IsValidState self.now.lists }
         ensures spelled { OnOk result (out.new.items ≡
             out.old.items ++ snapshot self.now.lists) }
         ensures refused { OnErr result (out.new.items ≡ out.old.items) }

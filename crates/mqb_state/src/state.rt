@@ -4,11 +4,12 @@ ghost use Rattle.mqb_model.specs.state.State.{empty};
 
 use mqb_base::{Identity, Memory};
 use mqb_contents::Contents;
+use mqb_model::new_is_valid;
 use std::alloc::Global;
 use std::marker::Model;
 
 /// What a store stands for, and beside it what a restart forgets: express messages, and the marks of plain messages that were sent. Contracts see the
-/// lists, and beside them how many members each can have without memory.
+/// lists, and beside them how many members each can have without memory. Each state is valid.
 #[derive(Debug, Drop)]
 pub struct State {
     pub(crate) contents: Contents,
@@ -22,7 +23,11 @@ impl Model for State {
 
     ghost Value = { WithRooms model.State StateRooms };
 
+    ghost use Rattle.mqb_model.specs.state.Valid.{IsValidState};
+
     ghost view = { λ s. s.contents };
+
+    ghost invariant = { λ s. IsValidState s.contents.lists };
 }
 
 impl State {
@@ -30,6 +35,7 @@ impl State {
     pub fn empty(alloc: Global, identity: &Identity) -> Result<State, Memory>
         ensures { IfOk result (λ s. s ≡ record { lists = empty identity.now; rooms = no_room }) }
     {
+        new_is_valid();
         let identity = identity.clone()?;
         Ok(State {
             contents: Contents::empty(alloc, identity),

@@ -1,0 +1,65 @@
+//! What an entry has by its types. But for the last, each function only says it.
+ghost use Rattle.std.specs.Prelude.{All, IfSome};
+ghost use Rattle.mqb_entries.specs.Formats.{IsBytes};
+ghost use Rattle.mqb_model.specs.records.Carrying.{IsRead};
+ghost use Rattle.mqb_model.specs.records.Reading.{record_in};
+ghost use Rattle.mqb_record_laws.specs.Typed.{IsTyped, IsTypedOp, IsTypedPart};
+
+use mqb_entries::{ArrivedPart, Entry, OpView, Ops, PacketSlice};
+use mqb_record_laws::entries_are_read;
+
+fn bytes_are_bytes(bytes: &[u8])
+    ensures { IsBytes bytes.now }
+{}
+
+fn packet_is_bytes(packet: &PacketSlice<'_>)
+    ensures { IsBytes packet.now }
+{
+    bytes_are_bytes(packet.as_slice());
+}
+
+fn op_is_typed(op: &OpView<'_>)
+    ensures { IsTypedOp op.now }
+{
+    if let OpView::Send(packet) = op {
+        packet_is_bytes(packet);
+    }
+}
+
+fn ops_are_typed(ops: &Ops<'_>)
+    ensures { All IsTypedOp ops.now }
+{
+    for op in ops.iter() {
+        op_is_typed(&op);
+    }
+}
+
+fn part_is_typed(part: &ArrivedPart<'_>)
+    ensures { IsTypedPart part.now }
+{
+    if let ArrivedPart::Decided(packet) | ArrivedPart::Stored(packet) = part {
+        packet_is_bytes(packet);
+    }
+}
+
+fn entry_is_typed(entry: &Entry<'_>)
+    ensures { IsTyped entry.now }
+{
+    match entry {
+        Entry::Peer(view) => {
+            let _host = view.host.as_slice();
+        }
+        Entry::Commit { ops, .. } => ops_are_typed(ops),
+        Entry::Plain { packet, .. } => packet_is_bytes(packet),
+        Entry::Arrived { part, .. } => part_is_typed(part),
+        _ => {}
+    }
+}
+
+/// The record that an entry is was read.
+pub(crate) fn entry_is_read(entry: &Entry<'_>)
+    ensures { IfSome (record_in entry.now) IsRead }
+{
+    entry_is_typed(entry);
+    entries_are_read();
+}
