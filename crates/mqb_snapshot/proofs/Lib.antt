@@ -3,13 +3,13 @@ pub mod Ends
 pub mod Sized
 pub mod Carried
 mod Backs
-mod Members
+pub mod Members
 mod FieldsAgain
 mod PeersAgain
 mod PlacesAgain
 mod OwnAgain
 mod PlainAgain
-mod Turned
+pub mod Turned
 mod OutsAgain
 mod InsAgain
-mod StateAgain
+pub mod StateAgain
