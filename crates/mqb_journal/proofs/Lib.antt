@@ -5,3 +5,4 @@ pub mod Scans
 pub mod Chains
 pub mod Whole
 pub mod Lending
+pub mod Prefixes

@@ -17,8 +17,8 @@ mod scan;
 pub use faults::{AppendFault, OpenFault, ScanFault};
 pub use journal::Journal;
 pub use laws::{
-    bad_at_one_place, journal_goes_on, records_are_not_bad, records_or_bad, scan_goes_on,
-    stands_for_one_list,
+    bad_at_one_place, chains_begin_alike, journal_goes_on, records_are_not_bad, records_or_bad,
+    scan_goes_on, stands_for_one_list,
 };
 pub use limits::MAX_RECORD;
 pub use scan::Scan;

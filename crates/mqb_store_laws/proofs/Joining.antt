@@ -1,0 +1,100 @@
+-- How entries join those of a store.
+use Rattle.std.proofs.Common.{refl, sym, ◌∙◌, ap, subst}
+use Rattle.std.proofs.lemmas.List.Sums.{fold-append}
+use Rattle.std.specs.Prelude.{[], ◌++◌, ◌∷◌, ◌≡◌, Bool, List, None, Option, Some, cond, false, fold, map, option_and_then, option_map, true, ℕ}
+use Rattle.mqb_base.specs.Same.{same_guid}
+use Rattle.mqb_base.specs.declared.ids.Guid.{Guid}
+use Rattle.mqb_model.specs.laws.Durable.{DurableIsApplied, DurableIsFitted}
+use Rattle.mqb_model.specs.records.Applying.{apply, effect_of, fits}
+use Rattle.mqb_model.specs.records.Folding.{applied, applied_after, state_of}
+use Rattle.mqb_model.specs.records.Reading.{all_some, record_of}
+use Rattle.mqb_model.specs.records.Record.{Record}
+use Rattle.mqb_model.specs.records.Record as entry
+use Rattle.mqb_model.specs.rules.Effects.{Effect}
+use Rattle.mqb_model.specs.state.Durable.{durable}
+use Rattle.mqb_model.specs.state.State.{State, empty}
+use Rattle.mqb_store_laws.specs.Images.{begins_as, records_in, state_by, state_in}
+use Rattle.mqb_store_laws.specs.Laws.{EntriesBegin, EntriesGoOn, RecordsJoin}
+
+-- what is there, and one more
+abbrev push : {X : Type 0} → X → List X → List X
+push x xs = xs ++ x ∷ []
+
+all_some_push : {X : Type 0} (xs : List (Option X)) (x : X) → all_some (xs ++ Some x ∷ []) ≡ option_map (push x) (all_some xs)
+all_some_push [] x = refl
+all_some_push (None ∷ xs) x = refl
+all_some_push {X = X} (Some y ∷ xs) x = ap (λ o. option_map (λ ys. y ∷ ys) o) (all_some_push xs x) ∙ behind (all_some xs)
+  where
+    behind : (o : Option (List X)) → option_map (λ ys. y ∷ ys) (option_map (push x) o) ≡ option_map (push x) (option_map (λ ys. y ∷ ys) o)
+    behind None = refl
+    behind (Some ys) = refl
+
+all_some_pushed : {X : Type 0} (xs : List (Option X)) (more : Option X) (x : X) → more ≡ Some x → all_some (xs ++ more ∷ []) ≡ option_map (push x) (all_some xs)
+all_some_pushed xs more x is = ap (λ o. all_some (xs ++ o ∷ [])) is ∙ all_some_push xs x
+
+mapped_push : {X Y : Type 0} (f : X → Y) (xs : List X) (x : X) → map f (xs ++ x ∷ []) ≡ map f xs ++ f x ∷ []
+mapped_push f [] x = refl
+mapped_push f (y ∷ xs) x = ap (λ ys. f y ∷ ys) (mapped_push f xs x)
+
+-- one record more was read
+records_push : (entries : List (List ℕ)) (more : List ℕ) (r : Record) → record_of more ≡ Some r → records_in (entries ++ more ∷ []) ≡ option_map (push r) (records_in entries)
+records_push entries more r is = ap all_some (mapped_push record_of entries more) ∙ all_some_pushed (map record_of entries) (record_of more) r is
+
+-- the state that they stand for goes on by it
+by_push : (guid : Guid) (records : List Record) (s : State) (r : Record) → state_by guid records ≡ Some s → state_by guid (records ++ r ∷ []) ≡ applied s r
+by_push guid [] s r is = absurd (let no : None ≡ Some s = is in cc)
+by_push guid (entry.Identity identity ∷ records) s r is = at (same_guid identity.guid guid) is
+  where
+    at : (b : Bool) → cond b (fold applied_after (Some (empty identity)) records) None ≡ Some s
+        → cond b (fold applied_after (Some (empty identity)) (records ++ r ∷ [])) None ≡ applied s r
+    at false none = absurd (let no : None ≡ Some s = none in cc)
+    at true folds = fold-append applied_after (Some (empty identity)) records (r ∷ []) ∙ ap (λ o. applied_after o r) folds
+by_push guid (entry.Peer peer ∷ records) s r is = absurd (let no : None ≡ Some s = is in cc)
+by_push guid (entry.CreateQueue number plan ∷ records) s r is = absurd (let no : None ≡ Some s = is in cc)
+by_push guid (entry.Commit now ops ∷ records) s r is = absurd (let no : None ≡ Some s = is in cc)
+by_push guid (entry.Plain now p ∷ records) s r is = absurd (let no : None ≡ Some s = is in cc)
+by_push guid (entry.Offered marks ∷ records) s r is = absurd (let no : None ≡ Some s = is in cc)
+by_push guid (entry.Arrived now numbers part ∷ records) s r is = absurd (let no : None ≡ Some s = is in cc)
+by_push guid (entry.Taken now at id ∷ records) s r is = absurd (let no : None ≡ Some s = is in cc)
+by_push guid (entry.Purged now at ∷ records) s r is = absurd (let no : None ≡ Some s = is in cc)
+by_push guid (entry.Ticked now ∷ records) s r is = absurd (let no : None ≡ Some s = is in cc)
+by_push guid (entry.Roll count ∷ records) s r is = absurd (let no : None ≡ Some s = is in cc)
+
+all_some_none : {X : Type 0} (xs : List (Option X)) → all_some (xs ++ None ∷ []) ≡ None
+all_some_none [] = refl
+all_some_none (None ∷ xs) = refl
+all_some_none (Some y ∷ xs) = ap (λ o. option_map (λ ys. y ∷ ys) o) (all_some_none xs)
+
+-- what was no record
+records_none : (entries : List (List ℕ)) (more : List ℕ) → record_of more ≡ None → records_in (entries ++ more ∷ []) ≡ None
+records_none entries more is = ap all_some (mapped_push record_of entries more) ∙ ap (λ o. all_some (map record_of entries ++ o ∷ [])) is ∙ all_some_none (map record_of entries)
+
+-- a record joins entries that stand for a state
+with_record : (guid : Guid) (entries : List (List ℕ)) (more : List ℕ) (s : State) (r : Record) → state_in guid entries ≡ Some s → record_of more ≡ Some r
+    → state_in guid (entries ++ more ∷ []) ≡ applied s r
+with_record guid entries more s r is reads = ap (option_and_then (state_by guid)) (records_push entries more r reads) ∙ at (records_in entries) is
+  where
+    at : (o : Option (List Record)) → option_and_then (state_by guid) o ≡ Some s → option_and_then (state_by guid) (option_map (push r) o) ≡ applied s r
+    at None none = absurd (let no : None ≡ Some s = none in cc)
+    at (Some records) by = by_push guid records s r by
+
+pub entries_go_on : EntriesGoOn
+entries_go_on guid entries more s is = at (record_of more) refl
+  where
+    at : (o : Option Record) → record_of more ≡ o → state_in guid (entries ++ more ∷ []) ≡ option_and_then (applied s) o
+    at None none = ap (option_and_then (state_by guid)) (records_none entries more none)
+    at (Some r) reads = with_record guid entries more s r is reads
+
+applied_where : (s : State) (r : Record) → fits s r ≡ true → applied s r ≡ Some (apply s r)
+applied_where s r fit = ap (λ b. cond b (Some (apply s r)) None) fit
+
+pub records_join : DurableIsApplied → DurableIsFitted → RecordsJoin
+records_join same fitted guid entries more s r valid is reads fit = with_record guid entries more (durable s) r is reads
+    ∙ applied_where (durable s) r (fitted s r valid ∙ fit) ∙ ap (λ (e : Effect). Some e.state) (same s r valid fit)
+
+pub entries_begin : EntriesBegin
+entries_begin guid first = at (record_of first)
+  where
+    at : (o : Option Record) → option_and_then (state_by guid) (all_some (o ∷ [])) ≡ option_and_then (λ r. state_by guid (r ∷ [])) o
+    at None = refl
+    at (Some r) = refl

@@ -1,0 +1,14 @@
+use Rattle.mqb_store_laws.proofs.Bad.{Alike, bad_at_one}
+use Rattle.mqb_store_laws.proofs.laws.bad_at_one_place.Goals as goal
+
+pub returns : goal.returns
+returns c = bad_at_one (record {
+  one = c.chains_begin_alike.ensures.one;
+  guid = c.chains_begin_alike.ensures.guid;
+  whole = c.chains_begin_alike.ensures.whole;
+  broken = c.chains_begin_alike.ensures.broken;
+  header = c.chains_begin_alike.ensures.header;
+  end = c.chains_begin_alike.ensures.end;
+  stands = c.records_are_not_bad.ensures;
+  same = c.stands_for_one_list.ensures.records;
+})

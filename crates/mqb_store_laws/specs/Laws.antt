@@ -1,0 +1,40 @@
+-- What is known of the images of a store, and how a state that a disk stands for is carried from call to call.
+use Rattle.std.specs.Prelude.{[], ◌++◌, ◌∷◌, ◌≡◌, List, Some, length, option_and_then, true, ℕ}
+use Rattle.mqb_base.specs.declared.ids.Guid.{Guid}
+use Rattle.mqb_model.specs.records.Applying.{apply, fits}
+use Rattle.mqb_model.specs.records.Folding.{applied}
+use Rattle.mqb_model.specs.records.Reading.{record_of}
+use Rattle.mqb_model.specs.records.Record.{Record}
+use Rattle.mqb_model.specs.state.Durable.{durable}
+use Rattle.mqb_model.specs.state.State.{State}
+use Rattle.mqb_model.specs.state.Valid.{IsValidState}
+use Rattle.mqb_store_laws.specs.Faults.{IsBadStore}
+use Rattle.mqb_store_laws.specs.Images.{OpensTo, state_by, state_in}
+
+-- The first entry stands for a manager that has nothing but its identity, where it is one with the store's GUID.
+abbrev pub EntriesBegin : Type 0
+EntriesBegin = (guid : Guid) (first : List ℕ) → state_in guid (first ∷ []) ≡ option_and_then (λ r. state_by guid (r ∷ [])) (record_of first)
+
+-- One entry more stands for what its record, where it fits, makes of the state.
+abbrev pub EntriesGoOn : Type 0
+EntriesGoOn = (guid : Guid) (entries : List (List ℕ)) (more : List ℕ) (s : State) → state_in guid entries ≡ Some s
+    → state_in guid (entries ++ more ∷ []) ≡ option_and_then (applied s) (record_of more)
+
+-- A record that fits a valid state joins the entries that stand for what a store has of it.
+abbrev pub RecordsJoin : Type 0
+RecordsJoin = (guid : Guid) (entries : List (List ℕ)) (more : List ℕ) (s : State) (r : Record) → IsValidState s
+    → state_in guid entries ≡ Some (durable s) → record_of more ≡ Some r → fits s r ≡ true
+    → state_in guid (entries ++ more ∷ []) ≡ Some (durable (apply s r))
+
+-- An image opens to one state at most, by one count of records.
+abbrev pub ImagesOpenToOne : Type 0
+ImagesOpenToOne = (guid other : Guid) (count more : ℕ) (s t : State) (image : List ℕ) → OpensTo guid count s image → OpensTo other more t image
+    → (count ≡ more) × (s ≡ t)
+
+-- What opens is bad nowhere.
+abbrev pub OpenedIsNotBad : Type 0
+OpenedIsNotBad = (guid : Guid) (count at : ℕ) (s : State) (image : List ℕ) → length guid.0 ≡ 16 → OpensTo guid count s image → IsBadStore at image → ⊥
+
+-- A store is bad at one place at most.
+abbrev pub BadAtOnePlace : Type 0
+BadAtOnePlace = (at other : ℕ) (image : List ℕ) → IsBadStore at image → IsBadStore other image → at ≡ other

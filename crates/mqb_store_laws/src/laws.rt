@@ -1,0 +1,47 @@
+ghost use Rattle.mqb_store_laws.specs.Laws.{BadAtOnePlace, EntriesBegin, EntriesGoOn, ImagesOpenToOne, OpenedIsNotBad, RecordsJoin};
+
+use mqb_journal::{chains_begin_alike, records_are_not_bad, stands_for_one_list};
+use mqb_model::{durable_is_applied, durable_is_fitted};
+
+/// The first entry stands for a manager that has nothing but its identity, where it is one with the store's GUID.
+pub fn entries_begin()
+    ensures { EntriesBegin }
+{}
+
+/// One entry more stands for what its record, where it fits, makes of the state.
+pub fn entries_go_on()
+    ensures { EntriesGoOn }
+{}
+
+/// A record that fits a valid state joins the entries that stand for what a store has of it.
+pub fn records_join()
+    ensures { RecordsJoin }
+{
+    durable_is_applied();
+    durable_is_fitted();
+}
+
+/// An image opens to one state at most, by one count of records.
+pub fn images_open_to_one()
+    ensures { ImagesOpenToOne }
+{
+    stands_for_one_list();
+}
+
+/// What opens is bad nowhere.
+pub fn opened_is_not_bad()
+    ensures { OpenedIsNotBad }
+{
+    chains_begin_alike();
+    records_are_not_bad();
+    stands_for_one_list();
+}
+
+/// A store is bad at one place at most.
+pub fn bad_at_one_place()
+    ensures { BadAtOnePlace }
+{
+    chains_begin_alike();
+    records_are_not_bad();
+    stands_for_one_list();
+}
