@@ -33,7 +33,9 @@ grown_refl r = record {
   peers = omega arith;
   plain = λ kind. members_refl (plain.room_in kind) r.plain;
   outs = members_refl (λ n. n) r.outs;
+  in_use = λ key h. h;
   ins = omega arith;
+  sources = λ key h. h;
 }
 
 places_trans : {a b c : PlaceRooms} → ArePlacesGrown a b → ArePlacesGrown b c → ArePlacesGrown a c
@@ -56,7 +58,9 @@ grown_trans g h = record {
   peers = omega (arith, g.peers, h.peers);
   plain = λ kind. members_trans (g.plain kind) (h.plain kind);
   outs = members_trans g.outs h.outs;
+  in_use = λ key there. h.in_use key (g.in_use key there);
   ins = omega (arith, g.ins, h.ins);
+  sources = λ key there. h.sources key (g.sources key there);
 }
 
 -- ---- members with rooms come and go
@@ -282,15 +286,15 @@ grown_after (change.RemovePlain peer kind k) g = g
 grown_after (change.InsertKept row k x) g = g
 grown_after (change.RemoveKept row k) g = g
 grown_after (change.Mark row marks) g = g
-grown_after (change.AddRow r) g = record { places = g.places; peers = g.peers; plain = g.plain; outs = with_member (λ n. n) g.outs r.room; ins = g.ins }
-grown_after change.DropRow g = record { places = g.places; peers = g.peers; plain = g.plain; outs = without_member (λ n. n) g.outs; ins = g.ins }
+grown_after (change.AddRow r) g = record { places = g.places; peers = g.peers; plain = g.plain; outs = with_member (λ n. n) g.outs r.room; in_use = g.in_use; ins = g.ins; sources = g.sources }
+grown_after change.DropRow g = record { places = g.places; peers = g.peers; plain = g.plain; outs = without_member (λ n. n) g.outs; in_use = g.in_use; ins = g.ins; sources = g.sources }
 grown_after (change.Decide k sequence last) g = g
 grown_after (change.AddIn r) g = g
 grown_after change.DropIn g = g
-grown_after (change.AddPeer p) g = record { places = g.places; peers = g.peers; plain = λ kind. with_member (plain.room_in kind) (g.plain kind) p.rooms; outs = g.outs; ins = g.ins }
-grown_after change.DropPeer g = record { places = g.places; peers = g.peers; plain = λ kind. without_member (plain.room_in kind) (g.plain kind); outs = g.outs; ins = g.ins }
-grown_after (change.AddQueue q) g = record { places = with_queue_rooms q.rooms g.places; peers = g.peers; plain = g.plain; outs = g.outs; ins = g.ins }
-grown_after change.DropQueue g = record { places = without_queue_rooms g.places; peers = g.peers; plain = g.plain; outs = g.outs; ins = g.ins }
+grown_after (change.AddPeer p) g = record { places = g.places; peers = g.peers; plain = λ kind. with_member (plain.room_in kind) (g.plain kind) p.rooms; outs = g.outs; in_use = g.in_use; ins = g.ins; sources = g.sources }
+grown_after change.DropPeer g = record { places = g.places; peers = g.peers; plain = λ kind. without_member (plain.room_in kind) (g.plain kind); outs = g.outs; in_use = g.in_use; ins = g.ins; sources = g.sources }
+grown_after (change.AddQueue q) g = record { places = with_queue_rooms q.rooms g.places; peers = g.peers; plain = g.plain; outs = g.outs; in_use = g.in_use; ins = g.ins; sources = g.sources }
+grown_after change.DropQueue g = record { places = without_queue_rooms g.places; peers = g.peers; plain = g.plain; outs = g.outs; in_use = g.in_use; ins = g.ins; sources = g.sources }
 grown_after (change.Count c) g = g
 
 pub grown_redone : (cs : List Change) {old new : StateRooms} → IsGrown old new → IsGrown (rooms_redone old cs) (rooms_redone new cs)

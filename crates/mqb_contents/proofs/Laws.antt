@@ -1,8 +1,8 @@
 -- A change and the change back.
-use Rattle.std.proofs.Common.{◌≡◌, ℕ, ◌+◌, ◌-◌, ◌<◌, ◌≤◌, List, [], ◌∷◌, ◌++◌, length, Option, Some, None, refl, sym, ap, ◌∙◌, subst, arith}
+use Rattle.std.proofs.Common.{◌≡◌, ℕ, ◌-◌, ◌<◌, ◌≤◌, List, [], ◌∷◌, ◌++◌, length, Option, Some, refl, sym, ap, ◌∙◌, arith}
 use Rattle.std.specs.Prelude.{slice_get}
 use Rattle.std.specs.List.{insert, remove}
-use Rattle.std.specs.Option.{IsSomeAnd, option_and_then, option_map_or}
+use Rattle.std.specs.Option.{option_and_then, option_map_or}
 use Rattle.mqb_base.specs.Rooms.{WithRooms}
 use Rattle.mqb_base.specs.declared.ids.Identity.{Identity}
 use Rattle.mqb_base.specs.declared.ids.SequenceId.{SequenceId}
@@ -18,7 +18,6 @@ use Rattle.mqb_plain.specs.Plain.{PlainLists, PlainRooms, no_plain, outgoing_in}
 use Rattle.mqb_plain.specs.declared.outgoing.Outgoing.{Outgoing}
 use Rattle.mqb_queue.specs.Lists.{Lists, inserted, messages_in, without}
 use Rattle.mqb_queue.specs.Places.{Places, Queue, QueueRooms, lists_at, new_queue, no_queue_room}
-use Rattle.mqb_model.specs.rules.Takes.{message_at}
 use Rattle.mqb_model.specs.state.State.{State}
 use Rattle.mqb_contents.specs.Changes.{Can, HasRoom, changed, held, held_back, inverse, lists_after, rooms_after}
 use Rattle.mqb_contents.specs.Ends.{last_else, last_of, without_last}
@@ -27,7 +26,7 @@ use Rattle.mqb_contents.specs.Rows.{CanKeep, CanWait, IsBegun, KeepsCommitted, b
 use Rattle.mqb_contents.specs.declared.change.Change.{Change}
 use Rattle.mqb_contents.specs.declared.change.Change.TheVariants as change
 use Rattle.mqb_contents.specs.declared.marks.RowMarks.{RowMarks}
-use Rattle.mqb_contents.proofs.Members.{at_some, changed_back, insert-remove, last_pushed, pushed_without_last, remove-insert, there, without_last_else, without_last_pushed}
+use Rattle.mqb_contents.proofs.Members.{at_some, changed_back, insert-remove, pushed_without_last, remove-insert, there, without_last_else, without_last_pushed}
 use Rattle.mqb_contents.proofs.Places.{place_back}
 
 abbrev Whole : Type 0

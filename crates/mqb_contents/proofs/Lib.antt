@@ -4,8 +4,8 @@ pub mod Laws
 pub mod Grown
 pub mod Ready
 pub mod Lens
-pub mod Lasts
 pub mod Waiting
 pub mod Named
 pub mod Reserved
-pub mod Numbering
+pub mod Sources
+pub mod InUse

@@ -1,9 +1,9 @@
 -- One member of a list is changed, also as the members are seen.
-use Rattle.std.proofs.Common.{◌≡◌, ◌≢◌, ℕ, zero, suc, ◌+◌, ◌-◌, ◌<◌, ◌≤◌, List, [], ◌∷◌, ◌++◌, length, get_or, set, map, take, drop, Option, Some, None, refl, sym, ap, ◌∙◌, subst, arith}
+use Rattle.std.proofs.Common.{◌≡◌, ◌≢◌, ℕ, zero, suc, ◌+◌, ◌-◌, ◌<◌, ◌≤◌, List, [], ◌∷◌, ◌++◌, length, set, map, take, drop, Option, Some, None, refl, sym, ap, ◌∙◌, subst, arith}
 use Rattle.std.specs.Prelude.{slice_get}
 use Rattle.std.specs.List.{All, insert, remove}
 use Rattle.std.specs.Option.{IsSomeAnd, option_map, option_map_or}
-use Rattle.std.proofs.lemmas.List.{get_or_push, length-take-le, length_push, map-append, map-set, set-set, take-map, take_all, take_at, take_more, length-map}
+use Rattle.std.proofs.lemmas.List.{get_or_push, length-take-le, length_push, map-set, set-set, take-map, take_all, take_at, take_more, length-map}
 use Rattle.std.proofs.lemmas.List.Edits.{length-remove}
 use Rattle.std.proofs.lemmas.List.Elements.{All-append, All-cons, All-drop, All-get_or, All-take}
 use Rattle.std.proofs.lemmas.Option.{get_or_from_slice_get, none-some, same_Some, slice_get-get_or, slice_get-map, slice_get_within}

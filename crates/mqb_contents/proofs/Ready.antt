@@ -1,5 +1,5 @@
 -- Changes that can be made, and need no memory.
-use Rattle.std.proofs.Common.{◌≡◌, ℕ, ◌+◌, ◌<◌, ◌≤◌, List, [], ◌∷◌, length, refl, sym, ap, ◌∙◌, subst, arith}
+use Rattle.std.proofs.Common.{◌≡◌, ◌+◌, List, [], ◌∷◌, refl, sym, ap, ◌∙◌, subst, arith}
 use Rattle.mqb_base.specs.Rooms.{WithRooms}
 use Rattle.mqb_base.specs.declared.message.Lane.TheVariants as lane
 use Rattle.mqb_model.specs.state.State.{State}
@@ -29,10 +29,10 @@ has_room_grown s (change.RemovePlain peer kind k) g h = tt
 has_room_grown s (change.InsertKept row k x) g h = let more = g.outs.rooms row in omega (arith, more, h)
 has_room_grown s (change.RemoveKept row k) g h = tt
 has_room_grown s (change.Mark row marks) g h = tt
-has_room_grown s (change.AddRow r) g h = omega (arith, g.outs.more, h)
+has_room_grown s (change.AddRow r) g h = (omega (arith, g.outs.more, h.0), g.in_use (record { peer = r.peer; destination = r.destination }) h.1)
 has_room_grown s change.DropRow g h = omega (arith, g.outs.count, h)
 has_room_grown s (change.Decide k sequence last) g h = tt
-has_room_grown s (change.AddIn r) g h = omega (arith, g.ins, h)
+has_room_grown s (change.AddIn r) g h = (omega (arith, g.ins, h.0), g.sources (record { source = r.source; destination = r.destination }) h.1)
 has_room_grown s change.DropIn g h = tt
 has_room_grown s (change.AddPeer p) g h = (omega (arith, g.peers, h.0), omega (arith, (g.plain lane.Durable).more, h.1))
 has_room_grown s change.DropPeer g h = omega (arith, (g.plain lane.Durable).count, h)

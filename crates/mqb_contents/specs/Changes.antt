@@ -12,6 +12,7 @@ use Rattle.mqb_model.specs.rules.Purges.{count_at}
 use Rattle.mqb_model.specs.rules.Takes.{message_at}
 use Rattle.mqb_model.specs.state.Places.{with_place, with_plain, without_at}
 use Rattle.mqb_model.specs.state.State.{State}
+use Rattle.mqb_tables.specs.Keys.{HasKey, in_key, out_key, same_in_key, same_out_key}
 use Rattle.mqb_contents.specs.Ends.{last_else, last_of, without_last}
 use Rattle.mqb_contents.specs.Rooms.{StateRooms, kept_room, place_room, plain_room}
 use Rattle.mqb_contents.specs.Rows.{CanKeep, CanWait, IsBegun, KeepsCommitted, begun_row, deciding, keeping, kept_count, marks_of, plain_count, with_in, with_marks, with_out}
@@ -114,9 +115,9 @@ abbrev pub HasRoom : WithRooms State StateRooms → Change → Type 0
 HasRoom w (change.Insert at kind k m) = count_at kind w.lists at < place_room w.rooms.places at kind
 HasRoom w (change.InsertPlain peer kind k o) = plain_count w.lists.plain peer kind < plain_room w.rooms.plain peer kind
 HasRoom w (change.InsertKept row k kept) = kept_count w.lists.outs row < kept_room w.rooms.outs row
-HasRoom w (change.AddRow r) = length w.lists.outs < w.rooms.outs.more
+HasRoom w (change.AddRow r) = (length w.lists.outs < w.rooms.outs.more) × HasKey same_out_key w.rooms.in_use (out_key r.peer r.destination)
 HasRoom w change.DropRow = 0 < length w.rooms.outs.each
-HasRoom w (change.AddIn row) = length w.lists.ins < w.rooms.ins
+HasRoom w (change.AddIn row) = (length w.lists.ins < w.rooms.ins) × HasKey same_in_key w.rooms.sources (in_key row.source row.destination)
 HasRoom w (change.AddPeer p) = (length w.lists.peers < w.rooms.peers) × (length w.lists.plain < w.rooms.plain.more)
 HasRoom w change.DropPeer = 0 < length w.rooms.plain.each
 HasRoom w (change.AddQueue q) = length w.lists.places.queues < w.rooms.places.more_queues

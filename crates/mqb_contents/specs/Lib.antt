@@ -3,4 +3,3 @@ pub mod Rooms
 pub mod Rows
 pub mod Seen
 pub mod Changes
-pub mod Tables

@@ -3,29 +3,44 @@ use Rattle.std.specs.Option.{option_map_or}
 use Rattle.std.specs.Prelude.{[], ◌≡◌, ◌≤◌, List, length, slice_get, ℕ}
 use Rattle.mqb_base.specs.declared.message.Lane.{Lane}
 use Rattle.mqb_base.specs.declared.queues.EntryPlace.{EntryPlace}
+use Rattle.mqb_orders.specs.declared.keys.InKey.{InKey}
+use Rattle.mqb_orders.specs.declared.keys.OutKey.{OutKey}
 use Rattle.mqb_plain.specs.Plain.{PlainRooms}
 use Rattle.mqb_plain.specs.Plain as plain
 use Rattle.mqb_queue.specs.Lists as lists
 use Rattle.mqb_queue.specs.Places.{PlaceRooms, no_rooms, rooms_at}
+use Rattle.mqb_tables.specs.Keys.{AreKeysKept, same_in_key, same_out_key}
 
 -- the rooms of the members of a list, and how many members it can have
 pub record MemberRooms (R : Type 0) : Type 0 where
   pub each : List R
   pub more : ℕ
 
--- of the places, of the list of peers, of the plain messages that wait for each of them, and of the rows
+-- of the places, of the list of peers, of the plain messages that wait for each of them, and of the rows; and the keys of the tables of rows
 pub record StateRooms : Type 0 where
   pub places : PlaceRooms
   pub peers : ℕ
   pub plain : MemberRooms PlainRooms
   pub outs : MemberRooms ℕ
+  pub in_use : List OutKey
   pub ins : ℕ
+  pub sources : List InKey
 
 abbrev pub no_members : {R : Type 0} → MemberRooms R
 no_members = record { each = []; more = 0 }
 
 abbrev pub no_room : StateRooms
-no_room = record { places = no_rooms; peers = 0; plain = no_members; outs = no_members; ins = 0 }
+no_room = record { places = no_rooms; peers = 0; plain = no_members; outs = no_members; in_use = []; ins = 0; sources = [] }
+
+-- how many incoming rows there can be, and the keys of their table: a row that has one of them takes no memory
+pub record InRooms : Type 0 where
+  pub more : ℕ
+  pub keys : List InKey
+
+-- the rooms of outgoing rows, and the keys of their table
+pub record OutRooms : Type 0 where
+  pub members : MemberRooms ℕ
+  pub keys : List OutKey
 
 -- how much room the member at an index has
 abbrev pub member_room : {R : Type 0} → (R → ℕ) → MemberRooms R → ℕ → ℕ
@@ -43,7 +58,7 @@ plain_room r peer kind = member_room (plain.room_in kind) r peer
 abbrev pub kept_room : MemberRooms ℕ → ℕ → ℕ
 kept_room r row = member_room (λ n. n) r row
 
--- Each list can have as many members as before, or more.
+-- Each list can have as many members as before, or more, and each key of a table stays.
 pub record ArePlacesGrown (old new : PlaceRooms) : Type 0 where
   pub rooms : (at : EntryPlace) (kind : Lane) → place_room old at kind ≤ place_room new at kind
   pub count : length new.queues ≡ length old.queues
@@ -59,4 +74,6 @@ pub record IsGrown (old new : StateRooms) : Type 0 where
   pub peers : old.peers ≤ new.peers
   pub plain : (kind : Lane) → AreMembersGrown (plain.room_in kind) old.plain new.plain
   pub outs : AreMembersGrown (λ n. n) old.outs new.outs
+  pub in_use : AreKeysKept same_out_key old.in_use new.in_use
   pub ins : old.ins ≤ new.ins
+  pub sources : AreKeysKept same_in_key old.sources new.sources

@@ -2,15 +2,15 @@
 use Rattle.std.specs.Prelude.{◌≡◌, ◌≤◌, List, length, map, ℕ}
 use Rattle.mqb_base.specs.Rooms.{Room, WithRooms}
 use Rattle.mqb_base.specs.declared.ids.Identity.{Identity}
-use Rattle.mqb_base.specs.declared.roomed.TheConstants.{MAX_MEMBERS}
 use Rattle.mqb_orders.specs.Rows.{Row}
+use Rattle.mqb_orders.specs.declared.keys.OutKey.{OutKey}
 use Rattle.mqb_orders.specs.declared.rows.InRow.{InRow}
 use Rattle.mqb_orders.specs.declared.rows.OutRow.{OutRow}
 use Rattle.mqb_plain.specs.Plain.{PlainLists, PlainRooms}
 use Rattle.mqb_queue.specs.Places.{PlaceRooms, Places}
 use Rattle.mqb_model.specs.declared.limits.TheConstants.{MAX_PEERS, MAX_QUEUES}
 use Rattle.mqb_model.specs.state.State.{State}
-use Rattle.mqb_contents.specs.Rooms.{MemberRooms, StateRooms}
+use Rattle.mqb_contents.specs.Rooms.{InRooms, MemberRooms, OutRooms, StateRooms}
 use Rattle.mqb_contents.specs.declared.counters.Counters.{Counters}
 
 -- members and their rooms, each as it is seen
@@ -19,6 +19,10 @@ seen_members see room members = record {
   lists = map see members.items;
   rooms = record { each = map room members.items; more = members.room };
 }
+
+-- outgoing rows and their rooms, with the keys of their table
+abbrev pub with_keys : List OutKey → WithRooms (List Row) (MemberRooms ℕ) → WithRooms (List Row) OutRooms
+with_keys keys rows = record { lists = rows.lists; rooms = record { members = rows.rooms; keys = keys } }
 
 -- the plain messages for a peer, and their rooms
 abbrev pub lists_of : WithRooms PlainLists PlainRooms → PlainLists
@@ -40,8 +44,8 @@ counters_of s = record {
 }
 
 -- all lists, and their rooms
-abbrev pub seen : Identity → Room Identity → WithRooms (List PlainLists) (MemberRooms PlainRooms) → WithRooms Places PlaceRooms → WithRooms (List Row) (MemberRooms ℕ)
-    → Room InRow → Counters → WithRooms State StateRooms
+abbrev pub seen : Identity → Room Identity → WithRooms (List PlainLists) (MemberRooms PlainRooms) → WithRooms Places PlaceRooms → WithRooms (List Row) OutRooms
+    → WithRooms (List InRow) InRooms → Counters → WithRooms State StateRooms
 seen identity peers plain queues outs ins counters = record {
   lists = record {
     identity = identity;
@@ -49,7 +53,7 @@ seen identity peers plain queues outs ins counters = record {
     plain = plain.lists;
     places = queues.lists;
     outs = outs.lists;
-    ins = ins.items;
+    ins = ins.lists;
     next_number = counters.next_number;
     next_ordinal = counters.next_ordinal;
     roll = counters.roll;
@@ -59,14 +63,15 @@ seen identity peers plain queues outs ins counters = record {
     places = queues.rooms;
     peers = peers.room;
     plain = plain.rooms;
-    outs = outs.rooms;
-    ins = ins.room;
+    outs = outs.rooms.members;
+    in_use = outs.rooms.keys;
+    ins = ins.rooms.more;
+    sources = ins.rooms.keys;
   };
 }
 
--- Peers, queues and rows are within their limits, and each peer has its plain messages.
-pub record IsInLimits (peers : List Identity) (plain : List PlainLists) (places : Places) (ins : Room InRow) : Type 0 where
+-- Peers and queues are within their limits, and each peer has its plain messages.
+pub record IsInLimits (peers : List Identity) (plain : List PlainLists) (places : Places) : Type 0 where
   pub few_peers : length peers ≤ MAX_PEERS
   pub few_queues : length places.queues ≤ MAX_QUEUES
   pub plain_lists : length plain ≡ length peers
-  pub in_room : ins.room ≤ MAX_MEMBERS

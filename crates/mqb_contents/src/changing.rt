@@ -2,7 +2,6 @@
 ghost use Rattle.std.specs.Prelude.{◌≡◌};
 ghost use Rattle.mqb_contents.specs.Changes.{Can, HasRoom, IsMade, changed, inverse};
 ghost use Rattle.mqb_contents.specs.declared.change.Change.TheVariants as change;
-ghost use Rattle.mqb_contents.specs.Rows.{deciding};
 
 use crate::change::Change;
 use crate::contents::Contents;
@@ -14,17 +13,6 @@ use mqb_base::{EntryPlace, Lane, Message, SequenceId};
 use mqb_orders::{InRow, Kept};
 use mqb_plain::Outgoing;
 use mqb_queue::NewQueue;
-
-/// An incoming row gets another sequence and another last number. The answer is those that it had.
-fn decide(row: &mut InRow, sequence: SequenceId, last: u32) -> (SequenceId, u32)
-    ensures row { row.new ≡ deciding sequence last row.old }
-    ensures before { result ≡ (row.old.sequence, row.old.last) }
-{
-    let before = (row.sequence, row.last);
-    row.sequence = sequence;
-    row.last = last;
-    before
-}
 
 impl Contents {
     /// Makes a change, and answers the change back. It takes no memory.
@@ -166,7 +154,7 @@ impl Contents {
         requires can { Can self.old.lists (change.Decide index sequence last) }
         ensures { IsMade self.old (change.Decide index sequence last) self.new result }
     {
-        let before = decide(self.ins.get_mut(index as usize), sequence, last);
+        let before = self.ins.decide(index, sequence, last);
         Change::Decide {
             index,
             sequence: before.0,

@@ -3,18 +3,19 @@ ghost use Rattle.mqb_base.specs.declared.roomed.TheConstants.{MAX_MEMBERS};
 ghost use Rattle.mqb_contents.specs.Rooms.{no_room};
 ghost use Rattle.mqb_contents.specs.Rows.{KeepsCommitted};
 ghost use Rattle.mqb_contents.specs.Seen.{counters_of};
-ghost use Rattle.mqb_contents.specs.Tables.{LeadsTo};
+ghost use Rattle.mqb_tables.specs.Tables.{LeadsTo, LeadsToLast, LeadsToSource};
 ghost use Rattle.mqb_model.specs.declared.limits.TheConstants.{MAX_PEERS, MAX_QUEUES};
 ghost use Rattle.mqb_model.specs.state.State.{empty};
 ghost use Rattle.mqb_orders.specs.Rows.{row_of};
 
 use crate::counters::Counters;
+use crate::in_rows::InRows;
 use crate::out_rows::OutRows;
 use crate::plain_outs::PlainOuts;
 use indexmap::IndexMap;
 use mqb_base::{Identity, Roomed};
 use mqb_model::{FIRST_EXPRESS, MAX_ROLL};
-use mqb_orders::{InRow, OutRow};
+use mqb_orders::{InKey, InRow, OutKey, OutRow};
 use mqb_plain::PlainOut;
 use mqb_queue::Queues;
 use std::alloc::Global;
@@ -28,7 +29,7 @@ pub struct Contents {
     pub(crate) plain: PlainOuts,
     pub(crate) queues: Queues,
     pub(crate) outs: OutRows,
-    pub(crate) ins: Roomed<InRow>,
+    pub(crate) ins: InRows,
     pub(crate) counters: Counters,
 }
 
@@ -43,7 +44,7 @@ impl Model for Contents {
 
     ghost view = { λ c. seen c.identity c.peers c.plain c.queues c.outs c.ins c.counters };
 
-    ghost invariant = { λ c. IsInLimits c.peers.items c.plain.lists c.queues.lists c.ins };
+    ghost invariant = { λ c. IsInLimits c.peers.items c.plain.lists c.queues.lists };
 }
 
 impl Contents {
@@ -57,7 +58,7 @@ impl Contents {
             plain: PlainOuts::new(alloc),
             queues: Queues::new(alloc),
             outs: OutRows::new(alloc),
-            ins: Roomed::new(alloc),
+            ins: InRows::new(alloc),
             counters: Counters {
                 next_number: 1,
                 next_ordinal: 1,
@@ -113,6 +114,13 @@ impl Contents {
         self.outs.ordinals()
     }
 
+    /// The peers and destinations of the outgoing rows, each with the ordinal of the last row that has them.
+    pub fn in_use(&self) -> &IndexMap<OutKey, u32>
+        ensures { LeadsToLast self.now.lists.outs result.now }
+    {
+        self.outs.in_use()
+    }
+
     /// The outgoing row at an index.
     pub fn out(&self, row: u32) -> &OutRow
         requires { row < length self.now.lists.outs }
@@ -128,6 +136,13 @@ impl Contents {
         ensures within { length self.now.lists.ins ≤ MAX_MEMBERS }
     {
         self.ins.as_slice()
+    }
+
+    /// The sources and destinations of the incoming rows, each with the index of the first row that has them.
+    pub fn sources(&self) -> &IndexMap<InKey, u32>
+        ensures { LeadsToSource self.now.lists.ins result.now }
+    {
+        self.ins.sources()
     }
 
     pub fn counters(&self) -> Counters

@@ -8,12 +8,12 @@ mod change;
 mod changing;
 mod contents;
 mod counters;
+mod in_rows;
 mod lookups;
 mod making_room;
 mod marks;
 mod new_peer;
 mod new_row;
-mod ordinals;
 mod out_rows;
 mod plain_outs;
 

@@ -1,45 +1,15 @@
-ghost use Rattle.std.specs.Prelude.{◌≡◌, ◌+◌, ◌<◌, ◌^◌, IfSome, IsSomeAnd, None, filter, length, map, option_and_then, position, slice_get};
-ghost use Rattle.std.specs.List.{last_or};
+ghost use Rattle.std.specs.Prelude.{◌≡◌, ◌+◌, ◌<◌, ◌^◌, IfSome, IsSomeAnd, length, option_and_then, position, slice_get};
 ghost use Rattle.mqb_base.specs.Same.{same_guid};
 ghost use Rattle.mqb_contents.specs.Rows.{plain_count, unless_full};
 ghost use Rattle.mqb_model.specs.rules.Purges.{count_at};
 ghost use Rattle.mqb_model.specs.rules.Sequences.{sequence_in_use};
 ghost use Rattle.mqb_model.specs.state.Resolving.{peer_known};
 ghost use Rattle.mqb_model.specs.state.Rows.{has_ordinal, is_row_of, last_sequence};
-ghost use Rattle.mqb_orders.specs.Rows.{leads_to, row_of};
 ghost use Rattle.mqb_plain.specs.Lists.{InOrder};
 ghost use Rattle.mqb_plain.specs.Plain.{outgoing_in};
 
 use crate::contents::Contents;
 use mqb_base::{EntryPlace, Guid, Identity, Lane, QueueName};
-use mqb_orders::{InRow, OutRow};
-
-fn leads_to(row: &OutRow, peer: u32, destination: &QueueName) -> bool
-    ensures { result ≡ leads_to peer destination.now (row_of row.now) }
-{
-    row.peer == peer && row.destination == *destination
-}
-
-fn index_of_last(rows: &[OutRow], peer: u32, destination: &QueueName) -> Option<usize>
-    ensures row { option_and_then (slice_get (map row_of rows.now)) result ≡
-        last_or None (filter (leads_to peer destination.now) (map row_of rows.now)) }
-    ensures within { IfSome result (λ k. k < length rows.now) }
-{
-    let mut last = None;
-    for (k, row) in rows.iter().enumerate() {
-        if leads_to(row, peer, destination) {
-            last = Some(k);
-        }
-    }
-    last
-}
-
-fn index_of_source(rows: &[InRow], source: Guid, destination: &QueueName) -> Option<usize>
-    ensures index { result ≡ position (is_row_of source destination.now) rows.now }
-    ensures within { IfSome result (λ k. k < length rows.now) }
-{
-    rows.iter().position(|row| row.source == source && row.destination == *destination)
-}
 
 fn index_of_guid(peers: &[Identity], guid: Guid) -> Option<usize>
     ensures index { result ≡ position (λ p. same_guid p.guid guid) peers.now }
@@ -63,8 +33,7 @@ impl Contents {
             last_sequence self.now.lists peer destination.now }
         ensures within { IfSome result (λ k. k < length self.now.lists.outs) }
     {
-        let k = index_of_last(self.outs(), peer, destination)?;
-        Some(k as u32)
+        self.outs.last_to(peer, destination)
     }
 
     /// The index of the outgoing row that the next message to a destination at a peer joins. Where there is none, it begins a new one.
@@ -101,8 +70,7 @@ impl Contents {
         ensures index { result ≡ position (is_row_of source destination.now) self.now.lists.ins }
         ensures within { IfSome result (λ k. k < length self.now.lists.ins) }
     {
-        let k = index_of_source(self.ins(), source, destination)?;
-        Some(k as u32)
+        self.ins.find(source, destination)
     }
 
     /// The index of the peer that has a GUID.

@@ -8,7 +8,7 @@ ghost use Rattle.mqb_queue.specs.Places.{lists_at};
 
 use crate::change::Change;
 use crate::contents::Contents;
-use mqb_base::{EntryPlace, Lane, MAX_MEMBERS, Memory};
+use mqb_base::{EntryPlace, Lane, Memory};
 
 impl Contents {
     /// Makes room for a change. Room that there is stays, also on a refusal.
@@ -22,8 +22,8 @@ impl Contents {
             Change::Insert { at, lane, .. } => self.make_room_at(*at, *lane),
             Change::InsertPlain { peer, lane, .. } => self.plain.make_room_in(*peer, *lane),
             Change::InsertKept { row, .. } => self.outs.make_room_in(*row),
-            Change::AddRow(_) => self.outs.make_room(),
-            Change::AddIn(_) => self.make_room_for_in(),
+            Change::AddRow(row) => self.outs.make_room(row.peer(), row.destination()),
+            Change::AddIn(row) => self.ins.make_room(row.source, &row.destination),
             Change::AddPeer(_) => self.make_room_for_peer(),
             Change::AddQueue(queue) => self.queues.reserve_queue(&queue.plan().name),
             Change::DropRow | Change::DropPeer | Change::DropQueue => {
@@ -64,17 +64,6 @@ impl Contents {
             Lane::Durable => self.queues.reserve_at(at, 1, 0),
             Lane::Express => self.queues.reserve_at(at, 0, 1),
         }
-    }
-
-    fn make_room_for_in(&mut self) -> Result<(), Memory>
-        ensures lists { self.new.lists ≡ self.old.lists }
-        ensures grown { IsGrown self.old.rooms self.new.rooms }
-        ensures ok { OnOk result (length self.new.lists.ins < self.new.rooms.ins) }
-    {
-        if self.ins.len() >= MAX_MEMBERS {
-            return Err(Memory);
-        }
-        self.ins.make_room(1)
     }
 
     fn make_room_for_peer(&mut self) -> Result<(), Memory>

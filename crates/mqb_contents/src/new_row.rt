@@ -55,6 +55,18 @@ impl NewRow {
         }
     }
 
+    pub(crate) fn peer(&self) -> u32
+        ensures { result ≡ self.now.peer }
+    {
+        self.row.peer
+    }
+
+    pub(crate) fn destination(&self) -> &QueueName
+        ensures { result.now ≡ self.now.destination }
+    {
+        &self.row.destination
+    }
+
     pub(crate) fn from_row(row: OutRow) -> NewRow
         requires { IsBegun (row_of row) }
         ensures { result ≡ record {

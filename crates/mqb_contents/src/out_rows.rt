@@ -1,46 +1,53 @@
-ghost use Rattle.std.specs.Prelude.{◌≡◌, ◌<◌, ◌≤◌, [], ◌∷◌, ◌++◌, All, IsSomeAnd, OnOk, Some, insert, length, map, remove, slice_get};
+ghost use Rattle.std.specs.Prelude.{◌≡◌, ◌<◌, ◌≤◌, [], ◌∷◌, ◌++◌, All, IsSomeAnd, IfSome, None, OnOk, Some, filter, insert, length, map, option_and_then, remove, slice_get};
 ghost use Rattle.mqb_base.specs.declared.roomed.TheConstants.{MAX_MEMBERS};
 ghost use Rattle.mqb_contents.specs.Ends.{last_of, without_last};
 ghost use Rattle.mqb_contents.specs.Rooms.{AreMembersGrown, kept_room, no_members};
 ghost use Rattle.mqb_contents.specs.Seen.{room_of};
 ghost use Rattle.mqb_contents.specs.Rows.{CanKeep, IsBegun, KeepsCommitted, begun_row, keeping, kept_count, marks_of, with_marks};
-ghost use Rattle.mqb_contents.specs.Tables.{LeadsTo};
+ghost use Rattle.mqb_tables.specs.Tables.{LeadsTo, LeadsToLast};
 ghost use Rattle.mqb_model.specs.Lists.{with_changed};
 ghost use Rattle.mqb_orders.specs.KeptLists.{Rises};
-ghost use Rattle.mqb_orders.specs.Rows.{row_of};
+ghost use Rattle.mqb_orders.specs.Rows.{leads_to, row_of};
+ghost use Rattle.std.specs.List.{last_or};
+ghost use Rattle.mqb_tables.specs.Keys.{AreKeysKept, HasKey, out_key, same_out_key};
 
 use crate::marks::RowMarks;
 use crate::new_row::NewRow;
-use crate::ordinals::{enter, enter_all, make_room};
 use indexmap::IndexMap;
-use mqb_base::{MAX_MEMBERS, Memory, Roomed};
-use mqb_orders::{Kept, OutRow};
+use mqb_base::{MAX_MEMBERS, Memory, QueueName, Roomed};
+use mqb_orders::{Kept, OutKey, OutRow};
+use mqb_tables::in_use;
+use mqb_tables::last_rows::{index_of_last, lead_to_last, leads_there};
+use mqb_tables::ordinals::{enter, enter_all, make_room};
 use std::alloc::Global;
 use std::marker::Model;
 
-/// The outgoing rows of a manager. Contracts see them, and beside them how many messages each can keep without memory, and how many rows there
-/// can be.
+/// The outgoing rows of a manager. Contracts see them, and beside them how many messages each can keep without memory, how many rows there can
+/// be, and the peers and destinations that the table has.
 #[derive(Debug, Drop)]
 pub(crate) struct OutRows {
     rows: Roomed<OutRow>,
     ordinals: IndexMap<u32, u32>,
+    in_use: IndexMap<OutKey, u32>,
 }
 
 impl Model for OutRows {
-    ghost use Rattle.std.specs.Prelude.{◌≤◌, All, List, map, ℕ};
+    ghost use Rattle.std.specs.Prelude.{◌≤◌, All, List, map};
     ghost use Rattle.mqb_base.specs.Rooms.{WithRooms};
     ghost use Rattle.mqb_base.specs.declared.roomed.TheConstants.{MAX_MEMBERS};
-    ghost use Rattle.mqb_contents.specs.Rooms.{MemberRooms};
-    ghost use Rattle.mqb_contents.specs.Tables.{AreNumbered};
+    ghost use Rattle.indexmap.specs.IndexMap.{keys};
+    ghost use Rattle.mqb_contents.specs.Rooms.{OutRooms};
+    ghost use Rattle.mqb_tables.specs.Tables.{AreNumbered, LeadsToLast};
     ghost use Rattle.mqb_contents.specs.Rows.{KeepsCommitted};
-    ghost use Rattle.mqb_contents.specs.Seen.{room_of, seen_members};
+    ghost use Rattle.mqb_contents.specs.Seen.{room_of, seen_members, with_keys};
     ghost use Rattle.mqb_orders.specs.Rows.{Row, row_of};
 
-    ghost Value = { WithRooms (List Row) (MemberRooms ℕ) };
+    ghost Value = { WithRooms (List Row) OutRooms };
 
-    ghost view = { λ o. seen_members row_of room_of o.rows };
+    ghost view = { λ o. with_keys (keys o.in_use) (seen_members row_of room_of o.rows) };
 
-    ghost invariant = { λ o. (o.rows.room ≤ MAX_MEMBERS) × All (λ r. KeepsCommitted (row_of r)) o.rows.items × AreNumbered (map row_of o.rows.items) o.rows.room o.ordinals };
+    ghost invariant = { λ o. (o.rows.room ≤ MAX_MEMBERS) × All (λ r. KeepsCommitted (row_of r)) o.rows.items × AreNumbered (map row_of o.rows.items) o.rows.room o.ordinals
+        × LeadsToLast (map row_of o.rows.items) o.in_use };
 }
 
 /// A row keeps a message before the one at an index, or at the end, where there is room.
@@ -93,17 +100,21 @@ fn mark(row: &mut OutRow, marks: RowMarks) -> RowMarks
 
 impl OutRows {
     pub(crate) fn new(alloc: Global) -> OutRows
-        ensures { result ≡ record { lists = []; rooms = no_members } }
+        ensures { result ≡ record {
+          lists = [];
+          rooms = record { members = no_members; keys = [] };
+        } }
     {
         OutRows {
             rows: Roomed::new(alloc),
             ordinals: IndexMap::new(alloc),
+            in_use: IndexMap::new(alloc),
         }
     }
 
     pub(crate) fn count(&self) -> usize
         ensures count { result ≡ length self.now.lists }
-        ensures rooms { length self.now.rooms.each ≡ length self.now.lists }
+        ensures rooms { length self.now.rooms.members.each ≡ length self.now.lists }
     {
         self.rows.len()
     }
@@ -123,6 +134,13 @@ impl OutRows {
         &self.ordinals
     }
 
+    /// The peers and destinations of the rows, each with the ordinal of the last row that has them.
+    pub(crate) fn in_use(&self) -> &IndexMap<OutKey, u32>
+        ensures { LeadsToLast self.now.lists result.now }
+    {
+        &self.in_use
+    }
+
     pub(crate) fn get(&self, row: u32) -> &OutRow
         requires { row < length self.now.lists }
         ensures row { slice_get self.now.lists row ≡ Some (row_of result.now) }
@@ -131,10 +149,28 @@ impl OutRows {
         &self.rows.as_slice()[row as usize]
     }
 
+    /// The place of the last row that leads to a destination at a peer. Where each row has an ordinal of its own, the tables tell.
+    pub(crate) fn last_to(&self, peer: u32, destination: &QueueName) -> Option<u32>
+        ensures row { option_and_then (slice_get self.now.lists) result ≡
+            last_or None (filter (leads_to peer destination.now) self.now.lists) }
+        ensures within { IfSome result (λ k. k < length self.now.lists) }
+    {
+        if self.ordinals.len() < self.rows.len() {
+            return index_of_last(self.rows.as_slice(), peer, destination).map(|k| k as u32);
+        }
+        let ordinal = in_use::number_of(&self.in_use, peer, destination)?;
+        let row = *self.ordinals.get(&ordinal)?;
+        if leads_there(self.rows.as_slice(), row, peer, destination) {
+            Some(row)
+        } else {
+            None
+        }
+    }
+
     /// A row keeps a message before the one at an index, or at the end, where there is room.
     pub(crate) fn insert_kept(&mut self, row: u32, index: u32, kept: Kept)
         requires can { IsSomeAnd (slice_get self.old.lists row) (CanKeep index kept) }
-        requires room { kept_count self.old.lists row < kept_room self.old.rooms row }
+        requires room { kept_count self.old.lists row < kept_room self.old.rooms.members row }
         ensures rows { self.new ≡ record self.old {
           lists = with_changed (λ r. keeping (insert r.kept index kept) r) self.old.lists row;
         } }
@@ -151,7 +187,7 @@ impl OutRows {
           lists = with_changed (λ r. keeping (remove r.kept index) r) self.old.lists row;
         } }
         ensures back { IsSomeAnd (slice_get self.new.lists row) (CanKeep index result) }
-        ensures room { kept_count self.new.lists row < kept_room self.new.rooms row }
+        ensures room { kept_count self.new.lists row < kept_room self.new.rooms.members row }
     {
         remove_kept(self.rows.get_mut(row as usize), index)
     }
@@ -172,14 +208,22 @@ impl OutRows {
 
     /// A row joins the others at the end, where there is room.
     pub(crate) fn push(&mut self, row: NewRow)
-        requires { length self.old.lists < self.old.rooms.more }
+        requires room { length self.old.lists < self.old.rooms.members.more }
+        requires key { HasKey same_out_key self.old.rooms.keys (out_key row.peer row.destination) }
         ensures rows { self.new.lists ≡
             self.old.lists ++ begun_row row.peer row.destination row.sequence ∷ [] }
-        ensures rooms { self.new.rooms ≡ record self.old.rooms {
-          each = self.old.rooms.each ++ row.room ∷ [];
+        ensures rooms { self.new.rooms.members ≡ record self.old.rooms.members {
+          each = self.old.rooms.members.each ++ row.room ∷ [];
         } }
+        ensures keys { self.new.rooms.keys ≡ self.old.rooms.keys }
     {
         let row = row.into_row();
+        in_use::lead(
+            &mut self.in_use,
+            row.peer,
+            &row.destination,
+            row.sequence.ordinal,
+        );
         enter(
             &mut self.ordinals,
             row.sequence.ordinal,
@@ -193,15 +237,24 @@ impl OutRows {
         requires { IsSomeAnd (last_of self.old.lists) IsBegun }
         ensures row { last_of self.old.lists ≡
             Some (begun_row result.peer result.destination result.sequence) }
-        ensures row_room { last_of self.old.rooms.each ≡ Some result.room }
+        ensures row_room { last_of self.old.rooms.members.each ≡ Some result.room }
         ensures rows { self.new.lists ≡ without_last self.old.lists }
-        ensures rooms { self.new.rooms ≡ record self.old.rooms {
-          each = without_last self.old.rooms.each;
+        ensures rooms { self.new.rooms.members ≡ record self.old.rooms.members {
+          each = without_last self.old.rooms.members.each;
         } }
-        ensures room { length self.new.lists < self.new.rooms.more }
+        ensures keys { self.new.rooms.keys ≡ self.old.rooms.keys }
+        ensures key { HasKey same_out_key self.new.rooms.keys
+            (out_key result.peer result.destination) }
+        ensures room { length self.new.lists < self.new.rooms.members.more }
     {
         let row = self.rows.pop();
         enter_all(&mut self.ordinals, self.rows.as_slice());
+        lead_to_last(
+            &mut self.in_use,
+            self.rows.as_slice(),
+            row.peer,
+            &row.destination,
+        );
         NewRow::from_row(row)
     }
 
@@ -209,21 +262,27 @@ impl OutRows {
     pub(crate) fn make_room_in(&mut self, row: u32) -> Result<(), Memory>
         requires { row < length self.old.lists }
         ensures rows { self.new.lists ≡ self.old.lists }
-        ensures grown { AreMembersGrown (λ n. n) self.old.rooms self.new.rooms }
-        ensures ok { OnOk result (kept_count self.new.lists row < kept_room self.new.rooms row) }
+        ensures grown { AreMembersGrown (λ n. n) self.old.rooms.members self.new.rooms.members }
+        ensures keys { self.new.rooms.keys ≡ self.old.rooms.keys }
+        ensures ok { OnOk result
+            (kept_count self.new.lists row < kept_room self.new.rooms.members row) }
     {
         make_room_in(self.rows.get_mut(row as usize))
     }
 
-    /// Makes room for one more row.
-    pub(crate) fn make_room(&mut self) -> Result<(), Memory>
+    /// Makes room for one more row that leads to a destination at a peer.
+    pub(crate) fn make_room(&mut self, peer: u32, destination: &QueueName) -> Result<(), Memory>
         ensures rows { self.new.lists ≡ self.old.lists }
-        ensures grown { AreMembersGrown (λ n. n) self.old.rooms self.new.rooms }
-        ensures ok { OnOk result (length self.new.lists < self.new.rooms.more) }
+        ensures grown { AreMembersGrown (λ n. n) self.old.rooms.members self.new.rooms.members }
+        ensures keys { AreKeysKept same_out_key self.old.rooms.keys self.new.rooms.keys }
+        ensures room { OnOk result (length self.new.lists < self.new.rooms.members.more) }
+        ensures key { OnOk result
+            (HasKey same_out_key self.new.rooms.keys (out_key peer destination.now)) }
     {
         if self.rows.len() >= MAX_MEMBERS {
             return Err(Memory);
         }
+        in_use::make_room(&mut self.in_use, peer, destination)?;
         make_room(&mut self.ordinals, self.rows.len() + 1)?;
         self.rows.make_room(1)
     }

@@ -12,12 +12,16 @@ returns-in-InsertPlain-clause-grown c =
       places = i.queues.rooms;
       peers = i.peers.room;
       plain = c.make_room_in.new.self.rooms;
-      outs = i.outs.rooms;
-      ins = i.ins.room;
+      outs = i.outs.rooms.members;
+      in_use = i.outs.rooms.keys;
+      ins = i.ins.rooms.more;
+      sources = i.ins.rooms.keys;
     })) c.self.view_is (record {
       places = places_refl i.queues.rooms;
       peers = omega arith;
       plain = c.make_room_in.ensures.grown;
-      outs = members_refl (λ n. n) i.outs.rooms;
+      outs = members_refl (λ n. n) i.outs.rooms.members;
+      in_use = λ key h. h;
       ins = omega arith;
+      sources = λ key h. h;
     })

@@ -25,14 +25,18 @@ returns-in-Durable-clause-grown c =
       places = c.reserve_at.new.self.rooms;
       peers = i.peers.room;
       plain = i.plain.rooms;
-      outs = i.outs.rooms;
-      ins = i.ins.room;
+      outs = i.outs.rooms.members;
+      in_use = i.outs.rooms.keys;
+      ins = i.ins.rooms.more;
+      sources = i.ins.rooms.keys;
     })) c.self.view_is (record {
       places = place_grown i.queues c.args.at p.0 p.1 p.2 p.3 1 0 c.reserve_at.new.self c.reserve_at.result c.reserve_at.ensures.ok c.reserve_at.ensures.refused;
       peers = omega arith;
       plain = λ kind. members_refl (room_in kind) i.plain.rooms;
-      outs = members_refl (λ n. n) i.outs.rooms;
+      outs = members_refl (λ n. n) i.outs.rooms.members;
+      in_use = λ key h. h;
       ins = omega arith;
+      sources = λ key h. h;
     })
 
 pub returns-in-Durable-clause-ok : goal.returns-in-Durable-clause-ok
@@ -51,14 +55,18 @@ returns-in-Express-clause-grown c =
       places = c.reserve_at-in-Express.new.self.rooms;
       peers = i.peers.room;
       plain = i.plain.rooms;
-      outs = i.outs.rooms;
-      ins = i.ins.room;
+      outs = i.outs.rooms.members;
+      in_use = i.outs.rooms.keys;
+      ins = i.ins.rooms.more;
+      sources = i.ins.rooms.keys;
     })) c.self.view_is (record {
       places = place_grown i.queues c.args.at p.0 p.1 p.2 p.3 0 1 c.reserve_at-in-Express.new.self c.reserve_at-in-Express.result c.reserve_at-in-Express.ensures.ok c.reserve_at-in-Express.ensures.refused;
       peers = omega arith;
       plain = λ kind. members_refl (room_in kind) i.plain.rooms;
-      outs = members_refl (λ n. n) i.outs.rooms;
+      outs = members_refl (λ n. n) i.outs.rooms.members;
+      in_use = λ key h. h;
       ins = omega arith;
+      sources = λ key h. h;
     })
 
 pub returns-in-Express-clause-ok : goal.returns-in-Express-clause-ok

@@ -12,12 +12,16 @@ returns-clause-grown c =
       places = i.queues.rooms;
       peers = c.make_room.new.self.room;
       plain = c.make_room-2.new.self.rooms;
-      outs = i.outs.rooms;
-      ins = i.ins.room;
+      outs = i.outs.rooms.members;
+      in_use = i.outs.rooms.keys;
+      ins = i.ins.rooms.more;
+      sources = i.ins.rooms.keys;
     })) c.self.view_is (record {
       places = places_refl i.queues.rooms;
       peers = c.make_room.ensures.grows;
       plain = c.make_room-2.ensures.grown;
-      outs = members_refl (λ n. n) i.outs.rooms;
+      outs = members_refl (λ n. n) i.outs.rooms.members;
+      in_use = λ key h. h;
       ins = omega arith;
+      sources = λ key h. h;
     })

@@ -1,9 +1,6 @@
 use Rattle.std.proofs.Common.{ap}
 use Rattle.mqb_plain.specs.Plain.{inserted}
-use Rattle.mqb_base.specs.Rooms.{Room, WithRooms}
-use Rattle.mqb_contents.specs.Rooms.{MemberRooms}
 use Rattle.mqb_contents.specs.Seen.{lists_of, rooms_of}
-use Rattle.mqb_plain.specs.Plain.{PlainLists, PlainRooms}
 use Rattle.mqb_contents.proofs.Lens.{changed}
 use Rattle.mqb_contents.proofs.plain_outs.PlainOuts.insert.Goals as goal
 

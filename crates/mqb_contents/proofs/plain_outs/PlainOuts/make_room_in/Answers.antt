@@ -1,10 +1,7 @@
 use Rattle.std.proofs.Common.{length}
 use Rattle.mqb_queue.proofs.Changed.{on_ok}
 use Rattle.mqb_plain.specs.Plain.{outgoing_in, room_in}
-use Rattle.mqb_base.specs.Rooms.{Room, WithRooms}
-use Rattle.mqb_contents.specs.Rooms.{MemberRooms}
 use Rattle.mqb_contents.specs.Seen.{lists_of, rooms_of}
-use Rattle.mqb_plain.specs.Plain.{PlainLists, PlainRooms}
 use Rattle.mqb_contents.proofs.Lens.{grown, left, stays}
 use Rattle.mqb_contents.proofs.plain_outs.PlainOuts.make_room_in.Goals as goal
 

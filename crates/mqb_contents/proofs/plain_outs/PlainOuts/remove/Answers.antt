@@ -1,13 +1,9 @@
-use Rattle.std.proofs.Common.{◌≡◌, ◌≤◌, List, Some, insert, length, remove, sym, subst}
+use Rattle.std.proofs.Common.{◌≡◌, Some, length, sym, subst}
 use Rattle.std.specs.Prelude.{slice_get}
 use Rattle.mqb_contents.specs.Rows.{CanWait}
-use Rattle.mqb_plain.specs.Lists.{InOrder}
 use Rattle.mqb_plain.specs.Plain.{outgoing_in, room_in, without}
-use Rattle.mqb_plain.specs.declared.outgoing.Outgoing.{Outgoing}
-use Rattle.mqb_base.specs.Rooms.{Room, WithRooms}
-use Rattle.mqb_contents.specs.Rooms.{MemberRooms}
 use Rattle.mqb_contents.specs.Seen.{lists_of, rooms_of}
-use Rattle.mqb_plain.specs.Plain.{PlainLists, PlainRooms}
+use Rattle.mqb_plain.specs.Plain.{PlainLists}
 use Rattle.mqb_contents.proofs.Lens.{changed, fact_back, fact_now, left}
 use Rattle.mqb_contents.proofs.Waiting.{can_wait_back}
 use Rattle.mqb_contents.proofs.plain_outs.PlainOuts.remove.Goals as goal

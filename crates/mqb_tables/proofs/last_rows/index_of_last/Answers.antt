@@ -1,13 +1,13 @@
-use Rattle.std.proofs.Common.{◌≡◌, ℕ, ◌+◌, ◌<◌, Bool, true, false, cond, List, length, get_or, map, take, filter, Option, Some, None, refl, sym, ap, ◌∙◌, subst, arith}
+use Rattle.std.proofs.Common.{◌≡◌, ℕ, ◌+◌, ◌<◌, Bool, true, false, cond, List, length, get_or, map, take, filter, Option, Some, None, sym, ap, ◌∙◌, subst, arith}
 use Rattle.std.specs.Prelude.{IfSome, option_and_then, slice_get}
 use Rattle.std.specs.List.{last_or}
 use Rattle.std.proofs.lemmas.List.{get_or-map, length-map}
 use Rattle.std.proofs.lemmas.Option.{slice_get-get_or}
 use Rattle.mqb_orders.specs.Rows.{Row, leads_to, row_of}
 use Rattle.mqb_orders.specs.declared.rows.OutRow.{OutRow}
-use Rattle.mqb_contents.proofs.Lasts.{last_more}
-use Rattle.mqb_contents.proofs.lookups.index_of_last.Goals as goal
-use Rattle.mqb_contents.proofs.lookups.index_of_last.Goals.{then-leads_to, else-leads_to}
+use Rattle.mqb_tables.proofs.Lasts.{last_more}
+use Rattle.mqb_tables.proofs.last_rows.index_of_last.Goals as goal
+use Rattle.mqb_tables.proofs.last_rows.index_of_last.Goals.{then-leads_to, else-leads_to}
 
 -- p: a row passes; b: whether the one at k does
 step : (p : Row → Bool) (rows : List OutRow) (k : ℕ) (row : OutRow) (b : Bool) (last next : Option ℕ) → k < length rows → row ≡ get_or rows k row → b ≡ p (row_of row)
