@@ -3,10 +3,12 @@ ghost use Rattle.mqb_listing.specs.Listing.{listing};
 ghost use Rattle.mqb_model.specs.state.Valid.{IsValidState};
 ghost use Rattle.mqb_orders.specs.Rows.{row_of};
 ghost use Rattle.mqb_snapshot.specs.Snapshot.{snapshot};
+ghost use Rattle.mqb_tables.specs.Tables.{LeadsTo, LeadsToLast, LeadsToSource};
 
 use crate::state::State;
+use indexmap::IndexMap;
 use mqb_base::{Identity, Memory};
-use mqb_orders::{InRow, OutRow};
+use mqb_orders::{InKey, InRow, OutKey, OutRow};
 use mqb_plain::PlainOut;
 use mqb_queue::Queues;
 
@@ -45,6 +47,27 @@ impl State {
         ensures { result.now ≡ self.now.lists.ins }
     {
         self.contents.ins()
+    }
+
+    /// The ordinals of the outgoing rows, each with the index of its row.
+    pub fn ordinals(&self) -> &IndexMap<u32, u32>
+        ensures { LeadsTo self.now.lists.outs result.now }
+    {
+        self.contents.ordinals()
+    }
+
+    /// The peers and destinations of the outgoing rows, each with the ordinal of the last row that has them.
+    pub fn in_use(&self) -> &IndexMap<OutKey, u32>
+        ensures { LeadsToLast self.now.lists.outs result.now }
+    {
+        self.contents.in_use()
+    }
+
+    /// The sources and destinations of the incoming rows, each with the index of the first row that has them.
+    pub fn sources(&self) -> &IndexMap<InKey, u32>
+        ensures { LeadsToSource self.now.lists.ins result.now }
+    {
+        self.contents.sources()
     }
 
     /// The plain messages that wait for the peer at an index.
