@@ -9,3 +9,4 @@ pub mod Named
 pub mod Reserved
 pub mod Sources
 pub mod InUse
+pub mod Each

@@ -16,6 +16,7 @@ mod new_peer;
 mod new_row;
 mod out_rows;
 mod plain_outs;
+mod sending;
 
 pub use change::Change;
 pub use contents::Contents;

@@ -1,14 +1,15 @@
-ghost use Rattle.std.specs.Prelude.{◌≡◌, ◌<◌, ◌≤◌, [], ◌∷◌, ◌++◌, IsSomeAnd, OnOk, Some, length, slice_get};
+ghost use Rattle.std.specs.Prelude.{◌≡◌, ◌<◌, ◌≤◌, [], ◌∷◌, ◌++◌, IsSomeAnd, OnOk, Some, length, map, slice_get};
 ghost use Rattle.mqb_contents.specs.Ends.{last_of, without_last};
 ghost use Rattle.mqb_contents.specs.Rooms.{AreMembersGrown, no_members, plain_room};
 ghost use Rattle.mqb_base.specs.declared.message.Lane.{Lane};
 ghost use Rattle.mqb_contents.specs.Rows.{CanWait, plain_count};
 ghost use Rattle.mqb_contents.specs.Seen.{lists_of, rooms_of};
 ghost use Rattle.mqb_model.specs.Lists.{with_changed};
+ghost use Rattle.mqb_model.specs.managers.Beside.{all_unmarked};
 ghost use Rattle.mqb_plain.specs.Lists.{InOrder, messages_of};
-ghost use Rattle.mqb_plain.specs.Plain.{inserted, outgoing_in, room_in, without};
+ghost use Rattle.mqb_plain.specs.Plain.{MaySend, inserted, outgoing_in, room_in, sent, without};
 
-use mqb_base::{Lane, Memory, Message, Roomed};
+use mqb_base::{Lane, Memory, Message, Roomed, SessionHead};
 use mqb_plain::{Outgoing, PlainOut};
 use std::alloc::Global;
 use std::marker::Model;
@@ -135,6 +136,34 @@ impl PlainOuts {
         ensures room { plain_count self.new.lists peer lane < plain_room self.new.rooms peer lane }
     {
         remove(self.peers.get_mut(peer as usize), lane, index)
+    }
+
+    /// The next message for a peer was sent with a session header.
+    pub(crate) fn mark_sent(&mut self, peer: u32, head: &SessionHead)
+        requires { IsSomeAnd (slice_get self.old.lists peer) (λ p. MaySend p head.now) }
+        ensures { self.new ≡ record self.old {
+          lists = with_changed (sent head.now) self.old.lists peer;
+        } }
+    {
+        self.peers.get_mut(peer as usize).mark_sent(head);
+    }
+
+    fn unmark_for(&mut self, peer: usize)
+        requires { peer < length self.old.lists }
+        ensures { self.new ≡ record self.old {
+          lists = with_changed all_unmarked self.old.lists peer;
+        } }
+    {
+        self.peers.get_mut(peer).restart_marks();
+    }
+
+    /// No message counts as sent any more.
+    pub(crate) fn unmark(&mut self)
+        ensures { self.new ≡ record self.old { lists = map all_unmarked self.old.lists } }
+    {
+        for peer in 0..self.peers.len() {
+            self.unmark_for(peer);
+        }
     }
 
     /// A peer joins the others at the end, where there is room.

@@ -5,25 +5,13 @@ ghost use Rattle.mqb_drafts.specs.Drafts.{HasNext, noted};
 ghost use Rattle.mqb_model.specs.declared.limits.TheConstants.{MAX_PEERS, MAX_QUEUES};
 ghost use Rattle.mqb_model.specs.records.Peer.{with_new_queue, with_peer};
 ghost use Rattle.mqb_model.specs.rules.Effects.{without_line};
-ghost use Rattle.mqb_model.specs.rules.Numbers.{express_after, number_taken, numbers_taken};
+ghost use Rattle.mqb_model.specs.rules.Numbers.{number_taken, numbers_taken};
 ghost use Rattle.mqb_queue.specs.Places.{found};
 
 use crate::drafts::Draft;
 use mqb_base::{Identity, Line, Memory, QueuePlan};
 use mqb_contents::{Change, Counters, NewPeer};
-use mqb_model::{FIRST_EXPRESS, MAX_EXPRESS};
 use mqb_queue::NewQueue;
-
-/// Behind the greatest express number comes the first again.
-fn express_after(number: u32) -> u32
-    ensures { result ≡ express_after number }
-{
-    if number == MAX_EXPRESS {
-        FIRST_EXPRESS
-    } else {
-        number + 1
-    }
-}
 
 impl Draft {
     /// A peer joins the others at the end.
@@ -88,10 +76,7 @@ impl Draft {
         ensures held { OnOk result (self.new.held ≤ self.old.held) }
     {
         let counters = self.contents.counters();
-        self.change(Change::Count(Counters {
-            next_express: express_after(counters.next_express),
-            ..counters
-        }))
+        self.change(Change::Count(counters.with_express_taken()))
     }
 
     /// Sequences are full at this count of messages.
