@@ -7,6 +7,7 @@
 mod acknowledging;
 mod drafts;
 mod joining;
+mod lines;
 mod logs;
 mod peers;
 mod rows;
