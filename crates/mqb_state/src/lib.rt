@@ -4,12 +4,14 @@
 //! and takes none: so a record can be written between them. `spell` and `read_back` are a state in bytes, `print` the lines of what it holds.
 #![tactic(auto)]
 
+mod noting;
 mod prepared;
 mod preparing;
 mod readers;
 mod state;
 mod typed;
 
+pub use mqb_express::{ExpressWork, Origin};
 pub use mqb_records::RecordFault as PrepareFault;
 pub use prepared::Prepared;
 pub use state::State;

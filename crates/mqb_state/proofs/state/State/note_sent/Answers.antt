@@ -1,0 +1,10 @@
+use Rattle.std.proofs.Common.{sym, subst}
+use Rattle.mqb_express.specs.Noting.{origin_of}
+use Rattle.mqb_model.specs.state.Valid.{IsValidState}
+use Rattle.mqb_state.proofs.Marks.{noted_valid}
+use Rattle.mqb_state.proofs.state.State.note_sent.Goals as goal
+
+pub invariant_of-self : goal.invariant_of-self
+invariant_of-self c =
+    subst IsValidState (sym c.note_sent.ensures.lists)
+    (noted_valid c.args.peer c.args.head.now c.self.inside.contents.lists (origin_of c.args.origin) c.self.invariant)
