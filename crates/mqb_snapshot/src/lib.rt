@@ -5,17 +5,14 @@
 //! marks of a connection, is left out. `spell` adds it to bytes, and takes back what it added where memory is short.
 #![tactic(auto)]
 
-mod faults;
-mod fields;
 mod headers;
 mod laws;
 mod messages;
 mod parts;
 mod puts;
 mod snapshot;
-mod stored;
 mod tail;
 
-pub use faults::BackFault;
 pub use laws::{one_peer_is_spelled, snapshots_are_read_back};
+pub use messages::NOBODY;
 pub use snapshot::spell;

@@ -4,14 +4,14 @@ ghost use Rattle.std.specs.Prelude.{◌≡◌, IfOk, IfSome, option_and_then};
 ghost use Rattle.mqb_base.specs.Messages.{IsWellFormed};
 ghost use Rattle.mqb_model.specs.records.Reading.{user_packet_of};
 ghost use Rattle.mqb_snapshot.specs.Fields.{durably, is_carried, is_stored, message_at, message_of, stored_in};
-ghost use Rattle.mqb_snapshot.specs.Parts.{Gives};
+ghost use Rattle.mqb_read_back.specs.Answers.{Gives};
 
 use crate::faults::BackFault;
 use crate::fields::packet_field;
-use crate::messages::NOBODY;
 use mqb_base::{Delivery, Memory, Message};
 use mqb_fields::Cursor;
 use mqb_packet::{Headers, Packet, UserPacket, message_size, to_owned, view};
+use mqb_snapshot::NOBODY;
 use std::alloc::Global;
 
 fn durably(transactional: bool) -> Delivery
@@ -80,7 +80,7 @@ pub(crate) fn is_carried(message: &Message, beside: Headers) -> bool
 }
 
 /// A packet in which a store has a message that can be carried with these headers.
-#[tactic(auto, unfolding(crate::specs::Fields::message_at))]
+#[tactic(auto, unfolding(mqb_snapshot::specs::Fields::message_at))]
 pub(crate) fn message_field(
     alloc: Global,
     cursor: &mut Cursor<'_>,

@@ -15,7 +15,7 @@ pub enum BackFault {
 /// A field that passes the end.
 impl From<Short> for BackFault {
     ghost use Rattle.std.specs.Prelude.{◌≡◌};
-    ghost use Rattle.mqb_snapshot.specs.declared.faults.BackFault.TheVariants.{Bad};
+    ghost use Rattle.mqb_read_back.specs.declared.faults.BackFault.TheVariants.{Bad};
 
     ghost from_gives = { λ short fault. fault ≡ Bad short.at };
 
@@ -26,7 +26,7 @@ impl From<Short> for BackFault {
 
 impl From<Memory> for BackFault {
     ghost use Rattle.std.specs.Prelude.{◌≡◌};
-    ghost use Rattle.mqb_snapshot.specs.declared.faults.BackFault.TheVariants as fault;
+    ghost use Rattle.mqb_read_back.specs.declared.faults.BackFault.TheVariants as fault;
 
     ghost from_gives = { λ _ given. given ≡ fault.Memory };
 

@@ -1,8 +1,9 @@
-ghost use Rattle.std.specs.Prelude.{◌≡◌, false, not, true};
+ghost use Rattle.std.specs.Prelude.{◌≡◌, ◌≤◌, IfOk, false, not, true};
 ghost use Rattle.mqb_entries.specs.Fields.{address_at, counted_part, flag_at, guid_at, name_at, packet_at, u32_at};
 ghost use Rattle.mqb_fields.specs.Reading.{ReadsAs};
 ghost use Rattle.mqb_snapshot.specs.Fields.{destination_at, within_at};
-ghost use Rattle.mqb_snapshot.specs.Parts.{Gives, GivesAs, tested};
+ghost use Rattle.mqb_read_back.specs.Answers.{Gives, GivesAs};
+ghost use Rattle.mqb_snapshot.specs.Parts.{tested};
 
 use crate::faults::BackFault;
 use mqb_base::{Guid, Name, NameError, QueueName};
@@ -17,9 +18,10 @@ pub(crate) fn u32_field(cursor: &mut Cursor<'_>) -> Result<u32, BackFault>
 }
 
 /// A number within limits.
-#[tactic(auto, unfolding(crate::specs::Fields::within_at))]
+#[tactic(auto, unfolding(mqb_snapshot::specs::Fields::within_at))]
 pub(crate) fn within_field(cursor: &mut Cursor<'_>, least: u32, most: u32) -> Result<u32, BackFault>
-    ensures { Gives (within_at least most) cursor.old cursor.new result }
+    ensures read { Gives (within_at least most) cursor.old cursor.new result }
+    ensures within { IfOk result (λ number. number ≤ most) }
 {
     let at = cursor.at();
     let number = u32_field(cursor)?;
@@ -120,7 +122,7 @@ pub(crate) fn packet_field<'a>(cursor: &mut Cursor<'a>) -> Result<&'a [u8], Back
 }
 
 /// A queue's name in its wire form, behind its type.
-#[tactic(auto, unfolding(crate::specs::Fields::destination_at))]
+#[tactic(auto, unfolding(mqb_snapshot::specs::Fields::destination_at))]
 pub(crate) fn destination_field(
     alloc: Global,
     cursor: &mut Cursor<'_>,

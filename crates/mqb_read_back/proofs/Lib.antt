@@ -1,0 +1,5 @@
+mod Loops
+mod Searching
+mod Keeping
+mod Waiting
+mod Wholes
