@@ -12,6 +12,7 @@ mod state;
 mod typed;
 
 pub use mqb_express::{ExpressWork, Origin};
+pub use mqb_read_back::BackFault;
 pub use mqb_records::RecordFault as PrepareFault;
 pub use prepared::Prepared;
 pub use state::State;

@@ -1,10 +1,19 @@
-ghost use Rattle.std.specs.Prelude.{◌≡◌, IfOk};
+ghost use Rattle.std.specs.Prelude.{◌≡◌, IfOk, Ok};
 ghost use Rattle.mqb_contents.specs.Rooms.{no_room};
+ghost use Rattle.mqb_model.specs.state.Durable.{durable};
+ghost use Rattle.mqb_model.specs.state.State as model;
 ghost use Rattle.mqb_model.specs.state.State.{empty};
+ghost use Rattle.mqb_model.specs.state.Valid.{IsValidState};
+ghost use Rattle.mqb_read_back.specs.Answers.{IsReadBack};
+ghost use Rattle.mqb_snapshot.specs.Reading.{state_of};
+ghost use Rattle.mqb_snapshot.specs.Snapshot.{snapshot};
+ghost use Rattle.mqb_snapshot.specs.Values.{IsState};
 
 use mqb_base::{Identity, Memory};
 use mqb_contents::Contents;
 use mqb_model::new_is_valid;
+use mqb_read_back::{BackFault, read_back};
+use mqb_snapshot::snapshots_are_read_back;
 use std::alloc::Global;
 use std::marker::Model;
 
@@ -41,5 +50,18 @@ impl State {
             contents: Contents::empty(alloc, identity),
             alloc,
         })
+    }
+
+    /// What a store stands for that was spelled as these bytes, all of them, or the first field that stands in no such bytes.
+    pub fn read_back(alloc: Global, bytes: &[u8]) -> Result<State, BackFault>
+        // Of any bytes.
+        ensures exact { IsReadBack (state_of bytes.now) result }
+        // Of those that spell a state.
+        ensures again { (s : model.State) → IsValidState s → IsState s → bytes.now ≡ snapshot s →
+            IsReadBack (Ok (durable s)) result }
+    {
+        snapshots_are_read_back();
+        let contents = read_back(alloc, bytes)?;
+        Ok(State { contents, alloc })
     }
 }
