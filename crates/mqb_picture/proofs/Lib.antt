@@ -1,0 +1,7 @@
+pub mod Found
+pub mod Written
+pub mod Steps
+pub mod Drawing
+pub mod Taking
+pub mod Plain
+pub mod Counted

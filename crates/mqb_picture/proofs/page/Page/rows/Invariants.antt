@@ -1,0 +1,9 @@
+use Rattle.std.proofs.Common.{◌≡◌, ◌+◌, ◌*◌, ◌++◌, drop}
+use Rattle.mqb_picture.specs.Svg.{TOP, ROW, rows_from}
+use Rattle.mqb_picture.proofs.page.Page.rows.Given as goal
+
+abbrev pub invariant-loop-element : goal.invariant-loop-element
+invariant-loop-element l = record {
+  place : l.y ≡ TOP + ROW * l.element-index;
+  written : l.self ++ rows_from l.y (drop l.element-index l.elements) ≡ l.initial.self ++ rows_from TOP l.elements;
+}

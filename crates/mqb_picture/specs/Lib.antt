@@ -1,0 +1,14 @@
+pub mod Words
+pub mod Faults
+pub mod Sides
+pub mod Asked
+pub mod Fates
+pub mod Texts
+pub mod Elements
+pub mod Picture
+pub mod Reading
+pub mod Svg
+pub mod Input
+pub mod Outputs
+pub mod Runs
+pub mod Laws

@@ -1,0 +1,62 @@
+ghost use Rattle.std.specs.Prelude.{◌≡◌};
+ghost use Rattle.mqb_picture.specs.Texts.{is_commit, is_put, is_refusal, is_stop, mark_of};
+
+use crate::words::is_word;
+
+/// What an answer is marked with.
+#[derive(Clone, Copy)]
+pub enum Mark {
+    Commit,
+    Put,
+    Refusal,
+    Stop,
+    Restart,
+    Plain,
+}
+
+fn is_commit(word: &[u8]) -> bool
+    ensures { result ≡ is_commit word.now }
+{
+    is_word(word, b"committed") || is_word(word, b"sent")
+}
+
+fn is_put(word: &[u8]) -> bool
+    ensures { result ≡ is_put word.now }
+{
+    is_word(word, b"put") || is_word(word, b"stored") || is_word(word, b"express")
+}
+
+fn is_refusal(word: &[u8]) -> bool
+    ensures { result ≡ is_refusal word.now }
+{
+    is_word(word, b"refused")
+        || is_word(word, b"bounced")
+        || is_word(word, b"expressbounced")
+        || is_word(word, b"closed")
+}
+
+fn is_stop(word: &[u8]) -> bool
+    ensures { result ≡ is_stop word.now }
+{
+    is_word(word, b"stopped") || is_word(word, b"failed") || is_word(word, b"down")
+}
+
+/// The mark of an answer that begins with this word.
+#[tactic(auto, unfolding(crate::specs::Texts::mark_of))]
+pub fn mark_of(word: &[u8]) -> Mark
+    ensures { result ≡ mark_of word.now }
+{
+    if is_commit(word) {
+        Mark::Commit
+    } else if is_put(word) {
+        Mark::Put
+    } else if is_refusal(word) {
+        Mark::Refusal
+    } else if is_stop(word) {
+        Mark::Stop
+    } else if is_word(word, b"opened") {
+        Mark::Restart
+    } else {
+        Mark::Plain
+    }
+}
