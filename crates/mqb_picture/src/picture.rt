@@ -21,6 +21,7 @@ use std::marker::Model;
 /// A picture that is being made. Contracts see the packets that were sent and the elements so far. After a refusal it is of no more use.
 #[derive(Drop)]
 pub struct Picture {
+    alloc: Global,
     packets: Packets,
     elements: Vec<Element>,
 }
@@ -69,6 +70,7 @@ impl Picture {
         ensures { result ≡ blank }
     {
         Picture {
+            alloc,
             packets: Packets::new(alloc),
             elements: Vec::new(alloc),
         }
@@ -88,18 +90,11 @@ impl Picture {
     }
 
     #[tactic(auto, unfolding(crate::specs::Picture::note))]
-    fn note(
-        &mut self,
-        alloc: Global,
-        line: usize,
-        side: Side,
-        request: &[u8],
-        said: &[u8],
-    ) -> Result<(), Memory>
+    fn note(&mut self, line: usize, side: Side, request: &[u8], said: &[u8]) -> Result<(), Memory>
         ensures { OnOk result (self.new ≡ note line side request.now said.now self.old) }
     {
         let mark = mark_of(first_word(said));
-        let text = told(alloc, request, said)?;
+        let text = told(self.alloc, request, said)?;
         self.add(Element::Note {
             line,
             side,
@@ -109,16 +104,10 @@ impl Picture {
     }
 
     #[tactic(auto, unfolding(crate::specs::Picture::between))]
-    fn between(
-        &mut self,
-        alloc: Global,
-        line: usize,
-        request: &[u8],
-        said: &[u8],
-    ) -> Result<(), Memory>
+    fn between(&mut self, line: usize, request: &[u8], said: &[u8]) -> Result<(), Memory>
         ensures { OnOk result (self.new ≡ between line request.now said.now self.old) }
     {
-        let text = told(alloc, request, said)?;
+        let text = told(self.alloc, request, said)?;
         self.add(Element::Bar { line, text })
     }
 
@@ -126,7 +115,6 @@ impl Picture {
     #[tactic(auto, unfolding(crate::specs::Picture::arrived))]
     fn arrived(
         &mut self,
-        alloc: Global,
         line: usize,
         number: usize,
         packet: Packet,
@@ -138,7 +126,7 @@ impl Picture {
     {
         let word = first_word(said);
         let fate = self.packets.fate(number, packet, word);
-        let text = clipped(alloc, said)?;
+        let text = clipped(self.alloc, said)?;
         self.packets.settle(fate, number, packet);
         self.add(Element::Arrow {
             line,
@@ -152,20 +140,14 @@ impl Picture {
 
     /// This was said of a packet.
     #[tactic(auto, unfolding(crate::specs::Picture::heard))]
-    fn heard(
-        &mut self,
-        alloc: Global,
-        line: usize,
-        number: usize,
-        said: &[u8],
-    ) -> Result<(), Memory>
+    fn heard(&mut self, line: usize, number: usize, said: &[u8]) -> Result<(), Memory>
         ensures { OnOk result (self.new ≡ heard line number said.now self.old) }
     {
         match self.packets.get(number) {
-            Some(packet) => self.arrived(alloc, line, number, packet, said),
+            Some(packet) => self.arrived(line, number, packet, said),
             None => {
-                let request = around(alloc, b"packet ", number, b"")?;
-                self.between(alloc, line, &request, said)
+                let request = around(self.alloc, b"packet ", number, b"")?;
+                self.between(line, &request, said)
             }
         }
     }
@@ -174,7 +156,6 @@ impl Picture {
     #[tactic(auto, unfolding(crate::specs::Picture::sent))]
     fn sent(
         &mut self,
-        alloc: Global,
         line: usize,
         set_up: bool,
         from: Side,
@@ -185,40 +166,29 @@ impl Picture {
             ≡ Ok self.new) }
         ensures err { IfErr result (IsFaultOf (sent line set_up from told.now said.now self.old)) }
     {
-        let words = parts(alloc, said, b' ')?;
+        let words = parts(self.alloc, said, b' ')?;
         let [word, numbers @ ..] = words.as_slice() else {
             return Ok(());
         };
         if !is_word(word, told) {
             return Ok(());
         }
-        self.packets.post_all(alloc, line, set_up, from, numbers)
+        self.packets
+            .post_all(self.alloc, line, set_up, from, numbers)
     }
 
     /// The next packet is sent, and this was heard of it.
     #[tactic(auto, unfolding(crate::specs::Picture::heard_next))]
-    fn heard_next(
-        &mut self,
-        alloc: Global,
-        line: usize,
-        side: Side,
-        said: &[u8],
-    ) -> Result<(), Memory>
+    fn heard_next(&mut self, line: usize, side: Side, said: &[u8]) -> Result<(), Memory>
         ensures { OnOk result (self.new ≡ heard_next line side said.now self.old) }
     {
         let number = self.packets.count() + 1;
         self.packets.post(side, false)?;
-        self.heard(alloc, line, number, behind(b" ", said).unwrap_or(said))
+        self.heard(line, number, behind(b" ", said).unwrap_or(said))
     }
 
     /// The packets of a flow.
-    fn flowed(
-        &mut self,
-        alloc: Global,
-        line: usize,
-        side: Side,
-        parts: &[&[u8]],
-    ) -> Result<(), Fault>
+    fn flowed(&mut self, line: usize, side: Side, parts: &[&[u8]]) -> Result<(), Fault>
         ensures ok { OnOk result (flowed line side self.old (map (λ part. part.now) parts.now)
             ≡ Ok self.new) }
         ensures err { IfErr result (IsFaultOf (flowed line side self.old
@@ -226,39 +196,31 @@ impl Picture {
     {
         let mut rest = parts;
         while let [part, more @ ..] = rest {
-            let said = said_in(alloc, line, self.packets.count() + 2, part, more)?;
-            self.heard_next(alloc, line, side, said)?;
+            let said = said_in(self.alloc, line, self.packets.count() + 2, part, more)?;
+            self.heard_next(line, side, said)?;
             rest = more;
         }
         Ok(())
     }
 
     #[tactic(auto, unfolding(crate::specs::Picture::flow))]
-    fn flow(
-        &mut self,
-        alloc: Global,
-        line: usize,
-        side: Side,
-        request: &[u8],
-        said: &[u8],
-    ) -> Result<(), Fault>
+    fn flow(&mut self, line: usize, side: Side, request: &[u8], said: &[u8]) -> Result<(), Fault>
         ensures ok { OnOk result (flow line side request.now said.now self.old ≡ Ok self.new) }
         ensures err { IfErr result (IsFaultOf (flow line side request.now said.now self.old)) }
     {
-        let parts = parts(alloc, said, b':')?;
+        let parts = parts(self.alloc, said, b':')?;
         let [part, more @ ..] = parts.as_slice() else {
             return Err(Fault::line(line));
         };
-        let first = said_in(alloc, line, self.packets.count() + 1, part, more)?;
-        self.note(alloc, line, side, request, first)?;
-        self.flowed(alloc, line, side, more)
+        let first = said_in(self.alloc, line, self.packets.count() + 1, part, more)?;
+        self.note(line, side, request, first)?;
+        self.flowed(line, side, more)
     }
 
     /// This was said to a line.
     #[tactic(auto, unfolding(crate::specs::Picture::answered))]
     fn answered(
         &mut self,
-        alloc: Global,
         line: usize,
         asked: Asked,
         request: &[u8],
@@ -271,39 +233,33 @@ impl Picture {
     {
         match asked {
             Asked::Connect(side) => {
-                self.sent(alloc, line, true, side, b"connected", said)?;
-                self.between(alloc, line, request, said)?;
+                self.sent(line, true, side, b"connected", said)?;
+                self.between(line, request, said)?;
             }
-            Asked::Disconnect => self.between(alloc, line, request, said)?,
+            Asked::Disconnect => self.between(line, request, said)?,
             Asked::Pump(side) => {
-                self.sent(alloc, line, false, side, b"pumped", said)?;
-                self.note(alloc, line, side, request, said)?;
+                self.sent(line, false, side, b"pumped", said)?;
+                self.note(line, side, request, said)?;
             }
-            Asked::Flow(side) => self.flow(alloc, line, side, request, said)?,
-            Asked::Packet(number) => self.heard(alloc, line, number, said)?,
-            Asked::At(side) => self.note(alloc, line, side, request, said)?,
+            Asked::Flow(side) => self.flow(line, side, request, said)?,
+            Asked::Packet(number) => self.heard(line, number, said)?,
+            Asked::At(side) => self.note(line, side, request, said)?,
         }
         Ok(())
     }
 
     /// Draws a line of a script and its reply.
     #[tactic(auto, unfolding(crate::specs::Picture::drawn))]
-    pub fn draw(
-        &mut self,
-        alloc: Global,
-        number: usize,
-        line: &[u8],
-        reply: &[u8],
-    ) -> Result<(), Fault>
+    pub fn draw(&mut self, number: usize, line: &[u8], reply: &[u8]) -> Result<(), Fault>
         ensures ok { OnOk result (drawn number line.now reply.now self.old ≡ Ok self.new) }
         ensures err { IfErr result (IsFaultOf (drawn number line.now reply.now self.old)) }
     {
-        let said = said_to(alloc, number, reply)?;
-        let words = parts(alloc, line, b' ')?;
+        let said = said_to(self.alloc, number, reply)?;
+        let words = parts(self.alloc, line, b' ')?;
         let Some(asked) = asked_of(&words) else {
             return Err(Fault::line(number));
         };
-        let request = request_of(alloc, &words)?;
-        self.answered(alloc, number, asked, &request, said)
+        let request = request_of(self.alloc, &words)?;
+        self.answered(number, asked, &request, said)
     }
 }

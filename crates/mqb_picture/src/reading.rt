@@ -87,7 +87,7 @@ fn turn(
     let [reply, ..] = replies else {
         return Err(Fault::Input(Kind::NoEnd));
     };
-    picture.draw(alloc, number, line, reply)?;
+    picture.draw(number, line, reply)?;
     Ok(1)
 }
 
