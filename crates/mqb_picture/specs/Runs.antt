@@ -1,11 +1,12 @@
 -- What the program does.
-use Rattle.std.specs.Prelude.{◌≡◌, ◌≢◌, ℕ, ◌⊎◌, List, Option, Some, Result, Ok, Err}
+use Rattle.std.specs.Prelude.{◌≡◌, ◌≢◌, ℕ, ◌≤◌, ◌⊎◌, List, length, Option, Some, Result, Ok, Err}
 use Rattle.mqb_outside.specs.Faults.{Rose}
 use Rattle.mqb_outside.specs.Told.{Gave, Took}
 use Rattle.mqb_picture.specs.declared.faults.Kind.{Kind}
 use Rattle.mqb_picture.specs.declared.faults.Kind.TheVariants.{TooLong}
 use Rattle.mqb_picture.specs.declared.run.Status.{Status}
 use Rattle.mqb_picture.specs.declared.run.Status.TheVariants as status
+use Rattle.mqb_picture.specs.Svg.{LARGEST}
 use Rattle.mqb_picture.specs.Input.{IsAtEnd}
 use Rattle.mqb_picture.specs.Outputs.{answer_to, fault_text, read_fault_text, output_of, TookFront}
 
@@ -29,6 +30,7 @@ TellsKind kind before after r = Tells (fault_text kind) (status.Input kind) befo
 pub record IsDrawn (text : List ℕ) (rest before after : Option (List ℕ)) : Type 0 where
   pub svg : List ℕ
   pub answer : answer_to text ≡ Ok svg
+  pub small : length svg ≤ LARGEST
   pub ended : IsAtEnd rest
   pub written : Took before after svg
 

@@ -1,6 +1,6 @@
 -- The texts of a picture.
 use Rattle.std.specs.Prelude.{ℕ, Bool, ◌==◌, ◌||◌, nat_le, List, [], ◌∷◌, ◌++◌, length, take, codes, if◌then◌else◌}
-use Rattle.std.specs.List.{before_first}
+use Rattle.std.specs.List.{before_first, list_any}
 use Rattle.mqb_base.specs.Same.{same_bytes}
 use Rattle.mqb_picture.specs.declared.marks.Mark.{Mark}
 use Rattle.mqb_picture.specs.declared.marks.Mark.TheVariants.{Commit, Put, Refusal, Stop, Restart, Plain}
@@ -29,9 +29,15 @@ is_commit word = same_bytes word (codes "committed") || same_bytes word (codes "
 abbrev pub is_put : List ℕ → Bool
 is_put word = same_bytes word (codes "put") || same_bytes word (codes "stored") || same_bytes word (codes "express")
 
+-- the first words of the answers that refuse something
+abbrev pub refusals : List (List ℕ)
+refusals = codes "refused" ∷ codes "bounced" ∷ codes "expressbounced" ∷ codes "closed" ∷ codes "queuethere" ∷
+    codes "toomanyqueues" ∷ codes "toomanyops" ∷ codes "toolarge" ∷ codes "numbersspent" ∷
+    codes "sequencespent" ∷ codes "noqueue" ∷ codes "nottransactional" ∷ codes "transactional" ∷
+    codes "queueempty" ∷ codes "queuefull" ∷ codes "unknownpeer" ∷ codes "linked" ∷ codes "unlinked" ∷ codes "spent" ∷ []
+
 abbrev pub is_refusal : List ℕ → Bool
-is_refusal word = same_bytes word (codes "refused") || same_bytes word (codes "bounced")
-    || same_bytes word (codes "expressbounced") || same_bytes word (codes "closed")
+is_refusal word = list_any (same_bytes word) refusals
 
 abbrev pub is_stop : List ℕ → Bool
 is_stop word = same_bytes word (codes "stopped") || same_bytes word (codes "failed") || same_bytes word (codes "down")

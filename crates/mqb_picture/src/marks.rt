@@ -1,4 +1,6 @@
 ghost use Rattle.std.specs.Prelude.{◌≡◌};
+ghost use Rattle.std.specs.List.{list_any};
+ghost use Rattle.mqb_base.specs.Same.{same_bytes};
 ghost use Rattle.mqb_picture.specs.Texts.{is_commit, is_put, is_refusal, is_stop, mark_of};
 
 use crate::words::is_word;
@@ -26,13 +28,39 @@ fn is_put(word: &[u8]) -> bool
     is_word(word, b"put") || is_word(word, b"stored") || is_word(word, b"express")
 }
 
+/// The first words of the answers that refuse something.
+const REFUSALS: [&[u8]; 19] = [
+    b"refused",
+    b"bounced",
+    b"expressbounced",
+    b"closed",
+    b"queuethere",
+    b"toomanyqueues",
+    b"toomanyops",
+    b"toolarge",
+    b"numbersspent",
+    b"sequencespent",
+    b"noqueue",
+    b"nottransactional",
+    b"transactional",
+    b"queueempty",
+    b"queuefull",
+    b"unknownpeer",
+    b"linked",
+    b"unlinked",
+    b"spent",
+];
+
+fn is_one_of(word: &[u8], these: &[&[u8]]) -> bool
+    ensures { result ≡ list_any (λ this. same_bytes word.now this.now) these.now }
+{
+    these.iter().any(|this| is_word(word, this))
+}
+
 fn is_refusal(word: &[u8]) -> bool
     ensures { result ≡ is_refusal word.now }
 {
-    is_word(word, b"refused")
-        || is_word(word, b"bounced")
-        || is_word(word, b"expressbounced")
-        || is_word(word, b"closed")
+    is_one_of(word, &REFUSALS)
 }
 
 fn is_stop(word: &[u8]) -> bool

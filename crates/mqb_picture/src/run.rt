@@ -1,6 +1,7 @@
 ghost use Rattle.std.specs.Prelude.{◌≡◌, ◌≤◌, length, IfOk, IfErr};
 ghost use Rattle.mqb_picture.specs.Faults.{IsFaultOf};
 ghost use Rattle.mqb_picture.specs.Input.{LONGEST};
+ghost use Rattle.mqb_picture.specs.Svg.{LARGEST};
 ghost use Rattle.mqb_picture.specs.Outputs.{svg_made, fault_text};
 ghost use Rattle.mqb_picture.specs.Runs.{exit_of, Tells, TellsKind, Draws, Completes, ReadFaultHasCause, WriteFaultHasCause, IsPlain};
 ghost use Rattle.mqb_picture.specs.declared.run.Status.TheVariants as status;
@@ -53,6 +54,7 @@ const MAX_LENGTH: usize = 1_048_576;
 #[tactic(auto, unfolding(crate::specs::Outputs::svg_made, crate::specs::Svg::svg_within))]
 fn svg_made(alloc: Global, text: &[u8]) -> Result<Page, Fault>
     ensures ok { IfOk result (λ page. svg_made text.now ≡ Ok page) }
+    ensures small { IfOk result (λ page. length page ≤ LARGEST) }
     ensures err { IfErr result (IsFaultOf (svg_made text.now)) }
 {
     let picture = read_picture(alloc, text)?;
