@@ -1,0 +1,5 @@
+pub mod Offers
+pub mod Left
+pub mod Members
+pub mod Waiting
+pub mod Acks

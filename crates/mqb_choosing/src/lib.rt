@@ -1,0 +1,13 @@
+//! Which packets a manager sends to a peer, as a plan over what it keeps: nothing changes.
+//!
+//! Order acknowledgements that are owed go first, then plain messages, recoverable ones before express ones, then messages of the sequences that are
+//! open. `choose` takes the first of them, as many as may go. A message is looked for where the last sent one of its list stands, and is not copied:
+//! a choice says where it stands. `marks_for` gives the marks that the sequences get before any packet goes, and `put_choices` the packets' bytes.
+#![tactic(auto)]
+
+mod candidates;
+mod choice;
+mod choosing;
+
+pub use choice::{Choice, Origin};
+pub use choosing::Choices;
