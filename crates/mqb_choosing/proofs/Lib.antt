@@ -3,3 +3,5 @@ pub mod Left
 pub mod Members
 pub mod Waiting
 pub mod Acks
+pub mod Sendable
+pub mod Ended

@@ -15,7 +15,7 @@ use Rattle.mqb_choosing.specs.Choices.{coming_from, message_at, shown}
 use Rattle.mqb_choosing.specs.Going.{Chosen, Going, Offers, coming_to, offered, with_choice}
 
 -- the same, where more may follow or not
-abbrev with_more : Going → Bool → Going
+abbrev pub with_more : Going → Bool → Going
 with_more g more = record { choices = g.choices; session = g.session; bytes = g.bytes; more = more }
 
 -- nothing more goes
@@ -27,10 +27,10 @@ push_shown : {X Y : Type 0} (f : X → Y) (xs : List X) (x : X) (ys : List Y) �
 push_shown f [] x ys = refl
 push_shown {X} {Y} f (y ∷ xs) x ys = ap (λ (rest : List Y). f y ∷ rest) (push_shown f xs x ys)
 
-abbrev coming : List (Option (Candidate × SessionHead)) → one_end.State → ℕ → Bool → Chosen
+abbrev pub coming : List (Option (Candidate × SessionHead)) → one_end.State → ℕ → Bool → Chosen
 coming packets session bytes any = record { packets = packets; session = session; bytes = bytes; any = any }
 
-same_chosen : (p q : List (Option (Candidate × SessionHead))) (session : one_end.State) (bytes : ℕ) (a b : Bool) → p ≡ q → a ≡ b
+pub same_chosen : (p q : List (Option (Candidate × SessionHead))) (session : one_end.State) (bytes : ℕ) (a b : Bool) → p ≡ q → a ≡ b
     → coming p session bytes a ≡ coming q session bytes b
 same_chosen p q session bytes a b same any = ap (λ (p : List (Option (Candidate × SessionHead))). coming p session bytes a) same
     ∙ ap (λ (a : Bool). coming q session bytes a) any

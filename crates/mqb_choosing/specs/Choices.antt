@@ -67,6 +67,10 @@ pub record IsSendable (c : Candidate) : Type 0 where
 abbrev pub IsReady : State → Origin → Type 0
 IsReady s origin = IsSomeAnd (message_at s origin) (λ m. IsSendable (coming_from origin m))
 
+-- the message of a packet that goes is there, and it can be carried
+abbrev pub IsThere : State → Choice → Type 0
+IsThere s choice = IsSomeAnd (shown s choice) (λ given. IsSendable given.0)
+
 -- a plain message that can be carried in a session
 abbrev pub IsPlain : Message → Type 0
 IsPlain m = IsCarried headers.Session m × (is_transactional m.delivery ≡ false)

@@ -54,6 +54,10 @@ offered origin size g = if takes size g then with_choice origin size g else reco
 abbrev pub next_chosen : Going → List Candidate → List Candidate
 next_chosen g cs = if g.more then chosen g.session (length g.choices) g.bytes cs else []
 
+-- something could go: it went, or it might not
+abbrev pub any_waits : Going → Bool
+any_waits g = not g.more || not (length g.choices == 0)
+
 -- what choosing comes to: the packets, the session behind them, their bytes, and whether anything could go
 pub record Chosen : Type 0 where
   pub packets : List (Option (Candidate × SessionHead))
@@ -67,7 +71,7 @@ coming_to s g cs = record {
   packets = map (shown s) g.choices ++ map (λ given. Some given) (with_heads g.session (next_chosen g cs));
   session = session_behind g.session (next_chosen g cs);
   bytes = fold (λ n c. n + candidate_size c) g.bytes (next_chosen g cs);
-  any = not g.more || not (length g.choices == 0) || not (length cs == 0);
+  any = any_waits g || not (length cs == 0);
 }
 
 -- These candidates were offered: whatever is next, choosing comes to the same.
@@ -95,5 +99,5 @@ abbrev pub candidates_to : State → Rest → ℕ → ℕ → List Candidate
 candidates_to s rest now k = option_map_or (λ peer. option_map_or (candidates s rest now k peer) (slice_get s.plain k) []) (slice_get s.peers k) []
 
 -- what goes to it
-abbrev pub chosen_for : State → Rest → one_end.State → ℕ → ℕ → List Candidate
-chosen_for s rest session now k = chosen session 0 0 (candidates_to s rest now k)
+abbrev pub chosen_to : State → one_end.State → List ℕ → List Bool → ℕ → ℕ → List Candidate
+chosen_to s session cursors owes now k = chosen session 0 0 (candidates_to s (known session cursors owes) now k)

@@ -1,12 +1,14 @@
-ghost use Rattle.std.specs.Prelude.{[], ◌≡◌, ◌≤◌, ◌∷◌, IsSomeAnd, OnOk};
+ghost use Rattle.std.specs.Prelude.{[], ◌==◌, ◌≡◌, ◌<◌, ◌≤◌, ◌∷◌, All, IfOk, IsSomeAnd, OnOk, length, not, sum_by};
 ghost use Rattle.mqb_heads.specs.declared.base.TheConstants.{MAX_PACKET};
-ghost use Rattle.mqb_model.specs.state.Valid.{IsCarried};
+ghost use Rattle.mqb_model.specs.calls.pump.Choosing.{candidate_size, session_behind, with_heads};
+ghost use Rattle.mqb_model.specs.managers.Valid.{IsExpressValid};
+ghost use Rattle.mqb_model.specs.state.Valid.{IsCarried, IsValidState};
 ghost use Rattle.mqb_packet.specs.Plain.{message_size};
-ghost use Rattle.mqb_choosing.specs.Choices.{IsReady, coming_from, message_at};
-ghost use Rattle.mqb_choosing.specs.Going.{Offers, nothing_chosen, offered, takes};
+ghost use Rattle.mqb_choosing.specs.Choices.{AreSendable, IsReady, IsThere, coming_from, message_at, shown_in};
+ghost use Rattle.mqb_choosing.specs.Going.{Offers, any_waits, candidates_to, chosen_to, known, nothing_chosen, offered, takes};
 
 use crate::choice::{Choice, Origin};
-use mqb_base::{Memory, Message};
+use mqb_base::{Lane, Memory, Message};
 use mqb_contents::Contents;
 use mqb_model::{MAX_PACKETS, MAX_PUMP_BYTES};
 use mqb_packet::{Headers, message_size};
@@ -100,4 +102,89 @@ impl Choices {
         let size = size_of(origin.message(contents), origin.headers());
         self.offer_sized(origin, size)
     }
+
+    /// Whatever could go to the peer at an index is offered, in the order in which it goes.
+    fn offer_all(
+        &mut self,
+        alloc: Global,
+        contents: &Contents,
+        cursors: &[u32],
+        owes: &[bool],
+        peer: u32,
+        now: u32,
+    ) -> Result<(), Memory>
+        requires cursors { length cursors.now ≡ length contents.now.lists.outs }
+        requires owes { length owes.now ≡ length contents.now.lists.ins }
+        requires peer { peer < length contents.now.lists.peers }
+        requires sendable { AreSendable contents.now.lists }
+        ensures { OnOk result (Offers contents.now.lists self.old self.new
+            (candidates_to contents.now.lists (known self.old.session cursors.now owes.now) now peer)) }
+    {
+        let identity = &contents.peers()[peer as usize];
+        self.offer_acks(alloc, contents, owes, identity, now)?;
+        self.offer_plain(contents, peer, Lane::Durable)?;
+        self.offer_plain(contents, peer, Lane::Express)?;
+        self.offer_rows(contents, cursors, peer)
+    }
+
+    /// Whether anything could go.
+    pub fn any_waits(&self) -> bool
+        ensures { result ≡ any_waits self.now }
+    {
+        !self.more || !self.choices.is_empty()
+    }
+
+    /// The packets that go, in order.
+    pub fn as_slice(&self) -> &[Choice]
+        ensures { result.now ≡ self.now.choices }
+    {
+        self.choices.as_slice()
+    }
+
+    /// The session once they all went.
+    pub fn session(&self) -> Session
+        ensures { result ≡ self.now.session }
+    {
+        self.session
+    }
+
+    /// How many bytes their packets have.
+    pub fn bytes(&self) -> usize
+        ensures { result ≡ self.now.bytes }
+    {
+        self.bytes
+    }
+}
+
+/// The packets that go to the peer at an index: the first ones that could go, as many as may. `cursors` has for each outgoing row the number that
+/// was sent last, `owes` for each incoming row whether it owes an acknowledgement.
+pub fn choose(
+    alloc: Global,
+    contents: &Contents,
+    session: Session,
+    cursors: &[u32],
+    owes: &[bool],
+    peer: u32,
+    now: u32,
+) -> Result<Choices, Memory>
+    requires valid { IsValidState contents.now.lists }
+    requires express { IsExpressValid contents.now.lists }
+    requires cursors { length cursors.now ≡ length contents.now.lists.outs }
+    requires owes { length owes.now ≡ length contents.now.lists.ins }
+    requires peer { peer < length contents.now.lists.peers }
+    ensures packets { IfOk result (λ c. shown_in contents.now.lists c.choices ≡
+        with_heads session (chosen_to contents.now.lists session cursors.now owes.now now peer)) }
+    ensures there { IfOk result (λ c. All (IsThere contents.now.lists) c.choices) }
+    ensures session { IfOk result (λ c. c.session ≡
+        session_behind session (chosen_to contents.now.lists session cursors.now owes.now now peer)) }
+    ensures bytes { IfOk result (λ c. c.bytes ≡ sum_by candidate_size
+        (chosen_to contents.now.lists session cursors.now owes.now now peer)) }
+
+    // Whether anything could go.
+    ensures any { IfOk result (λ c. any_waits c ≡ not (length
+        (candidates_to contents.now.lists (known session cursors.now owes.now) now peer) == 0)) }
+{
+    let mut choices = Choices::new(alloc, session);
+    choices.offer_all(alloc, contents, cursors, owes, peer, now)?;
+    Ok(choices)
 }

@@ -10,4 +10,4 @@ mod choice;
 mod choosing;
 
 pub use choice::{Choice, Origin};
-pub use choosing::Choices;
+pub use choosing::{Choices, choose};
