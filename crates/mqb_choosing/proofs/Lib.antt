@@ -5,3 +5,4 @@ pub mod Waiting
 pub mod Acks
 pub mod Sendable
 pub mod Ended
+pub mod Walks

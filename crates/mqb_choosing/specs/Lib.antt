@@ -1,2 +1,3 @@
 pub mod Choices
 pub mod Going
+pub mod Marks

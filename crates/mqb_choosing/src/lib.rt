@@ -8,6 +8,10 @@
 mod candidates;
 mod choice;
 mod choosing;
+mod marks;
+mod spelling;
 
 pub use choice::{Choice, Origin};
 pub use choosing::{Choices, choose};
+pub use marks::marks_for;
+pub use spelling::put_choices;

@@ -1,0 +1,40 @@
+use Rattle.std.proofs.Common.{◌≡◌, ◌++◌, ◌<◌, ◌∷◌, ◌+◌, ◌∙◌, ◌≤◌, ℕ, List, length, take, drop, get_or, ap, sym, subst, arith}
+use Rattle.std.proofs.lemmas.List.{append-nil, drop_all}
+use Rattle.std.specs.List.{flat_map}
+use Rattle.mqb_base.specs.declared.heads.SessionHead.{SessionHead}
+use Rattle.mqb_model.specs.calls.pump.Candidates.{Candidate}
+use Rattle.mqb_packet.specs.Plain.{plain_spelling}
+use Rattle.mqb_model.specs.calls.pump.Pump.{packet_for}
+use Rattle.mqb_choosing.specs.declared.choice.Choice.{Choice}
+use Rattle.mqb_choosing.specs.Choices.{shown_in}
+use Rattle.mqb_choosing.proofs.Walks.{front_read, longer, text_more}
+use Rattle.mqb_choosing.proofs.spelling.put_choices.Goals as goal
+
+pub returns-in-Err-clause-stays : goal.returns-in-Err-clause-stays
+returns-in-Err-clause-stays c = c.truncate.ensures.items ∙ ap (take c.len-start.result) c.in-Err.ensures.stays ∙ c.loop-choice.invariant.front
+
+pub loop-choice-preserved : goal.loop-choice-preserved
+loop-choice-preserved c =
+    let s = c.args.contents.now.lists in
+    let spell : Candidate × SessionHead → List ℕ = λ given. plain_spelling (packet_for c.args.to c.args.now given) in
+    let choices : List Choice = c.args.choices.now.choices in
+    let x : Choice = c.choice-item.result in
+    let within : c.loop-choice.choice-index < length choices = omega (arith, c.loop-choice-test.true, ap length c.as_slice-choice-items.ensures) in
+    let is : x ≡ get_or choices c.loop-choice.choice-index x = c.choice-item.is ∙ ap (λ (cs : List Choice). get_or cs c.loop-choice.choice-index x) c.as_slice-choice-items.ensures in
+    let more = longer s spell x c.len-start.result c.loop-choice.out.items c.put_choice.new.out.items c.loop-choice.invariant.start c.in_default.ensures.put in
+    record {
+      start = more.0;
+      front = more.1 ∙ c.loop-choice.invariant.front;
+      text = text_more s spell choices c.loop-choice.choice-index x c.loop-choice.out.items c.put_choice.new.out.items
+          (c.args.out.now.items ++ flat_map spell (shown_in s choices)) (front_read choices c.loop-choice.choice-index x within is) c.in_default.ensures.put c.loop-choice.invariant.text;
+    }
+
+pub returns-clause-put : goal.returns-clause-put
+returns-clause-put c =
+    let s = c.args.contents.now.lists in
+    let spell : Candidate × SessionHead → List ℕ = λ given. plain_spelling (packet_for c.args.to c.args.now given) in
+    let choices : List Choice = c.args.choices.now.choices in
+    let past : length choices ≤ c.loop-choice.choice-index = omega (arith, c.loop-choice-test.false, ap length c.as_slice-choice-items.ensures) in
+    sym (append-nil c.loop-choice.out.items)
+    ∙ sym (ap (λ (cs : List Choice). c.loop-choice.out.items ++ flat_map spell (shown_in s cs)) (drop_all c.loop-choice.choice-index choices past))
+    ∙ c.loop-choice.invariant.text
