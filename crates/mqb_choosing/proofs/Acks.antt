@@ -1,5 +1,5 @@
 -- Order acknowledgements, of which some are left.
-use Rattle.std.proofs.Common.{◌≡◌, ℕ, ◌+◌, ◌<◌, ◌≤◌, Bool, true, false, cond, List, [], ◌∷◌, ◌++◌, length, drop, map, Option, Some, None, refl, sym, ap, subst, ◌∙◌, arith, length-append}
+use Rattle.std.proofs.Common.{◌≡◌, ℕ, ◌+◌, ◌<◌, ◌≤◌, Bool, true, false, cond, List, [], ◌∷◌, ◌++◌, length, drop, Option, Some, None, refl, ap, ◌∙◌, arith}
 use Rattle.std.proofs.lemmas.Bool.Decides.{nat_tests}
 use Rattle.std.proofs.lemmas.List.{append-nil}
 use Rattle.std.specs.List.{cons_option, enumerate_from}
@@ -66,7 +66,7 @@ ack_sendable s peer now number row host = record {
         let most = direct_most (Os peer.host) queue host refl in
         let two = length_direct (length text) text in
         let names : length (user_names told) ≡ length (wire (order_layer peer.host)) =
-            ap length (append-nil (wire (order_layer peer.host) ++ []) ∙ append-nil (wire (order_layer peer.host))) in
+        ap length (append-nil (wire (order_layer peer.host) ++ []) ∙ append-nil (wire (order_layer peer.host))) in
         let body : length told.body ≡ 16 = refl in
         let size : message_size headers.Session told ≤ MAX_PACKET = omega (arith, most, two, names, body) in
         small (message_size headers.Session told) MAX_PACKET size

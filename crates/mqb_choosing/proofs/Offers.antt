@@ -1,5 +1,5 @@
 -- What choosing comes to where candidates are offered one after another.
-use Rattle.std.proofs.Common.{◌≡◌, ℕ, suc, ◌+◌, Bool, true, false, cond, List, [], ◌∷◌, ◌++◌, length, map, Option, Some, refl, sym, ap, subst, ◌∙◌, append_assoc, arith}
+use Rattle.std.proofs.Common.{◌≡◌, ℕ, suc, ◌+◌, Bool, true, false, cond, List, [], ◌∷◌, ◌++◌, length, map, Option, Some, refl, sym, ap, subst, ◌∙◌, arith}
 use Rattle.std.proofs.lemmas.Bool.Decides.{nat_tests}
 use Rattle.std.proofs.lemmas.List.{length-append}
 use Rattle.std.specs.Prelude.{option_map, fold, not, ◌==◌, ◌||◌}
@@ -104,10 +104,10 @@ offers_one s g origin m size there sized next =
         let many : ℕ = length (g.choices ++ choice ∷ []) in
         let count : many ≡ length g.choices + 1 = length-append g.choices (choice ∷ []) in
         let packets : map (shown s) (g.choices ++ choice ∷ []) ++ packets_behind many ≡ front ++ (Some (c, head) ∷ packets_behind many) =
-            push_shown (shown s) g.choices choice (packets_behind many)
-            ∙ ap (λ (x : Option (Candidate × SessionHead)). front ++ (x ∷ packets_behind many)) seen in
+        push_shown (shown s) g.choices choice (packets_behind many)
+        ∙ ap (λ (x : Option (Candidate × SessionHead)). front ++ (x ∷ packets_behind many)) seen in
         let any : (not (many == 0) || not (length next == 0)) ≡ true =
-            ap (λ (n : ℕ). not (n == 0) || not (length next == 0)) count ∙ more_any (not (length next == 0)) (length g.choices) in
+        ap (λ (n : ℕ). not (n == 0) || not (length next == 0)) count ∙ more_any (not (length next == 0)) (length g.choices) in
         same_chosen (map (shown s) (g.choices ++ choice ∷ []) ++ packets_behind many) (front ++ (Some (c, head) ∷ packets_behind many))
         (session_behind behind (cs_behind many)) (total many) (not (many == 0) || not (length next == 0)) true packets any
         ∙ ap going count

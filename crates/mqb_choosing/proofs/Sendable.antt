@@ -1,13 +1,11 @@
 -- Whatever waits in a valid state can be sent, and what is chosen of it.
-use Rattle.std.proofs.Common.{◌≡◌, ℕ, ◌+◌, Bool, true, false, cond, List, [], ◌∷◌, ◌++◌, map, Option, Some, None, refl, sym, ap, subst, ◌∙◌}
-use Rattle.std.proofs.lemmas.List.Elements.{All-cons, All-from_recursion, All-head, All-nil, All-tail, recursion_from_All}
+use Rattle.std.proofs.Common.{◌≡◌, ℕ, ◌+◌, Bool, true, false, cond, List, [], ◌∷◌, ◌++◌, map, Some, None, refl, sym}
+use Rattle.std.proofs.lemmas.List.Elements.{All-cons, All-head, All-nil, All-tail, recursion_from_All}
 use Rattle.std.specs.List.{AllByRecursion, cons_option, enumerate_from, flat_map}
-use Rattle.std.specs.Prelude.{◌==◌, ◌&&◌, All, IsSomeAnd, filter, filter_map, is_none, max, nat_lt, slice_get, zip}
-use Rattle.mqb_base.specs.declared.heads.SessionHead.{SessionHead}
+use Rattle.std.specs.Prelude.{◌==◌, ◌&&◌, All, filter, filter_map, is_none, max, nat_lt, slice_get, zip}
 use Rattle.mqb_base.specs.declared.ids.Identity.{Identity}
 use Rattle.mqb_base.specs.declared.message.Delivery.{Delivery}
 use Rattle.mqb_base.specs.declared.message.Delivery.TheVariants as delivery
-use Rattle.mqb_base.specs.declared.message.Message.{Message}
 use Rattle.mqb_fate.specs.Asking.{is_transactional}
 use Rattle.mqb_names.specs.Values.{IsName}
 use Rattle.mqb_orders.specs.Rows.{Row, is_open}
@@ -27,7 +25,7 @@ use Rattle.mqb_model.specs.records.Packets.{is_recoverable}
 use Rattle.mqb_model.specs.rules.Numbers.{express_after}
 use Rattle.mqb_model.specs.state.Places.{is_express}
 use Rattle.mqb_model.specs.state.State.{State}
-use Rattle.mqb_model.specs.state.Valid.{IsCarried, IsInOrder, IsKeptBy, IsValidState}
+use Rattle.mqb_model.specs.state.Valid.{IsCarried, IsValidState}
 use Rattle.mqb_choosing.specs.Choices.{AreSendable, IsOfStream, IsPlain, IsSendable}
 use Rattle.mqb_choosing.proofs.Acks.{ack_sendable}
 use Rattle.mqb_choosing.proofs.Members.{got_holds}

@@ -50,11 +50,7 @@ fn rising_mark(row: &OutRow, greatest: u32) -> Option<Mark>
 }
 
 /// The marks of the outgoing rows that rise where these packets go, in row order. They are recorded before any packet goes.
-pub fn marks_for(
-    alloc: Global,
-    contents: &Contents,
-    choices: &Choices,
-) -> Result<Vec<Mark>, Memory>
+pub fn marks_for(alloc: Global, contents: &Contents, choices: &Choices) -> Result<Vec<Mark>, Memory>
     requires { All (IsThere contents.now.lists) choices.now.choices }
     ensures { IfOk result (λ marks. marks.items ≡ marks_for contents.now.lists
         (map (λ given. given.0) (shown_in contents.now.lists choices.now.choices))) }

@@ -1,11 +1,10 @@
 use Rattle.std.proofs.Common.{◌≡◌, List, subst}
 use Rattle.std.proofs.lemmas.List.Elements.{All-from_recursion}
-use Rattle.std.specs.List.{AllByRecursion}
 use Rattle.mqb_session.specs.State as one_end
 use Rattle.mqb_model.specs.calls.pump.Candidates.{Candidate}
 use Rattle.mqb_model.specs.calls.pump.Choosing.{chosen, with_heads}
 use Rattle.mqb_model.specs.state.State.{State}
-use Rattle.mqb_choosing.specs.Choices.{AreSendable, IsSendable, IsThere, shown}
+use Rattle.mqb_choosing.specs.Choices.{IsSendable, IsThere, shown}
 use Rattle.mqb_choosing.specs.Going.{Going, Offers, candidates_to, known, nothing_chosen}
 use Rattle.mqb_choosing.proofs.Ended.{Ended, all_shown, each_shown, ended, waiting_sendable}
 use Rattle.mqb_choosing.proofs.Sendable.{heads_sendable, valid_sendable}

@@ -1,4 +1,4 @@
-use Rattle.std.proofs.Common.{◌≡◌, ◌∙◌, ◌++◌, ◌∷◌, ◌+◌, ◌<◌, ℕ, List, [], Option, Some, Vec, Global, drop, map, ap, sym, subst, arith}
+use Rattle.std.proofs.Common.{◌≡◌, ◌∙◌, ◌++◌, ◌∷◌, ◌+◌, ℕ, List, [], Option, Some, Vec, Global, drop, map, ap, sym, subst}
 use Rattle.std.proofs.lemmas.List.{append-nil}
 use Rattle.std.proofs.lemmas.List.Elements.{recursion_from_All}
 use Rattle.std.specs.List.{cons_option}
@@ -25,11 +25,11 @@ loop-k-preserved c =
     let cs : List Candidate = map (λ given. given.0) (shown_in s c.args.choices.now.choices) in
     let there : slice_get rows k ≡ Some out = got_is rows k out c.loop-k-test.true ∙ ap (λ (r : OutRow). Some r) (sym c.index-rows-k.is) in
     let front : drop k s.outs ≡ row_of out ∷ drop (k + 1) s.outs =
-        front_is s.outs k (row_of out) (subst (λ (rs : List Row). slice_get rs k ≡ Some (row_of out)) c.outs-rows.ensures.rows (map_got row_of rows k out there)) in
+    front_is s.outs k (row_of out) (subst (λ (rs : List Row). slice_get rs k ≡ Some (row_of out)) c.outs-rows.ensures.rows (map_got row_of rows k out there)) in
     let top : c.greatest_chosen-greatest.result ≡ greatest_sent cs k =
-        c.greatest_chosen-greatest.ensures
-        ∙ ap (λ (choices : List Choice). greatest_chosen choices k) c.as_slice.ensures
-        ∙ greatest_is s k c.args.choices.now.choices (recursion_from_All (IsThere s) c.args.choices.now.choices c.requires) in
+    c.greatest_chosen-greatest.ensures
+    ∙ ap (λ (choices : List Choice). greatest_chosen choices k) c.as_slice.ensures
+    ∙ greatest_is s k c.args.choices.now.choices (recursion_from_All (IsThere s) c.args.choices.now.choices c.requires) in
     let pushed : c.match-rising_mark.marks.items ≡ c.loop-k.marks.items ++ cons_option c.rising_mark.result [] = elim c.match-rising_mark.branch [
       | in-Some+in_ok-push w ↦ ap (λ (v : Vec Mark Global). v.items) w.marks-is ∙ w.in_ok-push.ensures.items
           ∙ sym (ap (λ (o : Option Mark). c.loop-k.marks.items ++ cons_option o []) w.in-Some.is)

@@ -1,4 +1,4 @@
-use Rattle.std.proofs.Common.{◌≡◌, List, Option, [], ◌∷◌, ap, subst, sym, ◌∙◌}
+use Rattle.std.proofs.Common.{◌≡◌, Option, [], ◌∷◌, ap, subst, sym, ◌∙◌}
 use Rattle.std.specs.Prelude.{IsSomeAnd}
 use Rattle.mqb_base.specs.declared.message.Message.{Message}
 use Rattle.mqb_model.specs.calls.pump.Choosing.{candidate_size}
@@ -15,7 +15,7 @@ returns c = on_ok c.offer_sized.result c.offer_sized.ensures (λ new.
     let s = c.args.contents.now.lists in
     let m : Message = c.message.result.now in
     let sized : c.size_of-size.result ≡ candidate_size (coming_from c.args.origin m) =
-        c.size_of-size.ensures.size ∙ ap (λ (h : Headers). message_size h m) c.headers.ensures in
+    c.size_of-size.ensures.size ∙ ap (λ (h : Headers). message_size h m) c.headers.ensures in
     subst (λ (o : Option Message). IsSomeAnd o (λ m. Offers s c.args.self.now c.offer_sized.new.self (coming_from c.args.origin m ∷ []))) (sym c.message.ensures)
     (subst (λ (g : Going). Offers s c.args.self.now g (coming_from c.args.origin m ∷ [])) (sym new)
     (offers_one s c.args.self.now c.args.origin m c.size_of-size.result c.message.ensures sized)))

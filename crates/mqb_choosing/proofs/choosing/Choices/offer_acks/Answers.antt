@@ -21,7 +21,7 @@ loop-k-preserved c =
     let within : k < length c.ins-rows.result.now = omega (arith, c.loop-k-test.true) in
     let few : k < length owes = omega (arith, within, same, c.requires.owes) in
     let row : (d : InRow) → slice_get s.ins k ≡ Some (get_or c.ins-rows.result.now k d) =
-        λ d. subst (λ (rows : List InRow). slice_get rows k ≡ Some (get_or c.ins-rows.result.now k d)) c.ins-rows.ensures.rows (got_is c.ins-rows.result.now k d within) in
+    λ d. subst (λ (rows : List InRow). slice_get rows k ≡ Some (get_or c.ins-rows.result.now k d)) c.ins-rows.ensures.rows (got_is c.ins-rows.result.now k d within) in
     let mark : slice_get owes k ≡ Some (get_or owes k false) = got_is owes k false few in
     let now : Going → ℕ → Type 0 = λ g n. AreLeft s c.args.self.now g (acks s c.args.peer.now c.args.now n (filter_map (owed_to guid) (enumerate_from (k + 1) (drop (k + 1) (zip s.ins owes))))) all in
     record {
@@ -30,11 +30,11 @@ loop-k-preserved c =
             let d : InRow = w.index-rows-k.result in
             let e : InRow = w.index-rows-k-then-eq.result in
             let here : e ≡ get_or c.ins-rows.result.now k d =
-                w.index-rows-k-then-eq.is ∙ same_Some (get_or c.ins-rows.result.now k e) (get_or c.ins-rows.result.now k d) (sym (row e) ∙ row d) in
+            w.index-rows-k-then-eq.is ∙ same_Some (get_or c.ins-rows.result.now k e) (get_or c.ins-rows.result.now k d) (sym (row e) ∙ row d) in
             subst (λ (n : ℕ). now c.if-owes-k.self n) (sym (w.number-is ∙ w.express_after-number.ensures))
             (subst (λ (g : Going). now g _) (sym w.self-is)
             (ack_offered s c.args.self.now c.loop-k.self w.offer_ack.new.self c.args.peer.now c.args.now c.loop-k.number k (get_or c.ins-rows.result.now k d) owes all (row d)
-            (mark ∙ ap (λ (b : Bool). Some b) w.if-owes-k.true) (sym w.eq.ensures ∙ w.if-eq.true) 
+            (mark ∙ ap (λ (b : Bool). Some b) w.if-owes-k.true) (sym w.eq.ensures ∙ w.if-eq.true)
             (subst (λ (r : InRow). Offers s c.loop-k.self w.offer_ack.new.self (ack_candidate s c.args.peer.now c.args.now c.loop-k.number (k, r) ∷ [])) here w.in_ok-offer_ack.ensures)
             c.loop-k.invariant.left))
         | else-owes-k w ↦ subst (λ (n : ℕ). now c.if-owes-k.self n) (sym w.number-is) (subst (λ (g : Going). now g c.loop-k.number) (sym w.self-is) (elim w.else-owes-k.branch [
