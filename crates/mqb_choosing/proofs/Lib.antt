@@ -6,3 +6,4 @@ pub mod Acks
 pub mod Sendable
 pub mod Ended
 pub mod Walks
+pub mod Settled

@@ -8,10 +8,14 @@
 mod candidates;
 mod choice;
 mod choosing;
+mod laws;
 mod marks;
+mod settling;
 mod spelling;
 
 pub use choice::{Choice, Origin};
 pub use choosing::{Choices, choose};
+pub use laws::bytes_are_counted;
 pub use marks::marks_for;
+pub use settling::settle;
 pub use spelling::put_choices;
