@@ -21,7 +21,7 @@ use Rattle.mqb_model.specs.managers.Beside.{Origin}
 use Rattle.mqb_model.specs.state.State.{State}
 use Rattle.mqb_choosing.specs.declared.choice.Origin.TheVariants as origin
 use Rattle.mqb_choosing.specs.declared.choice.Origin.TheVariants.{Waiting}
-use Rattle.mqb_choosing.specs.Choices.{AreSendable, IsOfStream, IsPlain, IsReady, IsSendable, coming_from, message_at, origin_in}
+use Rattle.mqb_choosing.specs.Choices.{AreSendable, IsOfStream, IsPlain, CanGo, IsSendable, coming_from, message_at, origin_in}
 use Rattle.mqb_choosing.specs.Going.{Going, Offers, unsent_in}
 use Rattle.mqb_choosing.proofs.Left.{AreLeft, front_is, left_more, left_none, left_same, zip_front, zip_past}
 use Rattle.mqb_choosing.proofs.Members.{got_holds, there_holds}
@@ -112,7 +112,7 @@ unsent_is origin items order = unsent_from_low 0 origin items order
 -- A message of a lane at an index, and those behind it.
 
 pub plain_ready : (s : State) (peer : ℕ) (kind : Lane) (index : ℕ) (p : PlainLists) → AreSendable s → slice_get s.plain peer ≡ Some p
-    → index < length (messages_of (outgoing_in kind p)) → IsReady s (Waiting peer kind index)
+    → index < length (messages_of (outgoing_in kind p)) → CanGo s (Waiting peer kind index)
 plain_ready s peer kind index p sendable is within =
     subst (λ (o : Option PlainLists). IsSomeAnd (option_and_then (λ p. slice_get (messages_of (outgoing_in kind p)) index) o) (λ m. IsSendable (coming_from (Waiting peer kind index) m))) (sym is)
     (there_holds (λ m. IsSendable (coming_from (Waiting peer kind index) m)) (messages_of (outgoing_in kind p)) index each within)
@@ -148,7 +148,7 @@ plain_offered s start now after peer kind index p is offers left = rw is (at (sl
 -- A kept message of a row at an index, and those behind it.
 
 pub kept_ready : (s : State) (row : ℕ) (index : ℕ) (tx : TxHead) (r : Row) (k : Kept) → AreSendable s → slice_get s.outs row ≡ Some r
-    → slice_get r.kept index ≡ Some k → IsReady s (origin.Kept row index tx)
+    → slice_get r.kept index ≡ Some k → CanGo s (origin.Kept row index tx)
 kept_ready s row index tx r k sendable is got =
     rw is (rw got (let h = got_holds (λ (k : Kept). IsOfStream k.message) r.kept index k (got_holds (λ (r : Row). All (λ k. IsOfStream k.message) r.kept) s.outs row r sendable.kept is) got in
     record { carried = h.0; kind = sym h.1 }))

@@ -64,8 +64,8 @@ pub record IsSendable (c : Candidate) : Type 0 where
   pub kind : is_some c.tx ≡ is_transactional c.message.delivery
 
 -- the message that stands there can be sent
-abbrev pub IsReady : State → Origin → Type 0
-IsReady s origin = IsSomeAnd (message_at s origin) (λ m. IsSendable (coming_from origin m))
+abbrev pub CanGo : State → Origin → Type 0
+CanGo s origin = IsSomeAnd (message_at s origin) (λ m. IsSendable (coming_from origin m))
 
 -- the message of a packet that goes is there, and it can be carried
 abbrev pub IsThere : State → Choice → Type 0

@@ -4,7 +4,7 @@ ghost use Rattle.mqb_model.specs.calls.pump.Choosing.{candidate_size, session_be
 ghost use Rattle.mqb_model.specs.managers.Valid.{IsExpressValid};
 ghost use Rattle.mqb_model.specs.state.Valid.{IsCarried, IsValidState};
 ghost use Rattle.mqb_packet.specs.Plain.{message_size};
-ghost use Rattle.mqb_choosing.specs.Choices.{AreSendable, IsReady, IsThere, coming_from, message_at, shown_in};
+ghost use Rattle.mqb_choosing.specs.Choices.{AreSendable, CanGo, IsThere, coming_from, message_at, shown_in};
 ghost use Rattle.mqb_choosing.specs.Going.{Offers, any_waits, candidates_to, chosen_to, known, nothing_chosen, offered, takes};
 
 use crate::choice::{Choice, Origin};
@@ -95,7 +95,7 @@ impl Choices {
 
     /// What comes from there goes if it may, and else nothing goes any more.
     pub(crate) fn offer(&mut self, contents: &Contents, origin: Origin) -> Result<(), Memory>
-        requires { IsReady contents.now.lists origin }
+        requires { CanGo contents.now.lists origin }
         ensures { OnOk result (IsSomeAnd (message_at contents.now.lists origin)
             (λ m. Offers contents.now.lists self.old self.new (coming_from origin m ∷ []))) }
     {
