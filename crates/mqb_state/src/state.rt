@@ -9,6 +9,7 @@ ghost use Rattle.mqb_snapshot.specs.Reading.{state_of};
 ghost use Rattle.mqb_snapshot.specs.Snapshot.{snapshot};
 ghost use Rattle.mqb_snapshot.specs.Values.{IsState};
 
+use crate::typed::read_back_is_valid;
 use mqb_base::{Identity, Memory};
 use mqb_contents::Contents;
 use mqb_model::new_is_valid;
@@ -61,6 +62,7 @@ impl State {
             IsReadBack (Ok (durable s)) result }
     {
         snapshots_are_read_back();
+        read_back_is_valid(bytes);
         let contents = read_back(alloc, bytes)?;
         Ok(State { contents, alloc })
     }

@@ -1,12 +1,16 @@
 //! What an entry has by its types. But for the last, each function only says it.
-ghost use Rattle.std.specs.Prelude.{All, IfSome};
+ghost use Rattle.std.specs.Prelude.{◌≡◌, All, IfSome, Ok};
 ghost use Rattle.mqb_entries.specs.Formats.{IsBytes};
 ghost use Rattle.mqb_model.specs.records.Carrying.{IsRead};
 ghost use Rattle.mqb_model.specs.records.Reading.{record_in};
+ghost use Rattle.mqb_model.specs.state.State.{State};
+ghost use Rattle.mqb_model.specs.state.Valid.{IsValidState};
 ghost use Rattle.mqb_record_laws.specs.Typed.{IsTyped, IsTypedOp, IsTypedPart};
+ghost use Rattle.mqb_snapshot.specs.Reading.{state_of};
 
 use mqb_entries::{ArrivedPart, Entry, OpView, Ops, PacketSlice};
 use mqb_record_laws::entries_are_read;
+use mqb_snapshot_laws::read_states_are_valid;
 
 fn bytes_are_bytes(bytes: &[u8])
     ensures { IsBytes bytes.now }
@@ -62,4 +66,12 @@ pub(crate) fn entry_is_read(entry: &Entry<'_>)
 {
     entry_is_typed(entry);
     entries_are_read();
+}
+
+/// What bytes are read back as is valid.
+pub(crate) fn read_back_is_valid(bytes: &[u8])
+    ensures { (s : State) → state_of bytes.now ≡ Ok s → IsValidState s }
+{
+    bytes_are_bytes(bytes);
+    read_states_are_valid();
 }
