@@ -1,6 +1,6 @@
 -- What choosing comes to in the end.
 use Rattle.std.proofs.Common.{◌≡◌, ℕ, Bool, true, false, List, [], ◌∷◌, ◌++◌, length, map, Option, Some, None, refl, sym, ap, subst, ◌∙◌, append_assoc}
-use Rattle.std.proofs.lemmas.List.{append-nil}
+use Rattle.std.proofs.lemmas.List.{append-nil, length-map}
 use Rattle.std.specs.List.{AllByRecursion, cons_option}
 use Rattle.std.specs.Option.{option_map_or}
 use Rattle.std.specs.Prelude.{◌==◌, ◌||◌, IsSomeAnd, filter_map, not, slice_get, sum_by}
@@ -9,7 +9,7 @@ use Rattle.mqb_base.specs.declared.message.Lane.TheVariants.{Durable, Express}
 use Rattle.mqb_plain.specs.Plain.{PlainLists}
 use Rattle.mqb_session.specs.State as one_end
 use Rattle.mqb_model.specs.calls.pump.Candidates.{Candidate, acks, candidates}
-use Rattle.mqb_model.specs.calls.pump.Choosing.{candidate_size, chosen, session_behind, with_heads}
+use Rattle.mqb_model.specs.calls.pump.Choosing.{candidate_size, chosen, session_after, session_behind, with_heads}
 use Rattle.mqb_model.specs.managers.Manager.{Rest}
 use Rattle.mqb_model.specs.state.State.{State}
 use Rattle.mqb_choosing.specs.Choices.{AreSendable, IsSendable, shown}
@@ -99,3 +99,13 @@ waiting_sendable s rest now k h = at (slice_get s.peers k) refl
         → AllByRecursion IsSendable (option_map_or (λ peer. option_map_or (candidates s rest now k peer) (slice_get s.plain k) []) o [])
     at None here = tt
     at (Some peer) here = lists peer here (slice_get s.plain k) refl
+
+-- The candidates are as many, and the same.
+
+pub headed : (session : one_end.State) (cs : List Candidate) → map (λ given. given.0) (with_heads session cs) ≡ cs
+headed session [] = refl
+headed session (c ∷ cs) = ap (λ (cs : List Candidate). c ∷ cs) (headed (session_after session c) cs)
+
+pub as_many : {X Y Z : Type 0} (f : X → Option Y) (g : Y → Z) (xs : List X) (ys : List Y) (zs : List Z) → map f xs ≡ map (λ y. Some y) ys → map g ys ≡ zs → length xs ≡ length zs
+as_many f g xs ys zs shown same =
+    sym (length-map xs f) ∙ ap length shown ∙ length-map ys (λ y. Some y) ∙ sym (length-map ys g) ∙ ap length same

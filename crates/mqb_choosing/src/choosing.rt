@@ -1,4 +1,4 @@
-ghost use Rattle.std.specs.Prelude.{[], ◌==◌, ◌≡◌, ◌<◌, ◌≤◌, ◌∷◌, All, IfOk, IsSomeAnd, OnOk, length, not, sum_by};
+ghost use Rattle.std.specs.Prelude.{[], ◌==◌, ◌≡◌, ◌<◌, ◌≤◌, ◌∷◌, All, IfOk, IsSomeAnd, OnOk, length, map, not, sum_by};
 ghost use Rattle.mqb_heads.specs.declared.base.TheConstants.{MAX_PACKET};
 ghost use Rattle.mqb_model.specs.calls.pump.Choosing.{candidate_size, session_behind, with_heads};
 ghost use Rattle.mqb_model.specs.managers.Valid.{IsExpressValid};
@@ -175,6 +175,11 @@ pub fn choose(
     ensures packets { IfOk result (λ c. shown_in contents.now.lists c.choices ≡
         with_heads session (chosen_to contents.now.lists session cursors.now owes.now now peer)) }
     ensures there { IfOk result (λ c. All (IsThere contents.now.lists) c.choices) }
+    ensures candidates { IfOk result (λ c. map (λ given. given.0)
+        (shown_in contents.now.lists c.choices) ≡
+        chosen_to contents.now.lists session cursors.now owes.now now peer) }
+    ensures count { IfOk result (λ c. length c.choices ≡ length
+        (chosen_to contents.now.lists session cursors.now owes.now now peer)) }
     ensures session { IfOk result (λ c. c.session ≡
         session_behind session (chosen_to contents.now.lists session cursors.now owes.now now peer)) }
     ensures bytes { IfOk result (λ c. c.bytes ≡ sum_by candidate_size

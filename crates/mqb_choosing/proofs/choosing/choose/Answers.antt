@@ -1,12 +1,13 @@
-use Rattle.std.proofs.Common.{◌≡◌, List, subst}
+use Rattle.std.proofs.Common.{◌≡◌, ◌∙◌, List, ap, map, subst}
 use Rattle.std.proofs.lemmas.List.Elements.{All-from_recursion}
+use Rattle.mqb_base.specs.declared.heads.SessionHead.{SessionHead}
 use Rattle.mqb_session.specs.State as one_end
 use Rattle.mqb_model.specs.calls.pump.Candidates.{Candidate}
 use Rattle.mqb_model.specs.calls.pump.Choosing.{chosen, with_heads}
 use Rattle.mqb_model.specs.state.State.{State}
 use Rattle.mqb_choosing.specs.Choices.{IsSendable, IsThere, shown}
 use Rattle.mqb_choosing.specs.Going.{Going, Offers, candidates_to, known, nothing_chosen}
-use Rattle.mqb_choosing.proofs.Ended.{Ended, all_shown, each_shown, ended, waiting_sendable}
+use Rattle.mqb_choosing.proofs.Ended.{Ended, all_shown, as_many, each_shown, ended, headed, waiting_sendable}
 use Rattle.mqb_choosing.proofs.Sendable.{heads_sendable, valid_sendable}
 use Rattle.mqb_choosing.proofs.choosing.choose.Goals as goal
 
@@ -33,6 +34,23 @@ returns-clause-there c =
     (the_end s c.args.session c.new-choices.result c.offer_all.new.self cs c.new-choices.ensures c.in_ok-offer_all.ensures).packets
     (heads_sendable c.args.session 0 0 cs (waiting_sendable s (known c.args.session c.args.cursors.now c.args.owes.now) c.args.now c.args.peer
     (valid_sendable s c.requires.valid c.requires.express))))
+
+pub returns-clause-candidates : goal.returns-clause-candidates
+returns-clause-candidates c =
+    let s = c.args.contents.now.lists in
+    let cs : List Candidate = candidates_to s (known c.args.session c.args.cursors.now c.args.owes.now) c.args.now c.args.peer in
+    ap (λ (given : List (Candidate × SessionHead)). map (λ g. g.0) given)
+    (all_shown (shown s) c.offer_all.new.self.choices (with_heads c.args.session (chosen c.args.session 0 0 cs))
+    (the_end s c.args.session c.new-choices.result c.offer_all.new.self cs c.new-choices.ensures c.in_ok-offer_all.ensures).packets)
+    ∙ headed c.args.session (chosen c.args.session 0 0 cs)
+
+pub returns-clause-count : goal.returns-clause-count
+returns-clause-count c =
+    let s = c.args.contents.now.lists in
+    let cs : List Candidate = candidates_to s (known c.args.session c.args.cursors.now c.args.owes.now) c.args.now c.args.peer in
+    as_many (shown s) (λ given. given.0) c.offer_all.new.self.choices (with_heads c.args.session (chosen c.args.session 0 0 cs)) (chosen c.args.session 0 0 cs)
+    (the_end s c.args.session c.new-choices.result c.offer_all.new.self cs c.new-choices.ensures c.in_ok-offer_all.ensures).packets
+    (headed c.args.session (chosen c.args.session 0 0 cs))
 
 pub returns-clause-session : goal.returns-clause-session
 returns-clause-session c =
