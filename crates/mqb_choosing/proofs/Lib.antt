@@ -7,3 +7,4 @@ pub mod Sendable
 pub mod Ended
 pub mod Walks
 pub mod Settled
+pub mod Noted

@@ -1,3 +1,4 @@
 pub mod Choices
 pub mod Going
 pub mod Marks
+pub mod Noting

@@ -15,7 +15,7 @@ mod spelling;
 
 pub use choice::{Choice, Origin};
 pub use choosing::{Choices, choose};
-pub use laws::bytes_are_counted;
+pub use laws::{bytes_are_counted, sent_are_next};
 pub use marks::marks_for;
 pub use settling::settle;
 pub use spelling::put_choices;
