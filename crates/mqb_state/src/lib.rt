@@ -4,6 +4,7 @@
 //! and takes none: so a record can be written between them. `spell` and `read_back` are a state in bytes, `print` the lines of what it holds.
 #![tactic(auto)]
 
+mod applying;
 mod noting;
 mod prepared;
 mod preparing;

@@ -14,6 +14,13 @@ use mqb_queue::Queues;
 
 /// What it has.
 impl State {
+    /// A state is valid. This says so, and does nothing.
+    pub fn is_valid(&self)
+        ensures { IsValidState self.now.lists }
+    {
+        let _identity = self.contents.identity();
+    }
+
     pub fn identity(&self) -> &Identity
         ensures { result.now ≡ self.now.lists.identity }
     {
