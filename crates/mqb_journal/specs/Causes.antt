@@ -22,6 +22,11 @@ abbrev pub scan_failed : ScanFault → Bool
 scan_failed (scanning.BadStore at) = false
 scan_failed scanning.DiskFault = true
 
+-- why a store is not opened whose scan fails
+abbrev pub opening_of : ScanFault → OpenFault
+opening_of (scanning.BadStore at) = opening.BadStore at
+opening_of scanning.DiskFault = opening.DiskFault
+
 abbrev pub append_failed : AppendFault → Bool
 append_failed appending.Down = false
 append_failed appending.TooLarge = false

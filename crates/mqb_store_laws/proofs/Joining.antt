@@ -4,6 +4,7 @@ use Rattle.std.proofs.lemmas.List.Sums.{fold-append}
 use Rattle.std.specs.Prelude.{[], ◌++◌, ◌∷◌, ◌≡◌, Bool, List, None, Option, Some, cond, false, fold, map, option_and_then, option_map, true, ℕ}
 use Rattle.mqb_base.specs.Same.{same_guid}
 use Rattle.mqb_base.specs.declared.ids.Guid.{Guid}
+use Rattle.mqb_base.specs.declared.ids.Identity.{Identity}
 use Rattle.mqb_model.specs.laws.Durable.{DurableIsApplied, DurableIsFitted}
 use Rattle.mqb_model.specs.records.Applying.{apply, effect_of, fits}
 use Rattle.mqb_model.specs.records.Folding.{applied, applied_after, state_of}
@@ -13,7 +14,7 @@ use Rattle.mqb_model.specs.records.Record as entry
 use Rattle.mqb_model.specs.rules.Effects.{Effect}
 use Rattle.mqb_model.specs.state.Durable.{durable}
 use Rattle.mqb_model.specs.state.State.{State, empty}
-use Rattle.mqb_store_laws.specs.Images.{begins_as, records_in, state_by, state_in}
+use Rattle.mqb_store_laws.specs.Images.{begins_as, identity_by, records_in, state_by, state_in}
 use Rattle.mqb_store_laws.specs.Laws.{EntriesBegin, EntriesGoOn, RecordsJoin}
 
 -- what is there, and one more
@@ -95,6 +96,20 @@ records_join same fitted guid entries more s r valid is reads fit = with_record 
 pub entries_begin : EntriesBegin
 entries_begin guid first = at (record_of first)
   where
-    at : (o : Option Record) → option_and_then (state_by guid) (all_some (o ∷ [])) ≡ option_and_then (λ r. state_by guid (r ∷ [])) o
+    tested : (identity : Identity) (b : Bool) → cond b (Some (empty identity)) None ≡ option_map empty (cond b (Some identity) None)
+    tested identity true = refl
+    tested identity false = refl
+
+    at : (o : Option Record) → option_and_then (state_by guid) (all_some (o ∷ [])) ≡ option_map empty (identity_by guid o)
     at None = refl
-    at (Some r) = refl
+    at (Some (entry.Identity identity)) = tested identity (same_guid identity.guid guid)
+    at (Some (entry.Peer peer)) = refl
+    at (Some (entry.CreateQueue number plan)) = refl
+    at (Some (entry.Commit now ops)) = refl
+    at (Some (entry.Plain now p)) = refl
+    at (Some (entry.Offered marks)) = refl
+    at (Some (entry.Arrived now numbers part)) = refl
+    at (Some (entry.Taken now place id)) = refl
+    at (Some (entry.Purged now place)) = refl
+    at (Some (entry.Ticked now)) = refl
+    at (Some (entry.Roll count)) = refl

@@ -1,10 +1,10 @@
 -- What carries the condition of a state on a disk from call to call.
 use Rattle.std.proofs.Common.{inl, inr, sym, ⊎_elim, ◌∙◌, ap, subst, arith, length-append}
-use Rattle.std.specs.Prelude.{[], ◌+◌, ◌++◌, ◌∷◌, ◌≡◌, List, Option, Some, length, true, ℕ}
+use Rattle.std.specs.Prelude.{[], ◌+◌, ◌++◌, ◌∷◌, ◌≡◌, List, None, Option, Some, length, true, ℕ}
 use Rattle.mqb_base.specs.declared.ids.Guid.{Guid}
-use Rattle.mqb_devices.specs.Disk.{IsSettled, LeavesOnly, OnlyReads, View}
+use Rattle.mqb_devices.specs.Disk.{IsSettled, Lawful, LeavesOnly, OnlyReads, View}
 use Rattle.mqb_devices.specs.Images.{Each}
-use Rattle.mqb_devices.specs.Runs.{weaker}
+use Rattle.mqb_devices.specs.Runs.{started, weaker}
 use Rattle.mqb_journal.specs.Carrying.{goes_on_read, goes_on_refused, goes_on_stands, goes_on_told}
 use Rattle.mqb_journal.specs.Journals.{GoesOn}
 use Rattle.mqb_journal.specs.States.{JournalState}
@@ -78,3 +78,12 @@ pub moments_open : RecordsJoin → (d e : View) (j : JournalState) (s : State) (
     → IsSettled d → LeavesOnly d e (Opens j s (Some r))
 moments_open join d e j s entry r on new moments settled =
     weaker d e _ _ (moments on.entries on.goes_on settled) (opens_after join d j s entry r on new)
+
+-- what a read gives opens to the state, whatever record there is beside
+opens_first : (d : View) (j : JournalState) (s : State) (r : Option Record) → IsOn d j s → Each d.reads (Opens j s r)
+opens_first d j s None on c told = opens_now d j s on c told
+opens_first d j s (Some r) on c told = inl (opens_now d j s on c told)
+
+-- where the disk was not called
+pub quiet_opens : (d : View) (j : JournalState) (s : State) (r : Option Record) → Lawful d → IsOn d j s → IsSettled d → LeavesOnly d d (Opens j s r)
+quiet_opens d j s r law on settled = started d (Opens j s r) law (λ c left. opens_first d j s r on c (settled c left))

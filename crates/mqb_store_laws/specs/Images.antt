@@ -2,6 +2,7 @@
 use Rattle.std.specs.Prelude.{◌+◌, ◌∷◌, ◌≡◌, ◌⊎◌, Bool, List, None, Option, Some, false, if◌then◌else◌, length, map, option_and_then, ℕ}
 use Rattle.mqb_base.specs.Same.{same_guid}
 use Rattle.mqb_base.specs.declared.ids.Guid.{Guid}
+use Rattle.mqb_base.specs.declared.ids.Identity.{Identity}
 use Rattle.mqb_devices.specs.Disk.{View}
 use Rattle.mqb_journal.specs.Journals.{GoesOn}
 use Rattle.mqb_journal.specs.States.{JournalState}
@@ -17,6 +18,11 @@ use Rattle.mqb_model.specs.state.State.{State}
 -- the records that entries are
 abbrev pub records_in : List (List ℕ) → Option (List Record)
 records_in entries = all_some (map record_of entries)
+
+-- the identity that a record is, where it has this GUID
+abbrev pub identity_by : Guid → Option Record → Option Identity
+identity_by guid (Some (entry.Identity identity)) = if same_guid identity.guid guid then Some identity else None
+identity_by guid _ = None
 
 -- the first record is an identity with this GUID
 abbrev pub begins_as : Guid → List Record → Bool

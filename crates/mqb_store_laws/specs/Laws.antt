@@ -1,19 +1,19 @@
 -- What is known of the images of a store, and how a state that a disk stands for is carried from call to call.
-use Rattle.std.specs.Prelude.{[], ◌++◌, ◌∷◌, ◌≡◌, List, Some, length, option_and_then, true, ℕ}
+use Rattle.std.specs.Prelude.{[], ◌++◌, ◌∷◌, ◌≡◌, List, Some, length, option_and_then, option_map, true, ℕ}
 use Rattle.mqb_base.specs.declared.ids.Guid.{Guid}
 use Rattle.mqb_model.specs.records.Applying.{apply, fits}
 use Rattle.mqb_model.specs.records.Folding.{applied}
 use Rattle.mqb_model.specs.records.Reading.{record_of}
 use Rattle.mqb_model.specs.records.Record.{Record}
 use Rattle.mqb_model.specs.state.Durable.{durable}
-use Rattle.mqb_model.specs.state.State.{State}
+use Rattle.mqb_model.specs.state.State.{State, empty}
 use Rattle.mqb_model.specs.state.Valid.{IsValidState}
 use Rattle.mqb_store_laws.specs.Faults.{IsBadStore}
-use Rattle.mqb_store_laws.specs.Images.{OpensTo, state_by, state_in}
+use Rattle.mqb_store_laws.specs.Images.{OpensTo, identity_by, state_in}
 
 -- The first entry stands for a manager that has nothing but its identity, where it is one with the store's GUID.
 abbrev pub EntriesBegin : Type 0
-EntriesBegin = (guid : Guid) (first : List ℕ) → state_in guid (first ∷ []) ≡ option_and_then (λ r. state_by guid (r ∷ [])) (record_of first)
+EntriesBegin = (guid : Guid) (first : List ℕ) → state_in guid (first ∷ []) ≡ option_map empty (identity_by guid (record_of first))
 
 -- One entry more stands for what its record, where it fits, makes of the state.
 abbrev pub EntriesGoOn : Type 0
