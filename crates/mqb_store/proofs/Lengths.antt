@@ -25,5 +25,11 @@ name_is_short name h = let p = not_long (length name == 0) (nat_lt MAX_NAME (len
 pub identity_is_short : (v : IdentityView) → name_fault v.host ≡ None → length v.address ≡ 4 → length (spelled (Identity v)) ≤ 128
 identity_is_short v name four =
     let host = name_is_short v.host name in
-    omega (arith, host, four, length-append (bytes_of 1 (length v.host)) v.host, length-append (bytes_of 1 (length v.host) ++ v.host) (swapped v.guid.0),
-    length-append (bytes_of 1 (length v.host) ++ v.host ++ swapped v.guid.0) v.address)
+    omega (
+      arith,
+      host,
+      four,
+      length-append (bytes_of 1 (length v.host)) v.host,
+      length-append (bytes_of 1 (length v.host) ++ v.host) (swapped v.guid.0),
+      length-append (bytes_of 1 (length v.host) ++ v.host ++ swapped v.guid.0) v.address,
+    )

@@ -15,9 +15,9 @@ use mqb_base::{Guid, Line, Roomed};
 use mqb_devices::Disk;
 use mqb_entries::{Entry, IdentityView, entry_view};
 use mqb_journal::{Journal, OpenFault, Scan};
+use mqb_model::durable_is_applied;
 use mqb_records::owned_identity;
 use mqb_state::{PrepareFault, State};
-use mqb_model::durable_is_applied;
 use mqb_store_laws::{entries_begin, entries_go_on};
 use std::alloc::Global;
 

@@ -122,7 +122,11 @@ fn overwrite<D: Disk>(disk: &mut D, at: u64, bytes: &[u8]) -> Result<(), Failed>
 }
 
 /// The fault of the store of alpha once some of its bytes are others.
-fn fault_of<D: Disk>(alloc: Global, disk: &mut D, edits: &[(u64, &[u8])]) -> Result<Option<OpenFault>, Fail> {
+fn fault_of<D: Disk>(
+    alloc: Global,
+    disk: &mut D,
+    edits: &[(u64, &[u8])],
+) -> Result<Option<OpenFault>, Fail> {
     let _store = make(alloc, disk)?;
     for (at, bytes) in edits {
         overwrite(disk, *at, bytes)?;
@@ -157,7 +161,11 @@ fn a_store_is_bad_at_the_first_place(rt: HostRuntime) -> Result<(), Fail> {
 fn a_start_reads_no_further_than_it_applies(rt: HostRuntime) -> Result<(), Fail> {
     let alloc = rt.alloc();
     let mut disk = TraceDisk::new(alloc, 1_000, 100)?;
-    let fault = fault_of(alloc, &mut disk, &[(29, &[200]), (57, &9_000_000u32.to_le_bytes())])?;
+    let fault = fault_of(
+        alloc,
+        &mut disk,
+        &[(29, &[200]), (57, &9_000_000u32.to_le_bytes())],
+    )?;
     assert_eq!(rt; fault, Some(OpenFault::BadStore { at: 24 }));
     assert!(rt; disk.reads().iter().all(|(at, len)| at + len <= 57));
     Ok(())
