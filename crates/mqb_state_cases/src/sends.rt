@@ -49,13 +49,23 @@ alpha dead\nalpha deadxact\nalpha journal\nnumbers 1 1 65535\n",
     ),
 ];
 
-static COMMITS: [Row; 4] = [
+static COMMITS: [Row; 5] = [
     (
         &[PEER],
         ORDERED,
         b" [committed 1 1 alpha.1]",
         b"alpha dead\nalpha deadxact\nalpha journal\nalpha out 1 DIRECT=OS:beta\\PRIVATE$\\orders 1 0 0\n\
 numbers 2 2 65535\nfor beta\nkept 1 alpha.1\n",
+    ),
+    (
+        &[PEER, ORDERED],
+        (
+            1000,
+            Step::Commit(&[Op::Send(Sample { number: 2, ..ORDER })]),
+        ),
+        b" [committed 1 2 alpha.2]",
+        b"alpha dead\nalpha deadxact\nalpha journal\nalpha out 1 DIRECT=OS:beta\\PRIVATE$\\orders 2 0 0\n\
+numbers 3 2 65535\nfor beta\nkept 1 alpha.1 alpha.2\n",
     ),
     // a sequence is full with two messages
     (
