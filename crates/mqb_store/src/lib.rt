@@ -1,6 +1,6 @@
 //! The state of a manager on a disk: the one place that writes a record.
 //!
-//! `Store::write` spells an entry, prepares what it does and what is done beside it, appends it to the journal, and makes it. Memory is taken before the
+//! `Store::write` prepares what an entry does, spells it, appends it to the journal, and makes it. Memory is taken before the
 //! disk is called, so a refused record changes nothing, and a written one is made. `Store::format` begins a store, and `Store::start` opens one: each
 //! record is applied as the journal lends it.
 #![tactic(auto)]
