@@ -1,3 +1,4 @@
 mod Leading
 mod Marks
 mod Again
+mod Tried

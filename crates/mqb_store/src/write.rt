@@ -1,6 +1,6 @@
 ghost use Rattle.std.specs.Prelude.{◌≡◌, ◌++◌, ◌+◌, ◌≤◌, [], Err, IfOk, IsSomeAnd, OnErr, OnOk, false, length, true};
 ghost use Rattle.mqb_contents.specs.Rooms.{IsGrown};
-ghost use Rattle.mqb_devices.specs.Disk.{IsSettled, LeavesOnly};
+ghost use Rattle.mqb_devices.specs.Disk.{Counted, IsSettled, LeavesOnly};
 ghost use Rattle.mqb_entries.specs.Entries.{entry_of};
 ghost use Rattle.mqb_entries.specs.SpelledEntries.{Fits, spelled};
 ghost use Rattle.mqb_journal.specs.Causes.{FaultsAsSaid};
@@ -47,7 +47,7 @@ fn prepare(state: &mut State, entry: &Entry<'_>) -> Result<Prepared, Memory>
 }
 
 impl Store {
-    /// Writes one record, and makes what it does. Memory is taken before the disk is called, by four calls.
+    /// Writes one record by four calls of the disk, and makes what it does. Memory is taken before them.
     ///
     /// # Errors
     /// `Memory`, and nothing has changed; `DiskFault`, and the store is down.
@@ -62,7 +62,7 @@ impl Store {
         ensures on { OnOk result (IsOn (D.view disk.new) self.new.journal self.new.state) }
         ensures settled { OnOk result (IsSettled (D.view disk.new)) }
 
-        // A crash at any moment of the call leaves the state before it or the one after it.
+        // From a settled disk on, a crash at any moment of the call leaves the state before it or the one after it.
         ensures moments { IsSettled (D.view disk.old) → IsSomeAnd (record_in entry.now)
             (λ r. LeavesOnly (D.view disk.old) (D.view disk.new)
             (Opens self.old.journal self.old.state (Some r))) }
@@ -70,6 +70,7 @@ impl Store {
             (disk.new ≡ disk.old) × (self.new ≡ self.old) }
         ensures failed { result ≡ Err fault.DiskFault →
             self.new ≡ fallen self.old (spelled entry.now) }
+        ensures calls { OnOk result (Counted 4 (D.view disk.old).calls (D.view disk.new).calls) }
         ensures cause { FaultsAsSaid write_failed (D.view disk.old).faults
             (D.view disk.new).faults result }
         ensures switch { (D.view disk.new).switch ≡ (D.view disk.old).switch }

@@ -10,3 +10,6 @@ returns-in_err-contents-clause-again c =
 
 pub returns-clause-again : goal.returns-clause-again
 returns-clause-again c = again c.snapshots_are_read_back.ensures c.args.bytes.now (Ok c.in_ok-contents.contents) c.in_ok-contents.ensures
+
+pub invariant_of-result : goal.invariant_of-result
+invariant_of-result c = c.read_back_is_valid.ensures c.in_ok-contents.contents.lists c.in_ok-contents.ensures
