@@ -4,6 +4,7 @@ use mqb_orders::KeptList;
 use mqb_state::State;
 use mqb_transcript::Printer;
 use std::alloc::Global;
+use std::test::Fail;
 
 /// The managers that are printed as their hosts.
 fn hosts(alloc: Global, state: &State) -> Result<Vec<Identity>, Memory> {
@@ -79,6 +80,13 @@ pub(crate) fn picture(alloc: Global, state: &State) -> Result<Vec<u8>, Memory> {
     state.print(&mut text)?;
     text.extend_from_slice(printer.text())?;
     Ok(text)
+}
+
+/// Whether its bytes are read back as a state that has the same, and that is spelled alike.
+pub(crate) fn is_read_back(alloc: Global, state: &State) -> Result<bool, Fail> {
+    let bytes = spelled(alloc, state)?;
+    let again = State::read_back(alloc, bytes.as_slice())?;
+    Ok(picture(alloc, &again)? == picture(alloc, state)? && spelled(alloc, &again)? == bytes)
 }
 
 /// What a store of the state stands for, in bytes.

@@ -1,7 +1,7 @@
 //! Entries over small states, as rows of a table.
 use crate::entries::{At, NOTES, ORDERS, Op, Step, apply, behind};
 use crate::messages::{BETA, NOTE, ORDER, Sample};
-use crate::pictures::picture;
+use crate::pictures::{is_read_back, picture};
 use mqb_base::DEAD_LETTER;
 use mqb_entries::Mark;
 use std::alloc::Global;
@@ -41,13 +41,13 @@ pub(crate) const LETTER: Sample = Sample {
 /// What was recorded before, an entry, its lines, and what there is afterwards.
 pub(crate) type Row = (&'static [At], At, &'static [u8], &'static [u8]);
 
-/// Each row holds.
+/// Each row holds, and the bytes of what it leaves are read back.
 pub(crate) fn hold(alloc: Global, rows: &[Row]) -> Result<(), Fail> {
     for (before, at, lines, after) in rows {
         let mut state = behind(alloc, before)?;
         let told = apply(alloc, &mut state, at)??;
         let left = picture(alloc, &state)?;
-        if told.as_slice() != *lines || left.as_slice() != *after {
+        if told.as_slice() != *lines || left.as_slice() != *after || !is_read_back(alloc, &state)? {
             return Err(Fail::new(format_args!("{at:?} does something else")));
         }
     }
