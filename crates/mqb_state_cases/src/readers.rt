@@ -1,13 +1,13 @@
 //! What the readers of a state and of what was prepared for it answer.
-use crate::entries::{At, ORDERS, Op, Part, Plan, Step, alpha, behind, commit};
+use crate::entries::{At, NOTES, ORDERS, Op, Part, Plan, Step, alpha, behind, commit};
 use crate::messages::{ALPHA, BETA, HEARD, NOTE, ORDER, Sample};
-use crate::pictures::picture;
+use crate::pictures::{ledger, picture};
 use mqb_base::{EntryPlace, MessageId};
 use mqb_entries::{Entry, OpView, Ops};
 use mqb_names::read_name;
 use mqb_orders::{InKey, OutKey};
 use mqb_queue::NameKey;
-use mqb_state::State;
+use mqb_state::{PrepareFault, State};
 use std::alloc::Global;
 use std::test::Fail;
 
@@ -114,10 +114,38 @@ fn of_a_thousand_messages_few_are_prepared(rt: HostRuntime) -> Result<(), Fail> 
     };
     let ops = [OpView::Take { queue: 1, id }];
     let ops = Ops::of(&ops);
-    let prepared = state.prepare(&Entry::Commit { now: 1001, ops })?;
+    let mut prepared = state.prepare(&Entry::Commit { now: 1001, ops })?;
     assert!(rt; prepared.messages() <= 3 && prepared.lines().len() == 1);
     assert_eq!(rt; state.queues().len_at(EntryPlace::Queue(1)), Some(1000));
+    let lines = prepared.take_lines(alloc);
+    assert!(rt; lines.as_slice().len() == 1 && prepared.lines().is_empty());
     state.install(prepared);
     assert_eq!(rt; state.queues().len_at(EntryPlace::Queue(1)), Some(999));
+    Ok(())
+}
+
+#[test]
+fn an_entry_is_made_at_once(rt: HostRuntime) -> Result<(), Fail> {
+    let alloc = rt.alloc();
+    let mut state = behind(
+        alloc,
+        &[(1000, Step::Queue(NOTES)), (1000, Step::Plain(NOTE))],
+    )?;
+    let entry = Entry::Taken {
+        now: 1001,
+        place: EntryPlace::Queue(1),
+        id: MessageId {
+            qm: ALPHA,
+            number: 1,
+        },
+    };
+    let lines = state.apply(&entry)?;
+    let told = ledger(alloc, &state, lines.as_slice())?;
+    assert_eq!(rt; told.as_slice(), b" [took alpha.1]".as_slice());
+    assert_eq!(rt; state.queues().len_at(EntryPlace::Queue(1)), Some(0));
+    let left = picture(alloc, &state)?;
+    assert!(rt; state.apply(&entry).err() == Some(PrepareFault::Unfit));
+    state.unmark();
+    assert!(rt; picture(alloc, &state)? == left);
     Ok(())
 }
