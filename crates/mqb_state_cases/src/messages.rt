@@ -1,5 +1,5 @@
 //! Messages that differ in a few fields, and the packets by which entries tell of them.
-ghost use Rattle.std.specs.Prelude.{IfOk, IsTrue};
+ghost use Rattle.std.specs.Prelude.{◌≡◌, IfOk, IsTrue};
 ghost use Rattle.mqb_base.specs.Messages.{IsWellFormed};
 ghost use Rattle.mqb_base.specs.QueueNames.{absent_or_queue, names_queue};
 
@@ -93,7 +93,8 @@ fn admin_name(alloc: Global, text: Option<&'static [u8]>) -> Result<Option<Queue
 
 /// A message that was sent at 1000.
 fn message(alloc: Global, sample: &Sample, delivery: Delivery) -> Result<Message, Fail>
-    ensures { IfOk result (λ message. IsWellFormed message) }
+    ensures formed { IfOk result (λ message. IsWellFormed message) }
+    ensures delivery { IfOk result (λ message. message.delivery ≡ delivery) }
 {
     if sample.ack > MAX_ACK || sample.journal > MAX_JOURNAL || !sample.class.is_known() {
         return Err(Fail::new("bits or a class that no message has"));
