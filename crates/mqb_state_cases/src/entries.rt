@@ -149,7 +149,10 @@ pub(crate) fn commit(
 ) -> Result<Answer, Fail> {
     let packets = packets(alloc, ops)?;
     let mut views = Vec::new(alloc);
-    for (op, bytes) in ops.iter().zip(packets.iter()) {
+    for (k, bytes) in packets.iter().enumerate() {
+        let Some(op) = ops.get(k) else {
+            return Err(Fail::new("a packet without an op"));
+        };
         views.push(op_view(op, bytes.as_slice())?)?;
     }
     if views.len() > 64 {
