@@ -16,4 +16,3 @@ mod rolls;
 
 pub use applying::apply_record;
 pub use mqb_arrivals::RecordFault;
-pub use peers::owned_identity;

@@ -21,8 +21,7 @@ pub(crate) fn owned_name(alloc: Global, name: &NameSlice<'_>) -> Result<Name, Me
     Name::new(alloc, name.as_slice()).map_err(|_| Memory)
 }
 
-/// A copy of an identity.
-pub fn owned_identity(alloc: Global, view: &IdentityView<'_>) -> Result<Identity, Memory>
+fn owned_identity(alloc: Global, view: &IdentityView<'_>) -> Result<Identity, Memory>
     ensures { IfOk result (λ owned. owned ≡ identity_of view.now) }
 {
     Ok(Identity {
