@@ -1,4 +1,4 @@
-ghost use Rattle.std.specs.Prelude.{◌≡◌};
+ghost use Rattle.std.specs.Prelude.{◌≡◌, []};
 ghost use Rattle.mqb_contents.specs.Changes.{messages};
 
 use core::mem;
@@ -33,6 +33,7 @@ impl Prepared {
     /// Takes the lines out.
     pub fn take_lines(&mut self, alloc: Global) -> Roomed<Line>
         ensures lines { result.items ≡ self.old.lines }
+        ensures left { self.new.lines ≡ [] }
         ensures changes { self.new.changes ≡ self.old.changes }
     {
         mem::replace(&mut self.lines, Roomed::new(alloc))
