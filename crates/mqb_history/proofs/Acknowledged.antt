@@ -18,7 +18,7 @@ use Rattle.mqb_network.specs.Laws.{AreApart, lines_written}
 use Rattle.mqb_network.specs.Network.{manager_at}
 use Rattle.mqb_network.specs.Runs.{after_run}
 use Rattle.mqb_packet.specs.declared.packet.UserPacket.{UserPacket}
-use Rattle.mqb_history.specs.Acked.{AreAcknowledgedTruly, AreAcknowledgingTruly, AreWaitingUntilDecided, IsDecidedThere, NamesDecided, WaitsAbove, WasDecidedThere}
+use Rattle.mqb_history.specs.Acked.{AreAcknowledgedTruly, AreAcknowledgingTruly, AreWaitingUntilDecided, IsDecidedThere, WaitsAbove, WasDecidedThere}
 use Rattle.mqb_history.specs.Committed.{commitments, numbers_in}
 use Rattle.mqb_history.specs.Decided.{decisions, written_of}
 use Rattle.mqb_history.specs.Expired.{expiries_told}

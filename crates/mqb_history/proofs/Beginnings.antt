@@ -71,6 +71,7 @@ module _ (c : Course) (i j : ℕ) (ch : Channel) (d : QueueName) (peer : ℕ) (a
     packets = h.packets;
     transfers_sent = h.transfers_sent;
     acks_sent = h.acks_sent;
+    finals_sent = h.finals_sent;
     receipts = h.receipts;
     doubt = subst (λ x. IfSome (doubt_of x) (MayRule ch h.world.transfers h.world.connection)) (sym (condition j)) h.doubt;
     fates = h.fates;
@@ -103,6 +104,7 @@ module _ (c : Course) (i j : ℕ) (ch : Channel) (d : QueueName) (peer : ℕ) (a
     packets = packets;
     transfers_sent = h.transfers_sent;
     acks_sent = h.acks_sent;
+    finals_sent = h.finals_sent;
     receipts = receipts;
     doubt = subst (λ x. IfSome x (MayRule ch h.world.transfers (suc h.world.connection))) (sym (ap doubt_of (condition j) ∙ up j into)) tt;
     fates = h.fates;

@@ -5,7 +5,11 @@ use Rattle.std.specs.Option.{option_map_or}
 use Rattle.std.specs.Prelude.{[], ◌&&◌, ◌+◌, ◌++◌, ◌==◌, ◌∷◌, ◌≡◌, Bool, Err, IfSome, List, None, Ok, Option, Some, cond, filter_map, false, is_none, length, map, max, nat_lt, not, slice_get, true, zip, ℕ}
 use Rattle.mqb_base.specs.declared.ids.Guid.{Guid}
 use Rattle.mqb_base.specs.declared.ids.Identity.{Identity}
+use Rattle.mqb_base.specs.declared.ids.MessageId.{MessageId}
 use Rattle.mqb_base.specs.declared.message.Message.{Message}
+use Rattle.mqb_base.specs.declared.names.Name.{Name}
+use Rattle.mqb_fate.specs.Orders.{order_acknowledgement}
+use Rattle.mqb_fate.specs.declared.orders.OrderAck.{OrderAck}
 use Rattle.mqb_model.specs.calls.pump.Candidates.{Candidate, ack_of, acks, candidates, of_row, plain_candidates, row_candidates, rows_owing, unsent_from, unsent_of, waiting}
 use Rattle.mqb_model.specs.calls.pump.Choosing.{chosen, head_for, session_after, with_heads}
 use Rattle.mqb_model.specs.calls.pump.Pump.{PumpOutcome, carriage_for, packet_for, pump_at, pump_linked, pump_owed, pump_refusal, pump_to, sending_chosen, sending_one, set_up_packet}
@@ -32,17 +36,22 @@ use Rattle.mqb_session.specs.declared.heads.Kind.TheVariants as kind
 use Rattle.mqb_setup.specs.declared.internal.Internal.{Internal}
 use Rattle.mqb_setup.specs.declared.internal.Internal.TheVariants as internal
 use Rattle.mqb_history.specs.Calls.{Pump, outcome_of}
-use Rattle.mqb_history.proofs.Contents.{Holds, IsCarried, PlainHolds, RowHolds, Waits}
+use Rattle.mqb_history.proofs.Contents.{Holds, PlainHolds, RowHolds, Waits}
 use Rattle.mqb_history.proofs.Departing.{user_is}
 use Rattle.mqb_history.proofs.Having.{get_holds}
 use Rattle.mqb_history.proofs.Lists.{all_append, all_filter}
 use Rattle.mqb_history.proofs.Opening.{chosen_all}
 
+-- It is said of each order acknowledgement, and does not look at the time that is left to reach a queue.
+pub record IsBrought (P : Message → Type 0) : Type 0 where
+  pub acks : (a : OrderAck) (host : Name) (id : MessageId) (now : ℕ) → P (order_acknowledgement a host id now)
+  pub left : (m : Message) (n : ℕ) → P m → P (record m { reach = n })
+
 -- the message of a user packet has it
 abbrev pub Brings : (Message → Type 0) → Packet → Type 0
 Brings P x = (p : UserPacket) → x ≡ packet.User p → P p.message
 
-module _ (P : Message → Type 0) (c : IsCarried P) (m : Manager) (h : Holds P m.state) where
+module _ (P : Message → Type 0) (c : IsBrought P) (m : Manager) (h : Holds P m.state) where
   abbrev s : State
   s = m.state
 

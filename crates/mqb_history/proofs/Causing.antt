@@ -2,7 +2,7 @@
 use Rattle.std.proofs.Common.{◌∙◌, inl, inr, refl, subst, sym}
 use Rattle.std.specs.List.{AllByRecursion, flat_map}
 use Rattle.std.specs.Option.{option_map_or}
-use Rattle.std.specs.Prelude.{[], ◌++◌, ◌∷◌, ◌≡◌, ◌⊎◌, Bool, Err, IfSome, List, None, Ok, Option, Result, Some, cond, false, filter_map, fold, length, map, not, option_map, slice_get, true, unwrap_or, ℕ}
+use Rattle.std.specs.Prelude.{◌++◌, ◌≡◌, ◌⊎◌, Bool, Err, IfSome, List, None, Ok, Option, Result, Some, cond, false, filter_map, length, not, slice_get, true, unwrap_or, ℕ}
 use Rattle.mqb_base.specs.declared.ids.Identity.{Identity}
 use Rattle.mqb_base.specs.declared.message.Lane.{Lane}
 use Rattle.mqb_base.specs.declared.message.Lane.TheVariants as lane
@@ -20,25 +20,22 @@ use Rattle.mqb_model.specs.managers.Beside as beside
 use Rattle.mqb_model.specs.managers.Manager.{Manager, doubt_of, is_down}
 use Rattle.mqb_model.specs.managers.Outcomes.{answering, failed, recorded, succeeded, unless}
 use Rattle.mqb_model.specs.managers.Restarts.{restarted, unread}
-use Rattle.mqb_model.specs.records.Applying.{apply}
 use Rattle.mqb_model.specs.records.Record.{Record}
-use Rattle.mqb_model.specs.records.Record as entry
 use Rattle.mqb_model.specs.rules.Takes.{message_at}
-use Rattle.mqb_model.specs.state.State.{State, empty}
+use Rattle.mqb_model.specs.state.State.{State}
 use Rattle.mqb_network.specs.Changes.{parted}
 use Rattle.mqb_network.specs.Choices.{Failure}
 use Rattle.mqb_network.specs.Connecting.{asking, linked_as}
 use Rattle.mqb_network.specs.Courses.{Course}
 use Rattle.mqb_network.specs.Doubts.{settled}
 use Rattle.mqb_network.specs.Laws.{AreApart}
-use Rattle.mqb_network.specs.Network.{Note, formatted, manager_at, nobody, others, with_manager}
-use Rattle.mqb_network.specs.Runs.{Move, after_run, beginning}
+use Rattle.mqb_network.specs.Network.{Note, manager_at, nobody, with_manager}
+use Rattle.mqb_network.specs.Runs.{Move, after_run}
 use Rattle.mqb_packet.specs.declared.packet.Packet.{Packet}
 use Rattle.mqb_packet.specs.declared.packet.Packet.TheVariants as packet
 use Rattle.mqb_packet.specs.declared.packet.UserPacket.{UserPacket}
 use Rattle.mqb_queue.specs.Places.{numbered, place_named}
 use Rattle.mqb_queue.specs.declared.first.Position.{Position}
-use Rattle.mqb_session.specs.State.{no_guid}
 use Rattle.mqb_history.specs.Calls.{Call, Hear, Pump, outcome_of}
 use Rattle.mqb_history.specs.Changes.{Calls, Change, Drops, Ends, Fails, Finds, Hears, Links, Pumps, Restarts, calling, changed, given_out, hearing, is_of_packets, may_change}
 use Rattle.mqb_history.specs.Traced.{TakenIsAsked}
@@ -50,7 +47,7 @@ use Rattle.mqb_history.proofs.Beginning.{linked_same_state}
 use Rattle.mqb_history.proofs.Between.{in_either}
 use Rattle.mqb_history.proofs.Bringing.{Brings, pumped_brings}
 use Rattle.mqb_history.proofs.Committing.{all_in}
-use Rattle.mqb_history.proofs.Containing.{IsFine, beside_holds, durable_holds, record_holds}
+use Rattle.mqb_history.proofs.Containing.{IsFine, beginning_holds, beside_holds, durable_holds, record_holds}
 use Rattle.mqb_history.proofs.Contents.{Holds, message_holds}
 use Rattle.mqb_history.proofs.Courses.{known_of, none_heard}
 use Rattle.mqb_history.proofs.Each.{EachRecord, OfChange, each_begins, each_change}
@@ -62,11 +59,10 @@ use Rattle.mqb_history.proofs.Leads.{AreLed, led_by_records}
 use Rattle.mqb_history.proofs.Lists.{not_true, split_and}
 use Rattle.mqb_history.proofs.Noticed.{all_flat, all_got, message_is, told_from}
 use Rattle.mqb_history.proofs.Ordering.{with_at}
-use Rattle.mqb_history.proofs.Orderly.{map_get}
 use Rattle.mqb_history.proofs.Origins.{held_all}
 use Rattle.mqb_history.proofs.Runs.{always_given}
 use Rattle.mqb_history.proofs.Taking.{IfTakes, IsTakenOf, commit_takes}
-use Rattle.mqb_history.proofs.Tracing.{IsCaused, beside_fine, call_fine, caused_carried}
+use Rattle.mqb_history.proofs.Tracing.{IsCaused, beside_fine, call_fine, caused_brought, caused_carried}
 use Rattle.mqb_history.proofs.Written.{begins_with, noted_managers}
 
 -- Takes.
@@ -122,17 +118,17 @@ module _ (known : List Identity) (ms : List Move) where
     where
       at : (b : Bool) → HasCaused (cond b x (succeeded x (unlink x)))
       at true = h
-      at false = beside_holds P (caused_carried known ms) beside.Unmarks tt x.state h
+      at false = beside_holds (λ next. P) (caused_carried known ms) beside.Unmarks x.state tt h
 
   recorded_caused : (s : State) (r : Option Record) → IfSome r (IsFine P) → Holds P s → Holds P (recorded s r)
   recorded_caused s None fine h = h
-  recorded_caused s (Some r) fine h = record_holds P (caused_carried known ms) s r fine h
+  recorded_caused s (Some r) fine h = record_holds (λ next. P) (caused_carried known ms) s r fine h
 
   module _ (c : Course) (t : AreCaused c) where
     -- a call
     call_caused : (i : ℕ) (call : Call) (failure : Option Failure) → IsMoveOf ms (Calls i call failure) → CallSent c.sent call → (j : ℕ) → HasCaused (manager_at (calling i call failure c).network j)
     call_caused i call None move sends j = let m = manager_at c.network i in let outcome = outcome_of m call in with_at HasCaused c.network i j (succeeded m outcome) (t.managers j)
-        (λ e. beside_holds P (caused_carried known ms) outcome.beside (beside_fine known ms c (known_of known c t.agreed.0.0) t.agreed.1 t.packets i call None move sends) (recorded m.state outcome.entry)
+        (λ e. beside_holds (λ next. P) (caused_carried known ms) outcome.beside (recorded m.state outcome.entry) (beside_fine known ms c (known_of known c t.agreed.0.0) t.agreed.1 t.packets i call None move sends)
         (recorded_caused m.state outcome.entry (call_fine known ms c (known_of known c t.agreed.0.0) t.agreed.1 t.packets i call None move sends) (t.managers i)))
     call_caused i call (Some how) move sends j = let m = manager_at c.network i in let outcome = outcome_of m call in
         parted_at HasCaused (with_manager c.network i (failed m outcome)) i j parted_caused (with_at HasCaused c.network i j (failed m outcome) (t.managers j) (λ e. t.managers i))
@@ -160,13 +156,13 @@ module _ (known : List Identity) (ms : List Move) where
         subst (Holds P) (sym (linked_same_state (linked_as a end window_a c.network) b j role.Acceptor window_b ∙ linked_same_state c.network a j end window_a)) (t.managers j)
     managers_now (Ends i) may move j = parted_at HasCaused c.network i j parted_caused (t.managers j)
     managers_now (Drops k) may move j = t.managers j
-    managers_now (Restarts i) may move j = at_one i (restarted (manager_at c.network i) false) (durable_holds P (caused_carried known ms) (manager_at c.network i).state (t.managers i)) j
+    managers_now (Restarts i) may move j = at_one i (restarted (manager_at c.network i) false) (durable_holds P (manager_at c.network i).state (t.managers i)) j
     managers_now (Finds i) may move j = let m = manager_at c.network i in at_one i (restarted m true)
-        (durable_holds P (caused_carried known ms) (recorded m.state (doubt_of m.condition)) (recorded_caused m.state (doubt_of m.condition) (t.records.doubts i) (t.managers i))) j
-    managers_now (Fails i) may move j = at_one i (unread (manager_at c.network i)) (durable_holds P (caused_carried known ms) (manager_at c.network i).state (t.managers i)) j
+        (durable_holds P (recorded m.state (doubt_of m.condition)) (recorded_caused m.state (doubt_of m.condition) (t.records.doubts i) (t.managers i))) j
+    managers_now (Fails i) may move j = at_one i (unread (manager_at c.network i)) (durable_holds P (manager_at c.network i).state (t.managers i)) j
 
     pumped : (i now : ℕ) (failure : Option Failure) (p : UserPacket) → In (packet.User p) (given_out (outcome_of (manager_at c.network i) (Pump now)) failure) → P p.message
-    pumped i now None p inside = all_in (Brings P) (outcome_of (manager_at c.network i) (Pump now)).packets (packet.User p) (pumped_brings P (caused_carried known ms) (manager_at c.network i) (t.managers i) now) inside p refl
+    pumped i now None p inside = all_in (Brings P) (outcome_of (manager_at c.network i) (Pump now)).packets (packet.User p) (pumped_brings P (caused_brought known ms) (manager_at c.network i) (t.managers i) now) inside p refl
     pumped i now (Some how) p inside = absurd inside
 
     either : (i now : ℕ) (failure : Option Failure) (p : UserPacket) → In (packet.User p) c.sent ⊎ In (packet.User p) (given_out (outcome_of (manager_at c.network i) (Pump now)) failure) → P p.message
@@ -208,24 +204,6 @@ module _ (known : List Identity) (ms : List Move) where
     };
   }
 
-  begins_caused : (own : Identity) (peers : List Identity) → HasCaused (formatted own peers)
-  begins_caused own peers = from (empty own) peers (record {
-    places = record { queues = tt; dead = (tt, tt); dead_xact = (tt, tt); journal = (tt, tt) };
-    plain = tt;
-    outs = tt;
-  })
-    where
-      from : (s : State) (ps : List Identity) → Holds P s → Holds P (fold apply s (map (λ peer. entry.Peer peer) ps))
-      from s [] h = h
-      from s (p ∷ ps) h = from (apply s (entry.Peer p)) ps (record_holds P (caused_carried known ms) s (entry.Peer p) tt h)
-
-  starts_caused : (j : ℕ) → HasCaused (manager_at (beginning known).network j)
-  starts_caused j = subst (λ o. HasCaused (unwrap_or o nobody)) (sym (map_get (λ own. formatted own (others known own)) known j)) (at (slice_get known j))
-    where
-      at : (o : Option Identity) → HasCaused (unwrap_or (option_map (λ own. formatted own (others known own)) o) nobody)
-      at None = begins_caused (record { host = []; guid = no_guid; address = [] }) []
-      at (Some own) = begins_caused own (others known own)
-
   noticed_caused : (c : Course) → AreCaused c → (m : Message) → In m (noticed c) → P m
   noticed_caused c t m i = at (in_either (flat_map (λ (x : Manager). held x.state) c.network.managers) (filter_map message_in c.sent) m i)
     where
@@ -242,9 +220,9 @@ taken_is_asked known ms apart run kept = record {
   messages = λ m i. (noticed_caused known ms c t m i).0;
   notices = λ m i. (noticed_caused known ms c t m i).1;
   takes = λ i now place m e. (subst (IfTaken (IsCaused known ms)) e (take_holds (IsCaused known ms) (manager_at c.network i) place now
-      (λ kind at k. message_holds (IsCaused known ms) (caused_carried known ms) kind (manager_at c.network i).state at k (t.managers i)))).0;
+      (λ kind at k. message_holds (IsCaused known ms) kind (manager_at c.network i).state at k (t.managers i)))).0;
   commits = λ i now ops answers m e inside. (all_in (IsTakenOf (IsCaused known ms)) answers (done.Took m)
-      (subst (IfTakes (IsCaused known ms)) e (commit_takes (IsCaused known ms) (caused_carried known ms) (manager_at c.network i) ops now (t.managers i))) inside).0;
+      (subst (IfTakes (IsCaused known ms)) e (commit_takes (IsCaused known ms) (manager_at c.network i) ops now (t.managers i))) inside).0;
 }
   where
     c : Course
@@ -253,7 +231,7 @@ taken_is_asked known ms apart run kept = record {
     t : AreCaused known ms c
     t = always_given (IsMoveOf ms) known (AreCaused known ms) (caused_closed known ms apart) ms (λ m there. moves_given ms m there m.event refl) run kept (record {
       agreed = (begins_with known AreLed led_by_records, begins_agreeing known);
-      managers = starts_caused known ms;
+      managers = beginning_holds (IsCaused known ms) known;
       packets = λ p inside. absurd inside;
       records = each_begins (λ i. IsFine (IsCaused known ms)) known;
     })

@@ -46,8 +46,18 @@ use Rattle.mqb_history.proofs.Dispatching.{CanSend, IsOfChannel}
 use Rattle.mqb_history.proofs.Enlisting.{leads_same}
 use Rattle.mqb_history.proofs.Catching.{heard_may, heard_transfer}
 use Rattle.mqb_history.proofs.Knowing.{not_own_peer}
-use Rattle.mqb_history.proofs.Linked.{AwaitsIn, FinalsDepart, IsAckedAt, IsLinked, goes_linked}
-use Rattle.mqb_history.proofs.Lists.{clash, get_in, neither, none_some, not_true, some_is, split_and, true_not_false}
+use Rattle.mqb_history.proofs.Linked.{AwaitsIn, ComesBack, IsAckedAt, IsLinked, IsSentBack, goes_linked}
+use Rattle.mqb_history.proofs.Receiving.{AreFinalsReceived, IsFinalReceived, IsReceived, heard_received, pump_received, pumped_notes, pumped_sent, unheard_received}
+use Rattle.mqb_history.proofs.Later.{IsNote}
+use Rattle.mqb_history.proofs.Courses.{known_of, one_guid, who_is}
+use Rattle.mqb_history.proofs.Believing.{position_there}
+use Rattle.mqb_history.proofs.Acquainting.{TellFates}
+use Rattle.mqb_model.specs.records.Record.{Record}
+use Rattle.mqb_model.specs.records.Record as entry
+use Rattle.mqb_model.specs.state.Places.{is_express}
+use Rattle.mqb_fate.specs.Orders.{is_final_class}
+use Rattle.std.specs.Prelude.{position as place_of}
+use Rattle.mqb_history.proofs.Lists.{clash, get_in, neither, none_some, not_true, some_is, split_and, true_not_false, within_get}
 use Rattle.mqb_history.proofs.Marked.{AreMarked}
 use Rattle.mqb_base.specs.declared.ids.SequenceId.{SequenceId}
 use Rattle.mqb_base.specs.declared.message.Message.{Message}
@@ -61,7 +71,7 @@ use Rattle.mqb_history.proofs.Outgoing.{IsOfRow, packet_of_row, pump_marks, row_
 use Rattle.mqb_history.proofs.Posting.{posted_linked}
 use Rattle.mqb_history.proofs.Rows.{HasRow}
 use Rattle.mqb_history.proofs.Sourcing.{same_elsewhere}
-use Rattle.mqb_history.proofs.Names.{same_guid_refl}
+use Rattle.mqb_history.proofs.Names.{same_guid_is, same_guid_refl}
 use Rattle.mqb_history.proofs.Ruling.{MayRule}
 use Rattle.mqb_history.proofs.Storing.{KeepsStorage}
 use Rattle.mqb_history.proofs.Undecided.{IsKnown}
@@ -111,7 +121,7 @@ module _ (known : List Identity) (apart : AreApart known) (i j : ℕ) (d : Queue
     (held : (a : ℕ) → AreMarked (manager_at c.network a).state (written_of a c.written)) (carrying : IsCarrying known c) (storage : KeepsStorage c)
     (spells : (a now : ℕ) (p : UserPacket) → In (packet.User p) (outcome_of (manager_at c.network a) (Pump now)).packets → p.tx ≡ None → is_order_ack p.message ≡ true
     → SpellsRow (manager_at c.network a).state p.to p.message) (credible : IsCredible known c)
-    (decider_is : (row : Row) (n : ℕ) → row.peer ≡ r.peer → (there : IsDecidedThere c i row n) → there.decider ≡ j) where
+    (decider_is : (row : Row) (n : ℕ) → row.peer ≡ r.peer → (there : IsDecidedThere c i row n) → there.decider ≡ j) (received : AreFinalsReceived c) where
   abbrev ch : Channel
   ch = channel_on known i j d r
 
@@ -136,8 +146,58 @@ module _ (known : List Identity) (apart : AreApart known) (i j : ℕ) (d : Queue
   differ : i ≡ j → ⊥
   differ = route_apart known i j d r
 
-  abbrev Departs_at : Course → Type 0
-  Departs_at z = FinalsDepart z i
+  -- what final acknowledgements of the channel tell in a course
+  abbrev Tells_at : Course → Type 0
+  Tells_at z = TellFates z i j ch d
+
+  -- one of which a record tells came back, where it came from the peer
+  came_back : (p : UserPacket) → IsReceived c.network.notes c.sent i p → place_of (λ (x : Identity). same_guid x.guid p.message.id.qm) (manager_at c.network i).state.peers ≡ Some r.peer
+      → IsSentBack c.network.notes c.sent i j p
+  came_back p x leads_there = record { place = x.place; note = x.note; noted = x.noted; there = x.there; sender = sender; receiver = x.receiver; plain = x.plain; final = x.final }
+    where
+      note : IsNote known c x.note.sender p
+      note = ((credible.honest.packets x.place x.note p x.noted x.there).plain x.plain).plain
+          (not_true (is_express p.message.delivery) (split_and (not (is_express p.message.delivery)) (is_final_class p.message.class) x.final).0)
+
+      peer : (y : Identity) × (slice_get (manager_at c.network i).state.peers r.peer ≡ Some y) × (same_guid y.guid p.message.id.qm ≡ true)
+      peer = position_there (λ (y : Identity). same_guid y.guid p.message.id.qm) (manager_at c.network i).state.peers r.peer leads_there
+
+      other : peer.0.guid ≡ r.other.guid
+      other = some_is peer.0.guid r.other.guid (ap (λ (y : Option Identity). option_map (λ (q : Identity). q.guid) y) (sym peer.1)
+          ∙ ap (λ (ps : List Identity). option_map (λ (q : Identity). q.guid) (slice_get ps r.peer)) itself.peers ∙ r.identity)
+
+      own : (y : Identity) × (slice_get known x.note.sender ≡ Some y)
+      own = within_get known x.note.sender note.within
+
+      sender : x.note.sender ≡ j
+      sender = one_guid known x.note.sender j own.0 r.other apart own.1 r.other_there
+          (sym (ap (λ (y : Identity). y.guid) (who_is known c x.note.sender own.0 (known_of known c o) own.1)) ∙ sym note.source ∙ sym (same_guid_is peer.0.guid p.message.id.qm peer.2) ∙ other)
+
+  comes_back : (q : Record) → IsFinalReceived c.network.notes c.sent i q → ComesBack r.peer (manager_at c.network i).state.peers c.network.notes c.sent i j q
+  comes_back (entry.Identity identity) x = tt
+  comes_back (entry.Peer peer) x = tt
+  comes_back (entry.CreateQueue number plan) x = tt
+  comes_back (entry.Commit now ops) x = tt
+  comes_back (entry.Plain now p) x = tt
+  comes_back (entry.Offered marks) x = tt
+  comes_back (entry.Arrived now numbers entry.Nothing) x = tt
+  comes_back (entry.Arrived now numbers (entry.Decided p)) x = tt
+  comes_back (entry.Arrived now numbers (entry.Stored p)) x = tt
+  comes_back (entry.Arrived now numbers (entry.OrderAcknowledged ordinal number)) x = tt
+  comes_back (entry.Arrived now numbers (entry.Final p)) x = came_back p x
+  comes_back (entry.Taken now place id) x = tt
+  comes_back (entry.Purged now place) x = tt
+  comes_back (entry.Ticked now) x = tt
+  comes_back (entry.Roll count) x = tt
+
+  -- where a record of a manager does, at the source
+  abbrev Comes : ℕ → Option Record → Type 0
+  Comes a x = a ≡ i → IfSome x (ComesBack r.peer (manager_at c.network a).state.peers c.network.notes c.sent i j)
+
+  some_comes : (a : ℕ) (x : Option Record) → IfSome x (IsFinalReceived c.network.notes c.sent a) → Comes a x
+  some_comes a None h e = tt
+  some_comes a (Some q) h e = subst (λ n. ComesBack r.peer (manager_at c.network n).state.peers c.network.notes c.sent i j q) (sym e)
+      (comes_back q (subst (λ n. IsFinalReceived c.network.notes c.sent n q) e h))
 
   module _ (h : Links_at c) where
     -- calls
@@ -151,14 +211,14 @@ module _ (known : List Identity) (apart : AreApart known) (i j : ℕ) (d : Queue
 
     calling_linked : (a : ℕ) (call : Call) (failure : Option Failure)
         → (a ≡ j → IfSome (outcome_of (manager_at c.network a) call).entry (MayRule ch h.world.transfers h.world.connection)) → Hears_at a call
-        → Acked_at (calling a call failure c) → Departs_at (calling a call failure c) → Links_at (calling a call failure c)
-    calling_linked a call None may heard truly departs = let m = manager_at c.network a in
+        → Acked_at (calling a call failure c) → Tells_at (calling a call failure c) → Comes a (outcome_of (manager_at c.network a) call).entry → Links_at (calling a call failure c)
+    calling_linked a call None may heard truly tell come = let m = manager_at c.network a in
         goes_linked i j ch d r.peer c (calling a call None c) a (outcome_of m call).entry (called_goes a call c) (made_only _ m.state (outcome_of m call).entry (calls_are_modest m call).entry) differ h
-        (held i) leads truly may (called_doubt ch h.world.transfers h.world.connection a j call None c h.doubt may) (call_waits a call heard) departs
+        (held i) leads truly may (called_doubt ch h.world.transfers h.world.connection a j call None c h.doubt may) (call_waits a call heard) tell come
         (called_awaits d h.world.order_acks h.world.connection a i call None c h.awaits (call_waits a call heard))
-    calling_linked a call (Some how) may heard truly departs =
+    calling_linked a call (Some how) may heard truly tell come =
         goes_linked i j ch d r.peer c (calling a call (Some how) c) a None (failed_goes a call how c) tt differ h (held i) leads truly (λ e. tt)
-        (called_doubt ch h.world.transfers h.world.connection a j call (Some how) c h.doubt may) (λ e. tt) departs
+        (called_doubt ch h.world.transfers h.world.connection a j call (Some how) c h.doubt may) (λ e. tt) tell (λ e. tt)
         (called_awaits d h.world.order_acks h.world.connection a i call (Some how) c h.awaits (call_waits a call heard))
 
     -- a call of another kind hears no order acknowledgement
@@ -182,14 +242,15 @@ module _ (known : List Identity) (apart : AreApart known) (i j : ℕ) (d : Queue
 
     -- packets are heard
     hears_linked : (k now : ℕ) (failure : Option Failure) (note : Option Note) (p : Option Packet) → numbered c.network.notes k ≡ note → numbered c.sent k ≡ p
-        → may_hear c note p now failure ≡ true → Acked_at (hearing note p now failure c) → Departs_at (hearing note p now failure c) → Links_at (hearing note p now failure c)
-    hears_linked k now failure None p e f may truly departs = h
-    hears_linked k now failure (Some note) None e f may truly departs = h
-    hears_linked k now failure (Some note) (Some x) e f may truly departs = calling_linked note.receiver (Hear now x) failure
+        → may_hear c note p now failure ≡ true → Acked_at (hearing note p now failure c) → Tells_at (hearing note p now failure c) → Links_at (hearing note p now failure c)
+    hears_linked k now failure None p e f may truly tell = h
+    hears_linked k now failure (Some note) None e f may truly tell = h
+    hears_linked k now failure (Some note) (Some x) e f may truly tell = calling_linked note.receiver (Hear now x) failure
         (λ to. heard_may ch h.world.transfers h.world.connection (Some x) (outcome_of (manager_at c.network note.receiver) (Hear now x)).entry
         (from_only _ (manager_at c.network note.receiver).state (outcome_of (manager_at c.network note.receiver) (Hear now x)).entry (calls_are_modest (manager_at c.network note.receiver) (Hear now x)).entry)
         (λ p tx g t inside. heard_transfer known c i j ch d r.peer apart o held carrying.1.carried storage source own_guid refl h k note p tx e (f ∙ g) t
-        (split_and (is_underway c.network note) (may_fail (manager_at c.network note.receiver) (Hear now x) failure) may).0 to inside)) heard_acks truly departs
+        (split_and (is_underway c.network note) (may_fail (manager_at c.network note.receiver) (Hear now x) failure) may).0 to inside)) heard_acks truly tell
+        (some_comes note.receiver (outcome_of (manager_at c.network note.receiver) (Hear now x)).entry (heard_received c k now note x e f))
       where
         heard_acks : Hears_at note.receiver (Hear now x)
         heard_acks to at y same ordinal number g = subst (λ a. MayAck d h.world.order_acks h.world.connection (manager_at c.network a).state.outs ordinal number) (sym to)
@@ -223,16 +284,16 @@ module _ (known : List Identity) (apart : AreApart known) (i j : ℕ) (d : Queue
         free x (inr e) = no_end x (subst (λ n. is_connected c.network n ≡ false) (sym e) frees.1)
 
     -- other changes
-    ends_linked : (a : ℕ) → Acked_at (changed (Ends a) c) → Departs_at (changed (Ends a) c) → Links_at (changed (Ends a) c)
-    ends_linked a truly departs = goes_linked i j ch d r.peer c (changed (Ends a) c) a None (ends_goes a c) tt differ h (held i) leads truly (λ e. tt)
-        (ended_doubt ch h.world.transfers h.world.connection a j c.network h.doubt) (λ e. tt) departs (ended_awaits d h.world.order_acks h.world.connection a i c.network h.awaits)
+    ends_linked : (a : ℕ) → Acked_at (changed (Ends a) c) → Tells_at (changed (Ends a) c) → Links_at (changed (Ends a) c)
+    ends_linked a truly tell = goes_linked i j ch d r.peer c (changed (Ends a) c) a None (ends_goes a c) tt differ h (held i) leads truly (λ e. tt)
+        (ended_doubt ch h.world.transfers h.world.connection a j c.network h.doubt) (λ e. tt) tell (λ e. tt) (ended_awaits d h.world.order_acks h.world.connection a i c.network h.awaits)
 
-    drops_linked : (k : ℕ) → Acked_at (changed (Drops k) c) → Departs_at (changed (Drops k) c) → Links_at (changed (Drops k) c)
-    drops_linked k truly departs = goes_linked i j ch d r.peer c (changed (Drops k) c) 0 None (drops_goes k c) tt differ h (held i) leads truly (λ e. tt) h.doubt (λ e. tt) departs h.awaits
+    drops_linked : (k : ℕ) → Acked_at (changed (Drops k) c) → Tells_at (changed (Drops k) c) → Links_at (changed (Drops k) c)
+    drops_linked k truly tell = goes_linked i j ch d r.peer c (changed (Drops k) c) 0 None (drops_goes k c) tt differ h (held i) leads truly (λ e. tt) h.doubt (λ e. tt) tell (λ e. tt) h.awaits
 
-    restarts_linked : (a : ℕ) → Acked_at (changed (Restarts a) c) → Departs_at (changed (Restarts a) c) → Links_at (changed (Restarts a) c)
-    restarts_linked a truly departs = goes_linked i j ch d r.peer c (changed (Restarts a) c) a None (restarts_goes a c) tt differ h (held i) leads truly (λ e. tt)
-        (started_doubt ch h.world.transfers h.world.connection a j c.network (restarted (manager_at c.network a) false) h.doubt (λ e. tt)) (λ e. tt) departs
+    restarts_linked : (a : ℕ) → Acked_at (changed (Restarts a) c) → Tells_at (changed (Restarts a) c) → Links_at (changed (Restarts a) c)
+    restarts_linked a truly tell = goes_linked i j ch d r.peer c (changed (Restarts a) c) a None (restarts_goes a c) tt differ h (held i) leads truly (λ e. tt)
+        (started_doubt ch h.world.transfers h.world.connection a j c.network (restarted (manager_at c.network a) false) h.doubt (λ e. tt)) (λ e. tt) tell (λ e. tt)
         (started_awaits d h.world.order_acks h.world.connection a i c.network (restarted (manager_at c.network a) false) h.awaits (λ e. tt))
 
     at_doubt : (a : ℕ) → a ≡ j → IfSome (doubt_of (manager_at c.network a).condition) (MayRule ch h.world.transfers h.world.connection)
@@ -241,14 +302,15 @@ module _ (known : List Identity) (apart : AreApart known) (i j : ℕ) (d : Queue
     at_waits : (a : ℕ) → a ≡ i → IfSome (doubt_of (manager_at c.network a).condition) (Awaits d h.world.order_acks h.world.connection (manager_at c.network a).state.outs)
     at_waits a e = subst (λ n. AwaitsIn d h.world.order_acks h.world.connection (manager_at c.network n)) (sym e) h.awaits
 
-    fails_linked : (a : ℕ) → Acked_at (changed (Fails a) c) → Departs_at (changed (Fails a) c) → Links_at (changed (Fails a) c)
-    fails_linked a truly departs = goes_linked i j ch d r.peer c (changed (Fails a) c) a None (fails_goes a c) tt differ h (held i) leads truly (λ e. tt)
-        (started_doubt ch h.world.transfers h.world.connection a j c.network (unread (manager_at c.network a)) h.doubt (at_doubt a)) (λ e. tt) departs
+    fails_linked : (a : ℕ) → Acked_at (changed (Fails a) c) → Tells_at (changed (Fails a) c) → Links_at (changed (Fails a) c)
+    fails_linked a truly tell = goes_linked i j ch d r.peer c (changed (Fails a) c) a None (fails_goes a c) tt differ h (held i) leads truly (λ e. tt)
+        (started_doubt ch h.world.transfers h.world.connection a j c.network (unread (manager_at c.network a)) h.doubt (at_doubt a)) (λ e. tt) tell (λ e. tt)
         (started_awaits d h.world.order_acks h.world.connection a i c.network (unread (manager_at c.network a)) h.awaits (at_waits a))
 
-    finds_linked : (a : ℕ) → Acked_at (changed (Finds a) c) → Departs_at (changed (Finds a) c) → Links_at (changed (Finds a) c)
-    finds_linked a truly departs = goes_linked i j ch d r.peer c (changed (Finds a) c) a (doubt_of (manager_at c.network a).condition) (finds_goes a c) (o.doubts a) differ h (held i) leads truly (at_doubt a)
-        (started_doubt ch h.world.transfers h.world.connection a j c.network (restarted (manager_at c.network a) true) h.doubt (λ e. tt)) (at_waits a) departs
+    finds_linked : (a : ℕ) → Acked_at (changed (Finds a) c) → Tells_at (changed (Finds a) c) → Links_at (changed (Finds a) c)
+    finds_linked a truly tell = goes_linked i j ch d r.peer c (changed (Finds a) c) a (doubt_of (manager_at c.network a).condition) (finds_goes a c) (o.doubts a) differ h (held i) leads truly (at_doubt a)
+        (started_doubt ch h.world.transfers h.world.connection a j c.network (restarted (manager_at c.network a) true) h.doubt (λ e. tt)) (at_waits a) tell
+        (some_comes a (doubt_of (manager_at c.network a).condition) (received.doubts a))
         (started_awaits d h.world.order_acks h.world.connection a i c.network (restarted (manager_at c.network a) true) h.awaits (λ e. tt))
 
     -- a pump
@@ -277,8 +339,8 @@ module _ (known : List Identity) (apart : AreApart known) (i j : ℕ) (d : Queue
           one = one_row m.state.outs place.0 g.row (held a).0.0.0.0.0.rise place.1 g.there (ap (λ (q : SequenceId). q.ordinal) place.2)
 
       pumps_linked : Acked_at (changed (Pumps a now failure) c) → AreMarked (manager_at (changed (Pumps a now failure) c).network i).state (written_of i called_first.written)
-          → AreTelling (manager_at (changed (Pumps a now failure) c).network j).state (written_of j called_first.written) → Departs_at called_first → Links_at (changed (Pumps a now failure) c)
-      pumps_linked truly held_now telling_now departs = posted_linked called_first i j ch d r.peer a now zs (calling_noted a (Pump now) failure c o.noted) differ first (can failure first held_first)
+          → AreTelling (manager_at (changed (Pumps a now failure) c).network j).state (written_of j called_first.written) → Tells_at (changed (Pumps a now failure) c) → Links_at (changed (Pumps a now failure) c)
+      pumps_linked truly held_now telling_now tell = posted_linked called_first i j ch d r.peer a now zs (calling_noted a (Pump now) failure c o.noted) differ first (can failure first held_first)
           (tells failure first telling_first)
         where
           acked_first : Acked_at called_first
@@ -291,8 +353,11 @@ module _ (known : List Identity) (apart : AreApart known) (i j : ℕ) (d : Queue
           telling_first : AreTelling (manager_at called_first.network j).state (written_of j called_first.written)
           telling_first = with_managers (λ ms. AreTelling (unwrap_or (slice_get ms j) nobody).state (written_of j called_first.written)) telling_now
 
+          tell_first : Tells_at called_first
+          tell_first k note p e f = tell k note p (pumped_notes c a now failure k note e) (pumped_sent c a now failure k (packet.User p) f)
+
           first : Links_at called_first
-          first = calling_linked a (Pump now) failure (λ e. pump_may a now) (pump_acks a now) acked_first departs
+          first = calling_linked a (Pump now) failure (λ e. pump_may a now) (pump_acks a now) acked_first tell_first (some_comes a (outcome_of m (Pump now)).entry (pump_received c a now))
 
           can : (f : Option Failure) → (g : Links_at (calling a (Pump now) f c)) → AreMarked (manager_at (calling a (Pump now) f c).network i).state (written_of i (calling a (Pump now) f c).written)
               → a ≡ i → (p : UserPacket) (tx : TxHead) → IsOfChannel d (given_out (outcome_of m (Pump now)) f) p tx → CanSend g.world now p tx
@@ -317,14 +382,15 @@ module _ (known : List Identity) (apart : AreApart known) (i j : ℕ) (d : Queue
 
   -- every change
   pub change_linked : (x : Change) → may_change c x ≡ true → Acked_at (changed x c) → ((a : ℕ) → AreMarked (manager_at (changed x c).network a).state (written_of a (changed x c).written))
-      → ((a : ℕ) → AreTelling (manager_at (changed x c).network a).state (written_of a (changed x c).written)) → Departs_at (changed x c) → Links_at c → Links_at (changed x c)
-  change_linked (Calls a call failure) may truly held_now telling_now departs h = let quiet = not_true (is_of_packets call) (split_and (not (is_of_packets call)) (may_fail (manager_at c.network a) call failure) may).0 in
-      calling_linked h a call failure (λ e. unheard_may h a call quiet) (unheard_acks h a call quiet) truly departs
-  change_linked (Pumps a now failure) may truly held_now telling_now departs h = pumps_linked h a now failure truly (held_now i) (telling_now j) departs
-  change_linked (Hears k now failure) may truly held_now telling_now departs h = hears_linked h k now failure (numbered c.network.notes k) (numbered c.sent k) refl refl may truly departs
-  change_linked (Links a b window_a window_b) may truly held_now telling_now departs h = links_linked h a b window_a window_b may
-  change_linked (Ends a) may truly held_now telling_now departs h = ends_linked h a truly departs
-  change_linked (Drops k) may truly held_now telling_now departs h = drops_linked h k truly departs
-  change_linked (Restarts a) may truly held_now telling_now departs h = restarts_linked h a truly departs
-  change_linked (Finds a) may truly held_now telling_now departs h = finds_linked h a truly departs
-  change_linked (Fails a) may truly held_now telling_now departs h = fails_linked h a truly departs
+      → ((a : ℕ) → AreTelling (manager_at (changed x c).network a).state (written_of a (changed x c).written)) → Tells_at (changed x c) → Links_at c → Links_at (changed x c)
+  change_linked (Calls a call failure) may truly held_now telling_now tell h = let quiet = not_true (is_of_packets call) (split_and (not (is_of_packets call)) (may_fail (manager_at c.network a) call failure) may).0 in
+      calling_linked h a call failure (λ e. unheard_may h a call quiet) (unheard_acks h a call quiet) truly tell
+      (some_comes a (outcome_of (manager_at c.network a) call).entry (unheard_received c a call quiet))
+  change_linked (Pumps a now failure) may truly held_now telling_now tell h = pumps_linked h a now failure truly (held_now i) (telling_now j) tell
+  change_linked (Hears k now failure) may truly held_now telling_now tell h = hears_linked h k now failure (numbered c.network.notes k) (numbered c.sent k) refl refl may truly tell
+  change_linked (Links a b window_a window_b) may truly held_now telling_now tell h = links_linked h a b window_a window_b may
+  change_linked (Ends a) may truly held_now telling_now tell h = ends_linked h a truly tell
+  change_linked (Drops k) may truly held_now telling_now tell h = drops_linked h k truly tell
+  change_linked (Restarts a) may truly held_now telling_now tell h = restarts_linked h a truly tell
+  change_linked (Finds a) may truly held_now telling_now tell h = finds_linked h a truly tell
+  change_linked (Fails a) may truly held_now telling_now tell h = fails_linked h a truly tell

@@ -1,13 +1,15 @@
 -- Where something holds of all messages that a manager has, it holds of them behind each record whose messages it holds of, and beside it.
-use Rattle.std.proofs.Common.{refl}
+use Rattle.std.proofs.Common.{refl, subst, sym}
 use Rattle.std.specs.List.{AllByRecursion}
 use Rattle.std.specs.Option.{option_map_or}
-use Rattle.std.specs.Prelude.{[], ◌&&◌, ◌+◌, ◌==◌, ◌||◌, ◌∷◌, Bool, IfSome, List, None, Option, Some, cond, false, fold, is_none, length, map, max, nat_le, nat_lt, not, option_and_then, position, slice_get, true, ℕ}
+use Rattle.std.specs.Prelude.{[], ◌&&◌, ◌+◌, ◌==◌, ◌||◌, ◌∷◌, ◌≤◌, Bool, IfSome, List, None, Option, Some, cond, false, fold, is_none, length, map, max, nat_le, nat_lt, not, option_and_then, option_map, position, slice_get, true, unwrap_or, ℕ}
 use Rattle.mqb_base.specs.Bits.{keeps_dead}
 use Rattle.mqb_base.specs.Classes.{is_negative}
 use Rattle.mqb_base.specs.declared.class.TheConstants.Class.{BAD_DESTINATION, MESSAGE_NOT_TRANSACTIONAL, QUEUE_NOT_TRANSACTIONAL, QUOTA_EXCEEDED, REACH_TIMEOUT}
 use Rattle.mqb_base.specs.declared.heads.SessionHead.{SessionHead}
 use Rattle.mqb_base.specs.declared.heads.TxHead.{TxHead}
+use Rattle.mqb_base.specs.declared.ids.Identity.{Identity}
+use Rattle.mqb_base.specs.declared.ids.MessageId.{MessageId}
 use Rattle.mqb_base.specs.declared.message.Delivery.{Delivery}
 use Rattle.mqb_base.specs.declared.message.Delivery.TheVariants as delivery
 use Rattle.mqb_base.specs.declared.message.Lane.{Lane}
@@ -32,7 +34,7 @@ use Rattle.mqb_model.specs.records.Record as entry
 use Rattle.mqb_model.specs.records.Releases.{has_recoverable, is_released_by, message_released, releases_made, without_recoverable}
 use Rattle.mqb_model.specs.rules.Arrivals.{is_recorded, refusal_by, refusal_of, storing_refusal, target_refusal}
 use Rattle.mqb_model.specs.rules.Effects.{Effect, begun, joined}
-use Rattle.mqb_model.specs.rules.Numbers.{number_taken, numbers_taken}
+use Rattle.mqb_model.specs.rules.Numbers.{number_taken, numbers_taken, own_id}
 use Rattle.mqb_model.specs.rules.Sends.{committed_to, journalled}
 use Rattle.mqb_model.specs.rules.Sequences.{join, new_sequence, sequence_in_use, with_kept, with_sequence}
 use Rattle.mqb_model.specs.rules.Takes.{taken}
@@ -41,7 +43,9 @@ use Rattle.mqb_model.specs.state.Durable.{durable, durable_lists, durable_plain,
 use Rattle.mqb_model.specs.state.Places.{put_at, with_plain}
 use Rattle.mqb_model.specs.state.Resolving.{is_for_order_layer, peer_known, resolved}
 use Rattle.mqb_model.specs.state.Rows.{has_ordinal, with_row}
-use Rattle.mqb_model.specs.state.State.{State}
+use Rattle.mqb_model.specs.state.State.{State, empty}
+use Rattle.mqb_network.specs.Network.{formatted, manager_at, nobody, others}
+use Rattle.mqb_network.specs.Runs.{beginning}
 use Rattle.mqb_orders.specs.Rows.{Row, acknowledged}
 use Rattle.mqb_orders.specs.declared.kept.Kept.{Kept}
 use Rattle.mqb_packet.specs.declared.packet.UserPacket.{UserPacket}
@@ -51,9 +55,14 @@ use Rattle.mqb_plain.specs.declared.outgoing.Outgoing.{Outgoing}
 use Rattle.mqb_queue.specs.Arrival.{length_met, queue_refusal}
 use Rattle.mqb_queue.specs.Lists.{Lists}
 use Rattle.mqb_queue.specs.Places.{Queue, new_queue, numbered}
-use Rattle.mqb_history.proofs.Contents.{Holds, IsCarried, IsOfNotices, ListsHold, PlainHolds, RowHolds, Waits, arrived_holds, delivered_holds, each_holds, holds_or, journalled_holds, meets_holds, number_holds, plain_holds, purged_holds, put_holds, repeated_holds, taken_at_holds, taken_holds, ticked_holds}
+use Rattle.mqb_session.specs.State.{no_guid}
+use Rattle.mqb_history.proofs.Contents.{Holds, IsCarried, IsOfNotices, ListsHold, Now, PlainHolds, RowHolds, Waits, all_still, arrived_now, delivered_now, each_now, express_now, journalled_now, meets_now, next_id, now_or, plain_holds, purged_now, put_holds, repeated_now, still, taken_at_now, taken_now, ticked_now}
+use Rattle.mqb_history.proofs.Applying.{ops_taken_rows, releases_rows, sent_manager}
 use Rattle.mqb_history.proofs.Having.{QueueHas, get_holds}
 use Rattle.mqb_history.proofs.Lists.{all_append, all_filter}
+use Rattle.mqb_history.proofs.Numbering.{sends_numbers}
+use Rattle.mqb_history.proofs.Orderly.{map_get}
+use Rattle.mqb_history.proofs.Staying.{IsSameManager}
 use Rattle.mqb_history.proofs.Unreleased.{changed_all, without_all}
 
 -- A refusal is of another class than ordinary messages are.
@@ -130,7 +139,13 @@ module _ (P : Message → Type 0) where
   IsFineBeside (beside.HearsExpress peer number now m refusal) = P m × IfSome refusal IsOfNotices
   IsFineBeside _ = Unit {0}
 
-module _ (P : Message → Type 0) (c : IsCarried P) where
+-- the identifier that a manager gives next, once a record's own messages have their numbers
+abbrev pub next_behind : State → Record → MessageId
+next_behind s (entry.Commit now ops) = own_id s (s.next_number + length (sends_of ops))
+next_behind s (entry.Plain now p) = own_id s (s.next_number + 1)
+next_behind s _ = next_id s
+
+module _ (P : Message → Type 0) where
   abbrev Of : Kept → Type 0
   Of k = P k.message
 
@@ -142,120 +157,37 @@ module _ (P : Message → Type 0) (c : IsCarried P) where
   row_holds : (change : Row → Row) (s : State) (ordinal : ℕ) → ((row : Row) → RowHolds P row → RowHolds P (change row)) → Holds P s → Holds P (with_row change s ordinal)
   row_holds change s ordinal keeps h = rows_hold s (with_first_changed change (has_ordinal ordinal) s.outs) (first_holds (RowHolds P) change (has_ordinal ordinal) s.outs keeps h.outs) h
 
-  join_holds : (s : State) (peer now : ℕ) (m : Message) → P m → Holds P s → Holds P (join s peer now m)
-  join_holds s peer now m g h = at (sequence_in_use s peer m.destination)
-    where
-      at : (o : Option Row) → Holds P (option_map_or (λ row. with_row (with_kept m) s row.sequence.ordinal) o (with_sequence s (with_kept m (new_sequence s peer m.destination now))))
-      at None = record { places = h.places; plain = h.plain; outs = all_append (RowHolds P) s.outs (with_kept m (new_sequence s peer m.destination now) ∷ []) h.outs ((g, tt), tt) }
-      at (Some row) = row_holds (with_kept m) s row.sequence.ordinal (λ x k. all_append Of x.kept (record { number = x.committed + 1; message = m } ∷ []) k (g, tt)) h
+  joins_holds : (s : State) (m : Message) (ordinal : ℕ) → P m → Holds P s → Holds P (with_row (with_kept m) s ordinal)
+  joins_holds s m ordinal g h = row_holds (with_kept m) s ordinal (λ x k. all_append Of x.kept (record { number = x.committed + 1; message = m } ∷ []) k (g, tt)) h
 
-  expired_holds : (now k : ℕ) (e : Effect) → Holds P e.state → Holds P (next_expired now k e).state
-  expired_holds now k e h = by (slice_get e.state.outs k) (get_holds (RowHolds P) e.state.outs k h.outs)
-    where
-      gone : Holds P (with_expired now e.state k)
-      gone = rows_hold e.state (with_changed (without_expired now) e.state.outs k) (changed_all (RowHolds P) (without_expired now) e.state.outs k (λ row. without_all Of (expires now row) row.kept) h.outs) h
-
-      at : (row : Row) (o : Option Kept) → IfSome o Of → Holds P (option_map_or (λ kept. joined e (message_expired now k e.state row kept)) o e).state
-      at row None g = h
-      at row (Some kept) g = meets_holds P c (with_expired now e.state k) kept.message REACH_TIMEOUT now refl g gone
-
-      by : (o : Option Row) → IfSome o (RowHolds P) → Holds P (option_map_or (λ (row : Row). option_map_or (λ kept. joined e (message_expired now k e.state row kept)) (expiring now row) e) o e).state
-      by None g = h
-      by (Some row) g = at row (expiring now row) (found_holds Of (expires now row) row.kept g)
-
-  expiring_holds : (now : ℕ) (e : Effect) → Holds P e.state → Holds P (rows_expired now e).state
-  expiring_holds now e h = each_holds P c (row_expired now) (λ k d. repeated_holds P c (next_expired now k) (expired_holds now k) (option_map_or (expiring_in now) (slice_get d.state.outs k) 0) d) (length e.state.outs) e h
+  gone_holds : (now k : ℕ) (s : State) → Holds P s → Holds P (with_expired now s k)
+  gone_holds now k s h = rows_hold s (with_changed (without_expired now) s.outs k) (changed_all (RowHolds P) (without_expired now) s.outs k (λ row. without_all Of (expires now row) row.kept) h.outs) h
 
   acked_holds : (number : ℕ) (row : Row) → RowHolds P row → RowHolds P (acknowledged number row)
   acked_holds number row h = all_filter Of (λ (x : Kept). nat_lt (max row.acked number) x.number || keeps_dead x.message) row.kept h
 
-  finished_holds : (s : State) (m : Message) (index : ℕ) → Holds P s → Holds P (finished_at s m index)
-  finished_holds s m index h = at (option_and_then (kept_named m.correlation) (slice_get s.outs index)) (there (slice_get s.outs index) (get_holds (RowHolds P) s.outs index h.outs))
+  finish_holds : (s : State) (m : Message) (index : ℕ) (k : Kept) → Holds P s → Holds P (with_finished m.correlation s index k)
+  finish_holds s m index k h = rows_hold s (with_changed (finished_row m.correlation k.number) s.outs index) (changed_all (RowHolds P) (finished_row m.correlation k.number) s.outs index
+      (λ row g. all_filter Of (λ (x : Kept). nat_lt (max row.acked k.number) x.number || keeps_dead x.message) (without_first (is_offered_as m.correlation row) row.kept) (without_all Of (is_offered_as m.correlation row) row.kept g)) h.outs) h
+
+  finished_message : (s : State) (m : Message) (index : ℕ) → Holds P s → IfSome (option_and_then (kept_named m.correlation) (slice_get s.outs index)) Of
+  finished_message s m index h = there (slice_get s.outs index) (get_holds (RowHolds P) s.outs index h.outs)
     where
       there : (o : Option Row) → IfSome o (RowHolds P) → IfSome (option_and_then (kept_named m.correlation) o) Of
       there None g = tt
       there (Some row) g = found_holds Of (is_offered_as m.correlation row) row.kept g
 
-      gone : (k : Kept) → Holds P (with_finished m.correlation s index k)
-      gone k = rows_hold s (with_changed (finished_row m.correlation k.number) s.outs index) (changed_all (RowHolds P) (finished_row m.correlation k.number) s.outs index
-          (λ row g. all_filter Of (λ (x : Kept). nat_lt (max row.acked k.number) x.number || keeps_dead x.message) (without_first (is_offered_as m.correlation row) row.kept) (without_all Of (is_offered_as m.correlation row) row.kept g)) h.outs) h
+  -- Lists for peers.
 
-      dead : (k : Kept) (b : Bool) → P k.message → Holds P (cond b (put_at (with_finished m.correlation s index k) place.DeadXact k.message) (with_finished m.correlation s index k))
-      dead k true g = put_holds P c (with_finished m.correlation s index k) place.DeadXact k.message g (gone k)
-      dead k false g = gone k
-
-      at : (o : Option Kept) → IfSome o Of → Holds P (option_map_or (λ k. dead_for m.class (with_finished m.correlation s index k) k.message) o s)
-      at None g = h
-      at (Some k) g = dead k (is_negative m.class.0) g
-
-  -- Sends.
-
-  sends_hold : (now : ℕ) (e : Effect) (ms : List Message) → AllByRecursion P ms → Holds P e.state → Holds P (fold (send_made now) e ms).state
-  sends_hold now e [] g h = h
-  sends_hold now e (m ∷ ms) g h = sends_hold now (send_made now e m) ms g.1 (at (resolved e.state m.destination))
-    where
-      at : (target : Target) → Holds P (committed_to now (journalled e.state m) target m).state
-      at (AtPeer k) = join_holds (journalled e.state m) k now m g.0 (journalled_holds P c e.state m g.0 h)
-      at (Here queue) = delivered_holds P c (journalled e.state m) (Here queue) m now g.0 (journalled_holds P c e.state m g.0 h)
-      at Nowhere = delivered_holds P c (journalled e.state m) Nowhere m now g.0 (journalled_holds P c e.state m g.0 h)
-
-  ops_hold : (now : ℕ) (e : Effect) (ops : List RecordOp) → Holds P e.state → Holds P (fold (op_taken now) e ops).state
-  ops_hold now e [] h = h
-  ops_hold now e (entry.Send p ∷ ops) h = ops_hold now e ops h
-  ops_hold now e (entry.Take queue id ∷ ops) h = ops_hold now (taken (place.Queue queue) id now e) ops (taken_holds P c (place.Queue queue) id now e h)
-
-  -- Arrivals.
-
-  releases_hold : (e : Effect) (numbers : List ℕ) → Holds P e.state → Holds P (fold message_released e numbers).state
-  releases_hold e [] h = h
-  releases_hold e (n ∷ ns) h = releases_hold (message_released e n) ns (record {
+  released_holds : (e : Effect) (n : ℕ) → Holds P e.state → Holds P (message_released e n).state
+  released_holds e n h = record {
     places = h.places;
     plain = first_holds (PlainHolds P) (without_recoverable e.state n) (has_recoverable e.state n) e.state.plain (λ p g. (without_all (Waits P) (is_released_by e.state n) p.recoverable g.0, g.1)) h.plain;
     outs = h.outs;
-  })
-
-  part_holds : (now : ℕ) (e : Effect) (part : Part) → PartFine P part → Holds P e.state → Holds P (part_made now e part).state
-  part_holds now e entry.Nothing g h = h
-  part_holds now e (entry.Decided p) g h = at p.tx
-    where
-      at : (o : Option TxHead) → Holds P (option_map_or (λ tx. joined e (message_decided now e.state p tx)) o e).state
-      at None = h
-      at (Some tx) = arrived_holds P c (with_decided e.state p.message tx) p.message now (refusal_of e.state p) (refusal_class e.state p) g (record { places = h.places; plain = h.plain; outs = h.outs })
-  part_holds now e (entry.Stored p) g h = arrived_holds P c e.state p.message now (storing_refusal e.state p) (storing_class e.state p) g h
-  part_holds now e (entry.OrderAcknowledged ordinal number) g h = row_holds (acknowledged number) e.state ordinal (acked_holds number) h
-  part_holds now e (entry.Final p) g h = holds_or P c e.state (λ peer. finished_by e.state peer p.message) (peer_known e.state p.message.id.qm) h
-      (λ peer. holds_or P c e.state (finished_at e.state p.message) (index_finished e.state peer p.message) h (λ index. finished_holds e.state p.message index h))
-
-  -- Records.
-
-  marks_hold : (s : State) (marks : List Mark) → Holds P s → Holds P (fold mark_raised s marks)
-  marks_hold s [] h = h
-  marks_hold s (mark ∷ marks) h = marks_hold (mark_raised s mark) marks (row_holds (with_offered mark.number) s mark.ordinal (λ row g. g) h)
-
-  pub record_holds : (s : State) (r : Record) → IsFine P r → Holds P s → Holds P (apply s r)
-  record_holds s (entry.Identity identity) g h = h
-  record_holds s (entry.Peer peer) g h = record { places = h.places; plain = all_append (PlainHolds P) s.plain (no_plain ∷ []) h.plain ((tt, tt), tt); outs = h.outs }
-  record_holds s (entry.CreateQueue number plan) g h = record {
-    places = record {
-      queues = all_append (QueueHas (ListsHold P)) s.places.queues (new_queue plan ∷ []) h.places.queues (((tt, tt), (tt, tt)), tt);
-      dead = h.places.dead;
-      dead_xact = h.places.dead_xact;
-      journal = h.places.journal;
-    };
-    plain = h.plain;
-    outs = h.outs;
   }
-  record_holds s (entry.Commit now ops) g h = sends_hold now (takes_made s now ops) (sends_of ops) g (ops_hold now (sends_numbered s ops) ops (record { places = h.places; plain = h.plain; outs = h.outs }))
-  record_holds s (entry.Plain now p) g h = let t = numbers_taken s 1 in
-      delivered_holds P c (journalled t p.message) (resolved t p.message.destination) p.message now g (journalled_holds P c t p.message g (record { places = h.places; plain = h.plain; outs = h.outs }))
-  record_holds s (entry.Offered marks) g h = marks_hold s marks h
-  record_holds s (entry.Arrived now numbers part) g h = part_holds now (releases_made s numbers) part g (releases_hold (begun s) numbers h)
-  record_holds s (entry.Taken now at id) g h = taken_holds P c at id now (begun s) h
-  record_holds s (entry.Purged now at) g h = purged_holds P c lane.Durable at now (begun s) h
-  record_holds s (entry.Ticked now) g h = ticked_holds P c lane.Durable now (rows_expired now (begun s)) (expiring_holds now (begun s) h)
-  record_holds s (entry.Roll count) g h = record { places = h.places; plain = h.plain; outs = h.outs }
 
-  -- Beside them.
+  pub peer_holds : (s : State) (peer : Identity) → Holds P s → Holds P (apply s (entry.Peer peer))
+  peer_holds s peer h = record { places = h.places; plain = all_append (PlainHolds P) s.plain (no_plain ∷ []) h.plain ((tt, tt), tt); outs = h.outs }
 
   unmarked_holds : (os : List Outgoing) → AllByRecursion (Waits P) os → AllByRecursion (Waits P) (unmarked os)
   unmarked_holds [] h = tt
@@ -276,29 +208,6 @@ module _ (P : Message → Type 0) (c : IsCarried P) where
   acked_plain : (number : ℕ) (p : PlainLists) → PlainHolds P p → PlainHolds P (without_acked number p)
   acked_plain number p h = (h.0, all_filter (Waits P) (λ o. not (is_sent_by number o)) p.express h.1)
 
-  noted_holds : (peer : ℕ) (s : State) (origin : Origin) (head : SessionHead) → Holds P s → Holds P (noted_as peer head s origin)
-  noted_holds peer s (beside.Owed row) head h = number_holds P c s delivery.Express h
-  noted_holds peer s beside.OfRecoverable head h = plain_holds P c (with_marked lane.Durable head.recoverable) s peer (marked_holds lane.Durable head.recoverable) h
-  noted_holds peer s beside.OfExpress head h = plain_holds P c (with_marked lane.Express head.user) s peer (marked_holds lane.Express head.user) h
-  noted_holds peer s (beside.OfRow row number) head h = h
-
-  all_noted_holds : (peer : ℕ) (s : State) (sent : List (Origin × SessionHead)) → Holds P s → Holds P (fold (noted peer) s sent)
-  all_noted_holds peer s [] h = h
-  all_noted_holds peer s (g ∷ gs) h = all_noted_holds peer (noted peer s g) gs (noted_holds peer s g.0 g.1 h)
-
-  pub beside_holds : (b : Beside) → IsFineBeside P b → (s : State) → Holds P s → Holds P (beside.beside_done b s)
-  beside_holds beside.Nothing e s h = h
-  beside_holds (beside.SendsExpress now m) e s h = let t = number_taken s delivery.Express in
-      delivered_holds P c (journalled t m) (resolved t m.destination) m now e (journalled_holds P c t m e (number_holds P c s delivery.Express h))
-  beside_holds (beside.TakesExpress now at index) e s h = taken_at_holds P c lane.Express at index now (begun s) h
-  beside_holds (beside.PurgesExpress now at) e s h = purged_holds P c lane.Express at now (begun s) h
-  beside_holds (beside.TicksExpress now) e s h = ticked_holds P c lane.Express now (begun s) h
-  beside_holds beside.Unmarks e s h = record { places = h.places; plain = mapped_holds (PlainHolds P) all_unmarked s.plain (λ p g. (unmarked_holds p.recoverable g.0, unmarked_holds p.express g.1)) h.plain; outs = h.outs }
-  beside_holds (beside.DropsExpress peer number) e s h = plain_holds P c (without_acked number) s peer (acked_plain number) h
-  beside_holds (beside.HearsExpress peer number now m refusal) e s h =
-      arrived_holds P c (with_plain (without_acked number) s peer) m now refusal e.1 e.0 (plain_holds P c (without_acked number) s peer (acked_plain number) h)
-  beside_holds (beside.NotesSent peer sent) e s h = all_noted_holds peer s sent h
-
   -- A store.
 
   lists_last : (l : Lists) → ListsHold P l → ListsHold P (durable_lists l)
@@ -315,3 +224,159 @@ module _ (P : Message → Type 0) (c : IsCarried P) where
     plain = mapped_holds (PlainHolds P) durable_plain s.plain (λ p g. (unmarked_holds p.recoverable g.0, tt)) h.plain;
     outs = h.outs;
   }
+
+  -- A start.
+
+  pub formatted_holds : (own : Identity) (peers : List Identity) → Holds P (formatted own peers).state
+  formatted_holds own peers = from (empty own) peers (record {
+    places = record { queues = tt; dead = (tt, tt); dead_xact = (tt, tt); journal = (tt, tt) };
+    plain = tt;
+    outs = tt;
+  })
+    where
+      from : (s : State) (ps : List Identity) → Holds P s → Holds P (fold apply s (map (λ peer. entry.Peer peer) ps))
+      from s [] h = h
+      from s (p ∷ ps) h = from (apply s (entry.Peer p)) ps (peer_holds s p h)
+
+  pub beginning_holds : (known : List Identity) (j : ℕ) → Holds P (manager_at (beginning known).network j).state
+  beginning_holds known j = subst (λ o. Holds P (unwrap_or o nobody).state) (sym (map_get (λ own. formatted own (others known own)) known j)) (at (slice_get known j))
+    where
+      at : (o : Option Identity) → Holds P (unwrap_or (option_map (λ own. formatted own (others known own)) o) nobody).state
+      at None = formatted_holds (record { host = []; guid = no_guid; address = [] }) []
+      at (Some own) = formatted_holds own (others known own)
+
+module _ (P : MessageId → Message → Type 0) (c : IsCarried P) where
+  join_now : (s : State) (peer now : ℕ) (m : Message) → P (next_id s) m → Now P c s → Now P c (join s peer now m)
+  join_now s peer now m g h = at (sequence_in_use s peer m.destination)
+    where
+      at : (o : Option Row) → Now P c (option_map_or (λ row. with_row (with_kept m) s row.sequence.ordinal) o (with_sequence s (with_kept m (new_sequence s peer m.destination now))))
+      at None = record { places = h.places; plain = h.plain; outs = all_append (RowHolds (P (next_id s))) s.outs (with_kept m (new_sequence s peer m.destination now) ∷ []) h.outs ((g, tt), tt) }
+      at (Some row) = joins_holds (P (next_id s)) s m row.sequence.ordinal g h
+
+  expired_now : (now k : ℕ) (e : Effect) → Now P c e.state → Now P c (next_expired now k e).state
+  expired_now now k e h = by (slice_get e.state.outs k) (get_holds (RowHolds (P (next_id e.state))) e.state.outs k h.outs)
+    where
+      at : (row : Row) (o : Option Kept) → IfSome o (Of (P (next_id e.state))) → Now P c (option_map_or (λ kept. joined e (message_expired now k e.state row kept)) o e).state
+      at row None g = h
+      at row (Some kept) g = meets_now P c (with_expired now e.state k) kept.message REACH_TIMEOUT now refl (gone_holds (P (next_id e.state)) now k e.state h, g)
+
+      by : (o : Option Row) → IfSome o (RowHolds (P (next_id e.state))) → Now P c (option_map_or (λ (row : Row). option_map_or (λ kept. joined e (message_expired now k e.state row kept)) (expiring now row) e) o e).state
+      by None g = h
+      by (Some row) g = at row (expiring now row) (found_holds (Of (P (next_id e.state))) (expires now row) row.kept g)
+
+  expiring_now : (now : ℕ) (e : Effect) → Now P c e.state → Now P c (rows_expired now e).state
+  expiring_now now e h = each_now P c (row_expired now) (λ k d. repeated_now P c (next_expired now k) (expired_now now k) (option_map_or (expiring_in now) (slice_get d.state.outs k) 0) d) (length e.state.outs) e h
+
+  finished_now : (s : State) (m : Message) (index : ℕ) → Now P c s → Now P c (finished_at s m index)
+  finished_now s m index h = at (option_and_then (kept_named m.correlation) (slice_get s.outs index)) (finished_message (P (next_id s)) s m index h)
+    where
+      dead : (k : Kept) (b : Bool) → P (next_id s) k.message → Now P c (cond b (put_at (with_finished m.correlation s index k) place.DeadXact k.message) (with_finished m.correlation s index k))
+      dead k true g = put_holds (P (next_id s)) (with_finished m.correlation s index k) place.DeadXact k.message g (finish_holds (P (next_id s)) s m index k h)
+      dead k false g = finish_holds (P (next_id s)) s m index k h
+
+      at : (o : Option Kept) → IfSome o (Of (P (next_id s))) → Now P c (option_map_or (λ k. dead_for m.class (with_finished m.correlation s index k) k.message) o s)
+      at None g = h
+      at (Some k) g = dead k (is_negative m.class.0) g
+
+  -- Sends.
+
+  sends_now : (now : ℕ) (e : Effect) (ms : List Message) → AllByRecursion (P (next_id e.state)) ms → Now P c e.state → Now P c (fold (send_made now) e ms).state
+  sends_now now e [] g h = h
+  sends_now now e (m ∷ ms) g h = sends_now now (send_made now e m) ms (all_still P c e.state (send_made now e m).state (sent_manager now e.state m) (sends_numbers now e (m ∷ [])) ms g.1)
+      (at (resolved e.state m.destination))
+    where
+      at : (target : Target) → Now P c (committed_to now (journalled e.state m) target m).state
+      at (AtPeer k) = let j = journalled_now P c e.state m g.0 h in join_now (journalled e.state m) k now m j.1 j.0
+      at (Here queue) = delivered_now P c (journalled e.state m) (Here queue) m now (journalled_now P c e.state m g.0 h)
+      at Nowhere = delivered_now P c (journalled e.state m) Nowhere m now (journalled_now P c e.state m g.0 h)
+
+  ops_now : (now : ℕ) (e : Effect) (ops : List RecordOp) → Now P c e.state → Now P c (fold (op_taken now) e ops).state
+  ops_now now e [] h = h
+  ops_now now e (entry.Send p ∷ ops) h = ops_now now e ops h
+  ops_now now e (entry.Take queue id ∷ ops) h = ops_now now (taken (place.Queue queue) id now e) ops (taken_now P c (place.Queue queue) id now e h)
+
+  -- Arrivals.
+
+  releases_now : (e : Effect) (numbers : List ℕ) → Now P c e.state → Now P c (fold message_released e numbers).state
+  releases_now e [] h = h
+  releases_now e (n ∷ ns) h = releases_now (message_released e n) ns (released_holds (P (next_id e.state)) e n h)
+
+  part_now : (now : ℕ) (e : Effect) (part : Part) → PartFine (P (next_id e.state)) part → Now P c e.state → Now P c (part_made now e part).state
+  part_now now e entry.Nothing g h = h
+  part_now now e (entry.Decided p) g h = at p.tx
+    where
+      at : (o : Option TxHead) → Now P c (option_map_or (λ tx. joined e (message_decided now e.state p tx)) o e).state
+      at None = h
+      at (Some tx) = arrived_now P c (with_decided e.state p.message tx) p.message now (refusal_of e.state p) (refusal_class e.state p) g (record { places = h.places; plain = h.plain; outs = h.outs })
+  part_now now e (entry.Stored p) g h = arrived_now P c e.state p.message now (storing_refusal e.state p) (storing_class e.state p) g h
+  part_now now e (entry.OrderAcknowledged ordinal number) g h = row_holds (P (next_id e.state)) (acknowledged number) e.state ordinal (acked_holds (P (next_id e.state)) number) h
+  part_now now e (entry.Final p) g h = now_or P c e.state (λ peer. finished_by e.state peer p.message) (peer_known e.state p.message.id.qm) h
+      (λ peer. now_or P c e.state (finished_at e.state p.message) (index_finished e.state peer p.message) h (λ index. finished_now e.state p.message index h))
+
+  part_still : (s t : State) → IsSameManager s t → s.next_number ≤ t.next_number → (part : Part) → PartFine (P (next_id s)) part → PartFine (P (next_id t)) part
+  part_still s t same le entry.Nothing g = tt
+  part_still s t same le (entry.Decided p) g = still P c s t same le p.message g
+  part_still s t same le (entry.Stored p) g = still P c s t same le p.message g
+  part_still s t same le (entry.OrderAcknowledged ordinal number) g = tt
+  part_still s t same le (entry.Final p) g = tt
+
+  -- Records.
+
+  marks_now : (s : State) (marks : List Mark) → Now P c s → Now P c (fold mark_raised s marks)
+  marks_now s [] h = h
+  marks_now s (mark ∷ marks) h = marks_now (mark_raised s mark) marks (row_holds (P (next_id s)) (with_offered mark.number) s mark.ordinal (λ row g. g) h)
+
+  pub record_holds : (s : State) (r : Record) → IsFine (P (next_behind s r)) r → Holds (P (next_behind s r)) s → Now P c (apply s r)
+  record_holds s (entry.Identity identity) g h = h
+  record_holds s (entry.Peer peer) g h = peer_holds (P (next_id s)) s peer h
+  record_holds s (entry.CreateQueue number plan) g h = record {
+    places = record {
+      queues = all_append (QueueHas (ListsHold (P (next_id s)))) s.places.queues (new_queue plan ∷ []) h.places.queues (((tt, tt), (tt, tt)), tt);
+      dead = h.places.dead;
+      dead_xact = h.places.dead_xact;
+      journal = h.places.journal;
+    };
+    plain = h.plain;
+    outs = h.outs;
+  }
+  record_holds s (entry.Commit now ops) g h = let first = sends_numbered s ops in let taken = takes_made s now ops in let rows = ops_taken_rows now first ops in
+      sends_now now taken (sends_of ops) (all_still P c first.state taken.state rows.manager rows.numbers (sends_of ops) g)
+      (ops_now now first ops (record { places = h.places; plain = h.plain; outs = h.outs }))
+  record_holds s (entry.Plain now p) g h = let t = numbers_taken s 1 in
+      delivered_now P c (journalled t p.message) (resolved t p.message.destination) p.message now (journalled_now P c t p.message g (record { places = h.places; plain = h.plain; outs = h.outs }))
+  record_holds s (entry.Offered marks) g h = marks_now s marks h
+  record_holds s (entry.Arrived now numbers part) g h = let rows = releases_rows (begun s) numbers in
+      part_now now (releases_made s numbers) part (part_still s (releases_made s numbers).state rows.manager rows.numbers part g) (releases_now (begun s) numbers h)
+  record_holds s (entry.Taken now at id) g h = taken_now P c at id now (begun s) h
+  record_holds s (entry.Purged now at) g h = purged_now P c lane.Durable at now (begun s) h
+  record_holds s (entry.Ticked now) g h = ticked_now P c lane.Durable now (rows_expired now (begun s)) (expiring_now now (begun s) h)
+  record_holds s (entry.Roll count) g h = record { places = h.places; plain = h.plain; outs = h.outs }
+
+  -- Beside them.
+
+  noted_now : (peer : ℕ) (s : State) (origin : Origin) (head : SessionHead) → Now P c s → Now P c (noted_as peer head s origin)
+  noted_now peer s (beside.Owed row) head h = express_now P c s h
+  noted_now peer s beside.OfRecoverable head h = plain_holds (P (next_id s)) (with_marked lane.Durable head.recoverable) s peer (marked_holds (P (next_id s)) lane.Durable head.recoverable) h
+  noted_now peer s beside.OfExpress head h = plain_holds (P (next_id s)) (with_marked lane.Express head.user) s peer (marked_holds (P (next_id s)) lane.Express head.user) h
+  noted_now peer s (beside.OfRow row number) head h = h
+
+  all_noted_now : (peer : ℕ) (s : State) (sent : List (Origin × SessionHead)) → Now P c s → Now P c (fold (noted peer) s sent)
+  all_noted_now peer s [] h = h
+  all_noted_now peer s (g ∷ gs) h = all_noted_now peer (noted peer s g) gs (noted_now peer s g.0 g.1 h)
+
+  pub beside_holds : (b : Beside) (s : State) → IsFineBeside (P (next_id s)) b → Now P c s → Now P c (beside.beside_done b s)
+  beside_holds beside.Nothing s e h = h
+  beside_holds (beside.SendsExpress now m) s e h = let t = number_taken s delivery.Express in
+      delivered_now P c (journalled t m) (resolved t m.destination) m now (journalled_now P c t m e (express_now P c s h))
+  beside_holds (beside.TakesExpress now at index) s e h = taken_at_now P c lane.Express at index now (begun s) h
+  beside_holds (beside.PurgesExpress now at) s e h = purged_now P c lane.Express at now (begun s) h
+  beside_holds (beside.TicksExpress now) s e h = ticked_now P c lane.Express now (begun s) h
+  beside_holds beside.Unmarks s e h = record {
+    places = h.places;
+    plain = mapped_holds (PlainHolds (P (next_id s))) all_unmarked s.plain (λ p g. (unmarked_holds (P (next_id s)) p.recoverable g.0, unmarked_holds (P (next_id s)) p.express g.1)) h.plain;
+    outs = h.outs;
+  }
+  beside_holds (beside.DropsExpress peer number) s e h = plain_holds (P (next_id s)) (without_acked number) s peer (acked_plain (P (next_id s)) number) h
+  beside_holds (beside.HearsExpress peer number now m refusal) s e h =
+      arrived_now P c (with_plain (without_acked number) s peer) m now refusal e.1 e.0 (plain_holds (P (next_id s)) (without_acked number) s peer (acked_plain (P (next_id s)) number) h)
+  beside_holds (beside.NotesSent peer sent) s e h = all_noted_now peer s sent h

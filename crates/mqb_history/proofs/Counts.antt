@@ -1,7 +1,10 @@
 -- Each end of a connection counts what it sends and gets, and what is stored.
 use Rattle.std.proofs.Common.{refl, ap, sym, subst, ◌∙◌, arith}
-use Rattle.std.specs.Prelude.{[], ◌&&◌, ◌+◌, ◌++◌, ◌==◌, ◌∷◌, ◌≡◌, ◌≤◌, Bool, IfSome, List, Some, cond, false, length, slice_get, suc, take, true, zero, ℕ}
+use Rattle.std.specs.Prelude.{[], ◌&&◌, ◌+◌, ◌++◌, ◌==◌, ◌∷◌, ◌≡◌, ◌≤◌, Bool, IfSome, List, Some, cond, false, length, map, slice_get, suc, take, true, zero, ℕ}
+use Rattle.mqb_base.specs.declared.heads.SessionHead.{SessionHead}
 use Rattle.mqb_base.specs.declared.ids.MessageId.{MessageId}
+use Rattle.mqb_base.specs.declared.message.Lane.TheVariants as lane
+use Rattle.mqb_plain.specs.Plain.{PlainLists}
 use Rattle.mqb_exactly_once.specs.Words.{In}
 use Rattle.mqb_model.specs.managers.Manager.{Manager}
 use Rattle.mqb_network.specs.Courses.{Course, Written}
@@ -13,12 +16,13 @@ use Rattle.mqb_queue.specs.Places.{numbered}
 use Rattle.mqb_history.specs.Sessions.{AreSessionsCounted, CountsRightly, packets_from, recoverable_number, recoverables, says_got, says_stored, session_number, user_packets}
 use Rattle.mqb_history.specs.Stored.{IsStoredIn}
 use Rattle.mqb_history.proofs.Between.{all_in, from_sender}
-use Rattle.mqb_history.proofs.Flowing.{Flows, ids_append}
+use Rattle.mqb_history.proofs.Flowing.{Flows, ids_append, in_users, next_left}
 use Rattle.mqb_history.proofs.Heard.{got_told, stored_told}
 use Rattle.mqb_history.proofs.Lists.{append_length, none_some, some_is}
-use Rattle.mqb_history.proofs.Pumped.{AreCounted, AreInTurn, IsNumberOf, storable_ids, users_of}
+use Rattle.mqb_history.proofs.Pumped.{AreCounted, AreInTurn, AreMarks, AreRepeated, storable_ids, users_of}
 use Rattle.mqb_history.proofs.Storing.{FlowsIn, KeepsStorage}
-use Rattle.mqb_history.proofs.Unreleased.{IsBorne, PlainWaits}
+use Rattle.mqb_history.proofs.Unreleased.{IsBorne, IsExpress, PlainWaits}
+use Rattle.mqb_history.proofs.Ascending.{in_order}
 
 -- The words of sessions.
 
@@ -66,6 +70,22 @@ in_turn n [] k p h e = absurd (none_some e)
 in_turn n (q ∷ ps) zero p h e = let first = h.0 in subst (λ (x : UserPacket). session_number x ≡ n + zero + 1) (some_is q p e) (omega (arith, first))
 in_turn n (q ∷ ps) (suc k) p h e = let rest = in_turn (n + 1) ps k p h.1 e in omega (arith, rest)
 
+-- what an acknowledgement repeats
+repeated_at : (n r : ℕ) (before behind : List Packet) (head : SessionHead) → AreRepeated n r (before ++ packet.Ack head ∷ behind)
+    → (head.user ≡ n + length (users_of before)) × (head.recoverable ≡ r + length (storable_ids (users_of before)))
+repeated_at n r [] behind head h = (let e = h.0 in omega (arith, e), let e = h.1 in omega (arith, e))
+repeated_at n r (packet.User p ∷ before) behind head h = let g = repeated_at (n + 1) (r + length (storable_ids (p ∷ []))) before behind head h in
+    let sum = ap (λ (ids : List MessageId). length ids) (ids_append (p ∷ []) (users_of before)) ∙ append_length (storable_ids (p ∷ [])) (storable_ids (users_of before)) in
+    (let e = g.0 in omega (arith, e), let e = g.1 in omega (arith, e, sum))
+repeated_at n r (packet.Ack y ∷ before) behind head h = repeated_at n r before behind head h.2
+repeated_at n r (packet.Establish e ∷ before) behind head h = repeated_at n r before behind head h
+repeated_at n r (packet.Parameters q ∷ before) behind head h = repeated_at n r before behind head h
+
+-- the member behind a front
+get_behind : {X : Type 0} (xs ys : List X) (y : X) → slice_get (xs ++ y ∷ ys) (length xs) ≡ Some y
+get_behind [] ys y = refl
+get_behind (x ∷ xs) ys y = get_behind xs ys y
+
 taken_first : (got left : List UserPacket) → take (length got) (got ++ left) ≡ got
 taken_first [] left = refl
 taken_first (p ∷ got) left = ap (λ ps. p ∷ ps) (taken_first got left)
@@ -81,8 +101,17 @@ counts_rightly mi mj xs ys ws h = record {
       (in_count 0 (users_of xs) k p h.counted (ap (λ (ps : List UserPacket). slice_get ps k) (sym (users_same xs)) ∙ e)
       ∙ (let f : 0 + length (recoverables (take (k + 1) (users_of xs))) ≡ length (recoverables (take (k + 1) (users_of xs))) = omega arith in f));
   marks = λ lists o n there waits marked. subst (λ (ps : List UserPacket). numbered (recoverables ps) n ≡ Some o.message.id) (sym (users_same xs))
-      (subst (λ m. IfSome m (λ k. IsNumberOf (storable_ids (users_of xs)) k o.message.id)) marked
-      (all_in (IsBorne h.own (IsNumberOf (storable_ids (users_of xs)))) lists.recoverable o (all_in (PlainWaits h.own (IsNumberOf (storable_ids (users_of xs)))) mi.state.plain lists h.waits.plain there).recoverable waits).mark);
+      (subst (λ m. IfSome m (λ k. AreMarks (users_of xs) lane.Durable k o.message.id)) marked
+      (all_in (IsBorne h.own (AreMarks (users_of xs) lane.Durable)) lists.recoverable o (lists_wait lists there).recoverable waits).mark);
+  express_marks = λ lists o n there waits marked. subst (λ (ps : List UserPacket). numbered (map (λ (p : UserPacket). p.message.id) ps) n ≡ Some o.message.id) (sym (users_same xs))
+      (subst (λ m. IfSome m (λ k. AreMarks (users_of xs) lane.Express k o.message.id)) marked
+      (all_in (IsExpress (AreMarks (users_of xs) lane.Express)) lists.express o (lists_wait lists there).express waits).1);
+  rises = λ lists there. let h = lists_wait lists there in (in_order 0 lists.recoverable h.recoverable_rises, in_order 0 lists.express h.express_rises);
+  repeats = λ before behind head e. subst (λ (ps : List UserPacket). (head.user ≡ length ps) × (head.recoverable ≡ length (recoverables ps))) (sym (users_same before))
+      (let g = repeated_at 0 0 before behind head (subst (AreRepeated 0 0) e h.repeats) in (let f = g.0 in omega (arith, f), let f = g.1 in omega (arith, f)));
+  next = λ p inside e. let place = next_left 0 h.got h.left p (subst (AreInTurn 0) h.split h.numbered) (subst (In p) h.split (in_users xs p inside)) (let n = h.count in omega (arith, e, n)) in
+      ap (λ n. slice_get (user_packets xs) n) h.count
+      ∙ ap (λ ps. slice_get ps (length h.got)) (users_same xs ∙ h.split ∙ ap (λ left. h.got ++ left) place.1) ∙ get_behind h.got place.0 p;
   got = let n = h.count in let all = ap (λ (ps : List UserPacket). length ps) (users_same xs ∙ h.split) in let sum = append_length h.got h.left in omega (arith, n, all, sum);
   stored = h.stored ∙ ap (λ (ps : List UserPacket). length (recoverables ps)) (sym firsts);
   kept = λ id inside. all_in (IsStoredIn ws) (storable_ids h.got) id h.kept (subst (λ ps. In id (recoverables ps)) firsts inside);
@@ -92,6 +121,9 @@ counts_rightly mi mj xs ys ws h = record {
   acknowledged = h.acked;
 }
   where
+    lists_wait : (lists : PlainLists) → In lists mi.state.plain → PlainWaits h.own (AreMarks (users_of xs)) lists
+    lists_wait lists there = all_in (PlainWaits h.own (AreMarks (users_of xs))) mi.state.plain lists h.waits.plain there
+
     firsts : take h.target.got (user_packets xs) ≡ h.got
     firsts = ap (λ n. take n (user_packets xs)) h.count ∙ ap (take (length h.got)) (users_same xs ∙ h.split) ∙ taken_first h.got h.left
 

@@ -243,6 +243,7 @@ pub record IsSameButSent (v w : StreamWorld) : Type 0 where
   pub decided : w.decided ≡ v.decided
   pub fates : w.fates ≡ v.fates
   pub order_acks : w.order_acks ≡ v.order_acks
+  pub final_acks : w.final_acks ≡ v.final_acks
   pub connection : w.connection ≡ v.connection
   pub connected : w.connected ≡ v.connected
   pub more : (t : Transfer) → In t v.transfers → In t w.transfers
@@ -302,6 +303,7 @@ module _ (d : QueueName) (c : Channel) (now : ℕ) where
           decided = rest.same.decided;
           fates = rest.same.fates;
           order_acks = rest.same.order_acks;
+          final_acks = rest.same.final_acks;
           connection = rest.same.connection;
           connected = rest.same.connected;
           more = λ y i. inr (rest.same.more y i);
@@ -368,7 +370,7 @@ module _ (d : QueueName) (c : Channel) (now : ℕ) where
   send_on v [] r can = record {
     world = v;
     reached = r;
-    same = record { channel = refl; committed = refl; expired = refl; offered = refl; acknowledged = refl; decided = refl; fates = refl; order_acks = refl; connection = refl; connected = refl; more = λ t i. i };
+    same = record { channel = refl; committed = refl; expired = refl; offered = refl; acknowledged = refl; decided = refl; fates = refl; order_acks = refl; final_acks = refl; connection = refl; connected = refl; more = λ t i. i };
     sent = λ p tx h. absurd h.0;
     only = λ t i. inl i;
   }

@@ -52,7 +52,7 @@ use Rattle.mqb_history.proofs.Skipping.{always_unskipped}
 use Rattle.mqb_history.proofs.Sums.{times_is}
 use Rattle.mqb_history.proofs.Telling.{always_told_commitments}
 use Rattle.mqb_history.proofs.Undecided.{always_undecided}
-use Rattle.mqb_history.proofs.Witnessing.{always_exactly_once}
+use Rattle.mqb_history.proofs.Witnessing.{always_exactly_once, always_one_stream_world}
 use Rattle.mqb_history.proofs.Written.{always_by_records}
 
 -- Streams.
@@ -218,4 +218,4 @@ ledger_is_exactly_once known ms apart run kept = let c = settled kept (after_run
   kept = always_offers_kept known ms apart run kept;
   undecided = always_undecided known ms apart run kept;
 }) (always_told_commitments known ms apart run kept) (always_committed_in_order known ms apart run kept) (always_commitments_led known ms apart run kept)
-    (always_exactly_once known ms apart run kept) (always_accounted known apart ms run kept)
+    (always_exactly_once always_one_stream_world known ms apart run kept) (always_accounted known apart ms run kept)

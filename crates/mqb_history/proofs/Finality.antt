@@ -39,7 +39,7 @@ use Rattle.mqb_history.specs.Committed.{commitments}
 use Rattle.mqb_history.specs.Decided.{IsDecidedInOrder, RiseStrictly, is_in_channel, position_in, written_of}
 use Rattle.mqb_history.specs.Expired.{AreExpiredDuly, expiries_told, expiry_told}
 use Rattle.mqb_history.specs.Fates.{CameTo, departure_line}
-use Rattle.mqb_history.specs.Finals.{FinalsTellFates, KnowsFate}
+use Rattle.mqb_history.specs.Finals.{AreFatesTold, FinalsTellFates, KnowsFate}
 use Rattle.mqb_history.specs.Offered.{AreUndecided}
 use Rattle.mqb_history.specs.Orderly.{IsOrderly}
 use Rattle.mqb_history.specs.Shown.{channel_of, decision_in, decisions_made, fate_of, outcome_by, reason_of}
@@ -416,25 +416,22 @@ module _ (known : List Identity) (apart : AreApart known) (c : Course) (accounts
         at (Some reason) e (inr x) v a b = let same = refuses class reason l e x v a b in
             known_of class (subst (CameTo (mine j) decision) (sym (ap fate_of same ∙ subst TellsReason e (arrival_reason w.before d.packet))) (ap outcome_by e))
 
--- The law.
-pub finals_tell_fates : FinalsTellFates
-finals_tell_fates known ms apart run kept k note p e f t is i m differ inside named = knows known apart c accounted (always_told_commitments known ms apart run kept)
-    (always_decided_truly known ms apart run kept) (always_decided_in_order known ms apart run kept) credible (always_expired_duly known ms apart run kept) (always_undecided known ms apart run kept)
-    (always_truthful known ms apart run kept).not_put i note.sender m inside
+-- Each final acknowledgement that was sent tells such a fate.
+pub fates_told : (known : List Identity) (apart : AreApart known) (c : Course) → IsAccounted known c → AreCommitmentsTold c → AreDecidedTruly c → IsDecidedInOrder c → IsCredible known c → AreExpiredDuly c
+    → AreUndecided c → IsNoFailurePut c → AreFatesTold c
+fates_told known apart c accounts told truly rise credible duly undecided not_put k note p e f t is i m differ inside named = knows known apart c accounts told truly rise credible duly undecided not_put
+    i note.sender m inside
     (names_decided known apart c credible note.sender p (((credible.honest.packets k note p e f).plain t).plain durable) tests.1 i m differ inside named) p.message.class
-    (subst (IsTold (Told c) (IsMetBy p.message.class)) (sym named) ((accounted.agreed.1.fair p (numbered_in c.sent k (packet.User p) f)).fate.final tests.1))
+    (subst (IsTold (Told c) (IsMetBy p.message.class)) (sym named) ((accounts.agreed.1.fair p (numbered_in c.sent k (packet.User p) f)).fate.final tests.1))
   where
-    c : Course
-    c = settled kept (after_run known ms)
-
-    credible : IsCredible known c
-    credible = always_kept known (IsCredible known) (credible_closed known apart) ms run kept (credible_begins known)
-
-    accounted : IsAccounted known c
-    accounted = always_accounted known apart ms run kept
-
     tests : (not (is_express p.message.delivery) ≡ true) × (is_final_class p.message.class ≡ true)
     tests = split_and (not (is_express p.message.delivery)) (is_final_class p.message.class) is
 
     durable : is_express p.message.delivery ≡ false
     durable = not_true (is_express p.message.delivery) tests.0
+
+-- The law.
+pub finals_tell_fates : FinalsTellFates
+finals_tell_fates known ms apart run kept = fates_told known apart (settled kept (after_run known ms)) (always_accounted known apart ms run kept) (always_told_commitments known ms apart run kept)
+    (always_decided_truly known ms apart run kept) (always_decided_in_order known ms apart run kept) (always_kept known (IsCredible known) (credible_closed known apart) ms run kept (credible_begins known))
+    (always_expired_duly known ms apart run kept) (always_undecided known ms apart run kept) (always_truthful known ms apart run kept).not_put

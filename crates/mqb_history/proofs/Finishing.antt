@@ -1,18 +1,20 @@
 -- What is acknowledged to a source was decided, and so a stream world goes on by an acknowledgement of it.
 use Rattle.std.proofs.Common.{refl, ap, sym, subst, ◌∙◌, arith, inl, inr}
 use Rattle.std.proofs.lemmas.Bool.Decides.{nat_tests}
+use Rattle.std.specs.List.{list_any}
 use Rattle.std.specs.Option.{option_map_or}
-use Rattle.std.specs.Prelude.{[], ◌<◌, ◌||◌, ◌∷◌, ◌≡◌, ◌≤◌, ◌⊎◌, Bool, List, None, Option, Some, cond, false, find, max, nat_le, nat_lt, option_and_then, slice_get, true, ℕ}
+use Rattle.std.specs.Prelude.{[], ◌<◌, ◌==◌, ◌||◌, ◌∷◌, ◌≡◌, ◌≤◌, ◌⊎◌, Bool, List, None, Option, Some, cond, false, find, max, nat_le, nat_lt, option_and_then, position, slice_get, true, ℕ}
 use Rattle.mqb_base.specs.Bits.{keeps_dead}
-use Rattle.mqb_base.specs.Same.{same_id, same_name}
+use Rattle.mqb_base.specs.Same.{same_guid, same_id, same_name}
 use Rattle.mqb_base.specs.Sequences.{same_sequence}
+use Rattle.mqb_base.specs.declared.ids.Identity.{Identity}
 use Rattle.mqb_base.specs.declared.ids.SequenceId.{SequenceId}
 use Rattle.mqb_base.specs.declared.ledger.Line.{Line}
 use Rattle.mqb_base.specs.declared.message.Message.{Message}
 use Rattle.mqb_base.specs.declared.queue_names.QueueName.{QueueName}
 use Rattle.mqb_exactly_once.proofs.Decisions.{decided_within}
 use Rattle.mqb_exactly_once.proofs.Positions.{same_sequence_is}
-use Rattle.mqb_exactly_once.specs.Outcomes.{MessageFate, Outcome, Put, Refusal, Refused, Was_refused}
+use Rattle.mqb_exactly_once.specs.Outcomes.{Outcome, Put, Refusal, Refused, Was_refused}
 use Rattle.mqb_exactly_once.specs.Runs.{after}
 use Rattle.mqb_exactly_once.specs.Steps.{Acknowledge, Acknowledged, Arrive, Commit, Connect, End, Expire, Fate, Offer, Send, StreamStep, Tell, Told, decided_after, decision, fates_after, happens, marked, raised, verdict}
 use Rattle.mqb_exactly_once.specs.Words.{In, count, is_decided, is_expired}
@@ -20,7 +22,7 @@ use Rattle.mqb_exactly_once.specs.World.{Channel, Commitment, Decision, FinalAck
 use Rattle.mqb_orders.specs.declared.judging.Verdict.{Verdict}
 use Rattle.mqb_orders.specs.declared.judging.Verdict.TheVariants as verdicts
 use Rattle.mqb_model.specs.Lists.{with_first_changed, without_first}
-use Rattle.mqb_model.specs.records.Finals.{dead_for, final_stored, finished_at, finished_by, finished_row, index_finished, is_offered_as, kept_named, names_kept, with_finished}
+use Rattle.mqb_model.specs.records.Finals.{dead_for, final_stored, finished_at, finished_by, finished_row, has_named, index_finished, is_offered_as, kept_named, names_kept, with_finished}
 use Rattle.mqb_model.specs.state.Resolving.{peer_known}
 use Rattle.mqb_model.specs.state.Rows.{has_ordinal}
 use Rattle.mqb_model.specs.state.State.{State}
@@ -30,7 +32,7 @@ use Rattle.mqb_history.proofs.Applying.{dead_rows}
 use Rattle.mqb_history.proofs.Committing.{OrdinalsRise, differ_by_ordinal, itself, kept_at}
 use Rattle.mqb_history.proofs.Connections.{found_passes}
 use Rattle.mqb_history.proofs.Deciding.{first_is_found}
-use Rattle.mqb_history.proofs.Lists.{get_in, split_and, true_not_false}
+use Rattle.mqb_history.proofs.Lists.{equal_numbers, get_in, split_and, true_not_false}
 use Rattle.mqb_history.proofs.Names.{same_name_is, same_name_refl}
 use Rattle.mqb_history.proofs.Outside.{filtered_in, without_in}
 use Rattle.mqb_history.proofs.Reaching.{Reached, kept_invariant, more}
@@ -89,22 +91,21 @@ pub record IsToldOf (c : Channel) (w : StreamWorld) (p : Position) : Type 0 wher
   pub offered : world.offered ≡ w.offered
   pub same : IsSameElsewhere w world
 
-fate_told : (c : Channel) (w : StreamWorld) (f : KnownFate) → Reached c w → w.connected ≡ true → In f w.fates → IsToldOf c w f.position
-fate_told c w f r connected i = record {
-  world = happens told (Told a);
-  reached = more c told (Told a) (more c w (Tell f) r (connected, i)) ((connected, refl), inl refl);
+-- a final acknowledgement of a position and a connection is there
+abbrev pub HasFinal : List FinalAck → Position → ℕ → Type 0
+HasFinal acks p connection = (a : FinalAck) × In a acks × (a.position ≡ p) × (a.connection ≡ connection)
+
+-- It hears a final acknowledgement.
+fate_told : (c : Channel) (w : StreamWorld) (p : Position) → Reached c w → w.connected ≡ true → HasFinal w.final_acks p w.connection → IsToldOf c w p
+fate_told c w p r connected (a, inside, same, present) = subst (IsToldOf c w) same (record {
+  world = happens w (Told a);
+  reached = more c w (Told a) r ((connected, present), inside);
   acknowledged = λ s. refl;
   committed = refl;
   expired = refl;
   offered = refl;
-  same = record { channel = refl; decided = refl; fates = refl; transfers = refl; order_acks = refl; connection = refl; connected = refl };
-}
-  where
-    told : StreamWorld
-    told = happens w (Tell f)
-
-    a : FinalAck
-    a = record { position = f.position; fate = f.fate; connection = w.connection }
+  same = record { channel = refl; decided = refl; fates = refl; transfers = refl; order_acks = refl; final_acks = refl; connection = refl; connected = refl };
+})
 
 -- a mark that rises is the greater of the two
 marked_raised : (p : Position) (marks : SequenceId → ℕ) (s : SequenceId) → marks p.sequence < p.number → marked p marks s ≡ raised p marks s
@@ -127,7 +128,7 @@ order_told c w p r connected decided less (a, inside, same, present) = subst (Is
   committed = refl;
   expired = refl;
   offered = refl;
-  same = record { channel = refl; decided = refl; fates = refl; transfers = refl; order_acks = refl; connection = refl; connected = refl };
+  same = record { channel = refl; decided = refl; fates = refl; transfers = refl; order_acks = refl; final_acks = refl; connection = refl; connected = refl };
 })
   where
     low : w.acknowledged a.position.sequence < a.position.number
@@ -196,10 +197,10 @@ IsAckedTruly d peer v outs = (row : Row) → In row outs → row.destination ≡
 abbrev pub MayAck : QueueName → List OrderAck → ℕ → List Row → (ordinal number : ℕ) → Type 0
 MayAck d acks connection outs ordinal number = (row : Row) → In row outs → row.sequence.ordinal ≡ ordinal → row.destination ≡ d → HasAck acks (record { sequence = row.sequence; number = number }) connection
 
--- the fate is known of each decided message that a final one names
-abbrev pub MayFinish : QueueName → StreamWorld → List Row → Message → Type 0
-MayFinish d v outs m = (row : Row) (k : Kept) → In row outs → In k row.kept → same_id k.message.id m.correlation ≡ true → row.destination ≡ d → is_decided v.decided (position_at row k) ≡ true
-    → (fate : MessageFate) × In (record { position = position_at row k; fate = fate }) v.fates
+-- a final one of this connection tells of each decided message that it names, of a row to the peer from which it came
+abbrev pub MayFinish : QueueName → StreamWorld → List Identity → List Row → Message → Type 0
+MayFinish d v peers outs m = (row : Row) (k : Kept) → In row outs → In k row.kept → same_id k.message.id m.correlation ≡ true → row.destination ≡ d
+    → position (λ (p : Identity). same_guid p.guid m.id.qm) peers ≡ Some row.peer → is_decided v.decided (position_at row k) ≡ true → HasFinal v.final_acks (position_at row k) v.connection
 
 module _ (d : QueueName) (peer : ℕ) (c : Channel) (v : StreamWorld) (cs : List Commitment) (ls : List Line) (connected : v.connected ≡ true) where
   acked_sourced : (outs news : List Row) (a b : Row) (n : ℕ) → In a outs → Replaced outs news a b → IsAckedTo a b n → IsAckedTruly d peer v news → (h : IsSourced d peer c v outs cs ls)
@@ -236,6 +237,7 @@ module _ (d : QueueName) (peer : ℕ) (c : Channel) (v : StreamWorld) (cs : List
           fates = t.same.fates ∙ h.same.fates;
           transfers = t.same.transfers ∙ h.same.transfers;
           order_acks = t.same.order_acks ∙ h.same.order_acks;
+          final_acks = t.same.final_acks ∙ h.same.final_acks;
           connection = t.same.connection ∙ h.same.connection;
           connected = t.same.connected ∙ h.same.connected;
         };
@@ -298,9 +300,9 @@ module _ (d : QueueName) (peer : ℕ) (c : Channel) (v : StreamWorld) (cs : List
               (subst (HasAck v.order_acks (record { sequence = g.0.sequence; number = number })) (sym h.same.connection) (may g.0 g.1 g.2 e)))
 
   -- by a final one
-  finished_sourced : (s : State) (m : Message) (index : ℕ) → OrdinalsRise s.outs → IsAckedTruly d peer v (finished_at s m index).outs → MayFinish d v s.outs m
-      → IsSourced d peer c v s.outs cs ls → IsSourced d peer c v (finished_at s m index).outs cs ls
-  finished_sourced s m index rise truly may h = at (slice_get s.outs index) refl truly
+  finished_sourced : (s : State) (m : Message) (from index : ℕ) → peer_known s m.id.qm ≡ Some from → index_finished s from m ≡ Some index → OrdinalsRise s.outs
+      → IsAckedTruly d peer v (finished_at s m index).outs → MayFinish d v s.peers s.outs m → IsSourced d peer c v s.outs cs ls → IsSourced d peer c v (finished_at s m index).outs cs ls
+  finished_sourced s m from index came at_index rise truly may h = at (slice_get s.outs index) refl truly
     where
       done : Kept → State
       done k = dead_for m.class (with_finished m.correlation s index k) k.message
@@ -328,25 +330,35 @@ module _ (d : QueueName) (peer : ℕ) (c : Channel) (v : StreamWorld) (cs : List
           found : find (is_offered_as m.correlation row) row.kept ≡ Some k
           found = sym (first_is_found (is_offered_as m.correlation row) row.kept) ∙ named
 
+          -- it is to the peer
+          passes : has_named from m.correlation row ≡ true
+          passes = found_passes (has_named from m.correlation) s.outs row
+              (sym (first_is_found (has_named from m.correlation) s.outs) ∙ ap (λ (o : Option ℕ). option_and_then (slice_get s.outs) o) at_index ∙ e)
+
+          leads : row.peer ≡ from
+          leads = equal_numbers row.peer from (split_and (row.peer == from) (list_any (names_kept m.correlation) row.kept) passes).0
+
           tell : row.destination ≡ d → row.acked < k.number → is_decided v.decided (position_at row k) ≡ true → IsToldOf c h.world (position_at row k)
-          tell to less decided = let known = may row k inside (found_kept (is_offered_as m.correlation row) row.kept k found)
-              (split_and (names_kept m.correlation k) (nat_le k.number row.offered) (found_passes (is_offered_as m.correlation row) row.kept k found)).0 to decided in
-              fate_told c h.world (record { position = position_at row k; fate = known.0 }) h.reached (h.same.connected ∙ connected)
-              (subst (In (record { position = position_at row k; fate = known.0 })) (sym h.same.fates) known.1)
+          tell to less decided = fate_told c h.world (position_at row k) h.reached (h.same.connected ∙ connected)
+              (subst (λ acks. HasFinal acks (position_at row k) h.world.connection) (sym h.same.final_acks) (subst (HasFinal v.final_acks (position_at row k)) (sym h.same.connection)
+              (may row k inside (found_kept (is_offered_as m.correlation row) row.kept k found)
+              (split_and (names_kept m.correlation k) (nat_le k.number row.offered) (found_passes (is_offered_as m.correlation row) row.kept k found)).0 to
+              (came ∙ ap (λ n. Some n) (sym leads)) decided)))
 
       at : (o : Option Row) → slice_get s.outs index ≡ o → IsAckedTruly d peer v (option_map_or done (option_and_then (kept_named m.correlation) o) s).outs
           → IsSourced d peer c v (option_map_or done (option_and_then (kept_named m.correlation) o) s).outs cs ls
       at None e truly = h
       at (Some row) e truly = of_row row e (kept_named m.correlation row) refl truly
 
-  pub final_sourced : (s : State) (m : Message) → OrdinalsRise s.outs → IsAckedTruly d peer v (final_stored s m).state.outs → MayFinish d v s.outs m → IsSourced d peer c v s.outs cs ls
+  pub final_sourced : (s : State) (m : Message) → OrdinalsRise s.outs → IsAckedTruly d peer v (final_stored s m).state.outs → MayFinish d v s.peers s.outs m → IsSourced d peer c v s.outs cs ls
       → IsSourced d peer c v (final_stored s m).state.outs cs ls
-  final_sourced s m rise truly may h = at (peer_known s m.id.qm) truly
+  final_sourced s m rise truly may h = at (peer_known s m.id.qm) refl truly
     where
-      by : (o : Option ℕ) → IsAckedTruly d peer v (option_map_or (finished_at s m) o s).outs → IsSourced d peer c v (option_map_or (finished_at s m) o s).outs cs ls
-      by None truly = h
-      by (Some index) truly = finished_sourced s m index rise truly may h
+      by : (from : ℕ) → peer_known s m.id.qm ≡ Some from → (o : Option ℕ) → index_finished s from m ≡ o → IsAckedTruly d peer v (option_map_or (finished_at s m) o s).outs
+          → IsSourced d peer c v (option_map_or (finished_at s m) o s).outs cs ls
+      by from came None e truly = h
+      by from came (Some index) e truly = finished_sourced s m from index came e rise truly may h
 
-      at : (o : Option ℕ) → IsAckedTruly d peer v (option_map_or (λ k. finished_by s k m) o s).outs → IsSourced d peer c v (option_map_or (λ k. finished_by s k m) o s).outs cs ls
-      at None truly = h
-      at (Some k) truly = by (index_finished s k m) truly
+      at : (o : Option ℕ) → peer_known s m.id.qm ≡ o → IsAckedTruly d peer v (option_map_or (λ k. finished_by s k m) o s).outs → IsSourced d peer c v (option_map_or (λ k. finished_by s k m) o s).outs cs ls
+      at None came truly = h
+      at (Some k) came truly = by k came (index_finished s k m) refl truly

@@ -6,6 +6,8 @@ use Rattle.std.specs.List.{AllByRecursion, cons_option}
 use Rattle.std.specs.Prelude.{[], ◌+◌, ◌-◌, ◌++◌, ◌==◌, ◌∷◌, ◌≡◌, ◌≤◌, Bool, IfSome, List, None, Option, Some, cond, false, length, max, nat_le, slice_get, suc, true, zero, ℕ}
 use Rattle.mqb_base.specs.declared.ids.Guid.{Guid}
 use Rattle.mqb_base.specs.declared.ids.MessageId.{MessageId}
+use Rattle.mqb_base.specs.declared.message.Lane.{Lane}
+use Rattle.mqb_base.specs.declared.message.Lane.TheVariants as lane
 use Rattle.mqb_exactly_once.specs.Words.{In}
 use Rattle.mqb_packet.specs.declared.packet.Packet.{Packet}
 use Rattle.mqb_packet.specs.declared.packet.Packet.TheVariants as packet
@@ -27,7 +29,7 @@ use Rattle.mqb_history.proofs.Heard.{Counts, HasGot, IsReleasable, Stores, is_st
 use Rattle.mqb_history.proofs.Between.{in_any}
 use Rattle.mqb_history.proofs.Lists.{all_append, append_length, append_nothing, join_and, none_some, same_number, some_is}
 use Rattle.mqb_history.proofs.Names.{same_guid_refl}
-use Rattle.mqb_history.proofs.Pumped.{AreCounted, AreInTurn, IsNumberOf, Sends, filter_append, ids_cons, storable_ids, user_in, user_number, users_of}
+use Rattle.mqb_history.proofs.Pumped.{AreCounted, AreInTurn, AreMarks, AreRepeated, IsNumberOf, Sends, filter_append, ids_cons, storable_ids, user_in, user_number, users_of}
 use Rattle.mqb_history.proofs.Unreleased.{IsBorne, PlainWaits, Waits}
 
 -- What is known of the packets from one manager to another, and of those in return.
@@ -40,6 +42,7 @@ pub record Flows (mi mj : Manager) (xs ys : List Packet) (ws : List Written) : T
   pub recoverable_sent : source.recoverable_sent ≡ length (storable_ids (users_of xs))
   pub numbered : AreInTurn 0 (users_of xs)
   pub counted : AreCounted 0 (users_of xs)
+  pub repeats : AreRepeated 0 0 xs
   -- those that were got come first
   pub got : List UserPacket
   pub left : List UserPacket
@@ -55,7 +58,7 @@ pub record Flows (mi mj : Manager) (xs ys : List Packet) (ws : List Written) : T
   pub told_got : AllByRecursion (λ y. got_told y ≤ target.got) ys
   -- marks are numbers of packets
   pub own : Guid
-  pub waits : Waits own (IsNumberOf (storable_ids (users_of xs))) mi.state
+  pub waits : Waits own (AreMarks (users_of xs)) mi.state
 
 -- Written records.
 
@@ -85,6 +88,7 @@ flows_more mi mj xs ys ws more h = record {
   recoverable_sent = h.recoverable_sent;
   numbered = h.numbered;
   counted = h.counted;
+  repeats = h.repeats;
   got = h.got;
   left = h.left;
   split = h.split;
@@ -103,7 +107,7 @@ flows_more mi mj xs ys ws more h = record {
 
 -- what waits stays, whatever is known of marks
 abbrev pub KeepsWaiting : Guid → State → State → Type 1
-KeepsWaiting own s t = (Bears : ℕ → MessageId → Type 0) → Waits own Bears s → Waits own Bears t
+KeepsWaiting own s t = (Bears : Lane → ℕ → MessageId → Type 0) → Waits own Bears s → Waits own Bears t
 
 pub source_works : (mi mj next : Manager) (xs ys : List Packet) (ws : List Written) (h : Flows mi mj xs ys ws) → next.rest.session ≡ mi.rest.session
     → KeepsWaiting h.own mi.state next.state → Flows next mj xs ys ws
@@ -116,6 +120,7 @@ source_works mi mj next xs ys ws h e keeps = record {
   recoverable_sent = h.recoverable_sent;
   numbered = h.numbered;
   counted = h.counted;
+  repeats = h.repeats;
   got = h.got;
   left = h.left;
   split = h.split;
@@ -127,7 +132,7 @@ source_works mi mj next xs ys ws h e keeps = record {
   got_acked = h.got_acked;
   told_got = h.told_got;
   own = h.own;
-  waits = keeps (IsNumberOf (storable_ids (users_of xs))) h.waits;
+  waits = keeps (AreMarks (users_of xs)) h.waits;
 }
 
 pub source_hears : (mi mj next : Manager) (xs ys : List Packet) (ws : List Written) (y : Packet) (before after : one_end.State) (h : Flows mi mj xs ys ws) → In y ys
@@ -142,6 +147,7 @@ source_hears mi mj next xs ys ws y before after h inside there goes sent recover
   recoverable_sent = recoverable ∙ ap (λ (s : one_end.State). s.recoverable_sent) same ∙ h.recoverable_sent;
   numbered = h.numbered;
   counted = h.counted;
+  repeats = h.repeats;
   got = h.got;
   left = h.left;
   split = h.split;
@@ -155,7 +161,7 @@ source_hears mi mj next xs ys ws y before after h inside there goes sent recover
       let high = all_in (λ z. got_told z ≤ h.target.got) ys y h.told_got inside in omega (arith, low, high, got_acked);
   told_got = h.told_got;
   own = h.own;
-  waits = keeps (IsNumberOf (storable_ids (users_of xs))) h.waits;
+  waits = keeps (AreMarks (users_of xs)) h.waits;
 }
   where
     same : before ≡ h.source
@@ -180,10 +186,21 @@ counted_append n (p ∷ ps) qs h g = (
       let e : n + length (storable_ids (p ∷ ps)) ≡ n + length (storable_ids (p ∷ [])) + length (storable_ids ps) = omega (arith, sum) in e) g),
 )
 
+repeated_append : (n r : ℕ) (xs zs : List Packet) → AreRepeated n r xs → AreRepeated (n + length (users_of xs)) (r + length (storable_ids (users_of xs))) zs → AreRepeated n r (xs ++ zs)
+repeated_append n r [] zs h g = subst (λ a. AreRepeated a r zs) (let e : n + 0 ≡ n = omega arith in e) (subst (λ b. AreRepeated (n + 0) b zs) (let e : r + 0 ≡ r = omega arith in e) g)
+repeated_append n r (packet.User p ∷ xs) zs h g = repeated_append (n + 1) (r + length (storable_ids (p ∷ []))) xs zs h
+    (subst (λ a. AreRepeated a (r + length (storable_ids (p ∷ [])) + length (storable_ids (users_of xs))) zs) (let e : n + suc (length (users_of xs)) ≡ n + 1 + length (users_of xs) = omega arith in e)
+    (subst (λ b. AreRepeated (n + suc (length (users_of xs))) b zs)
+    (let sum = ap (λ (ids : List MessageId). length ids) (ids_append (p ∷ []) (users_of xs)) ∙ append_length (storable_ids (p ∷ [])) (storable_ids (users_of xs)) in
+    let e : r + length (storable_ids (p ∷ users_of xs)) ≡ r + length (storable_ids (p ∷ [])) + length (storable_ids (users_of xs)) = omega (arith, sum) in e) g))
+repeated_append n r (packet.Ack y ∷ xs) zs h g = (h.0, h.1, repeated_append n r xs zs h.2 g)
+repeated_append n r (packet.Establish e ∷ xs) zs h g = repeated_append n r xs zs h g
+repeated_append n r (packet.Parameters q ∷ xs) zs h g = repeated_append n r xs zs h g
+
 pub source_pumps : (mi mj next : Manager) (xs ys zs : List Packet) (ws : List Written) (before after : one_end.State) (h : Flows mi mj xs ys ws)
-    → mi.rest.session ≡ Some before → next.rest.session ≡ Some after → Sends before after (users_of zs)
-    → Waits h.own (IsNumberOf (storable_ids (users_of xs) ++ storable_ids (users_of zs))) next.state → Flows next mj (xs ++ zs) ys ws
-source_pumps mi mj next xs ys zs ws before after h there goes sends waits = record {
+    → mi.rest.session ≡ Some before → next.rest.session ≡ Some after → Sends before after (users_of zs) → AreRepeated before.sent before.recoverable_sent zs
+    → Waits h.own (AreMarks (users_of xs ++ users_of zs)) next.state → Flows next mj (xs ++ zs) ys ws
+source_pumps mi mj next xs ys zs ws before after h there goes sends repeats waits = record {
   source = after;
   target = h.target;
   sends = goes;
@@ -195,6 +212,8 @@ source_pumps mi mj next xs ys zs ws before after h there goes sends waits = reco
       (subst (λ k. AreInTurn k (users_of zs)) (was_sent ∙ (let e : length (users_of xs) ≡ 0 + length (users_of xs) = omega arith in e)) sends.numbered));
   counted = subst (AreCounted 0) (sym (users_append xs zs)) (counted_append 0 (users_of xs) (users_of zs) h.counted
       (subst (λ k. AreCounted k (users_of zs)) (was_stored ∙ (let e : length (storable_ids (users_of xs)) ≡ 0 + length (storable_ids (users_of xs)) = omega arith in e)) sends.counted));
+  repeats = repeated_append 0 0 xs zs h.repeats (subst (λ n. AreRepeated n (0 + length (storable_ids (users_of xs))) zs) (was_sent ∙ (let e : length (users_of xs) ≡ 0 + length (users_of xs) = omega arith in e))
+      (subst (λ r. AreRepeated before.sent r zs) (was_stored ∙ (let e : length (storable_ids (users_of xs)) ≡ 0 + length (storable_ids (users_of xs)) = omega arith in e)) repeats));
   got = h.got;
   left = h.left ++ users_of zs;
   split = users_append xs zs ∙ ap (λ ps. ps ++ users_of zs) h.split ∙ append_assoc h.got h.left (users_of zs);
@@ -206,7 +225,7 @@ source_pumps mi mj next xs ys zs ws before after h there goes sends waits = reco
   got_acked = let e = sends.got_acked ∙ ap (λ (s : one_end.State). s.acked) same in let low = h.got_acked in omega (arith, e, low);
   told_got = h.told_got;
   own = h.own;
-  waits = subst (λ ids. Waits h.own (IsNumberOf ids) next.state) (sym all_ids) waits;
+  waits = subst (λ ps. Waits h.own (AreMarks ps) next.state) (sym (users_append xs zs)) waits;
 }
   where
     same : before ≡ h.source
@@ -233,6 +252,7 @@ target_works mi mj next xs ys ws h e = record {
   recoverable_sent = h.recoverable_sent;
   numbered = h.numbered;
   counted = h.counted;
+  repeats = h.repeats;
   got = h.got;
   left = h.left;
   split = h.split;
@@ -267,6 +287,7 @@ target_pumps mi mj next xs ys zs ws before after h there goes got stored told to
   recoverable_sent = h.recoverable_sent;
   numbered = h.numbered;
   counted = h.counted;
+  repeats = h.repeats;
   got = h.got;
   left = h.left;
   split = h.split;
@@ -298,7 +319,7 @@ turn_above n [] p h i = absurd i
 turn_above n (q ∷ qs) p h (inl e) = let f = subst (λ (x : UserPacket). user_number x ≡ n + 1) e h.0 in omega (arith, f)
 turn_above n (q ∷ qs) p h (inr i) = let low = turn_above (n + 1) qs p h.1 i in omega (arith, low)
 
-next_left : (n : ℕ) (got left : List UserPacket) (p : UserPacket) → AreInTurn n (got ++ left) → In p (got ++ left) → user_number p ≡ n + length got + 1
+pub next_left : (n : ℕ) (got left : List UserPacket) (p : UserPacket) → AreInTurn n (got ++ left) → In p (got ++ left) → user_number p ≡ n + length got + 1
     → (behind : List UserPacket) × (left ≡ p ∷ behind)
 next_left n [] [] p h i e = absurd i
 next_left n [] (q ∷ qs) p h (inl f) e = (qs, ap (λ x. x ∷ qs) f)
@@ -306,7 +327,7 @@ next_left n [] (q ∷ qs) p h (inr i) e = let low = turn_above (n + 1) qs p h.1 
 next_left n (g ∷ gs) left p h (inl f) e = let k = subst (λ (x : UserPacket). user_number x ≡ n + 1) f h.0 in absurd (omega (arith, k, e))
 next_left n (g ∷ gs) left p h (inr i) e = next_left (n + 1) gs left p h.1 i (omega (arith, e))
 
-in_users : (xs : List Packet) (p : UserPacket) → In (packet.User p) xs → In p (users_of xs)
+pub in_users : (xs : List Packet) (p : UserPacket) → In (packet.User p) xs → In p (users_of xs)
 in_users [] p i = absurd i
 in_users (x ∷ xs) p (inl e) = subst (λ y. In p (cons_option (user_in y) (users_of xs))) (sym e) (inl refl)
 in_users (x ∷ xs) p (inr i) = at (user_in x) (in_users xs p i)
@@ -343,6 +364,7 @@ target_hears mi mj next xs ys ws x o before after h inside there goes counts sto
       recoverable_sent = h.recoverable_sent;
       numbered = h.numbered;
       counted = h.counted;
+      repeats = h.repeats;
       got = got;
       left = left;
       split = split;
@@ -410,17 +432,17 @@ released_stored mi mj xs ys ws acked n h le r = (
   record { index = r.peer; lists = r.lists; there = r.waiting; has = in_any (is_released_by mi.state n) r.lists.recoverable r.item r.there test },
 )
   where
-    listed : PlainWaits h.own (IsNumberOf (storable_ids (users_of xs))) r.lists
+    listed : PlainWaits h.own (AreMarks (users_of xs)) r.lists
     listed = get mi.state.plain r.peer r.waiting h.waits.plain
       where
-        get : (ps : List PlainLists) (k : ℕ) → slice_get ps k ≡ Some r.lists → AllByRecursion (PlainWaits h.own (IsNumberOf (storable_ids (users_of xs)))) ps
-            → PlainWaits h.own (IsNumberOf (storable_ids (users_of xs))) r.lists
+        get : (ps : List PlainLists) (k : ℕ) → slice_get ps k ≡ Some r.lists → AllByRecursion (PlainWaits h.own (AreMarks (users_of xs))) ps
+            → PlainWaits h.own (AreMarks (users_of xs)) r.lists
         get [] k e g = absurd (none_some e)
-        get (p ∷ ps) zero e g = subst (PlainWaits h.own (IsNumberOf (storable_ids (users_of xs)))) (some_is p r.lists e) g.0
+        get (p ∷ ps) zero e g = subst (PlainWaits h.own (AreMarks (users_of xs))) (some_is p r.lists e) g.0
         get (p ∷ ps) (suc k) e g = get ps k e g.1
 
-    borne : IsBorne h.own (IsNumberOf (storable_ids (users_of xs))) r.item
-    borne = all_in (IsBorne h.own (IsNumberOf (storable_ids (users_of xs)))) r.lists.recoverable r.item listed.recoverable r.there
+    borne : IsBorne h.own (AreMarks (users_of xs) lane.Durable) r.item
+    borne = all_in (IsBorne h.own (AreMarks (users_of xs) lane.Durable)) r.lists.recoverable r.item listed.recoverable r.there
 
     named : r.item.message.id ≡ own_id mi.state n
     named = ap (λ g. record { qm = g; number = r.item.message.id.number }) (borne.source ∙ sym h.waits.identity)

@@ -73,8 +73,8 @@ module _ (x : MessageId) where
   record_gives s (entry.Plain now p) made = let same = ap (weight x) made.id in let one = given_next x s.identity.guid s.next_number in omega (arith, same, one)
   record_gives s (entry.Offered marks) made = quiet_gives s (entry.Offered marks) tt
   record_gives s (entry.Arrived now numbers part) made = quiet_gives s (entry.Arrived now numbers part) (part_silent now numbers part)
-  record_gives s (entry.Taken now at id) made = quiet_gives s (entry.Taken now at id) tt
-  record_gives s (entry.Purged now at) made = quiet_gives s (entry.Purged now at) tt
+  record_gives s (entry.Taken now at id) made = quiet_gives s (entry.Taken now at id) (λ none other. tt)
+  record_gives s (entry.Purged now at) made = quiet_gives s (entry.Purged now at) (λ none other. tt)
   record_gives s (entry.Ticked now) made = quiet_gives s (entry.Ticked now) (λ id. tt)
   record_gives s (entry.Roll count) made = quiet_gives s (entry.Roll count) tt
 

@@ -15,7 +15,7 @@ use Rattle.mqb_network.specs.Courses.{Course, Written}
 use Rattle.mqb_network.specs.Doubts.{settled}
 use Rattle.mqb_network.specs.Laws.{AreApart, lines_written}
 use Rattle.mqb_network.specs.Network.{Note, manager_at}
-use Rattle.mqb_network.specs.Runs.{IsRun, Move, after_run}
+use Rattle.mqb_network.specs.Runs.{IsRun, Move, after_run, beginning}
 use Rattle.mqb_packet.specs.declared.packet.Packet.{Packet}
 use Rattle.mqb_packet.specs.declared.packet.Packet.TheVariants as packet
 use Rattle.mqb_packet.specs.declared.packet.UserPacket.{UserPacket}
@@ -180,13 +180,16 @@ module _ (known : List Identity) (apart : AreApart known) (c : Course) (t : IsAc
     gone = change_gone x may;
   }
 
-accounted_closed : (known : List Identity) → AreApart known → IsClosed known (IsAccounted known)
+pub accounted_closed : (known : List Identity) → AreApart known → IsClosed known (IsAccounted known)
 accounted_closed known apart = record { orderly = λ c t. t.agreed.0.0; keeps = λ c x may t. change_accounted known apart c t x may }
 
--- At each point of each run.
-pub always_accounted : (known : List Identity) → AreApart known → (ms : List Move) → IsRun known ms → (kept : ℕ → Bool) → IsAccounted known (settled kept (after_run known ms))
-always_accounted known apart ms run kept = always_kept known (IsAccounted known) (accounted_closed known apart) ms run kept (record {
+pub accounted_begins : (known : List Identity) → IsAccounted known (beginning known)
+accounted_begins known = record {
   agreed = (begins_with known AreLed led_by_records, begins_agreeing known);
   tallied = (starts_tallied known).1;
   gone = λ j own there p inside plain source. absurd inside;
-})
+}
+
+-- At each point of each run.
+pub always_accounted : (known : List Identity) → AreApart known → (ms : List Move) → IsRun known ms → (kept : ℕ → Bool) → IsAccounted known (settled kept (after_run known ms))
+always_accounted known apart ms run kept = always_kept known (IsAccounted known) (accounted_closed known apart) ms run kept (accounted_begins known)

@@ -7,6 +7,7 @@ use Rattle.mqb_base.specs.declared.class.Class.{Class}
 use Rattle.mqb_base.specs.declared.ids.Guid.{Guid}
 use Rattle.mqb_base.specs.declared.ids.Identity.{Identity}
 use Rattle.mqb_base.specs.declared.ids.MessageId.{MessageId}
+use Rattle.mqb_base.specs.declared.message.Lane.{Lane}
 use Rattle.mqb_base.specs.declared.ledger.Line.{Line}
 use Rattle.mqb_base.specs.declared.ledger.Line.TheVariants as line
 use Rattle.mqb_exactly_once.specs.Words.{In}
@@ -152,7 +153,7 @@ module _ (c : Course) (k : KeepsStorage c) (x sender now : ℕ) (p : Packet) (d 
   abbrev more : List Written
   more = c.written ++ written_by x m outcome.entry
 
-  keeps_waiting : (own : Guid) (Bears : ℕ → MessageId → Type 0) → Waits own Bears m.state → Waits own Bears next.state
+  keeps_waiting : (own : Guid) (Bears : Lane → ℕ → MessageId → Type 0) → Waits own Bears m.state → Waits own Bears next.state
   keeps_waiting own Bears w = call_waits own Bears m outcome (sound_own own) (hears own).answers.beside w
 
   flows : (e : Connection) → In e c.network.connections → (i j : ℕ) → AreEnds e i j → FlowsIn (with_manager c.network x next) c.sent more i j e.number

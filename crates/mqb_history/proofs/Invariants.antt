@@ -1,9 +1,9 @@
--- The parts of the invariant of a stream world that some run reaches.
+-- The one stream world of a channel, and the parts of its invariant.
 use Rattle.std.proofs.Common.{refl, sym, subst, inl, inr}
 use Rattle.std.specs.Prelude.{[], ◌<◌, ◌∷◌, ◌≡◌, ◌⊎◌, Bool, List, Some, false, true}
 use Rattle.mqb_base.specs.Sequences.{earlier}
 use Rattle.mqb_base.specs.declared.ids.SequenceId.{SequenceId}
-use Rattle.mqb_exactly_once.proofs.Always.{always, decided_up_to_last}
+use Rattle.mqb_exactly_once.proofs.Always.{always, decided_up_to_last, is_exactly_once}
 use Rattle.mqb_exactly_once.proofs.Always as exactly
 use Rattle.mqb_exactly_once.proofs.Decisions.{DecisionsRise}
 use Rattle.mqb_exactly_once.proofs.Positions.{earlier_trans, not_earlier_itself, precedes_tells}
@@ -11,8 +11,8 @@ use Rattle.mqb_exactly_once.specs.Runs.{after}
 use Rattle.mqb_exactly_once.specs.Words.{In, newest}
 use Rattle.mqb_exactly_once.specs.World.{Decision, Position, StreamWorld}
 use Rattle.mqb_network.specs.Courses.{Course}
-use Rattle.mqb_history.specs.Invariants.{HaveStreamInvariants, StreamInvariant}
-use Rattle.mqb_history.specs.Shown.{AreShown, channel_of}
+use Rattle.mqb_history.specs.Invariants.{HaveOneStreamWorld, HaveStreamInvariants, StreamInvariant}
+use Rattle.mqb_history.specs.Shown.{AreExactlyOnce, AreShown, Shows, channel_of}
 use Rattle.mqb_history.proofs.Lists.{some_is, true_not_false}
 
 -- of two sequences one is not earlier than the other
@@ -53,5 +53,25 @@ invariant_of w i = record {
   begun_in_order = i.begun;
 }
 
-pub have_invariants : (c : Course) → AreShown c → HaveStreamInvariants c
-have_invariants c h i j d leads = let s = h i j d leads in let w = after (channel_of c.network i d) s.steps in (w, s.shown, invariant_of w (always (channel_of c.network i d) s.steps s.run))
+-- a world that is reached has them, and is exactly once
+pub have_one : (c : Course) → AreShown c → HaveOneStreamWorld c
+have_one c h i j d leads = let s = h i j d leads in let k = always (channel_of c.network i d) s.steps s.run in let w = after (channel_of c.network i d) s.steps in record {
+  steps = s.steps;
+  run = s.run;
+  world = w;
+  reached = refl;
+  shown = s.shown;
+  invariant = invariant_of w k;
+  exactly_once = is_exactly_once w k;
+}
+
+-- What follows from it.
+
+pub one_is_shown : (c : Course) → HaveOneStreamWorld c → AreShown c
+one_is_shown c h i j d leads = let s = h i j d leads in record { steps = s.steps; run = s.run; shown = subst (Shows c i j d) (sym s.reached) s.shown }
+
+pub are_exactly_once : (c : Course) → HaveOneStreamWorld c → AreExactlyOnce c
+are_exactly_once c h i j d leads = let s = h i j d leads in (s.world, s.shown, s.exactly_once)
+
+pub have_invariants : (c : Course) → HaveOneStreamWorld c → HaveStreamInvariants c
+have_invariants c h i j d leads = let s = h i j d leads in (s.world, s.shown, s.invariant)

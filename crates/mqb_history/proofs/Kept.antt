@@ -55,7 +55,7 @@ use Rattle.mqb_history.proofs.Written.{IsByRecords}
 -- Lines of records without expiries.
 
 abbrev lasting : Sayings
-lasting = record { Sends = λ id. Unit {0}; Decides = λ id. Unit {0}; Stores = λ id. Unit {0}; Expires = λ id. ⊥ }
+lasting = record { Sends = λ id. Unit {0}; Decides = λ id. Unit {0}; Stores = λ id. Unit {0}; Expires = λ id. ⊥; Empties = λ id. Unit {0} }
 
 lasting_none : (ls : List Line) → AllByRecursion (Says lasting) ls → NoneExpires ls
 lasting_none ls h q n i = let l = told_from expiry_told ls (record { sequence = q; number = n }) i in at l.0 (all_in (Says lasting) ls l.0 h l.1) l.2
@@ -242,8 +242,8 @@ record_clean s r ws made h = at r made
     at (entry.Plain now p) made = quiet (entry.Plain now p) made tt tt
     at (entry.Offered marks) made = quiet (entry.Offered marks) made tt tt
     at (entry.Arrived now numbers part) made = quiet (entry.Arrived now numbers part) made tt (part_lasts now numbers part)
-    at (entry.Taken now place id) made = quiet (entry.Taken now place id) made tt tt
-    at (entry.Purged now place) made = quiet (entry.Purged now place) made tt tt
+    at (entry.Taken now place id) made = quiet (entry.Taken now place id) made tt (λ none other. tt)
+    at (entry.Purged now place) made = quiet (entry.Purged now place) made tt (λ none other. tt)
     at (entry.Ticked now) made = subst (λ xs. RowsClean (ls ++ xs) (apply s (entry.Ticked now))) (sym adds.lines) (subst (λ xs. RowsClean xs (apply s (entry.Ticked now))) (append_assoc ls e.lines adds.more)
         (all_weaker (IsClean (ls ++ e.lines)) (IsClean ((ls ++ e.lines) ++ adds.more)) (λ row d. clean_more (ls ++ e.lines) adds.more row (others_expire adds.more adds.others) d) (apply s (entry.Ticked now)).outs
         (same_clean (ls ++ e.lines) e.state (apply s (entry.Ticked now)) (ticked_rows lane.Durable now e)

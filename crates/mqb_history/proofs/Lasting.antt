@@ -9,6 +9,7 @@ use Rattle.mqb_base.specs.declared.heads.TxHead.{TxHead}
 use Rattle.mqb_base.specs.declared.ids.Guid.{Guid}
 use Rattle.mqb_base.specs.declared.ids.MessageId.{MessageId}
 use Rattle.mqb_base.specs.declared.message.Delivery.TheVariants as delivery
+use Rattle.mqb_base.specs.declared.message.Lane.{Lane}
 use Rattle.mqb_base.specs.declared.message.Lane.TheVariants as lane
 use Rattle.mqb_base.specs.declared.message.Message.{Message}
 use Rattle.mqb_base.specs.declared.queues.EntryPlace.{EntryPlace}
@@ -44,8 +45,9 @@ use Rattle.mqb_model.specs.state.Rows.{with_row}
 use Rattle.mqb_model.specs.state.State.{State}
 use Rattle.mqb_history.proofs.Lists.{all_append, clash}
 use Rattle.mqb_history.proofs.Unreleased.{IsBorne, IsOfOwn, IsPlainBeside, PlainWaits, Waits, changed_all, plain_waits, refusal_here, storing_here, unmarked_waits, without_all, meets_waits, taken_at_waits, repeated_waits, each_waits, purged_waits, ticked_waits, journalled_waits, here_waits, sent_waits, arrived_waits, express_waits, put_waits, number_waits, acked_waits}
+use Rattle.mqb_history.proofs.Ascending.{without_rise}
 
-module _ (own : Guid) (Bears : ℕ → MessageId → Type 0) where
+module _ (own : Guid) (Bears : Lane → ℕ → MessageId → Type 0) where
   -- Records.
 
   taken_waits : (at : EntryPlace) (id : MessageId) (now : ℕ) (e : Effect) → Waits own Bears e.state → Waits own Bears (taken at id now e).state
@@ -83,7 +85,12 @@ module _ (own : Guid) (Bears : ℕ → MessageId → Type 0) where
   released_waits s number h = record { identity = h.identity; plain = at (position (has_recoverable s number) s.plain) }
     where
       fewer : (p : PlainLists) → PlainWaits own Bears p → PlainWaits own Bears (without_recoverable s number p)
-      fewer p g = record { recoverable = without_all (IsBorne own Bears) (is_released_by s number) p.recoverable g.recoverable; express = g.express }
+      fewer p g = record {
+        recoverable = without_all (IsBorne own (Bears lane.Durable)) (is_released_by s number) p.recoverable g.recoverable;
+        express = g.express;
+        recoverable_rises = without_rise (is_released_by s number) p.recoverable g.recoverable_rises;
+        express_rises = g.express_rises;
+      }
 
       at : (o : Option ℕ) → AllByRecursion (PlainWaits own Bears) (option_map_or (with_changed (without_recoverable s number) s.plain) o s.plain)
       at None = h.plain
@@ -146,7 +153,7 @@ module _ (own : Guid) (Bears : ℕ → MessageId → Type 0) where
   applied_waits s (entry.Identity identity) o h = h
   applied_waits s (entry.Peer peer) o h = record {
     identity = h.identity;
-    plain = all_append (PlainWaits own Bears) s.plain (record { recoverable = []; express = [] } ∷ []) h.plain (record { recoverable = tt; express = tt }, tt);
+    plain = all_append (PlainWaits own Bears) s.plain (record { recoverable = []; express = [] } ∷ []) h.plain (record { recoverable = tt; express = tt; recoverable_rises = tt; express_rises = tt }, tt);
   }
   applied_waits s (entry.CreateQueue number plan) o h = record { identity = h.identity; plain = h.plain }
   applied_waits s (entry.Commit now ops) o h = sends_wait now (takes_made s now ops) (sends_of ops)

@@ -103,7 +103,7 @@ change_written c (Finds i) = (written_by i (manager_at c.network i) (doubt_of (m
 change_written c (Fails i) = ([], sym (append_nothing c.written))
 
 -- what is unused stays so
-unused_grows : (i : ℕ) (s : State) (r : Record) (ws : List Written) (n : ℕ) → IsMade s r → IsUnused s ws n → IsUnused (apply s r) (ws ++ record { by = i; before = s; entry = r } ∷ []) n
+pub unused_grows : (i : ℕ) (s : State) (r : Record) (ws : List Written) (n : ℕ) → IsMade s r → IsUnused s ws n → IsUnused (apply s r) (ws ++ record { by = i; before = s; entry = r } ∷ []) n
 unused_grows i s r ws n made h = record {
   below = let low = h.below in let more = (record_rises s r made).numbers in omega (arith, low, more);
   uncommitted = λ m inside same. at m same (in_split (commitments ws) (commitments_in s r) m (subst (In m) (commitments_more ws (record { by = i; before = s; entry = r })) inside));

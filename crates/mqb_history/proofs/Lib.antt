@@ -132,6 +132,8 @@ mod Noticed
 mod Sources
 mod Leaving
 mod Kept
+mod Ascending
+mod Offerable
 mod Offered
 mod Unexpired
 mod Truthful
@@ -176,3 +178,9 @@ mod Counts
 mod Parts
 mod Numbered
 mod Posted
+mod EveryEvent
+mod Emptying
+mod Bearing
+mod Borne
+mod Acquainting
+mod Receiving

@@ -1,20 +1,17 @@
 -- A stream world of each channel goes along with the course, step by step.
 use Rattle.mqb_history.proofs.Committing.{in_append, kept_at}
 use Rattle.std.proofs.Common.{refl, ap, sym, subst, ◌∙◌, inl, inr}
+use Rattle.std.specs.Prelude.{position as place_of}
 use Rattle.std.specs.Prelude.{[], ◌++◌, ◌==◌, ◌∷◌, ◌≡◌, ◌⊎◌, Bool, IfSome, List, None, Option, Some, false, option_map, reverse, true, ℕ}
-use Rattle.mqb_base.specs.Same.{same_id}
+use Rattle.mqb_base.specs.Same.{same_guid}
+use Rattle.mqb_base.specs.declared.ids.Identity.{Identity}
 use Rattle.mqb_base.specs.declared.ledger.Line.{Line}
-use Rattle.mqb_base.specs.declared.ledger.Line.TheVariants as line
-use Rattle.mqb_base.specs.declared.ledger.Stream.{Stream}
-use Rattle.mqb_base.specs.declared.message.Message.{Message}
 use Rattle.mqb_base.specs.declared.queue_names.QueueName.{QueueName}
-use Rattle.mqb_exactly_once.proofs.Always.{StreamInvariant, is_exactly_once}
-use Rattle.mqb_exactly_once.proofs.Decisions.{one_of_each}
-use Rattle.mqb_exactly_once.proofs.Members.{In_from_decided, any_from_In}
+use Rattle.mqb_exactly_once.proofs.Members.{any_from_In}
 use Rattle.mqb_exactly_once.proofs.Positions.{same_position_refl}
-use Rattle.mqb_exactly_once.specs.Outcomes.{Departure, MessageFate, Outcome, Put, Refused, Was_put, Was_refused}
+use Rattle.mqb_exactly_once.specs.Outcomes.{MessageFate, Was_put}
 use Rattle.mqb_exactly_once.specs.Words.{In, is_decided, same_position}
-use Rattle.mqb_exactly_once.specs.World.{Channel, Commitment, Decision, OrderAck, Position, StreamWorld}
+use Rattle.mqb_exactly_once.specs.World.{Channel, Commitment, Decision, FinalAck, KnownFate, OrderAck, Position, StreamWorld}
 use Rattle.mqb_model.specs.declared.target.Target.TheVariants.{AtPeer}
 use Rattle.mqb_model.specs.managers.Manager.{Manager, doubt_of}
 use Rattle.mqb_model.specs.managers.Outcomes.{recorded}
@@ -27,32 +24,31 @@ use Rattle.mqb_network.specs.Courses.{Course, Written, written_by}
 use Rattle.mqb_network.specs.Laws.{lines_written}
 use Rattle.mqb_network.specs.Network.{Connection, Note, manager_at}
 use Rattle.mqb_orders.specs.Rows.{Row}
-use Rattle.mqb_orders.specs.declared.kept.Kept.{Kept}
 use Rattle.mqb_orders.specs.declared.rows.InRow.{InRow}
+use Rattle.mqb_packet.specs.declared.packet.Packet.{Packet}
+use Rattle.mqb_packet.specs.declared.packet.Packet.TheVariants as packet
 use Rattle.mqb_packet.specs.declared.packet.UserPacket.{UserPacket}
 use Rattle.mqb_queue.specs.Places.{numbered}
 use Rattle.mqb_history.specs.Committed.{commitments, commitments_in}
 use Rattle.mqb_history.specs.Decided.{decided_in, decisions, written_of}
-use Rattle.mqb_history.specs.Fates.{departure_line}
+use Rattle.mqb_history.specs.Fates.{CameTo}
 use Rattle.mqb_history.specs.Made.{IsMade}
-use Rattle.mqb_history.specs.Shown.{AreAcksSent, AreTransfersSent, ShowsDestination, ShowsPackets, ShowsReceipts, commitments_to, decision_in, decisions_made, expiries_to, outcome_by}
-use Rattle.mqb_history.specs.Truths.{put_in, told_by}
+use Rattle.mqb_history.specs.Shown.{AreAcksSent, AreFinalsSent, AreTransfersSent, CarriesFinal, ShowsDestination, ShowsPackets, ShowsReceipts, Went, commitments_to, decision_in, decisions_made, expiries_to, fate_of, is_final_ack, outcome_by}
+use Rattle.mqb_history.proofs.Acquainting.{TellFates, came_more, commitments_grow, committed_to, finals_in, finals_known, finals_there, finals_went, to_committed}
 use Rattle.mqb_history.proofs.Believing.{same_id_is}
 use Rattle.mqb_history.proofs.Between.{AreEnds}
 use Rattle.mqb_history.proofs.Carrying.{lines_append}
-use Rattle.mqb_history.proofs.Finishing.{IsAckedTruly, refusals_known}
+use Rattle.mqb_history.proofs.Finishing.{IsAckedTruly, MayFinish}
 use Rattle.mqb_history.proofs.Lists.{append_nothing, apart_numbers, equal_numbers}
 use Rattle.mqb_history.proofs.Marked.{AreMarked}
-use Rattle.mqb_history.proofs.Noticed.{flat_in}
+use Rattle.mqb_history.proofs.Noticed.{flat_in, in_flat}
 use Rattle.mqb_history.proofs.Numbering.{commitments_more}
 use Rattle.mqb_history.proofs.Outside.{filtered_in}
-use Rattle.mqb_history.proofs.Posted.{IsSameNoteAt, acks_marked, sent_marked}
-use Rattle.mqb_history.proofs.Puts.{told_in}
-use Rattle.mqb_history.proofs.Reaching.{Reached, chosen_append, chosen_from, chosen_in, in_reverse, in_reversed, in_right, kept_invariant}
-use Rattle.mqb_history.proofs.Reasons.{decision_put}
+use Rattle.mqb_history.proofs.Posted.{IsSameNoteAt, acks_marked, finals_marked, finals_more, sent_marked, went_weaker}
+use Rattle.mqb_history.proofs.Reaching.{Reached, chosen_append, chosen_from, chosen_in, in_reverse}
 use Rattle.mqb_history.proofs.Recording.{Awaits, Finishes, record_sourced}
 use Rattle.mqb_history.proofs.Ruling.{IsRuled, MayRule, record_ruled, same_at_source}
-use Rattle.mqb_history.proofs.Settling.{ArePutsTold, fates_left, left_in, puts_more, puts_settled, settled, settled_reached}
+use Rattle.mqb_history.proofs.Settling.{ArePutsTold, final_only, final_told, finals_reached, puts_more, puts_settled, settled, settled_reached, shows_fates, told_now, with_finals}
 use Rattle.mqb_history.proofs.Skipping.{Decides, decides}
 use Rattle.mqb_history.proofs.Sourcing.{AreRowsShown, IsSourced, position_at, rows_over, same_elsewhere, sourced_outs}
 use Rattle.mqb_history.proofs.Staying.{HasSameRows}
@@ -79,6 +75,7 @@ pub record IsLinked (c : Course) (i j : ℕ) (ch : Channel) (d : QueueName) (pee
   pub packets : ShowsPackets i j d c.network.notes c.sent number world.connection world.transfers
   pub transfers_sent : AreTransfersSent i j d c.network.notes c.sent world.transfers
   pub acks_sent : AreAcksSent i j c.network.notes c.sent world.order_acks
+  pub finals_sent : AreFinalsSent i j world.committed c.network.notes c.sent world.final_acks
   pub receipts : ShowsReceipts i j ch (written_of j c.written) c.network.notes c.sent number world.connection world.order_acks
   pub doubt : IfSome (doubt_of (manager_at c.network j).condition) (MayRule ch world.transfers world.connection)
   pub fates : ArePutsTold (lines_written c.written) world.decided world.fates
@@ -89,10 +86,21 @@ abbrev pub IsAckedAt : Course → ℕ → ℕ → Channel → QueueName → ℕ 
 IsAckedAt c i j ch d peer = (row : Row) → In row (manager_at c.network i).state.outs → row.destination ≡ d → row.peer ≡ peer
     → (row.acked ≡ 0) ⊎ In (record { sequence = row.sequence; number = row.acked }) (decisions ch (written_of j c.written))
 
--- where a record of a manager finishes a message that was put, a line tells how that left its queue
-abbrev pub FinalsDepart : Course → ℕ → Type 0
-FinalsDepart c i = (w : Written) (now : ℕ) (numbers : List ℕ) (p : UserPacket) → In w (written_of i c.written) → w.entry ≡ entry.Arrived now numbers (entry.Final p)
-    → In p.message.correlation (told_by put_in c) → (departure : Departure) × In (departure_line departure p.message.correlation) (lines_written c.written)
+-- A final acknowledgement went from one manager to another.
+pub record IsSentBack (notes : List Note) (sent : List Packet) (i j : ℕ) (p : UserPacket) : Type 0 where
+  pub place : ℕ
+  pub note : Note
+  pub noted : numbered notes place ≡ Some note
+  pub there : numbered sent place ≡ Some (packet.User p)
+  pub sender : note.sender ≡ j
+  pub receiver : note.receiver ≡ i
+  pub plain : p.tx ≡ None
+  pub final : is_final_ack p.message ≡ true
+
+-- so did that of which a record tells, where it came from the peer
+abbrev pub ComesBack : ℕ → List Identity → List Note → List Packet → (i j : ℕ) → Record → Type 0
+ComesBack peer peers notes sent i j (entry.Arrived now numbers (entry.Final p)) = place_of (λ (x : Identity). same_guid x.guid p.message.id.qm) peers ≡ Some peer → IsSentBack notes sent i j p
+ComesBack peer peers notes sent i j _ = Unit {0}
 
 -- One manager writes a record, or none does, and no connection begins, and nothing is sent.
 pub record Goes (c z : Course) (a : ℕ) (o : Option Record) : Type 0 where
@@ -123,22 +131,6 @@ pub decided_shown : (ch : Channel) (ins : List InRow) (ws : List Written) (ds : 
 decided_shown ch ins ws ds p h i = let g = in_decisions_made ch ws p i in
     subst (λ q. is_decided ds q ≡ true) g.2 (any_from_In (λ (x : Decision). same_position x.position g.0.position) g.0 ds
     (subst (In g.0) (sym h.decisions) (in_reverse (decisions_made ch ws) g.0 g.1)) (same_position_refl g.0.position))
-
--- a message that was put has a line
-put_told : (ch : Channel) (ws : List Written) (x : Decision) → In x (decisions_made ch ws) → x.outcome ≡ Put
-    → (w : Written) × In w ws × (stream : Stream) × (number : ℕ) × In (line.Put stream number x.message.id) (lines_of w.before w.entry)
-put_told ch ws x i put = (f.0, f.1, told.0, told.1, told.2)
-  where
-    f : (w : Written) × In w ws × (decision_in ch w.before w.entry ≡ Some x)
-    f = chosen_from (λ w. decision_in ch w.before w.entry) ws x i
-
-    told : (stream : Stream) × (number : ℕ) × In (line.Put stream number x.message.id) (lines_of f.0.before f.0.entry)
-    told = decision_put ch f.0.before f.0.entry x f.2 put
-
--- a decided message that was committed is the one that is committed there
-one_message : (w : StreamWorld) (x : Decision) (m : Commitment) → StreamInvariant w → In x w.decided → In m w.committed → m.position ≡ x.position → m.message.id ≡ x.message.id
-one_message w x m i inside there same = let g = (is_exactly_once w i).decided_committed x inside in
-    ap (λ (y : Commitment). y.message.id) (one_of_each (λ (y : Commitment). y.position) w.committed m g.0 i.commits there g.1 (same ∙ sym g.2)) ∙ sym (ap (λ (y : Message). y.id) g.3)
 
 module _ (i j : ℕ) (ch : Channel) (d : QueueName) (peer : ℕ) (c z : Course) (a : ℕ) (o : Option Record) (g : Goes c z a o) (made : IfSome o (IsMade (manager_at c.network a).state))
     (apart : i ≡ j → ⊥) (h : IsLinked c i j ch d peer) where
@@ -192,58 +184,74 @@ module _ (i j : ℕ) (ch : Channel) (d : QueueName) (peer : ℕ) (c z : Course) 
   fates_stay : ArePutsTold (lines_written z.written) w.decided w.fates
   fates_stay = puts_more (lines_written c.written) (lines_written z.written) w.decided w.decided w.fates ledger_stays (λ x inside. inside) h.fates
 
+  finals_stay : AreFinalsSent i j w.committed z.network.notes z.sent w.final_acks
+  finals_stay = finals_marked i j w.committed c.network.notes z.network.notes z.sent w.final_acks g.notes_kept (subst (λ s. AreFinalsSent i j w.committed c.network.notes s w.final_acks) (sym g.sent) h.finals_sent)
+
   -- in the world that goes on all fates are known that lines tell by now
+  abbrev settled_now : StreamWorld
+  settled_now = settled w (lines_written z.written)
+
+  -- and those are told that final acknowledgements told
+  abbrev told_now_of : List KnownFate
+  told_now_of = finals_in i j w.committed z.network.notes z.sent
+
   abbrev v : StreamWorld
-  v = settled w (lines_written z.written)
+  v = with_finals settled_now told_now_of
 
-  sourced : IsSourced d peer ch v (manager_at c.network i).state.outs (commitments (written_of i c.written)) (lines_written (written_of i c.written))
-  sourced = record {
-    world = v;
-    reached = settled_reached ch w (lines_written z.written) h.reached;
-    same = same_elsewhere v;
-    rows = rows_over d peer (manager_at c.network i).state.outs w v refl refl refl refl h.rows;
-    committed = h.committed;
-    expired = h.expired;
-  }
+  module _ (same : a ≡ i) (tell : TellFates z i j ch d) (come : IfSome o (ComesBack peer (manager_at c.network a).state.peers c.network.notes c.sent i j)) where
+    not_j : a ≡ j → ⊥
+    not_j e = apart (sym same ∙ e)
 
-  -- so that of each decided message is that a record finishes
-  module _ (same : a ≡ i) (departs : FinalsDepart z i) where
-    knows_fate : (m : Message) (row : Row) (k : Kept) → In row (manager_at c.network a).state.outs → In k row.kept → same_id k.message.id m.correlation ≡ true → row.destination ≡ d
-        → (In m.correlation (told_by put_in z) → (departure : Departure) × In (departure_line departure m.correlation) (lines_written z.written)) → is_decided w.decided (position_at row k) ≡ true
-        → (fate : MessageFate) × In (record { position = position_at row k; fate = fate }) v.fates
-    knows_fate m row k inside kept named to departs_by e = at x.0.outcome refl
+    commits_stay : (x : Commitment) → In x w.committed → In x (commitments (written_of i z.written)) × (x.message.destination ≡ d)
+    commits_stay x inside = let y = committed_to d (commitments (written_of i c.written)) x (subst (In x) h.committed inside) in (
+      subst (λ ws. In x (commitments ws)) (sym (ap (written_of i) g.written ∙ of_append i c.written (written_by a (manager_at c.network a) o)))
+          (commitments_grow (written_of i c.written) (written_of i (written_by a (manager_at c.network a) o)) x y.0),
+      y.1,
+    )
+
+    own_lines : (l : Line) → In l (lines_written (written_of j z.written)) → In l (lines_written z.written)
+    own_lines l inside = let y = in_flat (λ (x : Written). lines_of x.before x.entry) (written_of j z.written) l inside in
+        flat_in (λ (x : Written). lines_of x.before x.entry) z.written y.0 l (filtered_in (λ (x : Written). x.by == j) z.written y.0 y.1) y.2
+
+    fates_known : (x : Decision) (fate : MessageFate) → In x (decisions_made ch (written_of j z.written)) → CameTo (lines_written (written_of j z.written)) x fate
+        → In (record { position = x.position; fate = fate }) settled_now.fates
+    fates_known x fate inside came = (shows_fates ch w (lines_written z.written) h.reached fates_stay).known x fate
+        (subst (In x) (sym h.decided.decisions) (in_reverse (decisions_made ch (written_of j c.written)) x (subst (λ ws. In x (decisions_made ch ws)) (other_written j not_j) inside)))
+        (came_more (lines_written (written_of j z.written)) (lines_written z.written) x fate own_lines came)
+
+    sourced : IsSourced d peer ch v (manager_at c.network i).state.outs (commitments (written_of i c.written)) (lines_written (written_of i c.written))
+    sourced = record {
+      world = v;
+      reached = finals_reached ch settled_now (settled_reached ch w (lines_written z.written) h.reached) h.connected told_now_of
+          (finals_known i j w.committed z ch d settled_now.fates tell commits_stay fates_known);
+      same = same_elsewhere v;
+      rows = rows_over d peer (manager_at c.network i).state.outs w v refl refl refl refl h.rows;
+      committed = h.committed;
+      expired = h.expired;
+    }
+
+    -- so what a record finishes is told of
+    finish_told : (p : UserPacket) → (place_of (λ (x : Identity). same_guid x.guid p.message.id.qm) (manager_at c.network a).state.peers ≡ Some peer → IsSentBack c.network.notes c.sent i j p)
+        → MayFinish d v (manager_at c.network a).state.peers (manager_at c.network a).state.outs p.message
+    finish_told p back row k inside kept named to came decided = (told_now w.connection fate, final_told settled_now told_now_of fate there, refl, refl)
       where
-        x : (x : Decision) × In x w.decided × (x.position ≡ position_at row k)
-        x = In_from_decided w.decided (position_at row k) e
+        at_i : In row (manager_at c.network i).state.outs
+        at_i = subst (λ n. In row (manager_at c.network n).state.outs) same inside
 
-        shown : In (kept_at row k) w.committed
-        shown = ((h.rows.rows row (subst (λ n. In row (manager_at c.network n).state.outs) same inside) to).kept k kept).0
+        x : IsSentBack c.network.notes c.sent i j p
+        x = back (came ∙ ap (λ n. Some n) (h.rows.peers row at_i to))
 
-        id : m.correlation ≡ x.0.message.id
-        id = sym (same_id_is k.message.id m.correlation named) ∙ one_message w x.0 (kept_at row k) (kept_invariant ch w h.reached) x.1 shown (sym x.2)
+        note : IsSameNoteAt z.network.notes x.place x.note
+        note = g.notes_kept x.place x.note x.noted
 
-        among : In x.0 (decisions_made ch (written_of j c.written))
-        among = in_reversed (decisions_made ch (written_of j c.written)) x.0 (subst (In x.0) h.decided.decisions x.1)
+        fate : KnownFate
+        fate = record { position = position_at row k; fate = fate_of p.message.class }
 
-        put : x.0.outcome ≡ Put → (fate : MessageFate) × In (record { position = x.0.position; fate = fate }) v.fates
-        put f = let p = put_told ch (written_of j c.written) x.0 among f in
-            let there = ledger_stays (line.Put p.2 p.3 x.0.message.id) (flat_in (λ (y : Written). lines_of y.before y.entry) c.written p.0 (line.Put p.2 p.3 x.0.message.id)
-            (filtered_in (λ (y : Written). y.by == j) c.written p.0 p.1) p.4) in
-            let left = departs_by (subst (λ y. In y (told_by put_in z)) (sym id) (told_in put_in (lines_written z.written) (line.Put p.2 p.3 x.0.message.id) x.0.message.id there refl)) in (
-              Was_put left.0,
-              in_append (fates_left (lines_written z.written) w.decided) w.fates (record { position = x.0.position; fate = Was_put left.0 })
-                  (left_in (lines_written z.written) w.decided x.0 left.0 x.1 f (subst (λ y. In (departure_line left.0 y) (lines_written z.written)) id left.1)),
-            )
+        there : In fate told_now_of
+        there = finals_there i j w.committed z.network.notes z.sent x.place note.old p (kept_at row k) note.there (ap (λ s. numbered s x.place) g.sent ∙ x.there) x.plain x.final
+            (note.sender ∙ x.sender) (note.receiver ∙ x.receiver) ((h.rows.rows row at_i to).kept k kept).0 (same_id_is k.message.id p.message.correlation named)
 
-        at : (outcome : Outcome) → x.0.outcome ≡ outcome → (fate : MessageFate) × In (record { position = position_at row k; fate = fate }) v.fates
-        at Put f = subst (λ q. (fate : MessageFate) × In (record { position = q; fate = fate }) v.fates) x.2 (put f)
-        at (Refused reason) f = (
-          Was_refused reason,
-          in_right (fates_left (lines_written z.written) w.decided) w.fates (record { position = position_at row k; fate = Was_refused reason })
-              (subst (λ q. In (record { position = q; fate = Was_refused reason }) w.fates) x.2 (refusals_known ch w h.reached x.0 reason x.1 f)),
-        )
-
-    finishes : (x : Option Record) → o ≡ x → IfSome x (Finishes d v (manager_at c.network a).state.outs)
+    finishes : (x : Option Record) → IfSome x (ComesBack peer (manager_at c.network a).state.peers c.network.notes c.sent i j) → IfSome x (Finishes d v (manager_at c.network a).state)
     finishes None e = tt
     finishes (Some (entry.Identity identity)) e = tt
     finishes (Some (entry.Peer other)) e = tt
@@ -255,31 +263,42 @@ module _ (i j : ℕ) (ch : Channel) (d : QueueName) (peer : ℕ) (c z : Course) 
     finishes (Some (entry.Arrived now numbers (entry.Decided p))) e = tt
     finishes (Some (entry.Arrived now numbers (entry.Stored p))) e = tt
     finishes (Some (entry.Arrived now numbers (entry.OrderAcknowledged ordinal number))) e = tt
-    finishes (Some (entry.Arrived now numbers (entry.Final p))) e = λ row k inside kept named to decided. knows_fate p.message row k inside kept named to
-        (departs (record { by = a; before = (manager_at c.network a).state; entry = entry.Arrived now numbers (entry.Final p) }) now numbers p there refl) decided
-      where
-        there : In (record { by = a; before = (manager_at c.network a).state; entry = entry.Arrived now numbers (entry.Final p) }) (written_of i z.written)
-        there = subst (λ n. In (record { by = a; before = (manager_at c.network a).state; entry = entry.Arrived now numbers (entry.Final p) }) (written_of n z.written)) same
-            (subst (In (record { by = a; before = (manager_at c.network a).state; entry = entry.Arrived now numbers (entry.Final p) }))
-            (sym (own_written ∙ ap (λ r. written_of a c.written ++ written_by a (manager_at c.network a) r) e))
-            (in_right (written_of a c.written) (record { by = a; before = (manager_at c.network a).state; entry = entry.Arrived now numbers (entry.Final p) } ∷ []) _ (inl refl)))
+    finishes (Some (entry.Arrived now numbers (entry.Final p))) e = finish_told p e
     finishes (Some (entry.Taken now at id)) e = tt
     finishes (Some (entry.Purged now at)) e = tt
     finishes (Some (entry.Ticked now)) e = tt
     finishes (Some (entry.Roll count)) e = tt
 
+    -- each final acknowledgement of a world that goes on was sent
+    finals_now : (u : StreamWorld) → u.final_acks ≡ v.final_acks → u.committed ≡ reverse (commitments_to d (commitments (written_of i z.written)))
+        → AreFinalsSent i j u.committed z.network.notes z.sent u.final_acks
+    finals_now u acks committed q inside = at (final_only settled_now told_now_of q (subst (In q) acks inside))
+      where
+        Goal : FinalAck → Type 0
+        Goal y = Went z.network.notes z.sent (CarriesFinal i j u.committed y)
+
+        grown : (y : FinalAck) → Went z.network.notes z.sent (CarriesFinal i j w.committed y) → Goal y
+        grown y = went_weaker (CarriesFinal i j w.committed y) (CarriesFinal i j u.committed y)
+            (λ note user. finals_more i j w.committed u.committed y note user (λ x there. let k = commits_stay x there in
+            subst (In x) (sym committed) (to_committed d (commitments (written_of i z.written)) x k.0 k.1))) z.network.notes z.sent
+
+        at : ((f : KnownFate) × In f told_now_of × (told_now w.connection f ≡ q)) ⊎ In q w.final_acks → Goal q
+        at (inl x) = subst Goal x.2 (grown (told_now w.connection x.0) (finals_went i j w.committed w.connection z.network.notes z.sent x.0 x.1))
+        at (inr old) = grown q (finals_stay q old)
+
   -- The source writes.
   module _ (same : a ≡ i) (held : AreMarked (manager_at c.network i).state (written_of i c.written)) (leads : resolved (manager_at c.network i).state d ≡ AtPeer peer)
       (truly : IsAckedTruly d peer w (manager_at z.network i).state.outs) (doubt : IfSome (doubt_of (manager_at z.network j).condition) (MayRule ch w.transfers w.connection))
-      (hears : IfSome o (Awaits d w.order_acks w.connection (manager_at c.network a).state.outs)) (departs : FinalsDepart z i) (awaits : AwaitsIn d w.order_acks w.connection (manager_at z.network i)) where
+      (hears : IfSome o (Awaits d w.order_acks w.connection (manager_at c.network a).state.outs)) (tell : TellFates z i j ch d)
+      (come : IfSome o (ComesBack peer (manager_at c.network a).state.peers c.network.notes c.sent i j)) (awaits : AwaitsIn d w.order_acks w.connection (manager_at z.network i)) where
     source_goes : IsSourced d peer ch v (manager_at z.network i).state.outs (commitments (written_of i z.written)) (lines_written (written_of i z.written))
     source_goes = subst (λ k. IsSourced d peer ch v (manager_at z.network k).state.outs (commitments (written_of k z.written)) (lines_written (written_of k z.written))) same
         (subst (λ ws. IsSourced d peer ch v (manager_at z.network a).state.outs (commitments ws) (lines_written ws)) (sym own_written)
         (sourced_outs d peer ch v (recorded (manager_at c.network a).state o).outs (manager_at z.network a).state.outs _ _ g.own.outs
-        (by o made hears (finishes same departs o refl) (subst (IsAckedTruly d peer w) (g.own.outs) (subst (λ k. IsAckedTruly d peer w (manager_at z.network k).state.outs) (sym same) truly)))))
+        (by o made hears (finishes same tell come o come) (subst (IsAckedTruly d peer w) (g.own.outs) (subst (λ k. IsAckedTruly d peer w (manager_at z.network k).state.outs) (sym same) truly)))))
       where
         at_a : IsSourced d peer ch v (manager_at c.network a).state.outs (commitments (written_of a c.written)) (lines_written (written_of a c.written))
-        at_a = subst (λ k. IsSourced d peer ch v (manager_at c.network k).state.outs (commitments (written_of k c.written)) (lines_written (written_of k c.written))) (sym same) sourced
+        at_a = subst (λ k. IsSourced d peer ch v (manager_at c.network k).state.outs (commitments (written_of k c.written)) (lines_written (written_of k c.written))) (sym same) (sourced same tell come)
 
         held_a : AreMarked (manager_at c.network a).state (written_of a c.written)
         held_a = subst (λ k. AreMarked (manager_at c.network k).state (written_of k c.written)) (sym same) held
@@ -288,7 +307,7 @@ module _ (i j : ℕ) (ch : Channel) (d : QueueName) (peer : ℕ) (c z : Course) 
         leads_a = subst (λ k. resolved (manager_at c.network k).state d ≡ AtPeer peer) (sym same) leads
 
         by : (x : Option Record) → IfSome x (IsMade (manager_at c.network a).state) → IfSome x (Awaits d w.order_acks w.connection (manager_at c.network a).state.outs)
-            → IfSome x (Finishes d v (manager_at c.network a).state.outs) → IsAckedTruly d peer w (recorded (manager_at c.network a).state x).outs
+            → IfSome x (Finishes d v (manager_at c.network a).state) → IsAckedTruly d peer w (recorded (manager_at c.network a).state x).outs
             → IsSourced d peer ch v (recorded (manager_at c.network a).state x).outs (commitments (written_of a c.written ++ written_by a (manager_at c.network a) x))
             (lines_written (written_of a c.written ++ written_by a (manager_at c.network a) x))
         by None m acks ends t = subst (λ ws. IsSourced d peer ch v (manager_at c.network a).state.outs (commitments ws) (lines_written ws)) (sym (append_nothing (written_of a c.written))) at_a
@@ -315,6 +334,7 @@ module _ (i j : ℕ) (ch : Channel) (d : QueueName) (peer : ℕ) (c z : Course) 
           (subst (λ k. ShowsPackets i j d z.network.notes z.sent h.number k w.transfers) (sym n.same.connection) packets_stay);
       transfers_sent = subst (AreTransfersSent i j d z.network.notes z.sent) (sym n.same.transfers) transfers_stay;
       acks_sent = subst (AreAcksSent i j z.network.notes z.sent) (sym n.same.order_acks) acks_stay;
+      finals_sent = finals_now same tell come n.world n.same.final_acks n.committed;
       receipts = subst (λ acks. ShowsReceipts i j ch (written_of j z.written) z.network.notes z.sent h.number n.world.connection acks) (sym n.same.order_acks)
           (subst (λ k. ShowsReceipts i j ch (written_of j z.written) z.network.notes z.sent h.number k w.order_acks) (sym n.same.connection) receipts_stay);
       doubt = subst (λ ts. IfSome (doubt_of (manager_at z.network j).condition) (MayRule ch ts n.world.connection)) (sym n.same.transfers)
@@ -371,6 +391,8 @@ module _ (i j : ℕ) (ch : Channel) (d : QueueName) (peer : ℕ) (c z : Course) 
           (subst (λ k. ShowsPackets i j d z.network.notes z.sent h.number k w.transfers) (sym n.same.connection) packets_stay);
       transfers_sent = subst (AreTransfersSent i j d z.network.notes z.sent) (sym n.same.transfers) transfers_stay;
       acks_sent = subst (AreAcksSent i j z.network.notes z.sent) (sym n.same.order_acks) acks_stay;
+      finals_sent = subst (λ cs. AreFinalsSent i j cs z.network.notes z.sent n.world.final_acks) (sym n.same.committed)
+          (subst (AreFinalsSent i j w.committed z.network.notes z.sent) (sym n.same.final_acks) finals_stay);
       receipts = subst (λ acks. ShowsReceipts i j ch (written_of j z.written) z.network.notes z.sent h.number n.world.connection acks) (sym n.same.order_acks)
           (subst (λ k. ShowsReceipts i j ch (written_of j z.written) z.network.notes z.sent h.number k w.order_acks) (sym n.same.connection) receipts_stay);
       doubt = subst (λ ts. IfSome (doubt_of (manager_at z.network j).condition) (MayRule ch ts n.world.connection)) (sym n.same.transfers)
@@ -399,6 +421,7 @@ module _ (i j : ℕ) (ch : Channel) (d : QueueName) (peer : ℕ) (c z : Course) 
     packets = packets_stay;
     transfers_sent = transfers_stay;
     acks_sent = acks_stay;
+    finals_sent = finals_stay;
     receipts = receipts_stay;
     doubt = doubt;
     fates = fates_stay;
@@ -421,11 +444,12 @@ module _ (i j : ℕ) (ch : Channel) (d : QueueName) (peer : ℕ) (c z : Course) 
   -- Whoever writes.
   pub goes_linked : AreMarked (manager_at c.network i).state (written_of i c.written) → resolved (manager_at c.network i).state d ≡ AtPeer peer → IsAckedAt z i j ch d peer
       → (a ≡ j → IfSome o (MayRule ch w.transfers w.connection)) → IfSome (doubt_of (manager_at z.network j).condition) (MayRule ch w.transfers w.connection)
-      → (a ≡ i → IfSome o (Awaits d w.order_acks w.connection (manager_at c.network a).state.outs)) → FinalsDepart z i → AwaitsIn d w.order_acks w.connection (manager_at z.network i)
+      → (a ≡ i → IfSome o (Awaits d w.order_acks w.connection (manager_at c.network a).state.outs)) → TellFates z i j ch d
+      → (a ≡ i → IfSome o (ComesBack peer (manager_at c.network a).state.peers c.network.notes c.sent i j)) → AwaitsIn d w.order_acks w.connection (manager_at z.network i)
       → IsLinked z i j ch d peer
-  goes_linked held leads truly may doubt hears departs awaits = at (a == i) refl (a == j) refl
+  goes_linked held leads truly may doubt hears tell come awaits = at (a == i) refl (a == j) refl
     where
       at : (p : Bool) → (a == i) ≡ p → (q : Bool) → (a == j) ≡ q → IsLinked z i j ch d peer
-      at true e q f = let same = equal_numbers a i e in source_linked same held leads (acked_now same truly) doubt (hears same) departs awaits
+      at true e q f = let same = equal_numbers a i e in source_linked same held leads (acked_now same truly) doubt (hears same) tell (come same) awaits
       at false e true f = let same = equal_numbers a j f in destination_linked same (may same) doubt awaits
       at false e false f = neither_linked (apart_numbers a i e) (apart_numbers a j f) doubt awaits

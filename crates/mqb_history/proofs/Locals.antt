@@ -50,7 +50,7 @@ locals_join n ls more below old new within id stream number a b = at (in_either 
 
 -- what sends nothing
 abbrev pub silent : Sayings
-silent = record { Sends = λ id. ⊥; Decides = λ id. Unit {0}; Stores = λ id. Unit {0}; Expires = λ id. Unit {0} }
+silent = record { Sends = λ id. ⊥; Decides = λ id. Unit {0}; Stores = λ id. Unit {0}; Expires = λ id. Unit {0}; Empties = λ id. Unit {0} }
 
 no_sends : (ls : List Line) → AllByRecursion (Says silent) ls → (l : Line) (id : MessageId) → In l ls → IsSendOf id l → ⊥
 no_sends ls h l id inside says = at l (all_in (Says silent) ls l h inside) says
@@ -134,7 +134,7 @@ record_apart s (entry.Plain now p) h = at (is_here (resolved s p.message.destina
     at false = λ id stream number a b. a
 record_apart s (entry.Offered marks) h = quiet_apart s (entry.Offered marks) tt
 record_apart s (entry.Arrived now numbers part) h = quiet_apart s (entry.Arrived now numbers part) (part_silent now numbers part)
-record_apart s (entry.Taken now at id) h = quiet_apart s (entry.Taken now at id) tt
-record_apart s (entry.Purged now at) h = quiet_apart s (entry.Purged now at) tt
+record_apart s (entry.Taken now at id) h = quiet_apart s (entry.Taken now at id) (λ none other. tt)
+record_apart s (entry.Purged now at) h = quiet_apart s (entry.Purged now at) (λ none other. tt)
 record_apart s (entry.Ticked now) h = quiet_apart s (entry.Ticked now) (λ id. tt)
 record_apart s (entry.Roll count) h = quiet_apart s (entry.Roll count) tt

@@ -23,6 +23,7 @@ use Rattle.mqb_history.proofs.Acknowledged.{always_acknowledged_truly, always_ac
 use Rattle.mqb_history.proofs.Across.{always_decided_across}
 use Rattle.mqb_history.proofs.Answering.{IsCredible, credible_begins, credible_closed}
 use Rattle.mqb_history.proofs.Begun.{always_begun_in_order}
+use Rattle.mqb_history.proofs.Borne.{AreBorne, always_borne}
 use Rattle.mqb_history.proofs.Carrying.{always_carried_truly, always_decided_truly}
 use Rattle.mqb_history.proofs.Committing.{IsOwnBelow, all_in}
 use Rattle.mqb_history.proofs.Deciding.{always_decided_in_order}
@@ -39,18 +40,18 @@ use Rattle.mqb_history.proofs.Storage.{IsStoring, begins_storing, storage_is_alw
 use Rattle.mqb_history.proofs.Telling.{always_told_commitments}
 use Rattle.mqb_history.proofs.Undecided.{IsKnown, always_undecided, committed_one}
 use Rattle.mqb_history.proofs.Waiting.{always_waiting}
-use Rattle.mqb_history.proofs.Witnessing.{always_shown}
+use Rattle.mqb_history.proofs.Witnessing.{always_one_stream_world}
 use Rattle.mqb_history.proofs.AskedFor.{committed_is_asked}
 use Rattle.mqb_history.proofs.Copies.{always_copied_rightly}
 use Rattle.mqb_history.proofs.Counts.{sessions_counted}
 use Rattle.mqb_history.proofs.Finality.{finals_tell_fates}
 use Rattle.mqb_history.proofs.Gone.{IsAccounted, always_accounted}
-use Rattle.mqb_history.proofs.Numbered.{lines_numbered, ordinary_numbered, queued_numbered}
+use Rattle.mqb_history.proofs.Numbered.{correlations_numbered, lines_numbered, messages_numbered, notices_apart}
 use Rattle.mqb_history.proofs.Orderly.{begins_orderly}
 use Rattle.mqb_history.proofs.Parts.{durable_below, express_above, kept_committed, listed_unsent, locals_apart, next_apart, packets_unsent, streams_away}
 use Rattle.mqb_history.proofs.Puts.{IsOfTransaction, all_transact, put_is_the_committed_message}
 use Rattle.mqb_history.proofs.Received.{always_received_truly}
-use Rattle.mqb_history.proofs.SentOnce.{always_numbered, always_sent_rightly}
+use Rattle.mqb_history.proofs.SentOnce.{always_sent_rightly}
 use Rattle.mqb_history.proofs.Truthful.{always_truthful}
 
 module _ (known : List Identity) (c : Course) (h : IsCredible known c) where
@@ -103,11 +104,11 @@ always_machine_invariant known ms apart run kept = record {
   express_above = express_above known apart c accounts;
   durable_below = durable_below known apart c accounts;
   next_apart = next_apart known apart c accounts;
-  lines_numbered = lines_numbered known apart c accounts (own_below known c h) truly (always_expired_duly known ms apart run kept) (storage_is_always_kept known ms apart run kept).1;
-  ordinary_numbered = ordinary_numbered known apart c accounts (own_below known c h) truly (always_expired_duly known ms apart run kept) (storage_is_always_kept known ms apart run kept).1
-      (always_sent_rightly known ms apart run kept).as_sent (λ id. always_numbered id known apart ms run kept);
+  lines_numbered = lines_numbered known apart c accounts (own_below known c h) truly (always_expired_duly known ms apart run kept) (storage_is_always_kept known ms apart run kept).1 told borne;
+  messages_numbered = messages_numbered known apart c accounts (own_below known c h) truly (always_expired_duly known ms apart run kept) (storage_is_always_kept known ms apart run kept).1 told borne;
+  correlations_numbered = correlations_numbered known apart c accounts (own_below known c h) truly (always_expired_duly known ms apart run kept) (storage_is_always_kept known ms apart run kept).1 told borne;
+  notices_apart = notices_apart known apart c accounts (own_below known c h) truly (always_expired_duly known ms apart run kept) (storage_is_always_kept known ms apart run kept).1 told borne;
   sent_rightly = always_sent_rightly known ms apart run kept;
-  queued_numbered = queued_numbered known apart c accounts (own_below known c h) truly (always_expired_duly known ms apart run kept) (storage_is_always_kept known ms apart run kept).1;
   transactional = transactional;
   waiting = always_waiting known ms apart run kept;
   waiting_until_decided = always_waiting_until_decided known ms apart run kept;
@@ -132,7 +133,7 @@ always_machine_invariant known ms apart run kept = record {
   sessions_counted = sessions_counted c (always_kept known (IsStoring known) (storing_closed known apart) ms run kept (begins_orderly known, begins_storing known)).1;
   released_truly = (storage_is_always_kept known ms apart run kept).0;
   storage_is_kept = (storage_is_always_kept known ms apart run kept).1;
-  shown = always_shown known ms apart run kept;
+  one_stream_world = always_one_stream_world known ms apart run kept;
 }
   where
     c : Course
@@ -146,6 +147,9 @@ always_machine_invariant known ms apart run kept = record {
 
     told : AreCommitmentsTold c
     told = always_told_commitments known ms apart run kept
+
+    borne : AreBorne known c
+    borne = always_borne known apart ms run kept
 
     truly : AreDecidedTruly c
     truly = always_decided_truly known ms apart run kept

@@ -171,7 +171,7 @@ StoredBy (entry.Arrived now numbers (entry.Final p)) id = p.message.id ≡ id
 StoredBy _ id = ⊥
 
 abbrev pub sayings : Record → Sayings
-sayings r = record { Sends = SentBy r; Decides = DecidedBy r; Stores = StoredBy r; Expires = λ id. Unit {0} }
+sayings r = record { Sends = SentBy r; Decides = DecidedBy r; Stores = StoredBy r; Expires = λ id. Unit {0}; Empties = λ id. Unit {0} }
 
 all_members : (P : Message → Type 0) (ms : List Message) → ((m : Message) → In m ms → P m) → AllByRecursion P ms
 all_members P [] h = tt
@@ -195,8 +195,8 @@ says_truly s r = record_says (sayings r) s r (at r)
     at (entry.Plain now p) = refl
     at (entry.Offered marks) = tt
     at (entry.Arrived now numbers p) = part now numbers p
-    at (entry.Taken now from id) = tt
-    at (entry.Purged now from) = tt
+    at (entry.Taken now from id) = λ none other. tt
+    at (entry.Purged now from) = λ none other. tt
     at (entry.Ticked now) = λ id. tt
     at (entry.Roll count) = tt
 

@@ -19,7 +19,7 @@ use Rattle.mqb_model.specs.declared.faults.PumpFault.{PumpFault}
 use Rattle.mqb_model.specs.managers.Manager.{doubt_of}
 use Rattle.mqb_model.specs.managers.Outcomes.{Outcome, failed}
 use Rattle.mqb_network.specs.Answers.{only}
-use Rattle.mqb_network.specs.Changes.{as_dropped, dropped, ended, note_by, noted, succeeded_at}
+use Rattle.mqb_network.specs.Changes.{as_dropped, dropped, ended, note_by, succeeded_at}
 use Rattle.mqb_network.specs.Choices.{Choice, Failure, Fails, Kept, Lost, Unread, Well, choice_behind, failure_in}
 use Rattle.mqb_network.specs.Connecting.{any_connected, any_down, both_linked, connect, connecting, disconnect, exchanged, resend_by, set_up}
 use Rattle.mqb_network.specs.Courses.{Course, called, called_unless, found_kept, moved, posted}

@@ -1,49 +1,48 @@
--- Whatever lines and queues name has a number that a manager gave.
+-- Whatever lines name, and whatever message there is, has a number that a manager gave; and no notice has that of a message which joined a stream.
 use Rattle.std.proofs.Common.{refl, ap, sym, subst, ◌∙◌, arith, inl, inr}
 use Rattle.std.proofs.lemmas.Bool.Decides.{nat_tests}
-use Rattle.std.specs.Prelude.{[], ◌&&◌, ◌+◌, ◌++◌, ◌<◌, ◌==◌, ◌∷◌, ◌≡◌, ◌≤◌, ◌⊎◌, Bool, List, None, Option, Some, false, length, nat_lt, slice_get, suc, true, unwrap_or, zero, ℕ}
+use Rattle.std.specs.Prelude.{[], ◌&&◌, ◌+◌, ◌++◌, ◌<◌, ◌==◌, ◌∷◌, ◌≡◌, ◌≤◌, ◌⊎◌, Bool, List, Some, false, length, map, nat_lt, slice_get, suc, true, zero, ℕ}
 use Rattle.mqb_base.specs.Same.{same_guid}
 use Rattle.mqb_base.specs.declared.ids.Identity.{Identity}
 use Rattle.mqb_base.specs.declared.ids.MessageId.{MessageId}
 use Rattle.mqb_base.specs.declared.ledger.Line.{Line}
 use Rattle.mqb_base.specs.declared.ledger.Line.TheVariants as line
-use Rattle.mqb_base.specs.declared.message.Message.{Message}
 use Rattle.mqb_exactly_once.specs.Words.{In}
-use Rattle.mqb_model.specs.managers.Manager.{Manager}
+use Rattle.mqb_exactly_once.specs.World.{Commitment}
 use Rattle.mqb_model.specs.records.Applying.{lines_of}
 use Rattle.mqb_model.specs.state.Places.{is_express}
 use Rattle.mqb_model.specs.state.State.{State}
 use Rattle.mqb_network.specs.Courses.{Course, Written}
 use Rattle.mqb_network.specs.Laws.{AreApart, lines_written}
-use Rattle.mqb_network.specs.Network.{manager_at, nobody}
+use Rattle.mqb_network.specs.Network.{manager_at}
 use Rattle.mqb_history.specs.Carried.{AreDecidedTruly}
+use Rattle.mqb_history.specs.Committed.{commitments}
 use Rattle.mqb_history.specs.Decided.{written_of}
 use Rattle.mqb_history.specs.Expired.{AreExpiredDuly}
 use Rattle.mqb_history.specs.Invariants.{AreOwnBelow}
-use Rattle.mqb_history.specs.Numbers.{AreLinesNumbered, AreOrdinaryNumbered, AreQueuedNumbered, HasNumber, named_in}
+use Rattle.mqb_history.specs.Numbers.{AreCorrelationsNumbered, AreLinesNumbered, AreMessagesNumbered, AreNoticesApart, HasNumber, named_in}
 use Rattle.mqb_history.specs.Orderly.{IsOrderly}
-use Rattle.mqb_history.specs.Sent.{AreAsSent, sends_in}
 use Rattle.mqb_history.specs.Stored.{IsStorageKept, IsStorageOf}
+use Rattle.mqb_history.specs.Told.{AreCommitmentsTold, Joined, commitment_told, joined_by}
+use Rattle.mqb_history.specs.Truths.{committed_in, told_by}
 use Rattle.mqb_history.proofs.Accounted.{IsPlainId, NamesOwn}
 use Rattle.mqb_history.proofs.Arriving.{IsPut, arrived, stored_from}
-use Rattle.mqb_history.proofs.Balance.{by_manager, given_own}
-use Rattle.mqb_history.proofs.Between.{all_in, in_either}
+use Rattle.mqb_history.proofs.Balance.{given_own}
+use Rattle.mqb_history.proofs.Between.{all_in}
+use Rattle.mqb_history.proofs.Borne.{AreBorne, noticed_borne}
 use Rattle.mqb_history.proofs.Committing.{in_append}
 use Rattle.mqb_history.proofs.Courses.{Agrees, HasSender}
-use Rattle.mqb_history.proofs.Fates.{IsFairExpress, ListsFair}
 use Rattle.mqb_history.proofs.Gone.{IsAccounted}
-use Rattle.mqb_history.proofs.Having.{QueueHas}
-use Rattle.mqb_history.proofs.Lists.{get_within, none_some, some_is, true_not_false, within_get}
-use Rattle.mqb_history.proofs.Noticed.{IsStoring, StoredBy, Told, guid_of, heard_in, in_flat, names_in, own_line, own_written, sayings, says_truly, told_from, written_in}
+use Rattle.mqb_history.proofs.Lists.{get_within, none_some, some_is}
+use Rattle.mqb_history.proofs.Noticed.{IsStoring, StoredBy, Told, committed_by, guid_of, heard_in, in_flat, noticed_fair, names_in, own_line, sayings, says_truly, told_from, written_in}
 use Rattle.mqb_history.proofs.Numbering.{AreCounted}
 use Rattle.mqb_history.proofs.Outside.{filtered_in}
+use Rattle.mqb_history.proofs.Puts.{told_in}
 use Rattle.mqb_history.proofs.Owned.{given}
 use Rattle.mqb_history.proofs.Remaining.{lefts}
 use Rattle.mqb_history.proofs.Saying.{Says}
-use Rattle.mqb_history.proofs.SentOnce.{IsNumbered, bears, by_record}
 use Rattle.mqb_history.proofs.Sources.{IsCommittedAt, expired_at, put_at, refused_at}
-use Rattle.mqb_history.proofs.Steady.{OfEach}
-use Rattle.mqb_history.proofs.Tallies.{arrives, copies, in_queue, left, one_if, tally_from, tally_there, weight, weight_own}
+use Rattle.mqb_history.proofs.Tallies.{arrives, copies, left, one_if, tally_from, tally_there, weight, weight_own}
 
 -- a number that was given is below the next one
 given_low : (x : MessageId) (s : State) → 1 ≤ given x s → x.number < s.next_number
@@ -54,13 +53,20 @@ given_low x s h = at (same_guid x.qm s.identity.guid) (nat_lt x.number s.next_nu
     at true false e one = absurd (omega (arith, one))
     at true true e one = grind (arith, nat_tests, e)
 
+-- a member of a list that was mapped
+in_mapped : {X Y : Type 0} (f : X → Y) (xs : List X) (y : Y) → In y (map f xs) → (x : X) × In x xs × (f x ≡ y)
+in_mapped f [] y i = absurd i
+in_mapped f (x ∷ xs) y (inl e) = (x, inl refl, e)
+in_mapped f (x ∷ xs) y (inr i) = let g = in_mapped f xs y i in (g.0, inr g.1, g.2)
+
 -- a member parts a list
 parted_at : {X : Type 0} (xs : List X) (x : X) → In x xs → (before : List X) × (behind : List X) × (xs ≡ before ++ x ∷ behind)
 parted_at [] x i = absurd i
 parted_at (y ∷ ys) x (inl e) = ([], ys, ap (λ z. z ∷ ys) e)
 parted_at (y ∷ ys) x (inr i) = let g = parted_at ys x i in (y ∷ g.0, g.1, ap (λ zs. y ∷ zs) g.2)
 
-module _ (known : List Identity) (apart : AreApart known) (c : Course) (t : IsAccounted known c) (own_below : AreOwnBelow c) (truly : AreDecidedTruly c) (duly : AreExpiredDuly c) (stored_first : IsStorageKept c) where
+module _ (known : List Identity) (apart : AreApart known) (c : Course) (t : IsAccounted known c) (own_below : AreOwnBelow c) (truly : AreDecidedTruly c) (duly : AreExpiredDuly c) (stored_first : IsStorageKept c)
+    (told : AreCommitmentsTold c) (borne : AreBorne known c) where
   abbrev o : IsOrderly known c
   o = t.agreed.0.0
 
@@ -124,19 +130,6 @@ module _ (known : List Identity) (apart : AreApart known) (c : Course) (t : IsAc
       at zero e = let le = (t.tallied i).remains id in let l = tally_from (arrives id) (mine i) (omega (arith, le, one, e)) in came l.0 l.1 l.2
       at (suc n) e = record { by = i; there = low; source = given_own id (state i) (omega (arith, e)); below = given_low id (state i) (omega (arith, e)) }
 
-  -- what a record sent
-  of_sent : (id : MessageId) (w : Written) → In w c.written → (m : Message) → In m (sends_in w.entry) → m.id ≡ id
-      → OfEach (IsNumbered id) c w.by → HasNumber c id
-  of_sent id w i m inside same numbered = record { by = w.by; there = by_manager known apart c t id w i; source = given_own id (state w.by) one; below = given_low id (state w.by) one }
-    where
-      one : 1 ≤ given id (state w.by)
-      one = let own = ap (weight id) same ∙ weight_own id in let first = tally_there (bears id) (sends_in w.entry) m inside in
-          let many = tally_there (λ (v : Written). by_record id v.entry) (written_of w.by c.written) w (own_written c.written w i) in omega (arith, own, first, many, numbered)
-
-  pub ordinary_numbered : AreAsSent c → ((id : MessageId) (j : ℕ) → OfEach (IsNumbered id) c j) → AreOrdinaryNumbered c
-  ordinary_numbered sent numbered m i ordinary durable = let one = sent m i ordinary durable in let w = in_flat (λ (v : Written). sends_in v.entry) c.written one.send one.inside in
-      of_sent m.id w.0 w.1 one.send w.2 (ap (λ (x : Message). x.id) (sym one.same)) (numbered m.id w.0.by)
-
   -- Lines.
 
   stored_says : (w : Written) (l : Line) → In w c.written → In l (lines_of w.before w.entry) → Says (sayings w.entry) l
@@ -197,34 +190,60 @@ module _ (known : List Identity) (apart : AreApart known) (c : Course) (t : IsAc
       by (line.Took other) f i j n k = subst (HasNumber c) (some_is other id f) (gone (line.Took other) other k (weighs other))
       by (line.Purged other) f i j n k = subst (HasNumber c) (some_is other id f) (gone (line.Purged other) other k (weighs other))
       by (line.Swept other) f i j n k = subst (HasNumber c) (some_is other id f) (gone (line.Swept other) other k (weighs other))
-      by (line.Emptied other) f i j n k = absurd (none_some f)
+      by (line.Emptied other) f i j n k = subst (HasNumber c) (some_is other id f) (borne.emptied w.0.by (get_within known w.0.by own.0 own.1) other k)
 
   pub lines_numbered : AreLinesNumbered c
   lines_numbered id i = let l = told_from named_in all id i in of_line l.0 id l.2 l.1
 
-  -- Queues.
+  -- Messages, and the notices about them.
 
-  pub queued_numbered : AreQueuedNumbered c
-  queued_numbered i q m there waits durable = at (slice_get c.network.managers i) refl
+  pub messages_numbered : AreMessagesNumbered c
+  messages_numbered m i durable = (noticed_borne known c borne m i durable).numbered
+
+  pub correlations_numbered : AreCorrelationsNumbered c
+  correlations_numbered m i notice durable = ((noticed_borne known c borne m i durable).notice notice).1
+
+  -- what a line says to have joined a stream did
+  committed_told : (id : MessageId) → In id (told_by committed_in c) → (k : ℕ) × (k < length known) × (x : Commitment) × In x (commitments (written_of k c.written)) × (x.message.id ≡ id)
+  committed_told id i = by l.0 l.2 w.2
     where
-      known_one : (x : Manager) → slice_get c.network.managers i ≡ Some x → i < length c.network.managers
-      known_one x e = get_within c.network.managers i x e
+      l : (l : Line) × Told c l × (committed_in l ≡ Some id)
+      l = told_from committed_in all id i
 
-      inside : i < length c.network.managers → In m q.lists.durable
-      inside low = by (in_either q.lists.durable q.lists.express m waits)
-        where
-          own : (own : Identity) × (slice_get known i ≡ Some own)
-          own = within_get known i (subst (λ n. i < n) o.count low)
+      w : (w : Written) × In w c.written × In l.0 (lines_of w.before w.entry)
+      w = written_in known apart c o h l.0 l.1
 
-          fair : QueueHas (ListsFair (λ l. In l all)) q
-          fair = all_in (QueueHas (ListsFair (λ l. In l all))) (state i).places.queues q (h.stand i own.0 own.1).keeps.places.queues there
+      k : ℕ
+      k = w.0.by
 
-          by : In m q.lists.durable ⊎ In m q.lists.express → In m q.lists.durable
-          by (inl j) = j
-          by (inr j) = absurd (true_not_false (is_express m.delivery) (all_in (IsFairExpress (λ l. In l all)) q.lists.express m fair.0.express j).1 durable)
+      low : k < length known
+      low = let g = heard_in known apart c o h w.0 w.1 in get_within known k g.0 g.1
 
-      at : (x : Option Manager) → slice_get c.network.managers i ≡ x → HasNumber c m.id
-      at None e = absurd (subst (λ (y : Option Manager). In q (unwrap_or y nobody).state.places.queues) e there)
-      at (Some x) e = let low = known_one x e in of_kept m.id i low (let own = weight_own m.id in
-          let first = tally_there (λ (n : Message). weight m.id n.id) q.lists.durable m (inside low) in
-          let many = tally_there (in_queue m.id) (state i).places.queues q there in omega (arith, own, first, many))
+      of : (j : Joined) → In j (map (joined_by (state k).identity.guid) (commitments (written_of k c.written))) → j.id ≡ id
+          → (k : ℕ) × (k < length known) × (x : Commitment) × In x (commitments (written_of k c.written)) × (x.message.id ≡ id)
+      of j inside names = let x = in_mapped (joined_by (state k).identity.guid) (commitments (written_of k c.written)) j inside in (k, low, x.0, x.1, ap (λ (y : Joined). y.id) x.2 ∙ names)
+
+      by : (x : Line) → committed_in x ≡ Some id → In x (lines_of w.0.before w.0.entry) → (k : ℕ) × (k < length known) × (x : Commitment) × In x (commitments (written_of k c.written)) × (x.message.id ≡ id)
+      by (line.Committed stream number other) e j = of (record { stream = stream; number = number; id = other }) (subst (In {A = Joined} (record { stream = stream; number = number; id = other })) (told k)
+          (told_in commitment_told (mine k) (line.Committed stream number other) (record { stream = stream; number = number; id = other })
+          (own_line known apart c o h w.0 (line.Committed stream number other) w.1 j) refl)) (some_is other id e)
+      by (line.Put stream number other) e j = absurd (none_some e)
+      by (line.Refused stream number class other) e j = absurd (none_some e)
+      by (line.Expired stream number other moment) e j = absurd (none_some e)
+      by (line.Local other) e j = absurd (none_some e)
+      by (line.Stored other) e j = absurd (none_some e)
+      by (line.Bounced class other) e j = absurd (none_some e)
+      by (line.Released other) e j = absurd (none_some e)
+      by (line.Took other) e j = absurd (none_some e)
+      by (line.Purged other) e j = absurd (none_some e)
+      by (line.Swept other) e j = absurd (none_some e)
+      by (line.Lapsed other) e j = absurd (none_some e)
+      by (line.Emptied other) e j = absurd (none_some e)
+
+  pub notices_apart : AreNoticesApart c
+  notices_apart m i notice committed = at (is_express m.delivery) refl
+    where
+      at : (b : Bool) → is_express m.delivery ≡ b → ⊥
+      at true e = let high = (noticed_fair known c o h m i).express e in let low = (committed_by known apart c o h m.id committed).number in absurd (omega (arith, high, low))
+      at false e = let x = committed_told m.id committed in let unused = ((noticed_borne known c borne m i e).notice notice).0 in
+          (unused x.0 x.1 (sym (own_below x.0 x.2 x.3).0 ∙ ap (λ (y : MessageId). y.qm) x.4)).uncommitted x.2 x.3 (ap (λ (y : MessageId). y.number) x.4)

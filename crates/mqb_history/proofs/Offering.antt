@@ -285,11 +285,11 @@ above_at : (before behind : List Written) (w : Written) → NoneExpires (before 
 above_at [] behind w h = h.0
 above_at (x ∷ before) behind w h = above_at before behind w h.1
 
+pub offers_kept : (c : Course) → ((i : ℕ) → AreOffered (manager_at c.network i).state (written_of i c.written)) → AreOffersKept c
+offers_kept c h i before behind w marks mark split offers inside stream number id moment told same =
+    let above = subst (λ xs. AreAbove xs (lines_written behind)) (ap marks_in offers) (above_at before behind w (subst NoneExpires split (h i).none)) in
+    (all_in (IsAbove mark) (lines_written behind) (line.Expired stream number id moment)
+    (all_in (λ (x : Mark). AllByRecursion (IsAbove x) (lines_written behind)) marks mark above inside) told) same
+
 pub always_offers_kept : AlwaysOffersKept
-always_offers_kept known ms apart run kept = of_course (settled kept (after_run known ms)) (always_by_records AreOffered offered_by_records known ms apart run kept)
-  where
-    of_course : (c : Course) → ((i : ℕ) → AreOffered (manager_at c.network i).state (written_of i c.written)) → AreOffersKept c
-    of_course c h i before behind w marks mark split offers inside stream number id moment told same =
-        let above = subst (λ xs. AreAbove xs (lines_written behind)) (ap marks_in offers) (above_at before behind w (subst NoneExpires split (h i).none)) in
-        (all_in (IsAbove mark) (lines_written behind) (line.Expired stream number id moment)
-        (all_in (λ (x : Mark). AllByRecursion (IsAbove x) (lines_written behind)) marks mark above inside) told) same
+always_offers_kept known ms apart run kept = offers_kept (settled kept (after_run known ms)) (always_by_records AreOffered offered_by_records known ms apart run kept)

@@ -1,32 +1,31 @@
 -- Each ordinary message that is not express was sent as it is.
 use Rattle.std.proofs.Common.{refl, ap, sym, subst, ◌∙◌, inl, inr}
 use Rattle.std.specs.List.{AllByRecursion, flat_map}
-use Rattle.std.specs.Prelude.{[], ◌++◌, ◌==◌, ◌∷◌, ◌≡◌, ◌⊎◌, Bool, List, None, Option, Some, false, filter_map, fold, map, option_map, slice_get, true, unwrap_or, ℕ}
+use Rattle.std.specs.Prelude.{[], ◌++◌, ◌==◌, ◌∷◌, ◌≡◌, ◌⊎◌, Bool, List, None, Option, Some, false, filter_map, map, true, unwrap_or, ℕ}
 use Rattle.mqb_base.specs.declared.ids.Guid.{Guid}
 use Rattle.mqb_base.specs.declared.ids.Identity.{Identity}
+use Rattle.mqb_base.specs.declared.message.Lane.TheVariants as lane
 use Rattle.mqb_base.specs.declared.message.Message.{Message}
 use Rattle.mqb_exactly_once.specs.Words.{In}
 use Rattle.mqb_fate.specs.Asking.{is_ordinary}
 use Rattle.mqb_model.specs.managers.Manager.{Manager}
-use Rattle.mqb_model.specs.records.Applying.{apply}
 use Rattle.mqb_model.specs.records.Commit.{sends_of}
 use Rattle.mqb_model.specs.records.Record.{Part, Record}
 use Rattle.mqb_model.specs.records.Record as entry
 use Rattle.mqb_model.specs.state.Places.{is_express}
-use Rattle.mqb_model.specs.state.State.{State, empty}
+use Rattle.mqb_model.specs.state.State.{State}
 use Rattle.mqb_network.specs.Choices.{Failure}
 use Rattle.mqb_network.specs.Courses.{Course, Written}
 use Rattle.mqb_network.specs.Doubts.{settled}
 use Rattle.mqb_network.specs.Laws.{AreApart}
-use Rattle.mqb_network.specs.Network.{formatted, manager_at, nobody, others}
-use Rattle.mqb_network.specs.Runs.{IsRun, Move, after_run, beginning}
+use Rattle.mqb_network.specs.Network.{manager_at, nobody}
+use Rattle.mqb_network.specs.Runs.{IsRun, Move, after_run}
 use Rattle.mqb_orders.specs.declared.kept.Kept.{Kept}
 use Rattle.mqb_packet.specs.declared.packet.Packet.TheVariants as packet
 use Rattle.mqb_packet.specs.declared.packet.UserPacket.{UserPacket}
 use Rattle.mqb_plain.specs.Plain.{PlainLists}
 use Rattle.mqb_queue.specs.Lists.{Lists}
 use Rattle.mqb_queue.specs.Places.{Places, Queue, numbered}
-use Rattle.mqb_session.specs.State.{no_guid}
 use Rattle.mqb_history.specs.Calls.{Pump, outcome_of}
 use Rattle.mqb_history.specs.Changes.{Calls, Change, Drops, Ends, Fails, Finds, Hears, Links, Pumps, Restarts, changed, given_out, may_change}
 use Rattle.mqb_history.specs.Sent.{AreAsSent, IsOneOf, all_sends, sends_in}
@@ -34,19 +33,18 @@ use Rattle.mqb_history.specs.Truths.{all_of, for_peer, held, in_places, in_queue
 use Rattle.mqb_history.proofs.Accounts.{HeardBy, PartFrom}
 use Rattle.mqb_history.proofs.Agreeing.{IsAgreed, agreeing_closed, begins_agreeing}
 use Rattle.mqb_history.proofs.Between.{in_either}
-use Rattle.mqb_history.proofs.Bringing.{Brings, pumped_brings}
+use Rattle.mqb_history.proofs.Bringing.{Brings, IsBrought, pumped_brings}
 use Rattle.mqb_history.proofs.Committing.{all_in, in_append, in_end}
-use Rattle.mqb_history.proofs.Containing.{IsFine, PartFine, record_holds}
-use Rattle.mqb_history.proofs.Contents.{Holds, IsCarried, ListsHold, PlainHolds, RowHolds, Waits}
+use Rattle.mqb_history.proofs.Containing.{IsFine, PartFine, beginning_holds, record_holds}
+use Rattle.mqb_history.proofs.Contents.{Holds, InLane, IsCarried, ListsHold, PlainHolds, RowHolds, always_carried, holds_weaker}
 use Rattle.mqb_history.proofs.Courses.{HeardIn}
 use Rattle.mqb_history.proofs.Gone.{calling_sent, hearing_sent}
-use Rattle.mqb_history.proofs.Having.{PlacesHave, QueueHas, weaker_have}
+use Rattle.mqb_history.proofs.Having.{PlacesHave, QueueHas}
 use Rattle.mqb_history.proofs.Keeping.{IsClosed}
 use Rattle.mqb_history.proofs.Later.{change_written}
 use Rattle.mqb_history.proofs.Leads.{AreLed, led_by_records}
 use Rattle.mqb_history.proofs.Lists.{all_append, all_weaker, clash}
 use Rattle.mqb_history.proofs.Noticed.{all_flat, all_got, all_messages, flat_in, in_flat, message_is, told_from}
-use Rattle.mqb_history.proofs.Orderly.{map_get}
 use Rattle.mqb_history.proofs.Outside.{filtered_in}
 use Rattle.mqb_history.proofs.Runs.{always_kept}
 use Rattle.mqb_history.proofs.Sparing.{all_of as all_from}
@@ -57,7 +55,7 @@ use Rattle.mqb_history.proofs.Written.{begins_with}
 
 module _ (P : Message → Type 0) where
   lists_all : (l : Lists) → ListsHold P l → AllByRecursion P (all_of l)
-  lists_all l h = all_append P l.durable l.express h.0 h.1
+  lists_all l h = all_append P l.durable l.express (all_weaker (InLane P lane.Durable) P (λ m g. g.0) l.durable h.0) (all_weaker (InLane P lane.Express) P (λ m g. g.0) l.express h.1)
 
   queue_all : (q : Queue) → QueueHas (ListsHold P) q → AllByRecursion P (in_queue q)
   queue_all q h = all_append P (all_of q.lists) (all_of q.journal) (lists_all q.lists h.0) (lists_all q.journal h.1)
@@ -82,22 +80,14 @@ module _ (P : Message → Type 0) where
       (all_flat P for_peer s.plain (all_weaker (PlainHolds P) (λ p. AllByRecursion P (for_peer p)) peer_all s.plain h.plain)))
       (all_flat P in_row s.outs (all_weaker (RowHolds P) (λ row. AllByRecursion P (in_row row)) (λ row g. row_all row.kept g) s.outs h.outs))
 
-  -- less is said
-  holds_weaker : (Q : Message → Type 0) → ((m : Message) → P m → Q m) → (s : State) → Holds P s → Holds Q s
-  holds_weaker Q f s h = record {
-    places = weaker_have (ListsHold P) (ListsHold Q) (λ l g. (all_weaker P Q f l.durable g.0, all_weaker P Q f l.express g.1)) s.places h.places;
-    plain = all_weaker (PlainHolds P) (PlainHolds Q) (λ p g. (all_weaker (Waits P) (Waits Q) (λ o. f o.message) p.recoverable g.0, all_weaker (Waits P) (Waits Q) (λ o. f o.message) p.express g.1)) s.plain h.plain;
-    outs = all_weaker (RowHolds P) (RowHolds Q) (λ row g. all_weaker (λ k. P k.message) (λ k. Q k.message) (λ k. f k.message) row.kept g) s.outs h.outs;
-  }
-
 -- Where the records are such, a manager's messages are.
 abbrev Follows : (Message → Type 0) → ℕ → State → List Written → Type 0
 Follows P i s ws = ((w : Written) → In w ws → IsFine P w.entry) → Holds P s
 
-follows_steady : (P : Message → Type 0) → IsCarried P → OfExpress P → IsSteady (Follows P)
+follows_steady : (P : Message → Type 0) → IsCarried (λ next. P) → OfExpress (λ next. P) → IsSteady (Follows P)
 follows_steady P c express = record {
-  quiet = λ i a b ws q h fine. q.2 P c express (h fine);
-  grows = λ i s r ws made h fine. record_holds P c s r (fine (record { by = i; before = s; entry = r }) (in_end ws (record { by = i; before = s; entry = r })))
+  quiet = λ i a b ws q h fine. q.2 (λ next. P) c express (h fine);
+  grows = λ i s r ws made h fine. record_holds (λ next. P) c s r (fine (record { by = i; before = s; entry = r }) (in_end ws (record { by = i; before = s; entry = r })))
       (h (λ w inside. fine w (in_append ws (record { by = i; before = s; entry = r } ∷ []) w inside)));
 }
 
@@ -106,15 +96,17 @@ follows_steady P c express = record {
 abbrev pub IsSent : List Written → Message → Type 0
 IsSent ws m = is_ordinary m ≡ true → is_express m.delivery ≡ false → IsOneOf (all_sends ws) m
 
-pub sent_carried : (ws : List Written) → IsCarried (IsSent ws)
-sent_carried ws = record {
-  notice = λ m class d to id now o e g ordinary durable. absurd (clash (sym ordinary ∙ e));
+sent_carried : (ws : List Written) → IsCarried (λ next. IsSent ws)
+sent_carried ws = always_carried (IsSent ws) (λ m class d to id now o e g ordinary durable. absurd (clash (sym ordinary ∙ e)))
+
+sent_brought : (ws : List Written) → IsBrought (IsSent ws)
+sent_brought ws = record {
   acks = λ a host id now ordinary durable. absurd (clash (sym ordinary));
   left = λ m n g ordinary durable. let one = g ordinary durable in record { send = one.send; inside = one.inside; same = ap (λ (x : Message). record x { reach = n }) one.same };
 }
 
-sent_express : (ws : List Written) → OfExpress (IsSent ws)
-sent_express ws m e ordinary durable = absurd (clash (sym e ∙ durable))
+sent_express : (ws : List Written) → OfExpress (λ next. IsSent ws)
+sent_express ws next m e ordinary durable = absurd (clash (sym e ∙ durable))
 
 sent_more : (ws more all : List Written) → all ≡ ws ++ more → (m : Message) → IsSent ws m → IsSent all m
 sent_more ws more all e m g = λ ordinary durable. let one = g ordinary durable in let w = in_flat (λ (v : Written). sends_in v.entry) ws one.send one.inside in record {
@@ -155,7 +147,7 @@ module _ (known : List Identity) (apart : AreApart known) (c : Course) (t : AreS
     where
       pumped : (i now : ℕ) (failure : Option Failure) (p : UserPacket) → In (packet.User p) (given_out (outcome_of (manager_at c.network i) (Pump now)) failure) → IsSent c.written p.message
       pumped i now None p inside = all_in (Brings (IsSent c.written)) (outcome_of (manager_at c.network i) (Pump now)).packets (packet.User p)
-          (pumped_brings (IsSent c.written) (sent_carried c.written) (manager_at c.network i) (t.managers i) now) inside p refl
+          (pumped_brings (IsSent c.written) (sent_brought c.written) (manager_at c.network i) (t.managers i) now) inside p refl
       pumped i now (Some how) p inside = absurd inside
 
       either : (i now : ℕ) (failure : Option Failure) (p : UserPacket) → In (packet.User p) c.sent ⊎ In (packet.User p) (given_out (outcome_of (manager_at c.network i) (Pump now)) failure) → IsSent c.written p.message
@@ -211,28 +203,10 @@ module _ (known : List Identity) (apart : AreApart known) (c : Course) (t : AreS
 sent_closed : (known : List Identity) → AreApart known → IsClosed known (AreSent known)
 sent_closed known apart = record { orderly = λ c t. t.agreed.0.0; keeps = λ c x may t. change_sent known apart c t x may }
 
-begins_sent : (own : Identity) (peers : List Identity) → Holds (IsSent []) (formatted own peers).state
-begins_sent own peers = from (empty own) peers (record {
-  places = record { queues = tt; dead = (tt, tt); dead_xact = (tt, tt); journal = (tt, tt) };
-  plain = tt;
-  outs = tt;
-})
-  where
-    from : (s : State) (ps : List Identity) → Holds (IsSent []) s → Holds (IsSent []) (fold apply s (map (λ peer. entry.Peer peer) ps))
-    from s [] h = h
-    from s (p ∷ ps) h = from (apply s (entry.Peer p)) ps (record_holds (IsSent []) (sent_carried []) s (entry.Peer p) tt h)
-
-starts_sent : (known : List Identity) (j : ℕ) → Holds (IsSent []) (manager_at (beginning known).network j).state
-starts_sent known j = subst (λ o. Holds (IsSent []) (unwrap_or o nobody).state) (sym (map_get (λ own. formatted own (others known own)) known j)) (at (slice_get known j))
-  where
-    at : (o : Option Identity) → Holds (IsSent []) (unwrap_or (option_map (λ own. formatted own (others known own)) o) nobody).state
-    at None = begins_sent (record { host = []; guid = no_guid; address = [] }) []
-    at (Some own) = begins_sent own (others known own)
-
 pub always_sent : (known : List Identity) → AreApart known → (ms : List Move) → IsRun known ms → (kept : ℕ → Bool) → AreSent known (settled kept (after_run known ms))
 always_sent known apart ms run kept = always_kept known (AreSent known) (sent_closed known apart) ms run kept (record {
   agreed = (begins_with known AreLed led_by_records, begins_agreeing known);
-  managers = starts_sent known;
+  managers = beginning_holds (IsSent []) known;
   packets = λ p inside. absurd inside;
 })
 

@@ -159,7 +159,7 @@ module _ (d : QueueName) (peer : ℕ) (c : Channel) (v : StreamWorld) (cs : List
         world = happens h.world (Expire (kept_at row gone) now);
         reached = more c h.world (Expire (kept_at row gone) now) h.reached
             ((shown.kept gone g.0).0, row_kept h.world row gone shown g.0, (let low = less tests.0 in let f = shown.offered in omega (arith, low, f)), tests.1);
-        same = record { channel = h.same.channel; decided = h.same.decided; fates = h.same.fates; transfers = h.same.transfers; order_acks = h.same.order_acks; connection = h.same.connection; connected = h.same.connected };
+        same = record { channel = h.same.channel; decided = h.same.decided; fates = h.same.fates; transfers = h.same.transfers; order_acks = h.same.order_acks; final_acks = h.same.final_acks; connection = h.same.connection; connected = h.same.connected };
         rows = own_row d peer s.outs news row (without_expired now row) h.world (happens h.world (Expire (kept_at row gone) now)) inside e r refl refl refl
             (expire_steps h.world now row gone rises found) h.rows;
         committed = h.committed;

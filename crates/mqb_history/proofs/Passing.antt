@@ -4,7 +4,6 @@ use Rattle.std.specs.Option.{option_map_or}
 use Rattle.std.specs.Prelude.{[], ◌&&◌, ◌++◌, ◌==◌, ◌≡◌, ◌≤◌, ◌⊎◌, Bool, Err, IfSome, List, None, Option, Some, cond, false, is_some, length, replicate, suc, true, zero, ℕ}
 use Rattle.mqb_base.specs.declared.ids.Guid.{Guid}
 use Rattle.mqb_base.specs.declared.ids.Identity.{Identity}
-use Rattle.mqb_base.specs.declared.ids.MessageId.{MessageId}
 use Rattle.mqb_exactly_once.specs.Words.{In}
 use Rattle.mqb_packet.specs.declared.packet.Packet.{Packet}
 use Rattle.mqb_session.specs.State as one_end
@@ -29,7 +28,8 @@ use Rattle.mqb_history.proofs.Flowing.{Flows, flows_more, source_pumps, target_p
 use Rattle.mqb_history.proofs.Hearing.{session_of}
 use Rattle.mqb_history.proofs.Lists.{append_nothing, apart_numbers, clash, equal_numbers, same_number, some_is, true_not_false}
 use Rattle.mqb_history.proofs.Ordering.{with_at}
-use Rattle.mqb_history.proofs.Pumped.{IsNumberOf, storable_ids, users_of}
+use Rattle.mqb_packet.specs.declared.packet.UserPacket.{UserPacket}
+use Rattle.mqb_history.proofs.Pumped.{AreMarks, CountsOf, users_of}
 use Rattle.mqb_history.proofs.Pumping.{IsOfMarks, Pumps, linked_pumped}
 use Rattle.mqb_history.proofs.Serving.{Works, if_some, same_works, works_keep}
 use Rattle.mqb_history.proofs.Storing.{AnyMark, FlowsIn, KeepsStorage, ReleasesStored, Rests, doubt_after, failing_keeps, some_releases_more, up_doubt, with_release}
@@ -109,8 +109,8 @@ module _ (known : List Identity) (c : Course) (o : IsOrderly known c) (k : Keeps
   abbrev zs : List Packet
   zs = outcome.packets
 
-  pumps : (own : Guid) (ids : List MessageId) → Waits own (IsNumberOf ids) m.state → before.recoverable_sent ≡ length ids → Pumps own ids m before (pump m now)
-  pumps own ids waits e = subst (Pumps own ids m before) (sym (pump_is m now before up linked)) (linked_pumped own ids m waits now before linked e)
+  pumps : (own : Guid) (ps : List UserPacket) → Waits own (AreMarks ps) m.state → CountsOf ps before → Pumps own ps m before (pump m now)
+  pumps own ps waits e = subst (Pumps own ps m before) (sym (pump_is m now before up linked)) (linked_pumped own ps m waits now before linked e)
 
   inside : In d c.network.connections
   inside = (connection_in c.network x d found).0
@@ -124,14 +124,14 @@ module _ (known : List Identity) (c : Course) (o : IsOrderly known c) (k : Keeps
       (sym same) (k.flows e there i j ends)
 
   pumped : (e : Connection) (there : In e c.network.connections) (i j : ℕ) (ends : AreEnds e i j) (same : x ≡ i) → let h = flow e there i j ends same in
-      Pumps h.own (storable_ids (users_of (from_sender e.number i c.network.notes c.sent))) m before (pump m now)
-  pumped e there i j ends same = let h = flow e there i j ends same in pumps h.own (storable_ids (users_of (from_sender e.number i c.network.notes c.sent))) h.waits
-      (ap (λ (s : one_end.State). s.recoverable_sent) (some_is before h.source (sym linked ∙ h.sends)) ∙ h.recoverable_sent)
+      Pumps h.own (users_of (from_sender e.number i c.network.notes c.sent)) m before (pump m now)
+  pumped e there i j ends same = let h = flow e there i j ends same in let own = some_is before h.source (sym linked ∙ h.sends) in pumps h.own (users_of (from_sender e.number i c.network.notes c.sent)) h.waits
+      (ap (λ (s : one_end.State). s.sent) own ∙ h.sent, ap (λ (s : one_end.State). s.recoverable_sent) own ∙ h.recoverable_sent)
 
   abbrev other : ℕ
   other = other_end x d
 
-  own_pumps : let h = flow d inside x other (other_ends d x at_end) refl in Pumps h.own (storable_ids (users_of (from_sender d.number x c.network.notes c.sent))) m before (pump m now)
+  own_pumps : let h = flow d inside x other (other_ends d x at_end) refl in Pumps h.own (users_of (from_sender d.number x c.network.notes c.sent)) m before (pump m now)
   own_pumps = pumped d inside x other (other_ends d x at_end) refl
 
   abbrev more : List Written
@@ -171,7 +171,7 @@ module _ (known : List Identity) (c : Course) (o : IsOrderly known c) (k : Keeps
       subst (λ y. Flows y (manager_at c.network j) (from_sender e.number i c.network.notes c.sent ++ zs) (from_sender e.number j c.network.notes c.sent) more) (sym (here i same))
       (flows_more next (manager_at c.network j) (from_sender e.number i c.network.notes c.sent ++ zs) (from_sender e.number j c.network.notes c.sent) c.written (written_by x m outcome.entry)
       (source_pumps m (manager_at c.network j) next (from_sender e.number i c.network.notes c.sent) (from_sender e.number j c.network.notes c.sent) zs c.written before p.after h
-      linked p.session p.sends p.waits))
+      linked p.session p.sends p.repeats p.waits))
   source_now e there i j ends false f = subst (λ y. Flows y (manager_at c.network j) (from_sender e.number i c.network.notes c.sent ++ []) (from_sender e.number j c.network.notes c.sent) more) (sym (apart i f))
       (subst (λ xs. Flows (manager_at c.network i) (manager_at c.network j) xs (from_sender e.number j c.network.notes c.sent) more) (sym (append_nothing (from_sender e.number i c.network.notes c.sent)))
       (flows_more (manager_at c.network i) (manager_at c.network j) (from_sender e.number i c.network.notes c.sent) (from_sender e.number j c.network.notes c.sent) c.written (written_by x m outcome.entry)
@@ -199,7 +199,7 @@ module _ (known : List Identity) (c : Course) (o : IsOrderly known c) (k : Keeps
   rests_now : Rests next
   rests_now = let h = flow d inside x other (other_ends d x at_end) refl in record {
     own = h.own;
-    waits = weaker_waits h.own _ AnyMark (λ n id g. tt) next.state own_pumps.waits;
+    waits = weaker_waits h.own _ AnyMark (λ kind n id g. tt) next.state own_pumps.waits;
     unsent = λ free none. absurd (true_not_false (is_some next.rest.session) (ap is_some own_pumps.session) none);
     doubt = up_doubt m.condition (IsOfOwn h.own) up;
   }

@@ -129,7 +129,7 @@ module _ (d : QueueName) (peer : ℕ) (c : Channel) (v : StreamWorld) (cs : List
         sourced = record {
           world = happens h.world (Offer p);
           reached = more c h.world (Offer p) h.reached (kept_now, less, g.begun e);
-          same = record { channel = h.same.channel; decided = h.same.decided; fates = h.same.fates; transfers = h.same.transfers; order_acks = h.same.order_acks; connection = h.same.connection; connected = h.same.connected };
+          same = record { channel = h.same.channel; decided = h.same.decided; fates = h.same.fates; transfers = h.same.transfers; order_acks = h.same.order_acks; final_acks = h.same.final_acks; connection = h.same.connection; connected = h.same.connected };
           rows = own_row d peer outs news g.row (with_offered mark.number g.row) h.world (happens h.world (Offer p)) g.there e r refl refl refl (offer_steps h.world g.row mark.number) h.rows;
           committed = h.committed;
           expired = h.expired;

@@ -1,15 +1,15 @@
--- Each transfer of the world, and each order acknowledgement, is a packet that was sent.
+-- Each transfer of the world, and each acknowledgement, is a packet that was sent.
 use Rattle.std.proofs.Common.{refl, ap, sym, ◌∙◌, arith, inl, inr}
 use Rattle.std.specs.Prelude.{[], ◌+◌, ◌-◌, ◌++◌, ◌<◌, ◌==◌, ◌∷◌, ◌≡◌, ◌⊎◌, Bool, List, None, Some, cond, false, length, replicate, slice_get, suc, true, zero, ℕ}
 use Rattle.mqb_base.specs.declared.queue_names.QueueName.{QueueName}
 use Rattle.mqb_exactly_once.specs.Words.{In}
-use Rattle.mqb_exactly_once.specs.World.{OrderAck, Transfer}
+use Rattle.mqb_exactly_once.specs.World.{Commitment, FinalAck, OrderAck, Transfer}
 use Rattle.mqb_network.specs.Network.{Note}
 use Rattle.mqb_packet.specs.declared.packet.Packet.{Packet}
 use Rattle.mqb_packet.specs.declared.packet.Packet.TheVariants as packet
 use Rattle.mqb_packet.specs.declared.packet.UserPacket.{UserPacket}
 use Rattle.mqb_queue.specs.Places.{numbered}
-use Rattle.mqb_history.specs.Shown.{AreAcksSent, AreTransfersSent, CarriesAck, CarriesTransfer, Went}
+use Rattle.mqb_history.specs.Shown.{AreAcksSent, AreFinalsSent, AreTransfersSent, CarriesAck, CarriesFinal, CarriesTransfer, Went}
 use Rattle.mqb_history.proofs.Dispatching.{IsFromPacket}
 use Rattle.mqb_history.proofs.Lists.{none_some, numbered_behind}
 use Rattle.mqb_history.proofs.Receipting.{HasTold}
@@ -30,7 +30,7 @@ get_front [] ys k x e = absurd (none_some e)
 get_front (z ∷ xs) ys zero x e = e
 get_front (z ∷ xs) ys (suc k) x e = get_front xs ys k x e
 
-numbered_front : {X : Type 0} (xs ys : List X) (k : ℕ) (x : X) → numbered xs k ≡ Some x → numbered (xs ++ ys) k ≡ Some x
+pub numbered_front : {X : Type 0} (xs ys : List X) (k : ℕ) (x : X) → numbered xs k ≡ Some x → numbered (xs ++ ys) k ≡ Some x
 numbered_front {X} xs ys k x e = at (k == 0) e
   where
     at : (b : Bool) → cond b None (slice_get xs (k - 1)) ≡ Some x → cond b None (slice_get (xs ++ ys) (k - 1)) ≡ Some x
@@ -63,6 +63,9 @@ module _ (Is : Note → UserPacket → Type 0) where
 
   went_behind : (notes : List Note) (sent zs : List Packet) → Went notes sent Is → Went notes (sent ++ zs) Is
   went_behind notes sent zs g = record { place = g.place; note = g.note; user = g.user; noted = g.noted; there = numbered_front sent zs g.place (packet.User g.user) g.there; is = g.is }
+
+  pub went_weaker : (Other : Note → UserPacket → Type 0) → ((note : Note) (user : UserPacket) → Is note user → Other note user) → (notes : List Note) (sent : List Packet) → Went notes sent Is → Went notes sent Other
+  went_weaker Other f notes sent g = record { place = g.place; note = g.note; user = g.user; noted = g.noted; there = g.there; is = f g.note g.user g.is }
 
   -- notes may be marked
   went_marked : (notes others : List Note) (sent : List Packet) → ((k : ℕ) (note : Note) → numbered notes k ≡ Some note → IsSameNoteAt others k note)
@@ -136,3 +139,35 @@ module _ (i j : ℕ) where
       at : In a olds ⊎ HasTold zs a.position → Went (notes ++ replicate (length zs) note) (sent ++ zs) (CarriesAck i j a)
       at (inl old) = acks_still notes (replicate (length zs) note) sent zs olds h a old
       at (inr g) = went_now (CarriesAck i j a) notes sent zs note g.user noted g.there (record { plain = g.plain; acks = g.acks; sender = from; receiver = into; spelled = g.spelled })
+
+  -- final ones
+  pub finals_more : (olds news : List Commitment) (a : FinalAck) (note : Note) (user : UserPacket) → ((x : Commitment) → In x olds → In x news) → CarriesFinal i j olds a note user → CarriesFinal i j news a note user
+  finals_more olds news a note user more h = record {
+    plain = h.plain;
+    final = h.final;
+    ends = h.ends;
+    commitment = h.commitment;
+    there = more h.commitment h.there;
+    names = h.names;
+    position = h.position;
+    fate = h.fate;
+  }
+
+  pub finals_still : (cs : List Commitment) (notes more : List Note) (sent zs : List Packet) (acks : List FinalAck) → AreFinalsSent i j cs notes sent acks → AreFinalsSent i j cs (notes ++ more) (sent ++ zs) acks
+  finals_still cs notes more sent zs acks h a inside = went_on (CarriesFinal i j cs a) notes more sent zs (h a inside)
+
+  pub finals_behind : (cs : List Commitment) (notes : List Note) (sent zs : List Packet) (acks : List FinalAck) → AreFinalsSent i j cs notes sent acks → AreFinalsSent i j cs notes (sent ++ zs) acks
+  finals_behind cs notes sent zs acks h a inside = went_behind (CarriesFinal i j cs a) notes sent zs (h a inside)
+
+  pub finals_marked : (cs : List Commitment) (notes others : List Note) (sent : List Packet) (acks : List FinalAck) → ((k : ℕ) (note : Note) → numbered notes k ≡ Some note → IsSameNoteAt others k note)
+      → AreFinalsSent i j cs notes sent acks → AreFinalsSent i j cs others sent acks
+  finals_marked cs notes others sent acks keeps h a inside = went_marked (CarriesFinal i j cs a) notes others sent keeps (λ x y user from into at g. record {
+    plain = g.plain;
+    final = g.final;
+    ends = (from ∙ g.ends.0, into ∙ g.ends.1);
+    commitment = g.commitment;
+    there = g.there;
+    names = g.names;
+    position = g.position;
+    fate = g.fate;
+  }) (h a inside)

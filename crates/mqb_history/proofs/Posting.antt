@@ -7,7 +7,7 @@ use Rattle.std.specs.Prelude.{◌++◌, ◌<◌, ◌==◌, ◌≡◌, ◌⊎◌,
 use Rattle.mqb_base.specs.declared.heads.TxHead.{TxHead}
 use Rattle.mqb_base.specs.declared.queue_names.QueueName.{QueueName}
 use Rattle.mqb_exactly_once.specs.Words.{In}
-use Rattle.mqb_exactly_once.specs.World.{Channel, Transfer, OrderAck}
+use Rattle.mqb_exactly_once.specs.World.{Channel, OrderAck, StreamWorld, Transfer}
 use Rattle.mqb_model.specs.managers.Manager.{doubt_of}
 use Rattle.mqb_model.specs.records.Record.{Record}
 use Rattle.mqb_network.specs.Changes.{note_by}
@@ -19,12 +19,12 @@ use Rattle.mqb_packet.specs.declared.packet.Packet.TheVariants as packet
 use Rattle.mqb_packet.specs.declared.packet.UserPacket.{UserPacket}
 use Rattle.mqb_queue.specs.Places.{numbered}
 use Rattle.mqb_history.specs.Decided.{written_of}
-use Rattle.mqb_history.specs.Shown.{AreAcksSent, AreTransfersSent, IsTransfer, ShowsDestination, ShowsPackets, IsReceipt, ShowsReceipts}
+use Rattle.mqb_history.specs.Shown.{AreAcksSent, AreFinalsSent, AreTransfersSent, IsTransfer, ShowsDestination, ShowsPackets, IsReceipt, ShowsReceipts}
 use Rattle.mqb_history.proofs.Carrying.{numbered_split, numbered_within, replicated}
 use Rattle.mqb_history.proofs.Dispatching.{AreSentOn, CanSend, IsOfChannel, send_on}
 use Rattle.mqb_history.proofs.Awaiting.{awaits_more}
 use Rattle.mqb_history.proofs.Linked.{AwaitsIn, IsLinked}
-use Rattle.mqb_history.proofs.Posted.{acks_behind, acks_posted, acks_still, posted_sent, sent_behind, sent_still}
+use Rattle.mqb_history.proofs.Posted.{acks_behind, acks_posted, acks_still, finals_behind, finals_still, posted_sent, sent_behind, sent_still}
 use Rattle.mqb_history.proofs.Lists.{apart_numbers, equal_numbers}
 use Rattle.mqb_history.proofs.Ruling.{MayRule, may_more}
 use Rattle.mqb_history.proofs.Settling.{ArePutsTold}
@@ -37,6 +37,15 @@ module _ (c : Course) (i j : ℕ) (ch : Channel) (d : QueueName) (peer : ℕ) (a
 
   abbrev after : Option Connection → Course
   after o = record c { network = with_notes o; sent = c.sent ++ zs }
+
+  -- final acknowledgements stay packets that were sent
+  finals_of : (w : StreamWorld) → w.committed ≡ h.world.committed → w.final_acks ≡ h.world.final_acks → AreFinalsSent i j w.committed c.network.notes c.sent w.final_acks
+  finals_of w committed acks = subst (λ cs. AreFinalsSent i j cs c.network.notes c.sent w.final_acks) (sym committed)
+      (subst (AreFinalsSent i j h.world.committed c.network.notes c.sent) (sym acks) h.finals_sent)
+
+  finals_now : (e : Connection) (w : StreamWorld) → AreFinalsSent i j w.committed c.network.notes c.sent w.final_acks
+      → AreFinalsSent i j w.committed (c.network.notes ++ replicate (length zs) (note_by a now e)) (c.sent ++ zs) w.final_acks
+  finals_now e w sent = finals_still i j w.committed c.network.notes (replicate (length zs) (note_by a now e)) c.sent zs w.final_acks sent
 
   -- what stands in a packet, and is a transfer
   abbrev IsShownAs : Note → UserPacket → TxHead → ℕ → List Transfer → Type 0
@@ -106,6 +115,7 @@ module _ (c : Course) (i j : ℕ) (ch : Channel) (d : QueueName) (peer : ℕ) (a
       packets = split_shown h.world.connection h.world.transfers h.packets (λ p tx inside t from into to. absurd (differ from into));
       transfers_sent = sent_still i j d c.network.notes (replicate (length zs) (note_by a now e)) c.sent zs h.world.transfers h.transfers_sent;
       acks_sent = acks_still i j c.network.notes (replicate (length zs) (note_by a now e)) c.sent zs h.world.order_acks h.acks_sent;
+      finals_sent = finals_now e h.world h.finals_sent;
       receipts = split_told h.world.connection h.world.order_acks h.receipts (λ p inside t is from into. absurd (back from into));
       doubt = h.doubt;
       fates = h.fates;
@@ -129,6 +139,7 @@ module _ (c : Course) (i j : ℕ) (ch : Channel) (d : QueueName) (peer : ℕ) (a
       transfers_sent = posted_sent i j d c.network.notes c.sent zs (note_by a now e) h.world.transfers g.world.transfers noted own into_j g.only h.transfers_sent;
       acks_sent = subst (AreAcksSent i j notes (c.sent ++ zs)) (sym g.same.order_acks)
           (acks_still i j c.network.notes (replicate (length zs) (note_by a now e)) c.sent zs h.world.order_acks h.acks_sent);
+      finals_sent = finals_now e g.world (finals_of g.world g.same.committed g.same.final_acks);
       receipts = split_told g.world.connection g.world.order_acks (subst (λ acks. ShowsReceipts i j ch (written_of j c.written) c.network.notes c.sent h.number g.world.connection acks) (sym g.same.order_acks)
           (subst (λ n. ShowsReceipts i j ch (written_of j c.written) c.network.notes c.sent h.number n h.world.order_acks) (sym g.same.connection) h.receipts))
           (λ p inside t is from into. absurd (apart (sym own ∙ from)));
@@ -173,6 +184,7 @@ module _ (c : Course) (i j : ℕ) (ch : Channel) (d : QueueName) (peer : ℕ) (a
       transfers_sent = subst (AreTransfersSent i j d notes (c.sent ++ zs)) (sym g.same.transfers)
           (sent_still i j d c.network.notes (replicate (length zs) (note_by a now e)) c.sent zs h.world.transfers h.transfers_sent);
       acks_sent = acks_posted i j c.network.notes c.sent zs (note_by a now e) h.world.order_acks g.world.order_acks noted from into_i g.only h.acks_sent;
+      finals_sent = finals_now e g.world (finals_of g.world g.same.committed g.same.final_acks);
       receipts = split_told g.world.connection g.world.order_acks old new;
       doubt = subst (λ ts. IfSome (doubt_of (manager_at c.network j).condition) (MayRule ch ts g.world.connection)) (sym g.same.transfers)
           (subst (λ n. IfSome (doubt_of (manager_at c.network j).condition) (MayRule ch h.world.transfers n)) (sym g.same.connection) h.doubt);
@@ -226,6 +238,7 @@ module _ (c : Course) (i j : ℕ) (ch : Channel) (d : QueueName) (peer : ℕ) (a
         packets = none_shown;
         transfers_sent = sent_behind i j d c.network.notes c.sent zs h.world.transfers h.transfers_sent;
         acks_sent = acks_behind i j c.network.notes c.sent zs h.world.order_acks h.acks_sent;
+        finals_sent = finals_behind i j h.world.committed c.network.notes c.sent zs h.world.final_acks h.finals_sent;
         receipts = none_told;
         doubt = h.doubt;
         fates = h.fates;

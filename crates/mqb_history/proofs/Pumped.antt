@@ -1,42 +1,38 @@
 -- What a linked manager knows behind a pump: its packets are numbered one after another, and the marks of the messages that went are those of their packets.
 use Rattle.std.proofs.Common.{refl, ap, sym, subst, ◌∙◌, arith}
 use Rattle.std.proofs.lemmas.List.{append_assoc}
-use Rattle.std.specs.List.{AllByRecursion, cons_option, enumerate_from, flat_map}
+use Rattle.std.specs.List.{AllByRecursion, cons_option}
 use Rattle.std.specs.Option.{option_map_or}
-use Rattle.std.specs.Prelude.{[], ◌&&◌, ◌+◌, ◌-◌, ◌++◌, ◌==◌, ◌∷◌, ◌≡◌, ◌≤◌, Bool, IfSome, List, None, Option, Some, cond, false, filter_map, fold, is_none, length, map, not, option_map, slice_get, slice_set, suc, true, unwrap_or, zero, zip, ℕ}
+use Rattle.std.specs.Prelude.{[], ◌+◌, ◌-◌, ◌++◌, ◌==◌, ◌∷◌, ◌≡◌, ◌≤◌, Bool, IfSome, List, None, Option, Some, cond, false, filter_map, fold, is_none, length, map, option_map, slice_get, slice_set, suc, true, unwrap_or, zero, ℕ, ◌<◌}
 use Rattle.mqb_base.specs.declared.heads.SessionHead.{SessionHead}
 use Rattle.mqb_base.specs.declared.ids.Guid.{Guid}
-use Rattle.mqb_base.specs.declared.ids.Identity.{Identity}
 use Rattle.mqb_base.specs.declared.ids.MessageId.{MessageId}
 use Rattle.mqb_base.specs.declared.message.Message.{Message}
-use Rattle.mqb_orders.specs.Rows.{Row, is_open}
-use Rattle.mqb_orders.specs.declared.kept.Kept.{Kept}
-use Rattle.mqb_orders.specs.declared.rows.InRow.{InRow}
 use Rattle.mqb_packet.specs.Plain.{carried_user}
 use Rattle.mqb_packet.specs.declared.packet.Packet.{Packet}
 use Rattle.mqb_packet.specs.declared.packet.Packet.TheVariants as packet
 use Rattle.mqb_packet.specs.declared.packet.UserPacket.{UserPacket}
 use Rattle.mqb_plain.specs.Lists.{marked_next}
-use Rattle.mqb_plain.specs.Plain.{PlainLists}
+use Rattle.mqb_plain.specs.Plain.{PlainLists, outgoing_in}
 use Rattle.mqb_plain.specs.declared.outgoing.Outgoing.{Outgoing}
 use Rattle.mqb_queue.specs.Places.{numbered}
 use Rattle.mqb_session.specs.Sending.{stamped}
 use Rattle.mqb_session.specs.State as one_end
 use Rattle.mqb_session.specs.declared.heads.Kind.TheVariants as kind
+use Rattle.mqb_base.specs.declared.message.Lane.{Lane}
 use Rattle.mqb_base.specs.declared.message.Lane.TheVariants as lane
 use Rattle.mqb_model.specs.Lists.{with_changed}
 use Rattle.mqb_model.specs.calls.hear.Session.{no_head}
-use Rattle.mqb_model.specs.calls.pump.Candidates.{Candidate, acks, candidates, of_row, plain_candidates, row_candidates, rows_owing, unsent_from, unsent_of, waiting}
-use Rattle.mqb_model.specs.calls.pump.Choosing.{candidate_size, chosen, head_for, kind_of, may_follow, session_after, session_behind, with_heads}
+use Rattle.mqb_model.specs.calls.pump.Candidates.{Candidate}
+use Rattle.mqb_model.specs.calls.pump.Choosing.{head_for, kind_of, session_after, session_behind, with_heads}
 use Rattle.mqb_model.specs.calls.pump.Pump.{carriage_for, origin_of, packet_for}
 use Rattle.mqb_model.specs.managers.Beside.{OfExpress, OfRecoverable, OfRow, Origin, Owed, noted, with_marked}
-use Rattle.mqb_model.specs.managers.Manager.{Rest}
-use Rattle.mqb_model.specs.rules.Numbers.{express_after}
 use Rattle.mqb_model.specs.state.Places.{with_plain}
 use Rattle.mqb_model.specs.state.State.{State}
 use Rattle.mqb_history.proofs.Heard.{got_told, is_storable, stored_told}
-use Rattle.mqb_history.proofs.Lists.{all_append, append_length, append_nothing, changed_there, none_some, numbered_behind, some_is}
-use Rattle.mqb_history.proofs.Unreleased.{IsBorne, IsExpress, PlainWaits, Waits, plain_waits}
+use Rattle.mqb_history.proofs.Lists.{append_length, append_nothing, changed_there, none_some, numbered_behind, some_is, all_weaker, get_within}
+use Rattle.mqb_history.proofs.Unreleased.{IsBorne, IsExpress, PlainWaits, Waits, lists_weaker, weaker_waits}
+use Rattle.mqb_history.proofs.Ascending.{marked_rise}
 
 -- the identifier of a packet that counts as stored
 abbrev pub storable_id : UserPacket → Option MessageId
@@ -70,6 +66,14 @@ abbrev pub AreCounted : ℕ → List UserPacket → Type 0
 AreCounted n [] = Unit {0}
 AreCounted n (p ∷ ps) = (recoverable_number p ≡ n + length (storable_ids (p ∷ []))) × AreCounted (n + length (storable_ids (p ∷ []))) ps
 
+-- The acknowledgements of a session among packets repeat how many user packets went before, and how many of these were recoverable.
+abbrev pub AreRepeated : ℕ → ℕ → List Packet → Type 0
+AreRepeated n r [] = Unit {0}
+AreRepeated n r (packet.User p ∷ xs) = AreRepeated (n + 1) (r + length (storable_ids (p ∷ []))) xs
+AreRepeated n r (packet.Ack h ∷ xs) = (h.user ≡ n) × (h.recoverable ≡ r) × AreRepeated n r xs
+AreRepeated n r (packet.Establish e ∷ xs) = AreRepeated n r xs
+AreRepeated n r (packet.Parameters q ∷ xs) = AreRepeated n r xs
+
 -- a number stands for an identifier in a list
 abbrev pub IsNumberOf : List MessageId → ℕ → MessageId → Type 0
 IsNumberOf ids n id = numbered ids n ≡ Some id
@@ -84,6 +88,18 @@ pub record Sends (before after : one_end.State) (ps : List UserPacket) : Type 0 
   pub stored : after.stored ≡ before.stored
   pub acked : after.recoverable_acked ≡ before.recoverable_acked
   pub got_acked : after.acked ≡ before.acked
+
+-- The identifiers that the marks of a lane number: those of the recoverable packets, or of all.
+abbrev pub ids_in : Lane → List UserPacket → List MessageId
+ids_in lane.Durable ps = storable_ids ps
+ids_in lane.Express ps = map (λ p. p.message.id) ps
+
+abbrev pub AreMarks : List UserPacket → Lane → ℕ → MessageId → Type 0
+AreMarks ps kind n id = IsNumberOf (ids_in kind ps) n id
+
+-- a session has sent so many
+abbrev pub CountsOf : List UserPacket → one_end.State → Type 0
+CountsOf ps session = (session.sent ≡ length ps) × (session.recoverable_sent ≡ length (storable_ids ps))
 
 abbrev pub from_recoverable : Origin → Bool
 from_recoverable OfRecoverable = true
@@ -168,6 +184,11 @@ all_sent to now session [] h = none_more session session refl refl refl refl ref
 all_sent to now session (c ∷ cs) h = one_more c.origin session (session_behind (session_after session c) cs) (user_for to now (c, head_for session c))
     (users_of (map (packet_for to now) (with_heads (session_after session c) cs))) refl h.0 (all_sent to now (session_after session c) cs h.1)
 
+-- they are no acknowledgements
+pub none_repeated : (to : Guid) (now n r : ℕ) (session : one_end.State) (cs : List Candidate) → AreRepeated n r (map (packet_for to now) (with_heads session cs))
+none_repeated to now n r session [] = tt
+none_repeated to now n r session (c ∷ cs) = none_repeated to now (n + 1) (r + length (storable_ids (user_for to now (c, head_for session c) ∷ []))) (session_after session c) cs
+
 after_stored : (o : Origin) (session : one_end.State) → (stamped (kind_of o) session).0.stored ≡ session.stored
 after_stored (Owed row) session = refl
 after_stored OfRecoverable session = refl
@@ -213,11 +234,17 @@ all_got_told to now n session (c ∷ cs) e = (
 abbrev pub unsent_in : Outgoing → Option Message
 unsent_in o = cond (is_none o.mark) (Some o.message) None
 
-abbrev pub unsent_at : List PlainLists → ℕ → List Message
-unsent_at ps k = option_map_or (λ (p : PlainLists). filter_map unsent_in p.recoverable) (slice_get ps k) []
+abbrev pub unsent_at : Lane → List PlainLists → ℕ → List Message
+unsent_at kind ps k = option_map_or (λ (p : PlainLists). filter_map unsent_in (outgoing_in kind p)) (slice_get ps k) []
 
-abbrev pub recoverable_in : Candidate → Option Message
-recoverable_in c = cond (from_recoverable c.origin) (Some c.message) None
+-- the messages of a lane among what could go
+abbrev pub is_from : Lane → Origin → Bool
+is_from lane.Durable OfRecoverable = true
+is_from lane.Express OfExpress = true
+is_from _ _ = false
+
+abbrev pub from_lane : Lane → Candidate → Option Message
+from_lane kind c = cond (is_from kind c.origin) (Some c.message) None
 
 pub filter_append : {X Y : Type 0} (f : X → Option Y) (xs ys : List X) → filter_map f (xs ++ ys) ≡ filter_map f xs ++ filter_map f ys
 filter_append f [] ys = refl
@@ -244,10 +271,10 @@ pub numbered_last : {X : Type 0} (xs : List X) (x : X) (n : ℕ) → n ≡ lengt
 numbered_last xs x n e = ap (numbered (xs ++ x ∷ [])) (let f : n ≡ length xs + 1 + 0 = omega (arith, e) in f) ∙ numbered_behind xs (x ∷ []) 0
 
 -- the first message that was not sent is
-marked_so : (own : Guid) (Bears : ℕ → MessageId → Type 0) (n : ℕ) (m : Message) (os : List Outgoing) (more : List Message) → filter_map unsent_in os ≡ m ∷ more → Bears n m.id
-    → AllByRecursion (IsBorne own Bears) os → AllByRecursion (IsBorne own Bears) (marked_next n os) × (filter_map unsent_in (marked_next n os) ≡ more)
-marked_so own Bears n m [] more e new h = absurd (let none : ⊥ = cc in none)
-marked_so own Bears n m (o ∷ os) more e new h = at (λ f. marked_so own Bears n m os more f new h.1) (is_none o.mark) refl e
+marked_first : (Q : Outgoing → Type 0) (n : ℕ) (m : Message) (os : List Outgoing) (more : List Message) → filter_map unsent_in os ≡ m ∷ more → ((o : Outgoing) → o.message ≡ m → Q o → Q (record o { mark = Some n }))
+    → AllByRecursion Q os → AllByRecursion Q (marked_next n os) × (filter_map unsent_in (marked_next n os) ≡ more)
+marked_first Q n m [] more e new h = absurd (let none : ⊥ = cc in none)
+marked_first Q n m (o ∷ os) more e new h = at (λ f. marked_first Q n m os more f new h.1) (is_none o.mark) refl e
   where
     marked : Outgoing
     marked = record o { mark = Some n }
@@ -255,25 +282,14 @@ marked_so own Bears n m (o ∷ os) more e new h = at (λ f. marked_so own Bears 
     head_is : (x : Message) (xs : List Message) → (x ∷ xs) ≡ (m ∷ more) → (x ≡ m) × (xs ≡ more)
     head_is x xs f = (cc, cc)
 
-    at : (filter_map unsent_in os ≡ m ∷ more → AllByRecursion (IsBorne own Bears) (marked_next n os) × (filter_map unsent_in (marked_next n os) ≡ more))
+    at : (filter_map unsent_in os ≡ m ∷ more → AllByRecursion Q (marked_next n os) × (filter_map unsent_in (marked_next n os) ≡ more))
         → (b : Bool) → is_none o.mark ≡ b → cons_option (cond b (Some o.message) None) (filter_map unsent_in os) ≡ m ∷ more
-        → AllByRecursion (IsBorne own Bears) (cond b (marked ∷ os) (o ∷ marked_next n os)) × (filter_map unsent_in (cond b (marked ∷ os) (o ∷ marked_next n os)) ≡ more)
-    at behind true f g = let both = head_is o.message (filter_map unsent_in os) g in (
-      (record { source = h.0.source; durable = h.0.durable; mark = subst (λ (x : Message). Bears n x.id) (sym both.0) new }, h.1),
-      both.1,
-    )
+        → AllByRecursion Q (cond b (marked ∷ os) (o ∷ marked_next n os)) × (filter_map unsent_in (cond b (marked ∷ os) (o ∷ marked_next n os)) ≡ more)
+    at behind true f g = let both = head_is o.message (filter_map unsent_in os) g in ((new o both.0 h.0, h.1), both.1)
     at behind false f g = let rest = behind g in (
       (h.0, rest.0),
       ap (λ x. cons_option (cond x (Some o.message) None) (filter_map unsent_in (marked_next n os))) f ∙ rest.1,
     )
-
-express_marked : (n : ℕ) (os : List Outgoing) → AllByRecursion IsExpress os → AllByRecursion IsExpress (marked_next n os)
-express_marked n [] h = tt
-express_marked n (o ∷ os) h = at (is_none o.mark) (express_marked n os h.1)
-  where
-    at : (b : Bool) → AllByRecursion IsExpress (marked_next n os) → AllByRecursion IsExpress (cond b (record o { mark = Some n } ∷ os) (o ∷ marked_next n os))
-    at true rest = (h.0, h.1)
-    at false rest = (h.0, rest)
 
 -- a fact of the list at an index, and of all others
 changed_at : {X : Type 0} (P Q : X → Type 0) (change : X → X) (xs : List X) (k : ℕ) → ((x : X) → P x → Q x) → ((x : X) → slice_get xs k ≡ Some x → P x → Q (change x))
@@ -293,206 +309,186 @@ changed_at {X = X} P Q change xs k weaker new h = at (slice_get xs k) refl
     at None e = others xs h
     at (Some x) e = set xs k x e (new x e) h
 
--- a number of a list is one of a longer one
-longer_waits : (own : Guid) (ids more : List MessageId) (p : PlainLists) → PlainWaits own (IsNumberOf ids) p → PlainWaits own (IsNumberOf (ids ++ more)) p
-longer_waits own ids more p h = record { recoverable = each p.recoverable h.recoverable; express = h.express }
+-- a number of packets is one of more packets
+ids_more : (kind : Lane) (ps more : List UserPacket) → ids_in kind (ps ++ more) ≡ ids_in kind ps ++ ids_in kind more
+ids_more lane.Durable ps more = filter_append storable_id ps more
+ids_more lane.Express [] more = refl
+ids_more lane.Express (p ∷ ps) more = ap (λ ids. p.message.id ∷ ids) (ids_more lane.Express ps more)
+
+marks_more : (ps more : List UserPacket) (kind : Lane) (n : ℕ) (id : MessageId) → AreMarks ps kind n id → AreMarks (ps ++ more) kind n id
+marks_more ps more kind n id h = subst (λ ids. IsNumberOf ids n id) (sym (ids_more kind ps more)) (numbered_before (ids_in kind ps) (ids_in kind more) n id h)
+
+longer_waits : (own : Guid) (ps more : List UserPacket) (p : PlainLists) → PlainWaits own (AreMarks ps) p → PlainWaits own (AreMarks (ps ++ more)) p
+longer_waits own ps more = lists_weaker own (AreMarks ps) (AreMarks (ps ++ more)) (marks_more ps more)
+
+-- Notes of a state: the next one of a lane is of its first unsent message.
+pub record IsNoting (own : Guid) (ps : List UserPacket) (k : ℕ) (left : Lane → List Message) (s : State) : Type 0 where
+  pub waits : Waits own (AreMarks ps) s
+  pub unsent : (kind : Lane) → unsent_at kind s.plain k ≡ left kind
+
+noting_same : (own : Guid) (ps : List UserPacket) (k : ℕ) (a b : Lane → List Message) (s : State) → ((kind : Lane) → a kind ≡ b kind) → IsNoting own ps k a s → IsNoting own ps k b s
+noting_same own ps k a b s same h = record { waits = h.waits; unsent = λ kind. h.unsent kind ∙ same kind }
+
+-- one message more in a lane
+abbrev left_with : Lane → Message → (Lane → List Message) → Lane → List Message
+left_with lane.Durable m left lane.Durable = m ∷ left lane.Durable
+left_with lane.Express m left lane.Express = m ∷ left lane.Express
+left_with _ m left other = left other
+
+-- the list of the peer once the first unsent message of a lane was sent under a number
+marked_lane : (own : Guid) (qs : List UserPacket) (kind : Lane) (n : ℕ) (m : Message) (left : Lane → List Message) (p : PlainLists)
+    → ((other : Lane) → filter_map unsent_in (outgoing_in other p) ≡ left_with kind m left other) → AreMarks qs kind n m.id → 0 < n → AllByRecursion (λ o. IfSome o.mark (λ k. k < n)) (outgoing_in kind p) → PlainWaits own (AreMarks qs) p
+    → PlainWaits own (AreMarks qs) (with_marked kind n p) × ((other : Lane) → filter_map unsent_in (outgoing_in other (with_marked kind n p)) ≡ left other)
+marked_lane own qs lane.Durable n m left p unsent new some below h =
+    (record { recoverable = g.0; express = h.express; recoverable_rises = marked_rise 0 n p.recoverable some below h.recoverable_rises; express_rises = h.express_rises }, by)
   where
-    one : (o : Outgoing) (x : Option ℕ) → IfSome x (λ n. IsNumberOf ids n o.message.id) → IfSome x (λ n. IsNumberOf (ids ++ more) n o.message.id)
-    one o None g = tt
-    one o (Some n) g = numbered_before ids more n o.message.id g
+    g : AllByRecursion (IsBorne own (AreMarks qs lane.Durable)) (marked_next n p.recoverable) × (filter_map unsent_in (marked_next n p.recoverable) ≡ left lane.Durable)
+    g = marked_first (IsBorne own (AreMarks qs lane.Durable)) n m p.recoverable (left lane.Durable) (unsent lane.Durable)
+        (λ o e b. record { source = b.source; durable = b.durable; mark = subst (λ (x : Message). AreMarks qs lane.Durable n x.id) (sym e) new }) h.recoverable
 
-    each : (os : List Outgoing) → AllByRecursion (IsBorne own (IsNumberOf ids)) os → AllByRecursion (IsBorne own (IsNumberOf (ids ++ more))) os
-    each [] g = tt
-    each (o ∷ os) g = (record { source = g.0.source; durable = g.0.durable; mark = one o o.mark g.0.mark }, each os g.1)
+    by : (other : Lane) → filter_map unsent_in (outgoing_in other (with_marked lane.Durable n p)) ≡ left other
+    by lane.Durable = g.1
+    by lane.Express = unsent lane.Express
+marked_lane own qs lane.Express n m left p unsent new some below h =
+    (record { recoverable = h.recoverable; express = g.0; recoverable_rises = h.recoverable_rises; express_rises = marked_rise 0 n p.express some below h.express_rises }, by)
+  where
+    g : AllByRecursion (IsExpress (AreMarks qs lane.Express)) (marked_next n p.express) × (filter_map unsent_in (marked_next n p.express) ≡ left lane.Express)
+    g = marked_first (IsExpress (AreMarks qs lane.Express)) n m p.express (left lane.Express) (unsent lane.Express)
+        (λ o e b. (b.0, subst (λ (x : Message). AreMarks qs lane.Express n x.id) (sym e) new)) h.express
 
--- Notes of a state: the next one is of the first unsent message.
-pub record IsNoting (own : Guid) (ids : List MessageId) (k : ℕ) (left : List Message) (s : State) : Type 0 where
-  pub waits : Waits own (IsNumberOf ids) s
-  pub unsent : unsent_at s.plain k ≡ left
+    by : (other : Lane) → filter_map unsent_in (outgoing_in other (with_marked lane.Express n p)) ≡ left other
+    by lane.Durable = unsent lane.Durable
+    by lane.Express = g.1
 
--- the list of the peer once its first unsent message was sent with the next number
-recoverable_noted : (own : Guid) (ids : List MessageId) (k n : ℕ) (m : Message) (left : List Message) (s : State) → n ≡ length ids + 1 → IsNoting own ids k (m ∷ left) s
-    → IsNoting own (ids ++ m.id ∷ []) k left (with_plain (with_marked lane.Durable n) s k)
-recoverable_noted own ids k n m left s e h = record {
+-- the marks of a list are below the next number
+marks_below : (own : Guid) (ps : List UserPacket) (kind : Lane) (n : ℕ) (p : PlainLists) → n ≡ length (ids_in kind ps) + 1 → PlainWaits own (AreMarks ps) p
+    → AllByRecursion (λ o. IfSome o.mark (λ k. k < n)) (outgoing_in kind p)
+marks_below own ps kind n p e h = by kind refl
+  where
+    one : (ids : List MessageId) (k : ℕ) (id : MessageId) → n ≡ length ids + 1 → IsNumberOf ids k id → k < n
+    one ids k id f g = at (k == 0) g
+      where
+        at : (b : Bool) → cond b None (slice_get ids (k - 1)) ≡ Some id → k < n
+        at true i = absurd (none_some i)
+        at false i = let less = get_within ids (k - 1) id i in omega (arith, f, less)
+
+    mark : (ids : List MessageId) (id : MessageId) (x : Option ℕ) → n ≡ length ids + 1 → IfSome x (λ k. IsNumberOf ids k id) → IfSome x (λ k. k < n)
+    mark ids id None f g = tt
+    mark ids id (Some k) f g = one ids k id f g
+
+    by : (other : Lane) → kind ≡ other → AllByRecursion (λ o. IfSome o.mark (λ k. k < n)) (outgoing_in other p)
+    by lane.Durable i = all_weaker (IsBorne own (AreMarks ps lane.Durable)) (λ o. IfSome o.mark (λ k. k < n))
+        (λ o b. mark (ids_in lane.Durable ps) o.message.id o.mark (subst (λ x. n ≡ length (ids_in x ps) + 1) i e) b.mark) p.recoverable h.recoverable
+    by lane.Express i = all_weaker (IsExpress (AreMarks ps lane.Express)) (λ o. IfSome o.mark (λ k. k < n))
+        (λ o b. mark (ids_in lane.Express ps) o.message.id o.mark (subst (λ x. n ≡ length (ids_in x ps) + 1) i e) b.1) p.express h.express
+
+some_left : (kind : Lane) (m : Message) (left : Lane → List Message) → left_with kind m left kind ≡ m ∷ left kind
+some_left lane.Durable m left = refl
+some_left lane.Express m left = refl
+
+lane_noted : (own : Guid) (ps : List UserPacket) (q : UserPacket) (m : Message) (kind : Lane) (k n : ℕ) (left : Lane → List Message) (s : State) → n ≡ length (ids_in kind ps) + 1 → AreMarks (ps ++ q ∷ []) kind n m.id
+    → IsNoting own ps k (left_with kind m left) s → IsNoting own (ps ++ q ∷ []) k left (with_plain (with_marked kind n) s k)
+lane_noted own ps q m kind k n left s is new h = record {
   waits = record {
     identity = h.waits.identity;
-    plain = changed_at (PlainWaits own (IsNumberOf ids)) (PlainWaits own (IsNumberOf (ids ++ m.id ∷ []))) (with_marked lane.Durable n) s.plain k
-        (longer_waits own ids (m.id ∷ []))
-        (λ p there g. record {
-          recoverable = (marked p (unsent_of p there) (longer_waits own ids (m.id ∷ []) p g)).0;
-          express = g.express;
-        }) h.waits.plain;
+    plain = changed_at (PlainWaits own (AreMarks ps)) (PlainWaits own (AreMarks (ps ++ q ∷ []))) (with_marked kind n) s.plain k (longer_waits own ps (q ∷ []))
+        (λ p there g. (marked p (unsent_of p there) g).0) h.waits.plain;
   };
-  unsent = ap (λ (o : Option PlainLists). option_map_or (λ (p : PlainLists). filter_map unsent_in p.recoverable) o []) (changed_there (with_marked lane.Durable n) s.plain k)
-      ∙ at (slice_get s.plain k) refl h.unsent (get s.plain k h.waits.plain);
+  unsent = λ other. ap (λ (o : Option PlainLists). option_map_or (λ (p : PlainLists). filter_map unsent_in (outgoing_in other p)) o []) (changed_there (with_marked kind n) s.plain k)
+      ∙ at (slice_get s.plain k) refl (h.unsent kind) (get s.plain k h.waits.plain) other;
 }
   where
-    unsent_of : (p : PlainLists) → slice_get s.plain k ≡ Some p → filter_map unsent_in p.recoverable ≡ m ∷ left
-    unsent_of p there = ap (λ (o : Option PlainLists). option_map_or (λ (q : PlainLists). filter_map unsent_in q.recoverable) o []) (sym there) ∙ h.unsent
+    unsent_of : (p : PlainLists) → slice_get s.plain k ≡ Some p → (other : Lane) → filter_map unsent_in (outgoing_in other p) ≡ left_with kind m left other
+    unsent_of p there other = ap (λ (o : Option PlainLists). option_map_or (λ (x : PlainLists). filter_map unsent_in (outgoing_in other x)) o []) (sym there) ∙ h.unsent other
 
-    marked : (p : PlainLists) → filter_map unsent_in p.recoverable ≡ m ∷ left → PlainWaits own (IsNumberOf (ids ++ m.id ∷ [])) p
-        → AllByRecursion (IsBorne own (IsNumberOf (ids ++ m.id ∷ []))) (marked_next n p.recoverable) × (filter_map unsent_in (marked_next n p.recoverable) ≡ left)
-    marked p f g = marked_so own (IsNumberOf (ids ++ m.id ∷ [])) n m p.recoverable left f (numbered_last ids m.id n e) g.recoverable
+    marked : (p : PlainLists) → ((other : Lane) → filter_map unsent_in (outgoing_in other p) ≡ left_with kind m left other) → PlainWaits own (AreMarks ps) p
+        → PlainWaits own (AreMarks (ps ++ q ∷ [])) (with_marked kind n p) × ((other : Lane) → filter_map unsent_in (outgoing_in other (with_marked kind n p)) ≡ left other)
+    marked p unsent g = marked_lane own (ps ++ q ∷ []) kind n m left p unsent new (omega (arith, is)) (marks_below own ps kind n p is g) (longer_waits own ps (q ∷ []) p g)
 
-    get : (ps : List PlainLists) (j : ℕ) → AllByRecursion (PlainWaits own (IsNumberOf ids)) ps → IfSome (slice_get ps j) (PlainWaits own (IsNumberOf ids))
+    get : (xs : List PlainLists) (j : ℕ) → AllByRecursion (PlainWaits own (AreMarks ps)) xs → IfSome (slice_get xs j) (PlainWaits own (AreMarks ps))
     get [] j g = tt
-    get (p ∷ ps) zero g = g.0
-    get (p ∷ ps) (suc j) g = get ps j g.1
+    get (p ∷ xs) zero g = g.0
+    get (p ∷ xs) (suc j) g = get xs j g.1
 
-    at : (o : Option PlainLists) → slice_get s.plain k ≡ o → option_map_or (λ (p : PlainLists). filter_map unsent_in p.recoverable) o [] ≡ m ∷ left
-        → IfSome o (PlainWaits own (IsNumberOf ids))
-        → option_map_or (λ (p : PlainLists). filter_map unsent_in p.recoverable) (option_map (with_marked lane.Durable n) o) [] ≡ left
-    at None there f g = absurd (let none : ⊥ = cc in none)
-    at (Some p) there f g = (marked p f (longer_waits own ids (m.id ∷ []) p g)).1
+    none_left : [] ≡ left_with kind m left kind → ⊥
+    none_left e = let f = e ∙ some_left kind m left in let none : ⊥ = cc in none
 
-express_noted : (own : Guid) (ids : List MessageId) (k n : ℕ) (left : List Message) (s : State) → IsNoting own ids k left s
-    → IsNoting own ids k left (with_plain (with_marked lane.Express n) s k)
-express_noted own ids k n left s h = record {
-  waits = plain_waits own (IsNumberOf ids) s k (with_marked lane.Express n) (λ p g. record { recoverable = g.recoverable; express = express_marked n p.express g.express }) h.waits;
-  unsent = ap (λ (o : Option PlainLists). option_map_or (λ (p : PlainLists). filter_map unsent_in p.recoverable) o []) (changed_there (with_marked lane.Express n) s.plain k)
-      ∙ at (slice_get s.plain k) ∙ h.unsent;
-}
-  where
-    at : (o : Option PlainLists) → option_map_or (λ (p : PlainLists). filter_map unsent_in p.recoverable) (option_map (with_marked lane.Express n) o) []
-        ≡ option_map_or (λ (p : PlainLists). filter_map unsent_in p.recoverable) o []
-    at None = refl
-    at (Some p) = refl
+    at : (o : Option PlainLists) → slice_get s.plain k ≡ o → option_map_or (λ (p : PlainLists). filter_map unsent_in (outgoing_in kind p)) o [] ≡ left_with kind m left kind
+        → IfSome o (PlainWaits own (AreMarks ps)) → (other : Lane)
+        → option_map_or (λ (p : PlainLists). filter_map unsent_in (outgoing_in other p)) (option_map (with_marked kind n) o) [] ≡ left other
+    at None there f g other = absurd (none_left f)
+    at (Some p) there f g other = (marked p (unsent_of p there) g).1 other
 
 -- one packet more is noted
-abbrev ids_for : Origin → Message → List MessageId
-ids_for o m = cond (from_recoverable o) (m.id ∷ []) []
+abbrev left_of : Origin → Message → (Lane → List Message) → Lane → List Message
+left_of OfRecoverable m left = left_with lane.Durable m left
+left_of OfExpress m left = left_with lane.Express m left
+left_of _ m left = left
 
-abbrev left_of : Origin → Message → List Message → List Message
-left_of o m left = cond (from_recoverable o) (m ∷ left) left
+still_noting : (own : Guid) (ps : List UserPacket) (q : UserPacket) (k : ℕ) (left : Lane → List Message) (s : State) → IsNoting own ps k left s → IsNoting own (ps ++ q ∷ []) k left s
+still_noting own ps q k left s h = record { waits = weaker_waits own (AreMarks ps) (AreMarks (ps ++ q ∷ [])) (marks_more ps (q ∷ [])) s h.waits; unsent = h.unsent }
 
-one_noted : (own : Guid) (ids : List MessageId) (k : ℕ) (session : one_end.State) (o : Origin) (m : Message) (left : List Message) (s : State)
-    → session.recoverable_sent ≡ length ids → IsNoting own ids k (left_of o m left) s
-    → IsNoting own (ids ++ ids_for o m) k left (noted k s (o, (stamped (kind_of o) session).0))
-one_noted own ids k session (Owed row) m left s e h = subst (λ xs. IsNoting own xs k left (noted k s (Owed row, (stamped kind.Plain session).0))) (sym (append_nothing ids))
-    (record { waits = record { identity = h.waits.identity; plain = h.waits.plain }; unsent = h.unsent })
-one_noted own ids k session OfRecoverable m left s e h = recoverable_noted own ids k (session.recoverable_sent + 1) m left s (ap (λ n. n + 1) e) h
-one_noted own ids k session OfExpress m left s e h = subst (λ xs. IsNoting own xs k left (noted k s (OfExpress, (stamped kind.Plain session).0))) (sym (append_nothing ids))
-    (express_noted own ids k (session.sent + 1) left s h)
-one_noted own ids k session (OfRow row number) m left s e h = subst (λ xs. IsNoting own xs k left s) (sym (append_nothing ids)) h
-
--- the numbers of recoverable ones
-counted_on : (session : one_end.State) (o : Origin) (m : Message) (ids : List MessageId) → session.recoverable_sent ≡ length ids
-    → (stamped (kind_of o) session).1.recoverable_sent ≡ length (ids ++ ids_for o m)
-counted_on session (Owed row) m ids e = e ∙ ap (λ (xs : List MessageId). length xs) (sym (append_nothing ids))
-counted_on session OfRecoverable m ids e = let f = append_length ids (m.id ∷ []) in omega (arith, e, f)
-counted_on session OfExpress m ids e = e ∙ ap (λ (xs : List MessageId). length xs) (sym (append_nothing ids))
-counted_on session (OfRow row number) m ids e = e ∙ ap (λ (xs : List MessageId). length xs) (sym (append_nothing ids))
-
-left_cons : (o : Origin) (m : Message) (ms : List Message) → cons_option (cond (from_recoverable o) (Some m) None) ms ≡ left_of o m ms
-left_cons (Owed row) m ms = refl
-left_cons OfRecoverable m ms = refl
-left_cons OfExpress m ms = refl
-left_cons (OfRow row number) m ms = refl
-
-left_append : (o : Origin) (m : Message) (ms left : List Message) → left_of o m ms ++ left ≡ left_of o m (ms ++ left)
-left_append (Owed row) m ms left = refl
-left_append OfRecoverable m ms left = refl
-left_append OfExpress m ms left = refl
-left_append (OfRow row number) m ms left = refl
-
-ids_append : (b : Bool) (ids more : List MessageId) (id : MessageId) → (ids ++ cond b (id ∷ []) []) ++ more ≡ ids ++ cond b (id ∷ more) more
-ids_append true ids more id = append_assoc ids (id ∷ []) more
-ids_append false ids more id = ap (λ xs. xs ++ more) (append_nothing ids)
-
-pub all_noted : (own to : Guid) (now k : ℕ) (ids : List MessageId) (session : one_end.State) (cs : List Candidate) (left : List Message) (s : State) → AllByRecursion IsRight cs
-    → session.recoverable_sent ≡ length ids → IsNoting own ids k (filter_map recoverable_in cs ++ left) s
-    → Waits own (IsNumberOf (ids ++ storable_ids (users_of (map (packet_for to now) (with_heads session cs))))) (fold (noted k) s (map origin_of (with_heads session cs)))
-all_noted own to now k ids session [] left s right e h = subst (λ xs. Waits own (IsNumberOf xs) s) (sym (append_nothing ids)) h.waits
-all_noted own to now k ids session (c ∷ cs) left s right e h =
-    subst (λ xs. Waits own (IsNumberOf xs) (fold (noted k) (noted k s (c.origin, head_for session c)) (map origin_of (with_heads (session_after session c) cs))))
-    (ids_append (from_recoverable c.origin) ids (storable_ids users) c.message.id
-    ∙ ap (λ xs. ids ++ xs) (sym (ids_cons (from_recoverable c.origin) (user_for to now (c, head_for session c)) users right.0)))
-    (all_noted own to now k (ids ++ ids_for c.origin c.message) (session_after session c) cs left (noted k s (c.origin, head_for session c)) right.1
-    (counted_on session c.origin c.message ids e)
-    (one_noted own ids k session c.origin c.message (filter_map recoverable_in cs ++ left) s e
-    (subst (λ ms. IsNoting own ids k ms s) (ap (λ ms. ms ++ left) (left_cons c.origin c.message (filter_map recoverable_in cs)) ∙ left_append c.origin c.message (filter_map recoverable_in cs) left) h)))
+one_noted : (own : Guid) (ps : List UserPacket) (q : UserPacket) (m : Message) (k : ℕ) (session : one_end.State) (o : Origin) (left : Lane → List Message) (s : State)
+    → q.message.id ≡ m.id → CountsOf ps session → is_storable q.tx q.message ≡ from_recoverable o → IsNoting own ps k (left_of o m left) s
+    → IsNoting own (ps ++ q ∷ []) k left (noted k s (o, (stamped (kind_of o) session).0))
+one_noted own ps q m k session (Owed row) left s same e right h = let g = still_noting own ps q k left s h in
+    record { waits = record { identity = g.waits.identity; plain = g.waits.plain }; unsent = g.unsent }
+one_noted own ps q m k session OfRecoverable left s same e right h = lane_noted own ps q m lane.Durable k (session.recoverable_sent + 1) left s (ap (λ n. n + 1) e.1)
+    (subst (λ id. AreMarks (ps ++ q ∷ []) lane.Durable (session.recoverable_sent + 1) id) same (subst (λ ids. IsNumberOf ids (session.recoverable_sent + 1) q.message.id) (sym (ids_more lane.Durable ps (q ∷ []) ∙ ap (λ ids. storable_ids ps ++ ids) (ids_cons true q [] right)))
+    (numbered_last (storable_ids ps) q.message.id (session.recoverable_sent + 1) (ap (λ n. n + 1) e.1)))) h
+one_noted own ps q m k session OfExpress left s same e right h = lane_noted own ps q m lane.Express k (session.sent + 1) left s (ap (λ n. n + 1) (e.0 ∙ mapped ps))
+    (subst (λ id. AreMarks (ps ++ q ∷ []) lane.Express (session.sent + 1) id) same (subst (λ ids. IsNumberOf ids (session.sent + 1) q.message.id) (sym (ids_more lane.Express ps (q ∷ [])))
+    (numbered_last (map (λ (p : UserPacket). p.message.id) ps) q.message.id (session.sent + 1) (ap (λ n. n + 1) (e.0 ∙ mapped ps))))) h
   where
-    users : List UserPacket
-    users = users_of (map (packet_for to now) (with_heads (session_after session c) cs))
+    mapped : (xs : List UserPacket) → length xs ≡ length (map (λ (p : UserPacket). p.message.id) xs)
+    mapped [] = refl
+    mapped (x ∷ xs) = ap (λ n. suc n) (mapped xs)
+one_noted own ps q m k session (OfRow row number) left s same e right h = still_noting own ps q k left s h
 
--- Candidates.
-
--- those that are right, and the recoverable messages among them
-pub record AreThese (ms : List Message) (cs : List Candidate) : Type 0 where
-  pub right : AllByRecursion IsRight cs
-  pub recoverable : filter_map recoverable_in cs ≡ ms
-
-these_append : (ms ns : List Message) (cs ds : List Candidate) → AreThese ms cs → AreThese ns ds → AreThese (ms ++ ns) (cs ++ ds)
-these_append ms ns cs ds h g = record {
-  right = all_append IsRight cs ds h.right g.right;
-  recoverable = filter_append recoverable_in cs ds ∙ ap (λ xs. xs ++ filter_map recoverable_in ds) h.recoverable ∙ ap (λ xs. ms ++ xs) g.recoverable;
-}
-
-acks_these : (s : State) (peer : Identity) (now number : ℕ) (rows : List (ℕ × InRow)) → AreThese [] (acks s peer now number rows)
-acks_these s peer now number [] = record { right = tt; recoverable = refl }
-acks_these s peer now number (row ∷ rows) = let rest = acks_these s peer now (express_after number) rows in
-    record { right = (refl, rest.right); recoverable = rest.recoverable }
-
-recoverable_these : (own : Guid) (Bears : ℕ → MessageId → Type 0) (os : List Outgoing) → AllByRecursion (IsBorne own Bears) os
-    → AreThese (filter_map unsent_in os) (filter_map (unsent_from OfRecoverable) os)
-recoverable_these own Bears [] h = record { right = tt; recoverable = refl }
-recoverable_these own Bears (o ∷ os) h = at (is_none o.mark) (recoverable_these own Bears os h.1)
+-- the counts of a session behind it
+counts_on : (session : one_end.State) (o : Origin) (q : UserPacket) (ps : List UserPacket) → is_storable q.tx q.message ≡ from_recoverable o → CountsOf ps session → CountsOf (ps ++ q ∷ []) (stamped (kind_of o) session).1
+counts_on session o q ps right e = (sent o, recoverable o right)
   where
-    at : (b : Bool) → AreThese (filter_map unsent_in os) (filter_map (unsent_from OfRecoverable) os)
-        → AreThese (cons_option (cond b (Some o.message) None) (filter_map unsent_in os))
-        (cons_option (cond b (Some (record { origin = OfRecoverable; message = o.message; tx = None })) None) (filter_map (unsent_from OfRecoverable) os))
-    at true rest = record { right = (ap not h.0.durable, rest.right); recoverable = ap (λ ms. o.message ∷ ms) rest.recoverable }
-    at false rest = rest
+    sent : (x : Origin) → (stamped (kind_of x) session).1.sent ≡ length (ps ++ q ∷ [])
+    sent (Owed row) = let f = append_length ps (q ∷ []) in let g = e.0 in omega (arith, f, g)
+    sent OfRecoverable = let f = append_length ps (q ∷ []) in let g = e.0 in omega (arith, f, g)
+    sent OfExpress = let f = append_length ps (q ∷ []) in let g = e.0 in omega (arith, f, g)
+    sent (OfRow row number) = let f = append_length ps (q ∷ []) in let g = e.0 in omega (arith, f, g)
 
-express_these : (os : List Outgoing) → AllByRecursion IsExpress os → AreThese [] (filter_map (unsent_from OfExpress) os)
-express_these [] h = record { right = tt; recoverable = refl }
-express_these (o ∷ os) h = at (is_none o.mark) (express_these os h.1)
+    all : (b : Bool) → is_storable q.tx q.message ≡ b → length (storable_ids (ps ++ q ∷ [])) ≡ length (storable_ids ps) + length (cond b (q.message.id ∷ []) [])
+    all b f = ap (λ (ids : List MessageId). length ids) (filter_append storable_id ps (q ∷ [])) ∙ append_length (storable_ids ps) (storable_ids (q ∷ []))
+        ∙ ap (λ (ids : List MessageId). length (storable_ids ps) + length ids) (ids_cons b q [] f)
+
+    none : is_storable q.tx q.message ≡ false → session.recoverable_sent ≡ length (storable_ids (ps ++ q ∷ []))
+    none f = let n = all false f in let g = e.1 in omega (arith, n, g)
+
+    recoverable : (x : Origin) → is_storable q.tx q.message ≡ from_recoverable x → (stamped (kind_of x) session).1.recoverable_sent ≡ length (storable_ids (ps ++ q ∷ []))
+    recoverable (Owed row) f = none f
+    recoverable OfRecoverable f = let n = all true f in let g = e.1 in omega (arith, n, g)
+    recoverable OfExpress f = none f
+    recoverable (OfRow row number) f = none f
+
+left_cons : (o : Origin) (m : Message) (ms left : Lane → List Message) (kind : Lane) → cons_option (cond (is_from kind o) (Some m) None) (ms kind) ++ left kind ≡ left_of o m (λ other. ms other ++ left other) kind
+left_cons (Owed row) m ms left lane.Durable = refl
+left_cons (Owed row) m ms left lane.Express = refl
+left_cons OfRecoverable m ms left lane.Durable = refl
+left_cons OfRecoverable m ms left lane.Express = refl
+left_cons OfExpress m ms left lane.Durable = refl
+left_cons OfExpress m ms left lane.Express = refl
+left_cons (OfRow row number) m ms left lane.Durable = refl
+left_cons (OfRow row number) m ms left lane.Express = refl
+
+pub all_noted : (own to : Guid) (now k : ℕ) (ps : List UserPacket) (session : one_end.State) (cs : List Candidate) (left : Lane → List Message) (s : State) → AllByRecursion IsRight cs
+    → CountsOf ps session → IsNoting own ps k (λ kind. filter_map (from_lane kind) cs ++ left kind) s
+    → Waits own (AreMarks (ps ++ users_of (map (packet_for to now) (with_heads session cs)))) (fold (noted k) s (map origin_of (with_heads session cs)))
+all_noted own to now k ps session [] left s right e h = subst (λ xs. Waits own (AreMarks xs) s) (sym (append_nothing ps)) h.waits
+all_noted own to now k ps session (c ∷ cs) left s right e h =
+    subst (λ xs. Waits own (AreMarks xs) (fold (noted k) (noted k s (c.origin, head_for session c)) (map origin_of (with_heads (session_after session c) cs))))
+    (append_assoc ps (q ∷ []) (users_of (map (packet_for to now) (with_heads (session_after session c) cs))))
+    (all_noted own to now k (ps ++ q ∷ []) (session_after session c) cs left (noted k s (c.origin, head_for session c)) right.1 (counts_on session c.origin q ps right.0 e)
+    (one_noted own ps q c.message k session c.origin (λ kind. filter_map (from_lane kind) cs ++ left kind) s refl e right.0
+    (noting_same own ps k (λ kind. filter_map (from_lane kind) (c ∷ cs) ++ left kind) (left_of c.origin c.message (λ kind. filter_map (from_lane kind) cs ++ left kind)) s
+    (left_cons c.origin c.message (λ kind. filter_map (from_lane kind) cs) left) h)))
   where
-    at : (b : Bool) → AreThese [] (filter_map (unsent_from OfExpress) os)
-        → AreThese [] (cons_option (cond b (Some (record { origin = OfExpress; message = o.message; tx = None })) None) (filter_map (unsent_from OfExpress) os))
-    at true rest = record { right = (ap not h.0, rest.right); recoverable = rest.recoverable }
-    at false rest = rest
-
-kept_these : (index : ℕ) (row : Row) (ks : List Kept) → AreThese [] (map (of_row index row) ks)
-kept_these index row [] = record { right = tt; recoverable = refl }
-kept_these index row (k ∷ ks) = let rest = kept_these index row ks in record { right = (refl, rest.right); recoverable = rest.recoverable }
-
-waiting_these : (s : State) (peer index : ℕ) (row : Row) (cursor : ℕ) → AreThese [] (waiting s peer (index, (row, cursor)))
-waiting_these s peer index row cursor = at ((row.peer == peer) && is_open s.outs index)
-  where
-    at : (b : Bool) → AreThese [] (cond b (map (of_row index row) (unsent_of row cursor)) [])
-    at true = kept_these index row (unsent_of row cursor)
-    at false = record { right = tt; recoverable = refl }
-
-rows_these : (s : State) (peer n : ℕ) (rows : List Row) (cursors : List ℕ) → AreThese [] (flat_map (waiting s peer) (enumerate_from n (zip rows cursors)))
-rows_these s peer n [] cursors = record { right = tt; recoverable = refl }
-rows_these s peer n (row ∷ rows) [] = record { right = tt; recoverable = refl }
-rows_these s peer n (row ∷ rows) (cursor ∷ cursors) = these_append [] [] (waiting s peer (n, (row, cursor))) (flat_map (waiting s peer) (enumerate_from (n + 1) (zip rows cursors)))
-    (waiting_these s peer n row cursor) (rows_these s peer (n + 1) rows cursors)
-
-pub candidates_these : (own : Guid) (Bears : ℕ → MessageId → Type 0) (s : State) (rest : Rest) (now k : ℕ) (peer : Identity) (p : PlainLists) → PlainWaits own Bears p
-    → AreThese (filter_map unsent_in p.recoverable) (candidates s rest now k peer p)
-candidates_these own Bears s rest now k peer p h =
-    subst (λ ms. AreThese ms (candidates s rest now k peer p)) (append_nothing (filter_map unsent_in p.recoverable ++ []) ∙ append_nothing (filter_map unsent_in p.recoverable))
-    (these_append (filter_map unsent_in p.recoverable ++ []) [] (acks s peer now s.next_express (rows_owing s rest peer.guid) ++ plain_candidates p) (row_candidates s rest k)
-    (these_append [] (filter_map unsent_in p.recoverable ++ []) (acks s peer now s.next_express (rows_owing s rest peer.guid)) (plain_candidates p)
-    (acks_these s peer now s.next_express (rows_owing s rest peer.guid))
-    (these_append (filter_map unsent_in p.recoverable) [] (filter_map (unsent_from OfRecoverable) p.recoverable) (filter_map (unsent_from OfExpress) p.express)
-    (recoverable_these own Bears p.recoverable h.recoverable) (express_these p.express h.express)))
-    (rows_these s k 0 s.outs rest.cursors))
-
--- the chosen ones come first
-pub chosen_first : (session : one_end.State) (count bytes : ℕ) (cs : List Candidate) → (others : List Candidate) × (cs ≡ chosen session count bytes cs ++ others)
-chosen_first session count bytes [] = ([], refl)
-chosen_first session count bytes (c ∷ cs) = at (may_follow session count bytes c) (chosen_first (session_after session c) (count + 1) (bytes + candidate_size c) cs)
-  where
-    behind : List Candidate
-    behind = chosen (session_after session c) (count + 1) (bytes + candidate_size c) cs
-
-    at : (b : Bool) → (others : List Candidate) × (cs ≡ behind ++ others) → (others : List Candidate) × ((c ∷ cs) ≡ cond b (c ∷ behind) [] ++ others)
-    at true rest = (rest.0, ap (λ xs. c ∷ xs) rest.1)
-    at false rest = (c ∷ cs, refl)
-
-pub all_left : (xs ys : List Candidate) → AllByRecursion IsRight (xs ++ ys) → AllByRecursion IsRight xs
-all_left [] ys h = tt
-all_left (x ∷ xs) ys h = (h.0, all_left xs ys h.1)
+    q : UserPacket
+    q = user_for to now (c, head_for session c)

@@ -42,6 +42,7 @@ pub record IsSameButTold (v w : StreamWorld) : Type 0 where
   pub decided : w.decided ≡ v.decided
   pub fates : w.fates ≡ v.fates
   pub transfers : w.transfers ≡ v.transfers
+  pub final_acks : w.final_acks ≡ v.final_acks
   pub connection : w.connection ≡ v.connection
   pub connected : w.connected ≡ v.connected
   pub more : (a : OrderAck) → In a v.order_acks → In a w.order_acks
@@ -122,7 +123,7 @@ told_on c v zs r connected = at (newest v.decided) refl
     nothing none = record {
       world = v;
       reached = r;
-      same = record { channel = refl; committed = refl; expired = refl; offered = refl; acknowledged = refl; decided = refl; fates = refl; transfers = refl; connection = refl; connected = refl; more = λ a i. i };
+      same = record { channel = refl; committed = refl; expired = refl; offered = refl; acknowledged = refl; decided = refl; fates = refl; transfers = refl; final_acks = refl; connection = refl; connected = refl; more = λ a i. i };
       told = λ p tells f. absurd (none p tells f);
       only = λ a i. inl i;
     }
@@ -132,7 +133,7 @@ told_on c v zs r connected = at (newest v.decided) refl
     by q e (inl tells) = record {
       world = happens v (Acknowledge q);
       reached = more c v (Acknowledge q) r (connected, e);
-      same = record { channel = refl; committed = refl; expired = refl; offered = refl; acknowledged = refl; decided = refl; fates = refl; transfers = refl; connection = refl; connected = refl; more = λ a i. inr i };
+      same = record { channel = refl; committed = refl; expired = refl; offered = refl; acknowledged = refl; decided = refl; fates = refl; transfers = refl; final_acks = refl; connection = refl; connected = refl; more = λ a i. inr i };
       told = λ p t f. (record { position = q; connection = v.connection }, inl refl, some_is q p (sym e ∙ f), refl);
       only = λ a i. first a i;
     }

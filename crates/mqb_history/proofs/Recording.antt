@@ -57,10 +57,10 @@ abbrev pub Awaits : QueueName → List OrderAck → ℕ → List Row → Record 
 Awaits d acks connection outs (entry.Arrived now numbers (entry.OrderAcknowledged ordinal number)) = MayAck d acks connection outs ordinal number
 Awaits d acks connection outs _ = Unit {0}
 
--- and where it tells of a final one, the fate that this tells is known
-abbrev pub Finishes : QueueName → StreamWorld → List Row → Record → Type 0
-Finishes d v outs (entry.Arrived now numbers (entry.Final p)) = MayFinish d v outs p.message
-Finishes d v outs _ = Unit {0}
+-- and where it tells of a final one, that is too
+abbrev pub Finishes : QueueName → StreamWorld → State → Record → Type 0
+Finishes d v s (entry.Arrived now numbers (entry.Final p)) = MayFinish d v s.peers s.outs p.message
+Finishes d v s _ = Unit {0}
 
 module _ (d : QueueName) (peer : ℕ) (c : Channel) (v : StreamWorld) (connected : v.connected ≡ true) (s : State) (ws : List Written) (held : AreMarked s ws) (leads : resolved s d ≡ AtPeer peer)
     (h : IsSourced d peer c v s.outs (commitments ws) (lines_written ws)) where
@@ -108,16 +108,17 @@ module _ (d : QueueName) (peer : ℕ) (c : Channel) (v : StreamWorld) (connected
   acknowledged_part now numbers ordinal number truly may = order_sourced d peer c v cs ls connected (releases_made s numbers).state.outs ordinal number
       (subst OrdinalsRise (sym (releases_outs numbers)) rise) truly (subst (λ outs. MayAck d v.order_acks v.connection outs ordinal number) (sym (releases_outs numbers)) may) (sourced_outs d peer c v s.outs (releases_made s numbers).state.outs cs ls (releases_outs numbers) h)
 
-  final_part : (now : ℕ) (numbers : List ℕ) (p : UserPacket) → IsAckedTruly d peer v (apply s (entry.Arrived now numbers (entry.Final p))).outs → MayFinish d v s.outs p.message
+  final_part : (now : ℕ) (numbers : List ℕ) (p : UserPacket) → IsAckedTruly d peer v (apply s (entry.Arrived now numbers (entry.Final p))).outs → MayFinish d v s.peers s.outs p.message
       → IsSourced d peer c v (apply s (entry.Arrived now numbers (entry.Final p))).outs cs ls
   final_part now numbers p truly may = final_sourced d peer c v cs ls connected (releases_made s numbers).state p.message
-      (subst OrdinalsRise (sym (releases_outs numbers)) rise) truly (subst (λ outs. MayFinish d v outs p.message) (sym (releases_outs numbers)) may) (sourced_outs d peer c v s.outs (releases_made s numbers).state.outs cs ls (releases_outs numbers) h)
+      (subst OrdinalsRise (sym (releases_outs numbers)) rise) truly (subst (λ outs. MayFinish d v (releases_made s numbers).state.peers outs p.message) (sym (releases_outs numbers))
+      (subst (λ peers. MayFinish d v peers s.outs p.message) (sym (releases_rows (begun s) numbers).manager.peers) may)) (sourced_outs d peer c v s.outs (releases_made s numbers).state.outs cs ls (releases_outs numbers) h)
 
   marks_part : (marks : List Mark) → IsMade s (entry.Offered marks) → IsSourced d peer c v (apply s (entry.Offered marks)).outs cs ls
   marks_part marks made = offered_sourced d peer c v s ws held.0.0 h marks (made_offers s (entry.Offered marks) rise made).1
       (all_of (IsMarkOf s.outs) marks (λ mark i. made_marks s (entry.Offered marks) made mark i))
 
-  pub record_sourced : (r : Record) → IsMade s r → IsAckedTruly d peer v (apply s r).outs → Awaits d v.order_acks v.connection s.outs r → Finishes d v s.outs r → IsSourced d peer c v (apply s r).outs (cs ++ commitments_in s r) (ls ++ lines_of s r)
+  pub record_sourced : (r : Record) → IsMade s r → IsAckedTruly d peer v (apply s r).outs → Awaits d v.order_acks v.connection s.outs r → Finishes d v s r → IsSourced d peer c v (apply s r).outs (cs ++ commitments_in s r) (ls ++ lines_of s r)
   record_sourced (entry.Identity identity) made truly awaits ends = quiet (entry.Identity identity) tt refl refl
   record_sourced (entry.Peer other) made truly awaits ends = absurd made
   record_sourced (entry.CreateQueue number plan) made truly awaits ends = quiet (entry.CreateQueue number plan) tt refl refl

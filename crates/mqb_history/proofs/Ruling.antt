@@ -118,11 +118,12 @@ pub record IsSameAtSource (v w : StreamWorld) : Type 0 where
   pub acknowledged : w.acknowledged ≡ v.acknowledged
   pub transfers : w.transfers ≡ v.transfers
   pub order_acks : w.order_acks ≡ v.order_acks
+  pub final_acks : w.final_acks ≡ v.final_acks
   pub connection : w.connection ≡ v.connection
   pub connected : w.connected ≡ v.connected
 
 pub same_at_source : (w : StreamWorld) → IsSameAtSource w w
-same_at_source w = record { channel = refl; committed = refl; expired = refl; offered = refl; acknowledged = refl; transfers = refl; order_acks = refl; connection = refl; connected = refl }
+same_at_source w = record { channel = refl; committed = refl; expired = refl; offered = refl; acknowledged = refl; transfers = refl; order_acks = refl; final_acks = refl; connection = refl; connected = refl }
 
 -- a message that was put came to this fate
 abbrev pub IsOfPut : KnownFate → Type 0
@@ -202,7 +203,7 @@ module _ (c : Channel) (v : StreamWorld) (reached : Reached c v) (channel : v.ch
     decided_ruled e g = record {
       world = z;
       reached = more c v (Arrive g.transfer outcome) reached ((connected, g.connection), g.there, late_by s p ∙ sym g.late ∙ ap (λ (m : Message). m.reach == 0) (sym g.message));
-      same = record { channel = refl; committed = refl; expired = refl; offered = refl; acknowledged = refl; transfers = refl; order_acks = refl; connection = refl; connected = refl };
+      same = record { channel = refl; committed = refl; expired = refl; offered = refl; acknowledged = refl; transfers = refl; order_acks = refl; final_acks = refl; connection = refl; connected = refl };
       more = λ x i. in_decided_after (verdict v g.transfer) (decision g.transfer outcome) v.decided x i;
       puts = λ f put i. arrival_fates (verdict v g.transfer) (position_of g.transfer.head) outcome v.fates f put i;
       shown = record {

@@ -1,4 +1,4 @@
--- Which messages the lines of a record name: those that it sends, and what arrived.
+-- Which messages the lines of a record name: those that it sends, what arrived, and what it takes out of journals and dead-letter queues.
 use Rattle.std.proofs.Common.{refl, sym, subst}
 use Rattle.std.specs.List.{AllByRecursion}
 use Rattle.std.specs.Option.{option_map_or}
@@ -39,14 +39,15 @@ use Rattle.mqb_plain.specs.declared.outgoing.Outgoing.{Outgoing}
 use Rattle.mqb_queue.specs.First.{index_named, is_queue}
 use Rattle.mqb_queue.specs.Lists.{messages_in}
 use Rattle.mqb_queue.specs.Places.{Queue}
-use Rattle.mqb_history.proofs.Lists.{all_append}
+use Rattle.mqb_history.proofs.Lists.{all_append, clash}
 
--- What may be said of the messages that a record sends, decides, stores, and lets expire.
+-- What may be said of the messages that a record sends, decides, stores, lets expire, and takes from a place that is no queue.
 pub record Sayings : Type 1 where
   pub Sends : MessageId → Type 0
   pub Decides : MessageId → Type 0
   pub Stores : MessageId → Type 0
   pub Expires : MessageId → Type 0
+  pub Empties : MessageId → Type 0
 
 abbrev pub Says : Sayings → Line → Type 0
 Says y (line.Committed stream number id) = y.Sends id
@@ -56,6 +57,7 @@ Says y (line.Refused stream number class id) = y.Decides id
 Says y (line.Stored id) = y.Stores id
 Says y (line.Bounced class id) = y.Stores id
 Says y (line.Expired stream number id moment) = y.Expires id
+Says y (line.Emptied id) = y.Empties id
 Says y _ = Unit {0}
 
 module _ (y : Sayings) where
@@ -69,9 +71,16 @@ module _ (y : Sayings) where
   or_says e f None none some = none
   or_says e f (Some x) none some = some x
 
-  either_says : (b : Bool) (k l : Line) → Says y k → Says y l → Says y (cond b k l)
-  either_says true k l left right = left
-  either_says false k l left right = right
+  -- where a place is no queue, it may be said of what leaves it
+  abbrev MayEmpty : EntryPlace → Type 0
+  MayEmpty at = is_queue at ≡ false → (id : MessageId) → y.Empties id
+
+  leaves_says : (at : EntryPlace) (k : Line) (id : MessageId) → Says y k → MayEmpty at → Says y (cond (is_queue at) k (line.Emptied id))
+  leaves_says at k id says empty = by (is_queue at) refl
+    where
+      by : (b : Bool) → is_queue at ≡ b → Says y (cond b k (line.Emptied id))
+      by true e = says
+      by false e = empty e id
 
   repeated_say : (step : Effect → Effect) → ((e : Effect) → AllSay e → AllSay (step e)) → (n : ℕ) (e : Effect) → AllSay e → AllSay (repeated n step e)
   repeated_say step keeps zero e h = h
@@ -81,15 +90,15 @@ module _ (y : Sayings) where
   each_say step keeps zero e h = h
   each_say step keeps (suc n) e h = keeps n (for_each_below n step e) (each_say step keeps n e h)
 
-  taken_say : (at : EntryPlace) (id : MessageId) (now : ℕ) (e : Effect) → AllSay e → AllSay (taken at id now e)
-  taken_say at id now e h = or_says e (λ k. taken_at lane.Durable at k now e) (index_named e.state.places at id now) h
+  taken_say : (at : EntryPlace) (id : MessageId) (now : ℕ) (e : Effect) → MayEmpty at → AllSay e → AllSay (taken at id now e)
+  taken_say at id now e empty h = or_says e (λ k. taken_at lane.Durable at k now e) (index_named e.state.places at id now) h
       (λ k. or_says e (λ m. joined e (message_taken lane.Durable at k now e.state m)) (message_at lane.Durable e.state at k) h
-      (λ m. one_says e (message_taken lane.Durable at k now e.state m) (take_line at m) refl (either_says (is_queue at) (line.Took m.id) (line.Emptied m.id) tt tt) h))
+      (λ m. one_says e (message_taken lane.Durable at k now e.state m) (take_line at m) refl (leaves_says at (line.Took m.id) m.id tt empty) h))
 
-  purged_say : (at : EntryPlace) (now : ℕ) (e : Effect) → AllSay e → AllSay (purged lane.Durable at now e)
-  purged_say at now e h = repeated_say (oldest_purged lane.Durable at now)
+  purged_say : (at : EntryPlace) (now : ℕ) (e : Effect) → MayEmpty at → AllSay e → AllSay (purged lane.Durable at now e)
+  purged_say at now e empty h = repeated_say (oldest_purged lane.Durable at now)
       (λ d g. or_says d (λ m. joined d (message_purged lane.Durable at now d.state m)) (message_at lane.Durable d.state at 0) g
-      (λ m. one_says d (message_purged lane.Durable at now d.state m) (purge_line at m) refl (either_says (is_queue at) (line.Purged m.id) (line.Emptied m.id) tt tt) g)) (count_at lane.Durable e.state at) e h
+      (λ m. one_says d (message_purged lane.Durable at now d.state m) (purge_line at m) refl (leaves_says at (line.Purged m.id) m.id tt empty) g)) (count_at lane.Durable e.state at) e h
 
   lapsed_say : (now k : ℕ) (e : Effect) → AllSay e → AllSay (next_lapsed lane.Durable now k e)
   lapsed_say now k e h = or_says e (λ (p : PlainLists). option_map_or (λ index.
@@ -130,7 +139,7 @@ module _ (y : Sayings) where
   ops_say : (now : ℕ) (e : Effect) (ops : List RecordOp) → AllSay e → AllSay (fold (op_taken now) e ops)
   ops_say now e [] h = h
   ops_say now e (entry.Send p ∷ ops) h = ops_say now e ops h
-  ops_say now e (entry.Take queue id ∷ ops) h = ops_say now (taken (place.Queue queue) id now e) ops (taken_say (place.Queue queue) id now e h)
+  ops_say now e (entry.Take queue id ∷ ops) h = ops_say now (taken (place.Queue queue) id now e) ops (taken_say (place.Queue queue) id now e (λ none. absurd (clash none)) h)
 
   sends_say : (now : ℕ) (e : Effect) (ms : List Message) → AllByRecursion (λ m. y.Sends m.id) ms → AllSay e → AllSay (fold (send_made now) e ms)
   sends_say now e [] sends h = h
@@ -169,6 +178,8 @@ module _ (y : Sayings) where
   RecordSays (entry.Commit now ops) = AllByRecursion (λ m. y.Sends m.id) (sends_of ops)
   RecordSays (entry.Plain now p) = y.Sends p.message.id
   RecordSays (entry.Arrived now numbers part) = PartSays part
+  RecordSays (entry.Taken now at id) = MayEmpty at
+  RecordSays (entry.Purged now at) = MayEmpty at
   RecordSays (entry.Ticked now) = (id : MessageId) → y.Expires id
   RecordSays _ = Unit {0}
 
@@ -184,8 +195,8 @@ module _ (y : Sayings) where
       at false = tt
   record_says s (entry.Offered marks) h = tt
   record_says s (entry.Arrived now numbers part) h = part_says now (releases_made s numbers) part h (releases_say (begun s) numbers tt)
-  record_says s (entry.Taken now at id) h = taken_say at id now (begun s) tt
-  record_says s (entry.Purged now at) h = purged_say at now (begun s) tt
+  record_says s (entry.Taken now at id) h = taken_say at id now (begun s) h tt
+  record_says s (entry.Purged now at) h = purged_say at now (begun s) h tt
   record_says s (entry.Ticked now) h = ticked_say h now (begun s) tt
   record_says s (entry.Roll count) h = tt
 

@@ -140,8 +140,8 @@ module _ (x : MessageId) where
   committed_sends s (entry.CreateQueue number plan) l i e = absurd (silent_record s (entry.CreateQueue number plan) tt l i e)
   committed_sends s (entry.Offered marks) l i e = absurd (silent_record s (entry.Offered marks) tt l i e)
   committed_sends s (entry.Arrived now numbers part) l i e = absurd (silent_record s (entry.Arrived now numbers part) (part_silent now numbers part) l i e)
-  committed_sends s (entry.Taken now at id) l i e = absurd (silent_record s (entry.Taken now at id) tt l i e)
-  committed_sends s (entry.Purged now at) l i e = absurd (silent_record s (entry.Purged now at) tt l i e)
+  committed_sends s (entry.Taken now at id) l i e = absurd (silent_record s (entry.Taken now at id) (λ none other. tt) l i e)
+  committed_sends s (entry.Purged now at) l i e = absurd (silent_record s (entry.Purged now at) (λ none other. tt) l i e)
   committed_sends s (entry.Ticked now) l i e = absurd (silent_record s (entry.Ticked now) (λ id. tt) l i e)
   committed_sends s (entry.Roll count) l i e = absurd (silent_record s (entry.Roll count) tt l i e)
 

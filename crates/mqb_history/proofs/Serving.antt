@@ -163,7 +163,7 @@ flows_call c x call i j d works h = with_at (λ y. Flows (manager_at (with_manag
     more : Flows (manager_at n i) (manager_at n j) xs ys ws
     more = flows_more (manager_at n i) (manager_at n j) xs ys c.written (written_by x m outcome.entry) h
 
-    keeps : (e : x ≡ i) (Bears : ℕ → MessageId → Type 0) → Waits more.own Bears (manager_at n i).state → Waits more.own Bears next.state
+    keeps : (e : x ≡ i) (Bears : Lane → ℕ → MessageId → Type 0) → Waits more.own Bears (manager_at n i).state → Waits more.own Bears next.state
     keeps e Bears w = let here = subst (λ k. Waits more.own Bears (manager_at n k).state) (sym e) w in let work = works more.own here.identity in
         call_waits more.own Bears m outcome (if_some (IsWork more.own) (IsOfOwn more.own) outcome.entry (work_own more.own) work.entry) work.beside here
 

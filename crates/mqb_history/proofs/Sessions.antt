@@ -44,7 +44,7 @@ use Rattle.mqb_history.proofs.Lists.{append_nothing, clash, not_true, other_numb
 use Rattle.mqb_history.proofs.Ordering.{with_at}
 use Rattle.mqb_history.proofs.Orderly.{change_orderly}
 use Rattle.mqb_history.proofs.Passing.{pumping_keeps}
-use Rattle.mqb_history.proofs.Pumped.{IsNumberOf}
+use Rattle.mqb_history.proofs.Pumped.{AreMarks}
 use Rattle.mqb_history.proofs.Serving.{calls_keep}
 use Rattle.mqb_history.proofs.Storing.{AnyMark, FlowsIn, KeepsStorage, NoMark, ReleasesStored, Rests, ended_ends, ended_flows, ended_numbered, flows_same, found_rests, lost_rests, parted_doubt_stored, parted_rests, some_releases_more, unread_rests, with_release}
 use Rattle.mqb_history.proofs.Unreleased.{IsOfOwn, Waits, weaker_waits}
@@ -62,7 +62,7 @@ record IsFresh (m : Manager) : Type 0 where
   pub doubt : IfSome (doubt_of m.condition) (IsOfOwn own)
 
 fresh_rests : (m : Manager) → IsFresh m → Rests m
-fresh_rests m h = record { own = h.own; waits = weaker_waits h.own NoMark AnyMark (λ n id g. tt) m.state h.unsent; unsent = λ up none. h.unsent; doubt = h.doubt }
+fresh_rests m h = record { own = h.own; waits = weaker_waits h.own NoMark AnyMark (λ kind n id g. tt) m.state h.unsent; unsent = λ up none. h.unsent; doubt = h.doubt }
 
 linked_fresh : (m : Manager) (end : Role) (window : ℕ) → IsFresh m → IsFresh (succeeded m (link m end window))
 linked_fresh m end window h = at (link_refusal m end window)
@@ -100,6 +100,7 @@ none_flow mi mj ws xs ys s t h e f new old none nothing = subst (λ zs. Flows mi
   recoverable_sent = new.1;
   numbered = tt;
   counted = tt;
+  repeats = tt;
   got = [];
   left = [];
   split = refl;
@@ -111,7 +112,7 @@ none_flow mi mj ws xs ys s t h e f new old none nothing = subst (λ zs. Flows mi
   got_acked = let a = new.5 in omega (arith, a);
   told_got = tt;
   own = h.own;
-  waits = weaker_waits h.own NoMark (IsNumberOf []) (λ n id g. absurd g) mi.state h.unsent;
+  waits = weaker_waits h.own NoMark (AreMarks []) (λ kind n id g. absurd g) mi.state h.unsent;
 }))
 
 new_of : (m : Manager) (s : one_end.State) → IsFresh m → m.rest.session ≡ Some s → IsNew s

@@ -173,28 +173,36 @@ shows_fates c w ls r h = record { told = λ f i. told f f.fate refl i; known = k
     known d (Was_put departure) i came = in_append (fates_left ls w.decided) w.fates (record { position = d.position; fate = Was_put departure }) (left_in ls w.decided d departure i came.0 came.1)
     known d (Was_refused reason) i came = in_right (fates_left ls w.decided) w.fates (record { position = d.position; fate = Was_refused reason }) (refusals_known c w r d reason i came)
 
--- Each fate is told.
+-- Fates are told.
 
 abbrev pub told_now : ℕ → KnownFate → FinalAck
 told_now connection f = record { position = f.position; fate = f.fate; connection = connection }
 
--- a world in which each fate is told in the present connection
-abbrev pub all_told : StreamWorld → StreamWorld
-all_told w = record w { final_acks = map (told_now w.connection) w.fates ++ w.final_acks }
+-- a world in which these are told in the present connection
+abbrev pub with_finals : StreamWorld → List KnownFate → StreamWorld
+with_finals w fs = record w { final_acks = map (told_now w.connection) fs ++ w.final_acks }
 
-fates_reached : (c : Channel) (w : StreamWorld) → Reached c w → w.connected ≡ true → (fs : List KnownFate) → ((f : KnownFate) → In f fs → In f w.fates)
-    → Reached c (record w { final_acks = map (told_now w.connection) fs ++ w.final_acks })
-fates_reached c w r connected [] sub = r
-fates_reached c w r connected (f ∷ fs) sub = more c (record w { final_acks = map (told_now w.connection) fs ++ w.final_acks }) (Tell f)
-    (fates_reached c w r connected fs (λ g i. sub g (inr i))) (connected, sub f (inl refl))
+pub finals_reached : (c : Channel) (w : StreamWorld) → Reached c w → w.connected ≡ true → (fs : List KnownFate) → ((f : KnownFate) → In f fs → In f w.fates) → Reached c (with_finals w fs)
+finals_reached c w r connected [] sub = r
+finals_reached c w r connected (f ∷ fs) sub = more c (with_finals w fs) (Tell f) (finals_reached c w r connected fs (λ g i. sub g (inr i))) (connected, sub f (inl refl))
 
-pub told_reached : (c : Channel) (w : StreamWorld) → Reached c w → w.connected ≡ true → Reached c (all_told w)
-told_reached c w r connected = fates_reached c w r connected w.fates (λ f i. i)
-
-pub told_all : (w : StreamWorld) (f : KnownFate) → In f w.fates → In (told_now w.connection f) (all_told w).final_acks
-told_all w f i = in_append (map (told_now w.connection) w.fates) w.final_acks (told_now w.connection f) (mapped w.fates i)
+pub final_told : (w : StreamWorld) (fs : List KnownFate) (f : KnownFate) → In f fs → In (told_now w.connection f) (with_finals w fs).final_acks
+final_told w fs f i = in_append (map (told_now w.connection) fs) w.final_acks (told_now w.connection f) (mapped fs i)
   where
-    mapped : (fs : List KnownFate) → In f fs → In (told_now w.connection f) (map (told_now w.connection) fs)
+    mapped : (gs : List KnownFate) → In f gs → In (told_now w.connection f) (map (told_now w.connection) gs)
     mapped [] j = absurd j
-    mapped (g ∷ fs) (inl e) = inl (ap (told_now w.connection) e)
-    mapped (g ∷ fs) (inr j) = inr (mapped fs j)
+    mapped (g ∷ gs) (inl e) = inl (ap (told_now w.connection) e)
+    mapped (g ∷ gs) (inr j) = inr (mapped gs j)
+
+-- nothing else is told
+pub final_only : (w : StreamWorld) (fs : List KnownFate) (a : FinalAck) → In a (with_finals w fs).final_acks → ((f : KnownFate) × In f fs × (told_now w.connection f ≡ a)) ⊎ In a w.final_acks
+final_only w fs a i = at (in_either (map (told_now w.connection) fs) w.final_acks a i)
+  where
+    mapped : (gs : List KnownFate) → In a (map (told_now w.connection) gs) → (f : KnownFate) × In f gs × (told_now w.connection f ≡ a)
+    mapped [] j = absurd j
+    mapped (g ∷ gs) (inl e) = (g, inl refl, e)
+    mapped (g ∷ gs) (inr j) = let x = mapped gs j in (x.0, inr x.1, x.2)
+
+    at : In a (map (told_now w.connection) fs) ⊎ In a w.final_acks → ((f : KnownFate) × In f fs × (told_now w.connection f ≡ a)) ⊎ In a w.final_acks
+    at (inl j) = inl (mapped fs j)
+    at (inr j) = inr j

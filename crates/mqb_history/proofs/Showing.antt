@@ -7,17 +7,15 @@ use Rattle.mqb_history.proofs.Spelling.{SpellsRow}
 use Rattle.mqb_history.proofs.Receipting.{AreTelling}
 use Rattle.std.proofs.Common.{refl, ap, sym, subst, ◌∙◌, inl, inr}
 use Rattle.std.specs.List.{list_any}
-use Rattle.std.specs.Prelude.{[], ◌-◌, ◌<◌, ◌==◌, ◌||◌, ◌∷◌, ◌≡◌, Bool, IfSome, List, None, Option, Some, cond, false, option_map, slice_get, suc, true, unwrap_or, zero, ℕ}
+use Rattle.std.specs.Prelude.{[], ◌-◌, ◌<◌, ◌==◌, ◌||◌, ◌∷◌, ◌≡◌, ◌⊎◌, Bool, IfSome, List, None, Option, Some, cond, false, option_map, slice_get, suc, true, unwrap_or, zero, ℕ}
 use Rattle.mqb_base.specs.declared.ids.Identity.{Identity}
-use Rattle.mqb_base.specs.Same.{same_name}
 use Rattle.mqb_base.specs.declared.ledger.Line.{Line}
 use Rattle.mqb_base.specs.declared.queue_names.QueueName.{QueueName}
-use Rattle.mqb_exactly_once.proofs.Always.{always, is_exactly_once}
 use Rattle.mqb_exactly_once.specs.Runs.{IsRun, after}
 use Rattle.mqb_exactly_once.specs.Steps.{Connect, End, happens}
 use Rattle.mqb_exactly_once.specs.Words.{In}
 use Rattle.mqb_exactly_once.specs.Outcomes.{Departure, Put}
-use Rattle.mqb_exactly_once.specs.World.{Channel, Commitment, Decision, KnownFate, StreamWorld, start}
+use Rattle.mqb_exactly_once.specs.World.{Channel, Decision, KnownFate, StreamWorld, start}
 use Rattle.mqb_model.specs.Lists.{first_where}
 use Rattle.mqb_model.specs.managers.Manager.{Manager, doubt_of}
 use Rattle.mqb_model.specs.state.Rows.{is_row_of}
@@ -33,7 +31,7 @@ use Rattle.mqb_history.specs.Decided.{written_of}
 use Rattle.mqb_history.specs.Fates.{ShowsFates, departure_line}
 use Rattle.mqb_history.specs.Finals.{AreFatesTold, KnowsFate}
 use Rattle.mqb_history.specs.Orderly.{IsItself, IsOrderly}
-use Rattle.mqb_history.specs.Shown.{AreExactlyOnce, AreShown, AreAcksSent, AreTransfersSent, IsShown, Leads, Shows, ShowsDestination, ShowsFinals, ShowsPackets, ShowsReceipts, channel_of, commitments_to, decisions_made, fate_of, joins, to_destination}
+use Rattle.mqb_history.specs.Shown.{AreFinalsSent, CarriesFinal, Went, AreShown, AreAcksSent, AreTransfersSent, IsShown, Leads, Shows, ShowsDestination, ShowsFinals, ShowsPackets, ShowsReceipts, channel_of, decisions_made, fate_of, joins}
 use Rattle.mqb_history.proofs.Answering.{IsCredible}
 use Rattle.mqb_history.proofs.Between.{AreEnds}
 use Rattle.mqb_history.proofs.Carrying.{IsCarrying, carrying_begins, carrying_closed}
@@ -41,15 +39,16 @@ use Rattle.mqb_history.proofs.Chained.{Route, change_linked, channel_on, route_a
 use Rattle.mqb_history.proofs.Deciding.{joined_ins}
 use Rattle.mqb_history.proofs.Enlisting.{leads_same}
 use Rattle.mqb_history.proofs.Keeping.{IsClosed}
-use Rattle.mqb_history.proofs.Linked.{FinalsDepart, IsAckedAt, IsLinked}
-use Rattle.mqb_history.proofs.Lists.{clash, equal_numbers, get_within, none_some, some_is, split_and, within_get}
-use Rattle.mqb_history.proofs.Names.{same_name_is}
+use Rattle.mqb_history.proofs.Acquainting.{TellFates, committed_to, finals_in, finals_known, finals_there, finals_went}
+use Rattle.mqb_history.proofs.Linked.{IsAckedAt, IsLinked}
+use Rattle.mqb_history.proofs.Receiving.{AreFinalsReceived}
+use Rattle.mqb_history.proofs.Lists.{clash, equal_numbers, get_within, none_some, split_and, within_get}
 use Rattle.mqb_history.proofs.Numbering.{joined_outs}
 use Rattle.mqb_history.proofs.Orderly.{begins_orderly, map_get}
-use Rattle.mqb_history.proofs.Reaching.{Reached, chosen_from, in_reverse, in_reversed}
+use Rattle.mqb_history.proofs.Reaching.{Reached, in_reverse, in_reversed}
 use Rattle.mqb_history.proofs.Recording.{Awaits}
 use Rattle.mqb_history.proofs.Ruling.{MayRule}
-use Rattle.mqb_history.proofs.Settling.{ArePutsTold, all_told, settled, settled_reached, shows_fates, told_all, told_now, told_reached}
+use Rattle.mqb_history.proofs.Settling.{ArePutsTold, final_only, final_told, finals_reached, settled, settled_reached, shows_fates, told_now, with_finals}
 use Rattle.mqb_history.proofs.Sourcing.{AreRowsShown}
 use Rattle.mqb_history.proofs.Storage.{IsStoring, begins_storing, storing_closed}
 
@@ -98,6 +97,7 @@ begins_linked known i j d r = record {
   packets = λ k note p tx e. absurd (none_numbered k note e);
   transfers_sent = λ t inside. absurd inside;
   acks_sent = λ a inside. absurd inside;
+  finals_sent = λ a inside. absurd inside;
   receipts = λ k note p e. absurd (none_numbered k note e);
   doubt = subst (λ o. IfSome o (MayRule ch [] 1)) (sym (begun_doubt known j)) tt;
   fates = λ p departure inside. absurd inside;
@@ -107,6 +107,20 @@ begins_linked known i j d r = record {
     ch : Channel
     ch = channel_on known i j d r
 
+-- What final acknowledgements tell of a channel.
+tell_fates : (known : List Identity) (i j : ℕ) (d : QueueName) (r : Route known i j d) (c : Course) → IsOrderly known c → AreFatesTold c → TellFates c i j (channel_on known i j d r) d
+tell_fates known i j d r c o finals k note p e f plain final sender receiver m inside to named = (knows.decision, there, knows.position, knows.fate)
+  where
+    knows : KnowsFate c i j m p.message.class
+    knows = subst (λ n. KnowsFate c i n m p.message.class) sender (finals k note p e f plain final i m (λ n. route_apart known i j d r (n ∙ sender)) inside named)
+
+    same : channel_of c.network i m.message.destination ≡ channel_on known i j d r
+    same = ap (λ n. record { source = (manager_at c.network i).state.identity.guid; destination = n }) to
+        ∙ ap (λ g. record { source = g; destination = d }) (ap (λ (x : Identity). x.guid) (subst (λ x. IfSome x (λ y. IsItself known y (manager_at c.network i).state)) r.own_there (o.themselves i)).identity)
+
+    there : In knows.decision (decisions_made (channel_on known i j d r) (written_of j c.written))
+    there = subst (λ z. In knows.decision (decisions_made z (written_of j c.written))) same knows.there
+
 -- What holds of each course, where what is acknowledged was decided.
 module _ (known : List Identity) (apart : AreApart known) (A : Course → Type 0) (closed : IsClosed known A)
     (acked : (c : Course) → A c → (i j : ℕ) (d : QueueName) (r : Route known i j d) → IsAckedAt c i j (channel_on known i j d r) d r.peer)
@@ -115,7 +129,7 @@ module _ (known : List Identity) (apart : AreApart known) (A : Course → Type 0
     → SpellsRow (manager_at c.network a).state p.to p.message)
     (credible : (c : Course) → A c → IsCredible known c)
     (decider_is : (c : Course) → A c → (i j : ℕ) (d : QueueName) (r : Route known i j d) (row : Row) (n : ℕ) → row.peer ≡ r.peer → (there : IsDecidedThere c i row n) → there.decider ≡ j)
-    (departs : (c : Course) → A c → (i : ℕ) → FinalsDepart c i) where
+    (fates : (c : Course) → A c → AreFatesTold c) (received : (c : Course) → A c → AreFinalsReceived c) where
   pub record IsChained (c : Course) : Type 0 where
     pub carrying : IsCarrying known c
     pub storing : IsStoring known c
@@ -129,8 +143,8 @@ module _ (known : List Identity) (apart : AreApart known) (A : Course → Type 0
       carrying = carrying;
       storing = (storing_closed known apart).keeps c x may h.storing;
       acks = acks;
-      linked = λ i j d r. change_linked known apart i j d r c h.carrying.0.0 h.carrying.0.1 h.carrying h.storing.1 (spells c h.acks) (credible c h.acks) (decider_is c h.acks i j d r) x may
-          (acked _ acks i j d r) carrying.0.1 (telling _ acks) (departs _ acks i) (h.linked i j d r);
+      linked = λ i j d r. change_linked known apart i j d r c h.carrying.0.0 h.carrying.0.1 h.carrying h.storing.1 (spells c h.acks) (credible c h.acks) (decider_is c h.acks i j d r) (received c h.acks) x may
+          (acked _ acks i j d r) carrying.0.1 (telling _ acks) (tell_fates known i j d r _ carrying.0.0 (fates _ acks)) (h.linked i j d r);
     };
   }
 
@@ -221,42 +235,46 @@ module _ (known : List Identity) (c : Course) (i j : ℕ) (d : QueueName) (o : I
   abbrev with_fates : StreamWorld
   with_fates = settled h.world ledger
 
+  -- what was told, and nothing else
+  abbrev told : List KnownFate
+  told = finals_in i j h.world.committed c.network.notes c.sent
+
   abbrev world : StreamWorld
-  world = all_told with_fates
+  world = with_finals with_fates told
 
   fates : ShowsFates ledger world.decided world.fates
   fates = shows_fates ch h.world ledger h.reached puts_own
 
+  tell : TellFates c i j ch d
+  tell = tell_fates known i j d r c o finals
+
+  in_world : (x : Decision) → In x (decisions_made ch (written_of j c.written)) → In x h.world.decided
+  in_world x inside = subst (In x) (sym h.decided.decisions) (in_reverse (decisions_made ch (written_of j c.written)) x inside)
+
   reached : Reached ch world
-  reached = told_reached ch with_fates (settled_reached ch h.world ledger h.reached) h.connected
+  reached = finals_reached ch with_fates (settled_reached ch h.world ledger h.reached) h.connected told
+      (finals_known i j h.world.committed c ch d with_fates.fates tell (λ x inside. committed_to d (commitments (written_of i c.written)) x (subst (In x) h.committed inside))
+      (λ x fate inside came. fates.known x fate (in_world x inside) came))
 
   finals_shown : ShowsFinals i j world.committed c.network.notes c.sent h.number world.connection world.final_acks
-  finals_shown k note p x e f t is sender receiver inside named = (told_now world.connection fate, told_all with_fates fate (fates.known knows.decision (fate_of p.message.class) there knows.fate), knows.position, refl, λ n. refl)
+  finals_shown k note p x e f t is sender receiver inside named = (
+    told_now world.connection fate,
+    final_told with_fates told fate
+        (finals_there i j h.world.committed c.network.notes c.sent k note p x e f t is sender receiver inside named),
+    refl,
+    refl,
+    λ n. refl,
+  )
     where
-      from : (y : Commitment) × In y (commitments (written_of i c.written)) × (to_destination d y ≡ Some x)
-      from = chosen_from (to_destination d) (commitments (written_of i c.written)) x (in_reversed (commitments_to d (commitments (written_of i c.written))) x (subst (In x) h.committed inside))
-
-      is_to : (y : Commitment) → to_destination d y ≡ Some x → (y ≡ x) × (y.message.destination ≡ d)
-      is_to y g = at (same_name y.message.destination d) refl g
-        where
-          at : (b : Bool) → same_name y.message.destination d ≡ b → cond b (Some y) None ≡ Some x → (y ≡ x) × (y.message.destination ≡ d)
-          at true m n = (some_is y x n, same_name_is y.message.destination d m)
-          at false m n = absurd (none_some n)
-
-      to : (from.0 ≡ x) × (from.0.message.destination ≡ d)
-      to = is_to from.0 from.2
-
-      knows : KnowsFate c i j x p.message.class
-      knows = subst (λ n. KnowsFate c i n x p.message.class) sender (finals k note p e f t is i x (λ n. route_apart known i j d r (n ∙ sender))
-          (subst (λ y. In y (commitments (written_of i c.written))) to.0 from.1) named)
-
       fate : KnownFate
-      fate = record { position = knows.decision.position; fate = fate_of p.message.class }
+      fate = record { position = x.position; fate = fate_of p.message.class }
 
-      there : In knows.decision h.world.decided
-      there = subst (In knows.decision) (sym h.decided.decisions) (in_reverse (decisions_made ch (written_of j c.written)) knows.decision
-          (subst (λ z. In knows.decision (decisions_made z (written_of j c.written))) (sym same)
-          (subst (λ n. In knows.decision (decisions_made (channel_of c.network i n) (written_of j c.written))) (ap (λ (y : Commitment). y.message.destination) (sym to.0) ∙ to.1) knows.there)))
+  finals_sent : AreFinalsSent i j world.committed c.network.notes c.sent world.final_acks
+  finals_sent a inside = at (final_only with_fates told a inside)
+    where
+      at : ((f : KnownFate) × In f told × (told_now world.connection f ≡ a)) ⊎ In a h.world.final_acks → Went c.network.notes c.sent (CarriesFinal i j world.committed a)
+      at (inl x) = subst (λ y. Went c.network.notes c.sent (CarriesFinal i j world.committed y)) x.2 (finals_went i j h.world.committed world.connection c.network.notes c.sent x.0 x.1)
+      at (inr old) = h.finals_sent a old
 
   -- with the connection as it is
   shown_by : (w : StreamWorld) → w.channel ≡ h.world.channel → w.committed ≡ h.world.committed → w.expired ≡ h.world.expired → w.offered ≡ h.world.offered → w.acknowledged ≡ h.world.acknowledged
@@ -284,6 +302,7 @@ module _ (known : List Identity) (c : Course) (i j : ℕ) (d : QueueName) (o : I
     finals = subst (λ cs. ShowsFinals i j cs c.network.notes c.sent h.number w.connection w.final_acks) (sym committed)
         (subst (λ n. ShowsFinals i j h.world.committed c.network.notes c.sent h.number n w.final_acks) (sym connection)
         (subst (ShowsFinals i j h.world.committed c.network.notes c.sent h.number h.world.connection) (sym final_acks) finals_shown));
+    finals_sent = subst (λ cs. AreFinalsSent i j cs c.network.notes c.sent w.final_acks) (sym committed) (subst (AreFinalsSent i j h.world.committed c.network.notes c.sent) (sym final_acks) finals_sent);
     connected = connected;
   }
 
@@ -308,7 +327,3 @@ module _ (known : List Identity) (c : Course) (i j : ℕ) (d : QueueName) (o : I
 -- each channel of a course
 pub are_shown : (known : List Identity) (c : Course) → IsOrderly known c → LeaveTheirQueues c → AreFatesTold c → ((i j : ℕ) (d : QueueName) (r : Route known i j d) → IsLinked c i j (channel_on known i j d r) d r.peer) → AreShown c
 are_shown known c o leave finals h i j d leads = let r = route_of known c i j d o leads in is_shown known c i j d o r leave finals (h i j d r)
-
--- and it is exactly once
-pub are_exactly_once : (c : Course) → AreShown c → AreExactlyOnce c
-are_exactly_once c h i j d leads = let s = h i j d leads in let w = after (channel_of c.network i d) s.steps in (w, s.shown, is_exactly_once w (always (channel_of c.network i d) s.steps s.run))

@@ -76,11 +76,12 @@ pub record IsSameElsewhere (v w : StreamWorld) : Type 0 where
   pub fates : w.fates ≡ v.fates
   pub transfers : w.transfers ≡ v.transfers
   pub order_acks : w.order_acks ≡ v.order_acks
+  pub final_acks : w.final_acks ≡ v.final_acks
   pub connection : w.connection ≡ v.connection
   pub connected : w.connected ≡ v.connected
 
 pub same_elsewhere : (w : StreamWorld) → IsSameElsewhere w w
-same_elsewhere w = record { channel = refl; decided = refl; fates = refl; transfers = refl; order_acks = refl; connection = refl; connected = refl }
+same_elsewhere w = record { channel = refl; decided = refl; fates = refl; transfers = refl; order_acks = refl; final_acks = refl; connection = refl; connected = refl }
 
 -- from a world a run goes on at the source to one that shows these rows, commitments and lines
 pub record IsSourced (d : QueueName) (peer : ℕ) (c : Channel) (v : StreamWorld) (outs : List Row) (cs : List Commitment) (ls : List Line) : Type 0 where
@@ -266,7 +267,7 @@ module _ (d : QueueName) (peer : ℕ) (c : Channel) (v : StreamWorld) (outs : Li
   row_joined news row m there last leads to r h = record {
     world = happens h.world (Commit row.sequence m);
     reached = more c h.world (Commit row.sequence m) h.reached (last_may d peer outs h.world row m rise there last h.rows);
-    same = record { channel = h.same.channel; decided = h.same.decided; fates = h.same.fates; transfers = h.same.transfers; order_acks = h.same.order_acks; connection = h.same.connection; connected = h.same.connected };
+    same = record { channel = h.same.channel; decided = h.same.decided; fates = h.same.fates; transfers = h.same.transfers; order_acks = h.same.order_acks; final_acks = h.same.final_acks; connection = h.same.connection; connected = h.same.connected };
     rows = own_row d peer outs news row (with_kept m row) h.world (happens h.world (Commit row.sequence m)) there leads r refl refl refl
         (commit_steps h.world row m (kept_invariant c h.world h.reached)) h.rows;
     committed = ap (λ n. record { position = record { sequence = row.sequence; number = n }; message = m } ∷ h.world.committed)
@@ -298,7 +299,7 @@ module _ (d : QueueName) (peer : ℕ) (c : Channel) (v : StreamWorld) (outs : Li
   row_begun next new m below le zero_of offered acked empty_of leads to_peer to h = record {
     world = z;
     reached = more c w (Commit q m) h.reached (new_may w q m low);
-    same = record { channel = h.same.channel; decided = h.same.decided; fates = h.same.fates; transfers = h.same.transfers; order_acks = h.same.order_acks; connection = h.same.connection; connected = h.same.connected };
+    same = record { channel = h.same.channel; decided = h.same.decided; fates = h.same.fates; transfers = h.same.transfers; order_acks = h.same.order_acks; final_acks = h.same.final_acks; connection = h.same.connection; connected = h.same.connected };
     rows = record {
       rows = λ r i e. row r e (in_split outs (with_kept m new ∷ []) r i);
       peers = λ r i e. peers r e (in_split outs (with_kept m new ∷ []) r i);

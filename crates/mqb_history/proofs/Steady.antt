@@ -21,7 +21,7 @@ use Rattle.mqb_network.specs.Changes.{ended, parted}
 use Rattle.mqb_network.specs.Choices.{Failure}
 use Rattle.mqb_network.specs.Connecting.{asking, linked_as}
 use Rattle.mqb_network.specs.Courses.{Course, Written, posted, written_by}
-use Rattle.mqb_network.specs.Network.{Network, Note, manager_at, nobody, others, with_manager}
+use Rattle.mqb_network.specs.Network.{Network, Note, manager_at, nobody, with_manager}
 use Rattle.mqb_packet.specs.declared.packet.Packet.{Packet}
 use Rattle.mqb_plain.specs.Plain.{PlainLists}
 use Rattle.mqb_queue.specs.Places.{Queue, numbered}
@@ -35,7 +35,7 @@ use Rattle.mqb_history.proofs.Beginning.{linked_same_state}
 use Rattle.mqb_history.proofs.Calling.{calls_are_modest, made_only}
 use Rattle.mqb_history.proofs.Ending.{parted_at, parted_rows}
 use Rattle.mqb_history.proofs.Containing.{IsFineBeside, beside_holds, durable_holds, refusal_class}
-use Rattle.mqb_history.proofs.Contents.{Holds, IsCarried, IsOfNotices}
+use Rattle.mqb_history.proofs.Contents.{IsCarried, IsOfNotices, Now, next_id}
 use Rattle.mqb_history.proofs.Lists.{append_nothing, apart_numbers, equal_numbers, get_within, set_apart, set_get, set_there}
 use Rattle.mqb_history.proofs.Ordering.{with_at}
 use Rattle.mqb_history.proofs.Owned.{in_list, tally_mapped, unmarked_waits}
@@ -47,12 +47,12 @@ use Rattle.mqb_history.proofs.Tallies.{in_queue, tally}
 use Rattle.mqb_history.proofs.Written.{absent_idle, durable_rows, noted_managers, other_more, own_more}
 
 -- it is said of each express message
-abbrev pub OfExpress : (Message → Type 0) → Type 0
-OfExpress P = (m : Message) → is_express m.delivery ≡ true → P m
+abbrev pub OfExpress : (MessageId → Message → Type 0) → Type 0
+OfExpress P = (next : MessageId) (m : Message) → is_express m.delivery ≡ true → P next m
 
 -- nothing durable moved, and no message came but express ones and notices
 abbrev pub Quiet : State → State → Type 1
-Quiet a b = HasSameRows a b × ((x : MessageId) → Still x a b) × ((P : Message → Type 0) → IsCarried P → OfExpress P → Holds P a → Holds P b)
+Quiet a b = HasSameRows a b × ((x : MessageId) → Still x a b) × ((P : MessageId → Message → Type 0) (c : IsCarried P) → OfExpress P → Now P c a → Now P c b)
 
 -- Quiet changes.
 
@@ -61,7 +61,7 @@ durable_quiet s = (
   durable_rows s,
   λ x. let same = mapped x s.places.queues in let fewer = tally_mapped (λ (p : PlainLists). in_list x p.recoverable) durable_plain s.plain (λ p. unmarked_waits x p.recoverable) in
       without_number x 0 0 s (durable s) refl refl (omega (arith, same)) (omega (arith, same, fewer)),
-  λ P c express. durable_holds P c s,
+  λ P c express. durable_holds (P (next_id s)) s,
 )
   where
     mapped : (x : MessageId) (qs : List Queue) → tally (in_queue x) (map durable_queue qs) ≡ tally (in_queue x) qs
@@ -71,9 +71,9 @@ durable_quiet s = (
 parted_quiet : (m : Manager) → Quiet m.state (parted m).state
 parted_quiet m = (parted_rows m, λ x. at x (is_down m), λ P c express. holds P c (is_down m))
   where
-    holds : (P : Message → Type 0) → IsCarried P → (b : Bool) → Holds P m.state → Holds P (cond b m (succeeded m (unlink m))).state
+    holds : (P : MessageId → Message → Type 0) (c : IsCarried P) → (b : Bool) → Now P c m.state → Now P c (cond b m (succeeded m (unlink m))).state
     holds P c true h = h
-    holds P c false h = beside_holds P c beside.Unmarks tt m.state h
+    holds P c false h = beside_holds P c beside.Unmarks m.state tt h
 
     at : (x : MessageId) (b : Bool) → Still x m.state (cond b m (succeeded m (unlink m))).state
     at x true = stays x m.state
@@ -121,16 +121,16 @@ class_beside s (Tick at) peer number now m refusal h = absurd h
 class_beside s Resend peer number now m refusal h = absurd h
 class_beside s (Pump at) peer number now m refusal h = absurd h
 
-fine_of : (P : Message → Type 0) → OfExpress P → (s : State) (call : Call) (b : Beside) → BesideOf s call b → IsFineBeside P b
-fine_of P fine s call (beside.SendsExpress at m) h = fine m (express_of s call (beside.SendsExpress at m) h)
-fine_of P fine s call (beside.HearsExpress peer number at m refusal) h = (fine m (express_of s call (beside.HearsExpress peer number at m refusal) h), class_beside s call peer number at m refusal h)
-fine_of P fine s call beside.Nothing h = tt
-fine_of P fine s call (beside.TakesExpress now at index) h = tt
-fine_of P fine s call (beside.PurgesExpress now at) h = tt
-fine_of P fine s call (beside.TicksExpress now) h = tt
-fine_of P fine s call beside.Unmarks h = tt
-fine_of P fine s call (beside.DropsExpress peer number) h = tt
-fine_of P fine s call (beside.NotesSent peer sent) h = tt
+fine_of : (P : MessageId → Message → Type 0) → OfExpress P → (next : MessageId) (s : State) (call : Call) (b : Beside) → BesideOf s call b → IsFineBeside (P next) b
+fine_of P fine next s call (beside.SendsExpress at m) h = fine next m (express_of s call (beside.SendsExpress at m) h)
+fine_of P fine next s call (beside.HearsExpress peer number at m refusal) h = (fine next m (express_of s call (beside.HearsExpress peer number at m refusal) h), class_beside s call peer number at m refusal h)
+fine_of P fine next s call beside.Nothing h = tt
+fine_of P fine next s call (beside.TakesExpress now at index) h = tt
+fine_of P fine next s call (beside.PurgesExpress now at) h = tt
+fine_of P fine next s call (beside.TicksExpress now) h = tt
+fine_of P fine next s call beside.Unmarks h = tt
+fine_of P fine next s call (beside.DropsExpress peer number) h = tt
+fine_of P fine next s call (beside.NotesSent peer sent) h = tt
 
 -- Changes.
 
@@ -180,7 +180,7 @@ module _ (Q : ℕ → State → List Written → Type 0) (q : IsSteady Q) where
       some_written c.network i (succeeded m outcome) outcome.entry c.written (made_only _ m.state outcome.entry (calls_are_modest m call).entry) (
         beside_rows outcome.beside (recorded m.state outcome.entry),
         λ x. beside_still x outcome.beside (express_of m.state call outcome.beside (calls_are_of m call).beside) (recorded m.state outcome.entry),
-        λ P k express. beside_holds P k outcome.beside (fine_of P express m.state call outcome.beside (calls_are_of m call).beside) (recorded m.state outcome.entry),
+        λ P k express. beside_holds P k outcome.beside (recorded m.state outcome.entry) (fine_of P express (next_id (recorded m.state outcome.entry)) m.state call outcome.beside (calls_are_of m call).beside),
       )
       (absent_idle c.network i call) h
   calling_steady i call (Some how) c h = λ j. let m = manager_at c.network i in let outcome = outcome_of m call in

@@ -6,6 +6,7 @@ use Rattle.mqb_base.specs.declared.ids.Identity.{Identity}
 use Rattle.mqb_model.specs.managers.Manager.{doubt_of}
 use Rattle.mqb_model.specs.records.Applying.{apply}
 use Rattle.mqb_base.specs.declared.ids.MessageId.{MessageId}
+use Rattle.mqb_base.specs.declared.message.Lane.{Lane}
 use Rattle.mqb_exactly_once.specs.Words.{In}
 use Rattle.mqb_model.specs.records.Record.{Part}
 use Rattle.mqb_model.specs.records.Record as entry
@@ -43,11 +44,11 @@ storing_closed known apart = record {
 
 -- The start.
 
-none_waits : (own : Guid) (Bears : ℕ → MessageId → Type 0) (ps : List Identity) (s : State) → Waits own Bears s → Waits own Bears (fold apply s (map (λ p. entry.Peer p) ps))
+none_waits : (own : Guid) (Bears : Lane → ℕ → MessageId → Type 0) (ps : List Identity) (s : State) → Waits own Bears s → Waits own Bears (fold apply s (map (λ p. entry.Peer p) ps))
 none_waits own Bears [] s h = h
 none_waits own Bears (p ∷ ps) s h = none_waits own Bears ps (apply s (entry.Peer p)) (applied_waits own Bears s (entry.Peer p) tt h)
 
-begun_waits : (own : Identity) (Bears : ℕ → MessageId → Type 0) (peers : List Identity) → Waits own.guid Bears (formatted own peers).state
+begun_waits : (own : Identity) (Bears : Lane → ℕ → MessageId → Type 0) (peers : List Identity) → Waits own.guid Bears (formatted own peers).state
 begun_waits own Bears peers = none_waits own.guid Bears peers (empty own) (record { identity = refl; plain = tt })
 
 pub begins_storing : (known : List Identity) → KeepsStorage (beginning known)

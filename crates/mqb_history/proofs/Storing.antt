@@ -6,6 +6,7 @@ use Rattle.std.specs.Option.{option_map_or}
 use Rattle.std.specs.Prelude.{[], ◌++◌, ◌∷◌, ◌≡◌, ◌≤◌, Bool, IfSome, List, None, Option, Some, cond, false, is_some, true, ℕ}
 use Rattle.mqb_base.specs.declared.ids.Guid.{Guid}
 use Rattle.mqb_base.specs.declared.ids.MessageId.{MessageId}
+use Rattle.mqb_base.specs.declared.message.Lane.{Lane}
 use Rattle.mqb_exactly_once.specs.Words.{In}
 use Rattle.mqb_model.specs.calls.Link.{unlink}
 use Rattle.mqb_model.specs.managers.Manager.{Condition, Down, Manager, Up, doubt_of, is_down}
@@ -34,11 +35,11 @@ use Rattle.mqb_history.proofs.Lasting.{applied_waits, beside_waits}
 use Rattle.mqb_history.proofs.Unreleased.{IsOfOwn, IsPlainBeside, Waits, stored_waits, unmarked_waits}
 
 -- nothing is known of a mark, or there is none
-abbrev pub AnyMark : ℕ → MessageId → Type 0
-AnyMark n id = Unit {0}
+abbrev pub AnyMark : Lane → ℕ → MessageId → Type 0
+AnyMark kind n id = Unit {0}
 
-abbrev pub NoMark : ℕ → MessageId → Type 0
-NoMark n id = ⊥
+abbrev pub NoMark : Lane → ℕ → MessageId → Type 0
+NoMark kind n id = ⊥
 
 -- What waits at a manager is its own, and nothing counts as sent where it is up and has no session.
 pub record Rests (m : Manager) : Type 0 where
@@ -105,7 +106,7 @@ pub record KeepsStorage (c : Course) : Type 0 where
 
 -- Managers.
 
-pub call_waits : {A : Type 0} (own : Guid) (Bears : ℕ → MessageId → Type 0) (m : Manager) (outcome : Outcome A) → IfSome outcome.entry (IsOfOwn own) → IsPlainBeside outcome.beside
+pub call_waits : {A : Type 0} (own : Guid) (Bears : Lane → ℕ → MessageId → Type 0) (m : Manager) (outcome : Outcome A) → IfSome outcome.entry (IsOfOwn own) → IsPlainBeside outcome.beside
     → Waits own Bears m.state → Waits own Bears (state_after m outcome)
 call_waits own Bears m outcome o b h = beside_waits own Bears outcome.beside (recorded m.state outcome.entry) b (at outcome.entry o)
   where
@@ -125,7 +126,7 @@ parted_rests m h = at (is_down m) refl
       doubt = h.doubt;
     }
 
-recorded_waits : (own : Guid) (Bears : ℕ → MessageId → Type 0) (s : State) (o : Option Record) → IfSome o (IsOfOwn own) → Waits own Bears s → Waits own Bears (recorded s o)
+recorded_waits : (own : Guid) (Bears : Lane → ℕ → MessageId → Type 0) (s : State) (o : Option Record) → IfSome o (IsOfOwn own) → Waits own Bears s → Waits own Bears (recorded s o)
 recorded_waits own Bears s None g h = h
 recorded_waits own Bears s (Some r) g h = applied_waits own Bears s r g h
 

@@ -25,7 +25,7 @@ use Rattle.mqb_model.specs.rules.Sequences.{may_join, sequence_for}
 use Rattle.mqb_model.specs.state.Resolving.{queue_named, resolved}
 use Rattle.mqb_queue.specs.Lists.{count}
 use Rattle.mqb_queue.specs.Places.{Queue, numbered}
-use Rattle.mqb_history.proofs.Contents.{Holds, IsCarried, ListsHold, without_holds}
+use Rattle.mqb_history.proofs.Contents.{Holds, InLane, ListsHold, without_holds}
 use Rattle.mqb_history.proofs.Having.{QueueHas, get_holds, numbered_holds}
 use Rattle.mqb_history.proofs.Lists.{all_append}
 
@@ -63,53 +63,52 @@ module _ (P : Message → Type 0) where
   some_all B None f = tt
   some_all B (Some x) f = f x
 
-  module _ (c : IsCarried P) where
-    take_held : (now number : ℕ) (t : Trial) (q : Queue) → QueueHas (ListsHold P) q → IsHeld t → IfHeld (take_from t now number q)
-    take_held now number t q g h = held_either q.plan.transactional (take_first t now number q) (Err fault.NotTransactional)
-        (held_or (λ k. option_map_or (λ m. Ok (with_take t number k m)) (slice_get q.lists.durable k) (Err fault.QueueEmpty)) (first_free number now q) fault.QueueEmpty
-        (some_all _ (first_free number now q) (λ k. held_or (λ m. Ok (with_take t number k m)) (slice_get q.lists.durable k) fault.QueueEmpty
-        (some_follows P _ (slice_get q.lists.durable k) (λ m p. record {
-          taking = without_holds P c lane.Durable t.taking (place.Queue number) k h.taking;
-          done = all_append IsTakenOf t.done (done.Took m ∷ []) h.done (p, tt);
-        }) (get_holds P q.lists.durable k g.0.0))))) tt
+  take_held : (now number : ℕ) (t : Trial) (q : Queue) → QueueHas (ListsHold P) q → IsHeld t → IfHeld (take_from t now number q)
+  take_held now number t q g h = held_either q.plan.transactional (take_first t now number q) (Err fault.NotTransactional)
+      (held_or (λ k. option_map_or (λ m. Ok (with_take t number k m)) (slice_get q.lists.durable k) (Err fault.QueueEmpty)) (first_free number now q) fault.QueueEmpty
+      (some_all _ (first_free number now q) (λ k. held_or (λ m. Ok (with_take t number k m)) (slice_get q.lists.durable k) fault.QueueEmpty
+      (some_follows (InLane P lane.Durable) _ (slice_get q.lists.durable k) (λ m p. record {
+        taking = without_holds P lane.Durable t.taking (place.Queue number) k h.taking;
+        done = all_append IsTakenOf t.done (done.Took m ∷ []) h.done (p.0, tt);
+      }) (get_holds (InLane P lane.Durable) q.lists.durable k g.0.0))))) tt
 
-    more_held : (t next : Trial) (what : Done) → next.taking ≡ t.taking → next.done ≡ t.done ++ what ∷ [] → IsTakenOf what → IsHeld t → IsHeld next
-    more_held t next what same more fine h = record {
-      taking = subst (Holds P) (sym same) h.taking;
-      done = subst (AllByRecursion IsTakenOf) (sym more) (all_append IsTakenOf t.done (what ∷ []) h.done (fine, tt));
-    }
+  more_held : (t next : Trial) (what : Done) → next.taking ≡ t.taking → next.done ≡ t.done ++ what ∷ [] → IsTakenOf what → IsHeld t → IsHeld next
+  more_held t next what same more fine h = record {
+    taking = subst (Holds P) (sym same) h.taking;
+    done = subst (AllByRecursion IsTakenOf) (sym more) (all_append IsTakenOf t.done (what ∷ []) h.done (fine, tt));
+  }
 
-    send_held : (now : ℕ) (t : Trial) (m : Message) (target : Target) → IsHeld t → IfHeld (send_to t now m target)
-    send_held now t m (Here None) h = tt
-    send_held now t m (Here (Some number)) h = held_or (send_into t m number) (numbered t.sending.places.queues number) fault.NoQueue (some_all _ (numbered t.sending.places.queues number)
-        (λ q. held_either (not q.plan.transactional) (Err fault.NotTransactional) (cond (nat_le q.plan.quota (count q.lists)) (Err fault.QueueFull) (Ok (with_put t number m))) tt
-        (held_either (nat_le q.plan.quota (count q.lists)) (Err fault.QueueFull) (Ok (with_put t number m)) tt (more_held t (with_put t number m) (done.Put m.id) refl refl tt h))))
-    send_held now t m (AtPeer k) h = held_either (may_join t.sending k m.destination) (Ok (with_joined t now m k (sequence_for t.sending k m.destination now))) (Err fault.SequenceSpent)
-        (let row = sequence_for t.sending k m.destination now in more_held t (with_joined t now m k row) (done.Sent m.id row.sequence (row.committed + 1)) refl refl tt h) tt
-    send_held now t m Nowhere h = tt
+  send_held : (now : ℕ) (t : Trial) (m : Message) (target : Target) → IsHeld t → IfHeld (send_to t now m target)
+  send_held now t m (Here None) h = tt
+  send_held now t m (Here (Some number)) h = held_or (send_into t m number) (numbered t.sending.places.queues number) fault.NoQueue (some_all _ (numbered t.sending.places.queues number)
+      (λ q. held_either (not q.plan.transactional) (Err fault.NotTransactional) (cond (nat_le q.plan.quota (count q.lists)) (Err fault.QueueFull) (Ok (with_put t number m))) tt
+      (held_either (nat_le q.plan.quota (count q.lists)) (Err fault.QueueFull) (Ok (with_put t number m)) tt (more_held t (with_put t number m) (done.Put m.id) refl refl tt h))))
+  send_held now t m (AtPeer k) h = held_either (may_join t.sending k m.destination) (Ok (with_joined t now m k (sequence_for t.sending k m.destination now))) (Err fault.SequenceSpent)
+      (let row = sequence_for t.sending k m.destination now in more_held t (with_joined t now m k row) (done.Sent m.id row.sequence (row.committed + 1)) refl refl tt h) tt
+  send_held now t m Nowhere h = tt
 
-    op_held : (now : ℕ) (t : Trial) (op : Op) → IsHeld t → IfHeld (try_op t now op)
-    op_held now t (asked.Take name) h = held_or (take_of t now) (queue_named t.taking name) fault.NoQueue (some_all _ (queue_named t.taking name)
-        (λ number. held_or (take_from t now number) (numbered t.taking.places.queues number) fault.NoQueue
-        (some_follows (QueueHas (ListsHold P)) _ (numbered t.taking.places.queues number) (λ q g. take_held now number t q g h) (numbered_holds (QueueHas (ListsHold P)) t.taking.places.queues number h.taking.places.queues))))
-    op_held now t (asked.Send p) h = send_held now t (message_for t.sending now p) (resolved t.sending p.destination) h
+  op_held : (now : ℕ) (t : Trial) (op : Op) → IsHeld t → IfHeld (try_op t now op)
+  op_held now t (asked.Take name) h = held_or (take_of t now) (queue_named t.taking name) fault.NoQueue (some_all _ (queue_named t.taking name)
+      (λ number. held_or (take_from t now number) (numbered t.taking.places.queues number) fault.NoQueue
+      (some_follows (QueueHas (ListsHold P)) _ (numbered t.taking.places.queues number) (λ q g. take_held now number t q g h) (numbered_holds (QueueHas (ListsHold P)) t.taking.places.queues number h.taking.places.queues))))
+  op_held now t (asked.Send p) h = send_held now t (message_for t.sending now p) (resolved t.sending p.destination) h
 
-    ops_held : (now index : ℕ) (t : Trial) (ops : List Op) → IsHeld t → IfHeld (try_ops now index t ops)
-    ops_held now index t [] h = h
-    ops_held now index t (op ∷ rest) h = at (try_op t now op) (op_held now t op h) (λ next g. ops_held now (index + 1) next rest g)
-      where
-        at : (r : Result Trial OpFault) → IfHeld r → ((next : Trial) → IsHeld next → IfHeld (try_ops now (index + 1) next rest)) → IfHeld (at_op index r >>= λ next. try_ops now (index + 1) next rest)
-        at (Ok next) g on = on next g
-        at (Err why) g on = tt
+  ops_held : (now index : ℕ) (t : Trial) (ops : List Op) → IsHeld t → IfHeld (try_ops now index t ops)
+  ops_held now index t [] h = h
+  ops_held now index t (op ∷ rest) h = at (try_op t now op) (op_held now t op h) (λ next g. ops_held now (index + 1) next rest g)
+    where
+      at : (r : Result Trial OpFault) → IfHeld r → ((next : Trial) → IsHeld next → IfHeld (try_ops now (index + 1) next rest)) → IfHeld (at_op index r >>= λ next. try_ops now (index + 1) next rest)
+      at (Ok next) g on = on next g
+      at (Err why) g on = tt
 
-    pub commit_takes : (m : Manager) (ops : List Op) (now : ℕ) → Holds P m.state → IfTakes (commit m ops now).answer
-    commit_takes m ops now h = by (ops_refusal m ops) (try_ops now 0 (trial_of m.state) ops) (ops_held now 0 (trial_of m.state) ops (record { taking = h; done = tt }))
-      where
-        tried : (t : Trial) → IsHeld t → (o : Option CommitFault) → IfTakes (unless m o (recording m (entry.Commit now t.ops) (Ok t.done))).answer
-        tried t g None = g.done
-        tried t g (Some why) = tt
+  pub commit_takes : (m : Manager) (ops : List Op) (now : ℕ) → Holds P m.state → IfTakes (commit m ops now).answer
+  commit_takes m ops now h = by (ops_refusal m ops) (try_ops now 0 (trial_of m.state) ops) (ops_held now 0 (trial_of m.state) ops (record { taking = h; done = tt }))
+    where
+      tried : (t : Trial) → IsHeld t → (o : Option CommitFault) → IfTakes (unless m o (recording m (entry.Commit now t.ops) (Ok t.done))).answer
+      tried t g None = g.done
+      tried t g (Some why) = tt
 
-        by : (o : Option CommitFault) (r : Result Trial CommitFault) → IfHeld r → IfTakes (unless m o (commit_tried m now r)).answer
-        by (Some why) r g = tt
-        by None (Err why) g = tt
-        by None (Ok t) g = tried t g (whole_refusal t)
+      by : (o : Option CommitFault) (r : Result Trial CommitFault) → IfHeld r → IfTakes (unless m o (commit_tried m now r)).answer
+      by (Some why) r g = tt
+      by None (Err why) g = tt
+      by None (Ok t) g = tried t g (whole_refusal t)

@@ -36,10 +36,11 @@ use Rattle.mqb_history.specs.Sent.{sends_in}
 use Rattle.mqb_history.specs.Traced.{IsAbout, IsAskedAlone, IsTraced, is_order_acknowledgement}
 use Rattle.mqb_history.proofs.Accounts.{CallSent, HeardBy, PartFrom}
 use Rattle.mqb_history.proofs.AskedFor.{IsMoveOf, commit_asks}
+use Rattle.mqb_history.proofs.Bringing.{IsBrought}
 use Rattle.mqb_history.proofs.Calling.{calls_are_modest, made_only}
 use Rattle.mqb_history.proofs.Committing.{all_in}
 use Rattle.mqb_history.proofs.Containing.{IsFine, IsFineBeside, PartFine}
-use Rattle.mqb_history.proofs.Contents.{IsCarried}
+use Rattle.mqb_history.proofs.Contents.{IsCarried, always_carried}
 use Rattle.mqb_history.proofs.Courses.{Agrees, AreKnown, HeardIn, call_heard, unknown_down, who_is}
 use Rattle.mqb_history.proofs.Lists.{clash}
 use Rattle.mqb_history.proofs.Recorded.{BesideOf, RecordOf, calls_are_of}
@@ -193,9 +194,11 @@ module _ (known : List Identity) (ms : List Move) where
   abbrev pub IsCaused : Message → Type 0
   IsCaused m = (is_ordinary m ≡ true → IsTraced known ms m) × (is_ordinary m ≡ false → is_order_acknowledgement m ≡ false → IsAbout known ms m)
 
-  pub caused_carried : IsCarried IsCaused
-  caused_carried = record {
-    notice = λ m class d to id now o e g. (λ ordinary. absurd (clash (sym ordinary ∙ e)), λ other apart. record { subject = m; names = refl; traced = g.0 o });
+  pub caused_carried : IsCarried (λ next. IsCaused)
+  caused_carried = always_carried IsCaused (λ m class d to id now o e g. (λ ordinary. absurd (clash (sym ordinary ∙ e)), λ other apart. record { subject = m; names = refl; traced = g.0 o }))
+
+  pub caused_brought : IsBrought IsCaused
+  caused_brought = record {
     acks = λ a host id now. (λ ordinary. absurd (clash (sym ordinary)), λ other apart. absurd (clash apart));
     left = λ m n g. (
       λ ordinary. let one = g.0 ordinary in record {

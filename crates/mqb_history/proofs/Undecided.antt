@@ -107,7 +107,7 @@ unexpired c i p kept h told = at (in_split (expiries_told (lines_written h.befor
     at (inl inside) = h.unexpired inside
     at (inr inside) = later (subst (In p) quiet inside)
 
-undecided : (known : List Identity) (c : Course) → AreApart known → IsOrderlyWith known AreMarked c → AreDecidedTruly c → AreOffersKept c → AreUndecided c
+pub undecided : (known : List Identity) (c : Course) → AreApart known → IsOrderlyWith known AreMarked c → AreDecidedTruly c → AreOffersKept c → AreUndecided c
 undecided known c apart h truly kept i j channel p own told decided = unexpired c i p kept (subst (λ k. IsOffered (written_of k c.written) p) same
     (subst (IsOffered (written_of source.source c.written)) d.position source.committed.offered)) told
   where

@@ -48,7 +48,8 @@ use Rattle.mqb_model.specs.state.Durable.{durable, durable_plain}
 use Rattle.mqb_model.specs.state.Places.{is_express, placed, put_at, with_plain, without_at}
 use Rattle.mqb_model.specs.state.Resolving.{is_for_order_layer, peer_known, resolved}
 use Rattle.mqb_model.specs.state.State.{State}
-use Rattle.mqb_history.proofs.Lists.{all_append, all_filter, clash}
+use Rattle.mqb_history.proofs.Lists.{all_append, all_filter, all_weaker, clash}
+use Rattle.mqb_history.proofs.Ascending.{Rises, filtered_rise, joined_rise, removed_rise, unmarked_rise}
 
 -- A recoverable message that waits: the manager's own, and the number under which it was sent is known.
 pub record IsBorne (own : Guid) (Bears : ℕ → MessageId → Type 0) (o : Outgoing) : Type 0 where
@@ -56,16 +57,19 @@ pub record IsBorne (own : Guid) (Bears : ℕ → MessageId → Type 0) (o : Outg
   pub durable : is_express o.message.delivery ≡ false
   pub mark : IfSome o.mark (λ n. Bears n o.message.id)
 
-abbrev pub IsExpress : Outgoing → Type 0
-IsExpress o = is_express o.message.delivery ≡ true
+abbrev pub IsExpress : (ℕ → MessageId → Type 0) → Outgoing → Type 0
+IsExpress Bears o = (is_express o.message.delivery ≡ true) × IfSome o.mark (λ n. Bears n o.message.id)
 
 -- what waits for one peer
-pub record PlainWaits (own : Guid) (Bears : ℕ → MessageId → Type 0) (p : PlainLists) : Type 0 where
-  pub recoverable : AllByRecursion (IsBorne own Bears) p.recoverable
-  pub express : AllByRecursion IsExpress p.express
+pub record PlainWaits (own : Guid) (Bears : Lane → ℕ → MessageId → Type 0) (p : PlainLists) : Type 0 where
+  pub recoverable : AllByRecursion (IsBorne own (Bears lane.Durable)) p.recoverable
+  pub express : AllByRecursion (IsExpress (Bears lane.Express)) p.express
+  -- those that were sent come first, and their marks rise
+  pub recoverable_rises : Rises 0 p.recoverable
+  pub express_rises : Rises 0 p.express
 
 -- and for all peers of a manager
-pub record Waits (own : Guid) (Bears : ℕ → MessageId → Type 0) (s : State) : Type 0 where
+pub record Waits (own : Guid) (Bears : Lane → ℕ → MessageId → Type 0) (s : State) : Type 0 where
   pub identity : s.identity.guid ≡ own
   pub plain : AllByRecursion (PlainWaits own Bears) s.plain
 
@@ -156,52 +160,61 @@ list_unmarked : (own : Guid) (Bears New : ℕ → MessageId → Type 0) (os : Li
 list_unmarked own Bears New [] h = tt
 list_unmarked own Bears New (o ∷ os) h = (record { source = h.0.source; durable = h.0.durable; mark = tt }, list_unmarked own Bears New os h.1)
 
-express_unmarked : (os : List Outgoing) → AllByRecursion IsExpress os → AllByRecursion IsExpress (unmarked os)
-express_unmarked [] h = tt
-express_unmarked (o ∷ os) h = (h.0, express_unmarked os h.1)
+express_unmarked : (Bears New : ℕ → MessageId → Type 0) (os : List Outgoing) → AllByRecursion (IsExpress Bears) os → AllByRecursion (IsExpress New) (unmarked os)
+express_unmarked Bears New [] h = tt
+express_unmarked Bears New (o ∷ os) h = ((h.0.0, tt), express_unmarked Bears New os h.1)
 
-lists_unmarked : (own : Guid) (Bears New : ℕ → MessageId → Type 0) (ps : List PlainLists) → AllByRecursion (PlainWaits own Bears) ps → AllByRecursion (PlainWaits own New) (map all_unmarked ps)
+lists_unmarked : (own : Guid) (Bears New : Lane → ℕ → MessageId → Type 0) (ps : List PlainLists) → AllByRecursion (PlainWaits own Bears) ps → AllByRecursion (PlainWaits own New) (map all_unmarked ps)
 lists_unmarked own Bears New [] h = tt
 lists_unmarked own Bears New (p ∷ ps) h = (
-  record { recoverable = list_unmarked own Bears New p.recoverable h.0.recoverable; express = express_unmarked p.express h.0.express },
+  record {
+    recoverable = list_unmarked own (Bears lane.Durable) (New lane.Durable) p.recoverable h.0.recoverable;
+    express = express_unmarked (Bears lane.Express) (New lane.Express) p.express h.0.express;
+    recoverable_rises = unmarked_rise p.recoverable;
+    express_rises = unmarked_rise p.express;
+  },
   lists_unmarked own Bears New ps h.1,
 )
 
-pub unmarked_waits : (own : Guid) (Bears New : ℕ → MessageId → Type 0) (s : State) → Waits own Bears s → Waits own New (record s { plain = map all_unmarked s.plain })
+pub unmarked_waits : (own : Guid) (Bears New : Lane → ℕ → MessageId → Type 0) (s : State) → Waits own Bears s → Waits own New (record s { plain = map all_unmarked s.plain })
 unmarked_waits own Bears New s h = record { identity = h.identity; plain = lists_unmarked own Bears New s.plain h.plain }
 
-lists_stored : (own : Guid) (Bears New : ℕ → MessageId → Type 0) (ps : List PlainLists) → AllByRecursion (PlainWaits own Bears) ps → AllByRecursion (PlainWaits own New) (map durable_plain ps)
+lists_stored : (own : Guid) (Bears New : Lane → ℕ → MessageId → Type 0) (ps : List PlainLists) → AllByRecursion (PlainWaits own Bears) ps → AllByRecursion (PlainWaits own New) (map durable_plain ps)
 lists_stored own Bears New [] h = tt
-lists_stored own Bears New (p ∷ ps) h = (record { recoverable = list_unmarked own Bears New p.recoverable h.0.recoverable; express = tt }, lists_stored own Bears New ps h.1)
+lists_stored own Bears New (p ∷ ps) h = (record { recoverable = list_unmarked own (Bears lane.Durable) (New lane.Durable) p.recoverable h.0.recoverable; express = tt; recoverable_rises = unmarked_rise p.recoverable; express_rises = tt }, lists_stored own Bears New ps h.1)
 
-pub stored_waits : (own : Guid) (Bears New : ℕ → MessageId → Type 0) (s : State) → Waits own Bears s → Waits own New (durable s)
+pub stored_waits : (own : Guid) (Bears New : Lane → ℕ → MessageId → Type 0) (s : State) → Waits own Bears s → Waits own New (durable s)
 stored_waits own Bears New s h = record { identity = h.identity; plain = lists_stored own Bears New s.plain h.plain }
 
 -- less is known of marks
+mark_weaker : (Bears New : ℕ → MessageId → Type 0) → ((n : ℕ) (id : MessageId) → Bears n id → New n id) → (id : MessageId) (x : Option ℕ) → IfSome x (λ n. Bears n id) → IfSome x (λ n. New n id)
+mark_weaker Bears New weaker id None g = tt
+mark_weaker Bears New weaker id (Some n) g = weaker n id g
+
 list_weaker : (own : Guid) (Bears New : ℕ → MessageId → Type 0) → ((n : ℕ) (id : MessageId) → Bears n id → New n id) → (os : List Outgoing)
     → AllByRecursion (IsBorne own Bears) os → AllByRecursion (IsBorne own New) os
 list_weaker own Bears New weaker [] h = tt
 list_weaker own Bears New weaker (o ∷ os) h = (
-  record { source = h.0.source; durable = h.0.durable; mark = at o.mark h.0.mark },
+  record { source = h.0.source; durable = h.0.durable; mark = mark_weaker Bears New weaker o.message.id o.mark h.0.mark },
   list_weaker own Bears New weaker os h.1,
 )
-  where
-    at : (x : Option ℕ) → IfSome x (λ n. Bears n o.message.id) → IfSome x (λ n. New n o.message.id)
-    at None g = tt
-    at (Some n) g = weaker n o.message.id g
 
-lists_weaker : (own : Guid) (Bears New : ℕ → MessageId → Type 0) → ((n : ℕ) (id : MessageId) → Bears n id → New n id) → (ps : List PlainLists)
-    → AllByRecursion (PlainWaits own Bears) ps → AllByRecursion (PlainWaits own New) ps
-lists_weaker own Bears New weaker [] h = tt
-lists_weaker own Bears New weaker (p ∷ ps) h = (
-  record { recoverable = list_weaker own Bears New weaker p.recoverable h.0.recoverable; express = h.0.express },
-  lists_weaker own Bears New weaker ps h.1,
-)
+express_weaker : (Bears New : ℕ → MessageId → Type 0) → ((n : ℕ) (id : MessageId) → Bears n id → New n id) → (os : List Outgoing) → AllByRecursion (IsExpress Bears) os → AllByRecursion (IsExpress New) os
+express_weaker Bears New weaker [] h = tt
+express_weaker Bears New weaker (o ∷ os) h = ((h.0.0, mark_weaker Bears New weaker o.message.id o.mark h.0.1), express_weaker Bears New weaker os h.1)
 
-pub weaker_waits : (own : Guid) (Bears New : ℕ → MessageId → Type 0) → ((n : ℕ) (id : MessageId) → Bears n id → New n id) → (s : State) → Waits own Bears s → Waits own New s
-weaker_waits own Bears New weaker s h = record { identity = h.identity; plain = lists_weaker own Bears New weaker s.plain h.plain }
+pub lists_weaker : (own : Guid) (Bears New : Lane → ℕ → MessageId → Type 0) → ((kind : Lane) (n : ℕ) (id : MessageId) → Bears kind n id → New kind n id) → (p : PlainLists) → PlainWaits own Bears p → PlainWaits own New p
+lists_weaker own Bears New weaker p h = record {
+  recoverable = list_weaker own (Bears lane.Durable) (New lane.Durable) (weaker lane.Durable) p.recoverable h.recoverable;
+  express = express_weaker (Bears lane.Express) (New lane.Express) (weaker lane.Express) p.express h.express;
+  recoverable_rises = h.recoverable_rises;
+  express_rises = h.express_rises;
+}
 
-module _ (own : Guid) (Bears : ℕ → MessageId → Type 0) where
+pub weaker_waits : (own : Guid) (Bears New : Lane → ℕ → MessageId → Type 0) → ((kind : Lane) (n : ℕ) (id : MessageId) → Bears kind n id → New kind n id) → (s : State) → Waits own Bears s → Waits own New s
+weaker_waits own Bears New weaker s h = record { identity = h.identity; plain = all_weaker (PlainWaits own Bears) (PlainWaits own New) (lists_weaker own Bears New weaker) s.plain h.plain }
+
+module _ (own : Guid) (Bears : Lane → ℕ → MessageId → Type 0) where
   -- One list.
 
   pushed_waits : (m : Message) (p : PlainLists) → MayWait own m → PlainWaits own Bears p → PlainWaits own Bears (pushed (lane_of m.delivery) m p)
@@ -209,24 +222,43 @@ module _ (own : Guid) (Bears : ℕ → MessageId → Type 0) where
     where
       durable : is_express m.delivery ≡ false → PlainWaits own Bears (pushed lane.Durable m p)
       durable e = record {
-        recoverable = all_append (IsBorne own Bears) p.recoverable (unsent m ∷ []) h.recoverable (record { source = may e; durable = e; mark = tt }, tt);
+        recoverable = all_append (IsBorne own (Bears lane.Durable)) p.recoverable (unsent m ∷ []) h.recoverable (record { source = may e; durable = e; mark = tt }, tt);
         express = h.express;
+        recoverable_rises = joined_rise 0 p.recoverable m h.recoverable_rises;
+        express_rises = h.express_rises;
       }
 
       at : (x : Delivery) → m.delivery ≡ x → PlainWaits own Bears (pushed (lane_of x) m p)
       at delivery.Express e = record {
         recoverable = h.recoverable;
-        express = all_append IsExpress p.express (unsent m ∷ []) h.express (subst (λ x. is_express x ≡ true) (sym e) refl, tt);
+        express = all_append (IsExpress (Bears lane.Express)) p.express (unsent m ∷ []) h.express ((subst (λ x. is_express x ≡ true) (sym e) refl, tt), tt);
+        recoverable_rises = h.recoverable_rises;
+        express_rises = joined_rise 0 p.express m h.express_rises;
       }
       at delivery.Recoverable e = durable (subst (λ x. is_express x ≡ false) (sym e) refl)
       at delivery.Transactional e = durable (subst (λ x. is_express x ≡ false) (sym e) refl)
 
   dropped_waits : (kind : Lane) (k : ℕ) (p : PlainLists) → PlainWaits own Bears p → PlainWaits own Bears (without kind k p)
-  dropped_waits lane.Durable k p h = record { recoverable = removed_all (IsBorne own Bears) p.recoverable k h.recoverable; express = h.express }
-  dropped_waits lane.Express k p h = record { recoverable = h.recoverable; express = removed_all IsExpress p.express k h.express }
+  dropped_waits lane.Durable k p h = record {
+    recoverable = removed_all (IsBorne own (Bears lane.Durable)) p.recoverable k h.recoverable;
+    express = h.express;
+    recoverable_rises = removed_rise 0 p.recoverable k h.recoverable_rises;
+    express_rises = h.express_rises;
+  }
+  dropped_waits lane.Express k p h = record {
+    recoverable = h.recoverable;
+    express = removed_all (IsExpress (Bears lane.Express)) p.express k h.express;
+    recoverable_rises = h.recoverable_rises;
+    express_rises = removed_rise 0 p.express k h.express_rises;
+  }
 
   pub acked_waits : (number : ℕ) (p : PlainLists) → PlainWaits own Bears p → PlainWaits own Bears (without_acked number p)
-  acked_waits number p h = record { recoverable = h.recoverable; express = all_filter IsExpress (λ o. not (is_sent_by number o)) p.express h.express }
+  acked_waits number p h = record {
+    recoverable = h.recoverable;
+    express = all_filter (IsExpress (Bears lane.Express)) (λ o. not (is_sent_by number o)) p.express h.express;
+    recoverable_rises = h.recoverable_rises;
+    express_rises = filtered_rise 0 (λ o. not (is_sent_by number o)) p.express h.express_rises;
+  }
 
   -- All lists.
 

@@ -8,8 +8,9 @@ use Rattle.mqb_base.specs.declared.ids.SequenceId.{SequenceId}
 use Rattle.mqb_base.specs.declared.message.Delivery.TheVariants.{Transactional}
 use Rattle.mqb_base.specs.declared.message.Message.{Message}
 use Rattle.mqb_base.specs.declared.queue_names.QueueName.{QueueName}
-use Rattle.mqb_exactly_once.specs.ExactlyOnce.{Differ, IsNumbered, Rises}
-use Rattle.mqb_exactly_once.specs.Steps.{EarlierAcknowledged}
+use Rattle.mqb_exactly_once.specs.ExactlyOnce.{Differ, ExactlyOnce, IsNumbered, Rises}
+use Rattle.mqb_exactly_once.specs.Runs.{IsRun, after}
+use Rattle.mqb_exactly_once.specs.Steps.{EarlierAcknowledged, StreamStep}
 use Rattle.mqb_exactly_once.specs.Truths.{IsAcknowledgement, IsFate, IsTold, IsTruthful, MarksStand}
 use Rattle.mqb_exactly_once.specs.Words.{In, due, is_decided, kept, last, newest}
 use Rattle.mqb_exactly_once.specs.World.{Commitment, Decision, Expiry, FinalAck, KnownFate, OrderAck, Position, StreamWorld, Transfer}
@@ -34,13 +35,13 @@ use Rattle.mqb_history.specs.Expired.{AreExpiredDuly, AreOffersKept}
 use Rattle.mqb_history.specs.Finals.{AreFatesTold}
 use Rattle.mqb_history.specs.Led.{AreDecidedByOne, AreDecidedWhereLed}
 use Rattle.mqb_history.specs.Offered.{AreUndecided}
-use Rattle.mqb_history.specs.Numbers.{AreLinesNumbered, AreOrdinaryNumbered, AreQueuedNumbered}
+use Rattle.mqb_history.specs.Numbers.{AreCorrelationsNumbered, AreLinesNumbered, AreMessagesNumbered, AreNoticesApart}
 use Rattle.mqb_history.specs.Orderly.{IsOrderly}
 use Rattle.mqb_history.specs.Put.{ArePutTruly}
 use Rattle.mqb_history.specs.Received.{IsReceivedTruly}
 use Rattle.mqb_history.specs.Sent.{AreSentRightly}
 use Rattle.mqb_history.specs.Sessions.{AreSessionsCounted}
-use Rattle.mqb_history.specs.Shown.{AreShown, Leads, Shows}
+use Rattle.mqb_history.specs.Shown.{Leads, Shows, channel_of}
 use Rattle.mqb_history.specs.Skipped.{AreUnskipped}
 use Rattle.mqb_history.specs.Stored.{AreReleasedTruly, IsStorageKept}
 use Rattle.mqb_history.specs.Told.{AreCommitmentsTold}
@@ -73,7 +74,21 @@ pub record StreamInvariant (w : StreamWorld) : Type 0 where
   -- nothing of a sequence is offered before the earlier ones are acknowledged
   pub begun_in_order : (s : SequenceId) → 0 < w.offered s → EarlierAcknowledged w s
 
--- Each channel is shown by a stream world of which it holds.
+-- Of one channel: a run of the stream world reaches a world that the course shows, the parts of the invariant hold of it, and it is exactly once.
+pub record OneStreamWorld (c : Course) (i j : ℕ) (destination : QueueName) : Type 0 where
+  pub steps : List StreamStep
+  pub run : IsRun (channel_of c.network i destination) steps
+  pub world : StreamWorld
+  pub reached : after (channel_of c.network i destination) steps ≡ world
+  pub shown : Shows c i j destination world
+  pub invariant : StreamInvariant world
+  pub exactly_once : ExactlyOnce world
+
+-- Each channel has one.
+abbrev pub HaveOneStreamWorld : Course → Type 0
+HaveOneStreamWorld c = (i j : ℕ) (destination : QueueName) → Leads c.network i j destination → OneStreamWorld c i j destination
+
+-- So each channel is shown by a stream world of which the invariant holds.
 abbrev pub HaveStreamInvariants : Course → Type 0
 HaveStreamInvariants c = (i j : ℕ) (destination : QueueName) → Leads c.network i j destination
     → (w : StreamWorld) × Shows c i j destination w × StreamInvariant w
@@ -169,10 +184,12 @@ pub record MachineInvariant (known : List Identity) (c : Course) : Type 0 where
   pub express_above : AreExpressAbove c
   pub durable_below : AreDurableBelow c
   pub next_apart : AreNextApart c
-  -- whatever a line, or a queue, names has a number that a manager gave
+  -- whatever a line names, and whatever message there is, has a number that a manager gave; and so has what a notice tells of
   pub lines_numbered : AreLinesNumbered c
-  pub queued_numbered : AreQueuedNumbered c
-  pub ordinary_numbered : AreOrdinaryNumbered c
+  pub messages_numbered : AreMessagesNumbered c
+  pub correlations_numbered : AreCorrelationsNumbered c
+  -- no notice has that of a message which joined a stream
+  pub notices_apart : AreNoticesApart c
   -- each ordinary message is one that was sent under its identifier, and transactional where it joined a stream
   pub sent_rightly : AreSentRightly c
   -- what is committed is transactional and ordinary
@@ -211,4 +228,4 @@ pub record MachineInvariant (known : List Identity) (c : Course) : Type 0 where
   pub released_truly : AreReleasedTruly c
   pub storage_is_kept : IsStorageKept c
   -- each channel is a run of the stream world
-  pub shown : AreShown c
+  pub one_stream_world : HaveOneStreamWorld c

@@ -18,7 +18,7 @@ use Rattle.mqb_history.specs.Expired.{AreDecidedKept, AreExpiredDuly, AreOffersK
 use Rattle.mqb_history.specs.Offered.{AreUndecided}
 use Rattle.mqb_history.specs.Led.{AreDecidedByOne, AreDecidedWhereLed}
 use Rattle.mqb_history.specs.Begun.{AreBegunInOrder, AreDecidedAcross}
-use Rattle.mqb_history.specs.Invariants.{HaveStreamInvariants, MachineInvariant}
+use Rattle.mqb_history.specs.Invariants.{HaveOneStreamWorld, HaveStreamInvariants, MachineInvariant}
 use Rattle.mqb_history.specs.Shown.{AreExactlyOnce, AreShown}
 use Rattle.mqb_base.specs.declared.ids.MessageId.{MessageId}
 use Rattle.mqb_base.specs.declared.ledger.Line.TheVariants as line
@@ -144,6 +144,10 @@ AlwaysDecidedWhereLed = Always AreDecidedWhereLed
 -- Each channel is decided by one manager.
 abbrev pub AlwaysDecidedByOne : Type 0
 AlwaysDecidedByOne = Always AreDecidedByOne
+
+-- Each channel has one stream world, which a run of the stream world reaches, which is shown, which keeps the invariant and is exactly once. The three laws behind it follow.
+abbrev pub AlwaysOneStreamWorld : Type 0
+AlwaysOneStreamWorld = Always HaveOneStreamWorld
 
 -- Each run is a run of the stream world, for each channel.
 abbrev pub AlwaysShown : Type 0

@@ -38,3 +38,4 @@ pub mod Copies
 pub mod Twice
 pub mod Sessions
 pub mod Numbers
+pub mod EveryEvent

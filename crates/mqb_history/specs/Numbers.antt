@@ -1,5 +1,5 @@
--- Whatever lines and queues name has a number that a manager gave.
-use Rattle.std.specs.Prelude.{◌<◌, ◌≡◌, IsFalse, IsTrue, None, Option, Some, length, ℕ}
+-- Whatever lines name, and whatever message there is, has a number that a manager gave.
+use Rattle.std.specs.Prelude.{◌<◌, ◌≡◌, IsFalse, Option, Some, length, ℕ}
 use Rattle.mqb_base.specs.declared.ids.MessageId.{MessageId}
 use Rattle.mqb_base.specs.declared.ledger.Line.{Line}
 use Rattle.mqb_base.specs.declared.ledger.Line.TheVariants as line
@@ -9,10 +9,9 @@ use Rattle.mqb_fate.specs.Asking.{is_ordinary}
 use Rattle.mqb_model.specs.state.Places.{is_express}
 use Rattle.mqb_network.specs.Courses.{Course}
 use Rattle.mqb_network.specs.Network.{manager_at}
-use Rattle.mqb_queue.specs.Places.{Queue}
-use Rattle.mqb_history.specs.Truths.{all_of, noticed, told_by}
+use Rattle.mqb_history.specs.Truths.{committed_in, noticed, told_by}
 
--- the message that a line names, unless it left a journal or a dead-letter queue
+-- the message that a line names
 abbrev pub named_in : Line → Option MessageId
 named_in (line.Committed stream number id) = Some id
 named_in (line.Expired stream number id moment) = Some id
@@ -26,7 +25,7 @@ named_in (line.Took id) = Some id
 named_in (line.Purged id) = Some id
 named_in (line.Lapsed id) = Some id
 named_in (line.Swept id) = Some id
-named_in (line.Emptied id) = None
+named_in (line.Emptied id) = Some id
 
 -- A manager gave the number of an identifier: that is its own, and below the next number.
 pub record HasNumber (c : Course) (id : MessageId) : Type 0 where
@@ -39,11 +38,14 @@ pub record HasNumber (c : Course) (id : MessageId) : Type 0 where
 abbrev pub AreLinesNumbered : Course → Type 0
 AreLinesNumbered c = (id : MessageId) → In id (told_by named_in c) → HasNumber c id
 
--- and with what stands in a queue, unless it is express
-abbrev pub AreQueuedNumbered : Course → Type 0
-AreQueuedNumbered c = (i : ℕ) (q : Queue) (m : Message) → In q (manager_at c.network i).state.places.queues → In m (all_of q.lists)
-    → IsFalse (is_express m.delivery) → HasNumber c m.id
+-- and with each message that a manager has, or that went in a packet, unless it is express
+abbrev pub AreMessagesNumbered : Course → Type 0
+AreMessagesNumbered c = (m : Message) → In m (noticed c) → IsFalse (is_express m.delivery) → HasNumber c m.id
 
--- Each ordinary message that a manager has, or that went in a packet, has one, unless it is express.
-abbrev pub AreOrdinaryNumbered : Course → Type 0
-AreOrdinaryNumbered c = (m : Message) → In m (noticed c) → IsTrue (is_ordinary m) → IsFalse (is_express m.delivery) → HasNumber c m.id
+-- So it is with the message of which a notice tells, unless that is express.
+abbrev pub AreCorrelationsNumbered : Course → Type 0
+AreCorrelationsNumbered c = (m : Message) → In m (noticed c) → IsFalse (is_ordinary m) → IsFalse (is_express m.delivery) → HasNumber c m.correlation
+
+-- And no notice bears the identifier of a message that joined a stream.
+abbrev pub AreNoticesApart : Course → Type 0
+AreNoticesApart c = (m : Message) → In m (noticed c) → IsFalse (is_ordinary m) → In m.id (told_by committed_in c) → ⊥

@@ -1,5 +1,6 @@
 -- What two connected managers count of the packets that one of them sent to the other.
-use Rattle.std.specs.Prelude.{[], ◌&&◌, ◌+◌, ◌==◌, ◌∷◌, ◌≡◌, ◌≤◌, ◌⊎◌, List, None, Option, Some, filter_map, if◌then◌else◌, is_none, length, not, slice_get, take, unwrap_or, ℕ}
+use Rattle.std.specs.Prelude.{[], ◌&&◌, ◌+◌, ◌++◌, ◌==◌, ◌∷◌, ◌≡◌, ◌≤◌, ◌⊎◌, List, None, Option, Some, filter_map, if◌then◌else◌, is_none, length, map, not, slice_get, take, unwrap_or, ℕ}
+use Rattle.mqb_base.specs.declared.heads.SessionHead.{SessionHead}
 use Rattle.mqb_base.specs.declared.ids.MessageId.{MessageId}
 use Rattle.mqb_exactly_once.specs.Words.{In}
 use Rattle.mqb_model.specs.calls.hear.Session.{no_head}
@@ -9,6 +10,7 @@ use Rattle.mqb_network.specs.Network.{Connection, Note, manager_at}
 use Rattle.mqb_packet.specs.declared.packet.Packet.{Packet}
 use Rattle.mqb_packet.specs.declared.packet.Packet.TheVariants as packet
 use Rattle.mqb_packet.specs.declared.packet.UserPacket.{UserPacket}
+use Rattle.mqb_plain.specs.Lists.{InOrder}
 use Rattle.mqb_plain.specs.Plain.{PlainLists}
 use Rattle.mqb_plain.specs.declared.outgoing.Outgoing.{Outgoing}
 use Rattle.mqb_queue.specs.Places.{numbered}
@@ -65,6 +67,16 @@ pub record CountsRightly (source target : one_end.State) (waiting : List PlainLi
   -- a message that was sent and waits is marked with its place among the recoverable ones
   pub marks : (lists : PlainLists) (o : Outgoing) (n : ℕ) → In lists waiting → In o lists.recoverable → o.mark ≡ Some n
       → numbered (recoverables (user_packets there)) n ≡ Some o.message.id
+  -- and an express one with its place among all
+  pub express_marks : (lists : PlainLists) (o : Outgoing) (n : ℕ) → In lists waiting → In o lists.express → o.mark ≡ Some n
+      → numbered (map (λ p. p.message.id) (user_packets there)) n ≡ Some o.message.id
+  -- of those that wait the sent ones come first, and their marks rise
+  pub rises : (lists : PlainLists) → In lists waiting → InOrder lists.recoverable × InOrder lists.express
+  -- an acknowledgement of the session repeats how many went before it
+  pub repeats : (before behind : List Packet) (head : SessionHead) → there ≡ before ++ packet.Ack head ∷ behind
+      → (head.user ≡ length (user_packets before)) × (head.recoverable ≡ length (recoverables (user_packets before)))
+  -- the packet that bears the next number is the first that was not got
+  pub next : (p : UserPacket) → In (packet.User p) there → session_number p ≡ target.got + 1 → slice_get (user_packets there) target.got ≡ Some p
   -- what was got are the first ones; and what counts as stored are the recoverable ones of these, each of which was stored, or bounced
   pub got : target.got ≤ length (user_packets there)
   pub stored : target.stored ≡ length (recoverables (take target.got (user_packets there)))

@@ -196,6 +196,21 @@ ShowsFinals i j committed notes sent number connection acks = (k : ℕ) (note : 
     → note.sender ≡ j → note.receiver ≡ i → In x committed → x.message.id ≡ p.message.correlation
     → (a : FinalAck) × In a acks × (a.position ≡ x.position) × (a.fate ≡ fate_of p.message.class) × (note.connection ≡ number → a.connection ≡ connection)
 
+-- a packet that went back tells of a message of the channel what this one tells
+pub record CarriesFinal (i j : ℕ) (committed : List Commitment) (a : FinalAck) (note : Note) (user : UserPacket) : Type 0 where
+  pub plain : user.tx ≡ None
+  pub final : IsTrue (is_final_ack user.message)
+  pub ends : (note.sender ≡ j) × (note.receiver ≡ i)
+  pub commitment : Commitment
+  pub there : In commitment committed
+  pub names : commitment.message.id ≡ user.message.correlation
+  pub position : a.position ≡ commitment.position
+  pub fate : a.fate ≡ fate_of user.message.class
+
+-- Each final acknowledgement of the world is a packet that was sent.
+abbrev pub AreFinalsSent : (i j : ℕ) → List Commitment → List Note → List Packet → List FinalAck → Type 0
+AreFinalsSent i j committed notes sent acks = (a : FinalAck) → In a acks → Went notes sent (CarriesFinal i j committed a)
+
 -- two managers are the ends of a connection
 abbrev pub joins : ℕ → ℕ → Connection → Bool
 joins i j d = is_end i d && is_end j d
@@ -214,6 +229,7 @@ pub record Shows (c : Course) (i j : ℕ) (destination : QueueName) (w : StreamW
   pub back : ShowsReceipts i j (channel_of c.network i destination) (written_of j c.written) c.network.notes c.sent number w.connection w.order_acks
   pub acks_sent : AreAcksSent i j c.network.notes c.sent w.order_acks
   pub finals : ShowsFinals i j w.committed c.network.notes c.sent number w.connection w.final_acks
+  pub finals_sent : AreFinalsSent i j w.committed c.network.notes c.sent w.final_acks
   pub connected : w.connected ≡ list_any (joins i j) c.network.connections
 
 -- a run of the stream world reaches a world that the course shows

@@ -3,7 +3,7 @@
 //! Each function stands for a law: its contract is the law, and its body is empty, or cites laws of the crates below by calling them.
 #![tactic(auto)]
 
-ghost use Rattle.mqb_history.specs.Laws.{AlwaysAcknowledgedTruly, AlwaysAcknowledgingTruly, AlwaysBegunInOrder, AlwaysCarriedTruly, AlwaysCommittedInOrder, AlwaysDecidedAcross, AlwaysDecidedByOne, AlwaysDecidedInOrder, AlwaysDecidedTruly, AlwaysDecidedWhereLed, AlwaysExactlyOnce, AlwaysExpiredDuly, AlwaysMachineInvariant, AlwaysOffersKept, AlwaysShown, AlwaysStreamInvariant, AlwaysToldCommitments, AlwaysUndecided, AlwaysUnskipped, AlwaysWaiting, AlwaysWaitingUntilDecided, DecisionsHaveReasons, DownStays, ExpiriesHaveReasons, FailuresAreSettled, HistoriesAreOrderly, LinesTellDecisions, RunsHaveHistories, SentNeverExpires};
+ghost use Rattle.mqb_history.specs.Laws.{AlwaysAcknowledgedTruly, AlwaysAcknowledgingTruly, AlwaysBegunInOrder, AlwaysCarriedTruly, AlwaysCommittedInOrder, AlwaysDecidedAcross, AlwaysDecidedByOne, AlwaysDecidedInOrder, AlwaysDecidedTruly, AlwaysDecidedWhereLed, AlwaysExactlyOnce, AlwaysExpiredDuly, AlwaysMachineInvariant, AlwaysOffersKept, AlwaysOneStreamWorld, AlwaysShown, AlwaysStreamInvariant, AlwaysToldCommitments, AlwaysUndecided, AlwaysUnskipped, AlwaysWaiting, AlwaysWaitingUntilDecided, DecisionsHaveReasons, DownStays, ExpiriesHaveReasons, FailuresAreSettled, HistoriesAreOrderly, LinesTellDecisions, RunsHaveHistories, SentNeverExpires};
 ghost use Rattle.mqb_history.specs.Asked.{CommittedIsAsked};
 ghost use Rattle.mqb_history.specs.Put.{PutIsTheCommittedMessage};
 ghost use Rattle.mqb_history.specs.Finals.{FinalsTellFates};
@@ -13,6 +13,7 @@ ghost use Rattle.mqb_history.specs.Truths.{AlwaysTruthful};
 ghost use Rattle.mqb_history.specs.Received.{AlwaysReceivedTruly, AlwaysReceivedTrulyOfPlain};
 ghost use Rattle.mqb_history.specs.Copies.{AlwaysCopiedRightly};
 ghost use Rattle.mqb_history.specs.Twice.{OneIsTakenAndMissed};
+ghost use Rattle.mqb_history.specs.EveryEvent.{EveryEventIsAnswered};
 ghost use Rattle.mqb_history.specs.Ledger.{AlwaysExactlyOnceTold};
 ghost use Rattle.mqb_history.specs.Late.{AlwaysRefusedLate};
 ghost use Rattle.mqb_history.specs.Pumps.{NotesTellPumps};
@@ -157,6 +158,11 @@ pub fn one_is_taken_and_missed()
     ensures { OneIsTakenAndMissed }
 {}
 
+/// A run of two managers that has each kind of event and each choice of the disks is worked out to the last reply.
+pub fn every_event_is_answered()
+    ensures { EveryEventIsAnswered }
+{}
+
 /// No more copies of a message stand in queues, or left them, than came there: of one that was sent in a transaction, or put where it was sent, one.
 pub fn always_copied_rightly()
     ensures { AlwaysCopiedRightly }
@@ -208,16 +214,26 @@ pub fn sequences_always_decided_in_order()
     ensures { AlwaysDecidedAcross }
 {}
 
+/// Each run of the network is a run of the stream world, for each channel: steps lead to one world that the course shows, the parts of the invariant hold of it, and it
+/// is exactly once. The three laws behind this one say its parts.
+pub fn always_one_stream_world()
+    ensures { AlwaysOneStreamWorld }
+{}
+
 /// Each run of the network is a run of the stream world, for each channel: steps lead to a world that shows what the source committed and let expire, the marks of its
 /// rows, what the destination decided and which fates it knows, each packet of the channel, each acknowledgement that went back, and whether the two are connected.
 pub fn always_shown()
     ensures { AlwaysShown }
-{}
+{
+    always_one_stream_world();
+}
 
 /// So each channel is exactly once: what is decided was committed, in order and each once, and whatever was not expired before is decided or waits.
 pub fn always_exactly_once()
     ensures { AlwaysExactlyOnce }
-{}
+{
+    always_one_stream_world();
+}
 
 /// A message that is refused because its time to reach its queue was over was sent by its source at a moment at which it was over.
 pub fn always_refused_late()
@@ -248,7 +264,9 @@ pub fn ledger_is_exactly_once()
 /// The parts of the invariant of streams hold of the world of each channel.
 pub fn always_stream_invariant()
     ensures { AlwaysStreamInvariant }
-{}
+{
+    always_one_stream_world();
+}
 
 /// The parts of the invariant hold of the course itself.
 pub fn always_machine_invariant()

@@ -2,4 +2,4 @@ use Rattle.mqb_history.proofs.Witnessing as witnessing
 use Rattle.mqb_history.proofs.always_exactly_once.Goals as goal
 
 pub returns : goal.returns
-returns c = witnessing.always_exactly_once
+returns c = witnessing.always_exactly_once c.always_one_stream_world.ensures
