@@ -16,7 +16,7 @@ use mqb_orders::OutRow;
 use mqb_rules::is_for_order_layer;
 
 /// Whether a message is a final acknowledgement for this manager's order layer.
-pub(crate) fn is_final(contents: &Contents, message: &Message) -> bool
+pub fn is_final(contents: &Contents, message: &Message) -> bool
     ensures { result ≡ is_final contents.now.lists message.now }
 {
     is_recoverable(message.delivery)

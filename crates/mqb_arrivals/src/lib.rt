@@ -14,6 +14,7 @@ mod parts;
 mod releases;
 
 pub use faults::RecordFault;
+pub use finals::is_final;
 pub use packets::user_packet_of;
 pub use parts::make_part;
 pub use releases::release_all;

@@ -16,3 +16,5 @@ mod rolls;
 
 pub use applying::apply_record;
 pub use mqb_arrivals::RecordFault;
+pub use peers::{owned_identity, peer_there};
+pub use queues::queue_there;

@@ -21,7 +21,8 @@ pub(crate) fn owned_name(alloc: Global, name: &NameSlice<'_>) -> Result<Name, Me
     Name::new(alloc, name.as_slice()).map_err(|_| Memory)
 }
 
-fn owned_identity(alloc: Global, view: &IdentityView<'_>) -> Result<Identity, Memory>
+/// A copy of an identity.
+pub fn owned_identity(alloc: Global, view: &IdentityView<'_>) -> Result<Identity, Memory>
     ensures { IfOk result (λ owned. owned ≡ identity_of view.now) }
 {
     Ok(Identity {
@@ -43,7 +44,8 @@ fn any_is_met(known: &[Identity], peer: &Identity) -> bool
     known.iter().any(|k| is_met(k, peer))
 }
 
-fn peer_there(contents: &Contents, peer: &Identity) -> bool
+/// Whether a manager is this one or a peer: it has the same GUID, or the same host ignoring ASCII case.
+pub fn peer_there(contents: &Contents, peer: &Identity) -> bool
     ensures { result ≡ peer_there contents.now.lists peer.now }
 {
     is_met(contents.identity(), peer) || any_is_met(contents.peers(), peer)

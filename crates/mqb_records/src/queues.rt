@@ -70,7 +70,8 @@ fn any_takes(queues: &Queues, plan: &QueuePlan) -> bool
     false
 }
 
-fn queue_there(contents: &Contents, plan: &QueuePlan) -> bool
+/// Whether a queue is there that has the name or the GUID of a plan, or the name is the order layer's.
+pub fn queue_there(contents: &Contents, plan: &QueuePlan) -> bool
     ensures { result ≡ queue_there contents.now.lists plan.now }
 {
     is_order_name(&plan.name) || any_takes(contents.queues(), plan)

@@ -17,6 +17,6 @@ mod takes;
 pub use arrivals::{arrive, refusal_of, storing_refusal, target_refusal};
 pub use notices::meets;
 pub use purges::purged;
-pub use resolving::{is_for_order_layer, resolved};
+pub use resolving::{is_for_order_layer, queue_named, resolved};
 pub use sends::{message_sent, plain_sent};
 pub use takes::{copy_at, taken, taken_at};

@@ -48,7 +48,8 @@ fn at_queue(queue: Option<u32>) -> Target
     }
 }
 
-fn queue_named(contents: &Contents, name: &Name) -> Option<u32>
+/// The number of the queue that has a name, ignoring ASCII case.
+pub fn queue_named(contents: &Contents, name: &Name) -> Option<u32>
     ensures { result ≡ queue_named contents.now.lists name.now }
 {
     match contents.queues().find(name) {

@@ -154,6 +154,20 @@ impl Session {
         self.peer
     }
 
+    /// How many user packets the peer acknowledged.
+    pub fn acked(&self) -> u16
+        ensures { result ≡ self.now.acked }
+    {
+        self.acked
+    }
+
+    /// How many recoverable ones it acknowledged, as it stored them.
+    pub fn recoverable_acked(&self) -> u16
+        ensures { result ≡ self.now.recoverable_acked }
+    {
+        self.recoverable_acked
+    }
+
     fn is_wanted(&self, e: &Establish, known: bool) -> bool
         ensures { result ≡ is_wanted self.now.role e.now known self.now }
     {
