@@ -1,0 +1,114 @@
+-- The entry of a transaction whose ops passed.
+use Rattle.std.proofs.Common.{refl, ap, sym, subst, ◌∙◌, arith, length, length-append}
+use Rattle.std.proofs.lemmas.List.{length-map}
+use Rattle.std.proofs.lemmas.List.Concat.{flat_map-cons}
+use Rattle.std.proofs.lemmas.List.Sums.{sum_by-cons}
+use Rattle.std.specs.List.{AllByRecursion, flat_map}
+use Rattle.std.specs.Prelude.{[], ◌+◌, ◌++◌, ◌<◌, ◌^◌, ◌∷◌, ◌≡◌, ◌≤◌, List, None, Ok, Option, Some, map, option_and_then, option_map, sum_by, true, ℕ}
+use Rattle.std.specs.Result.{result_ok}
+use Rattle.mqb_base.specs.declared.draft.Op.{Op}
+use Rattle.mqb_entries.specs.Spelled.{spelled_id, spelled_op}
+use Rattle.mqb_entries.specs.SpelledEntries.{Fits, spelled}
+use Rattle.mqb_entries.specs.declared.entry.Entry.TheVariants as form
+use Rattle.mqb_entries.specs.declared.members.OpView.{OpView}
+use Rattle.mqb_fields.specs.Reading.{◌>>=◌}
+use Rattle.mqb_fields.specs.Writing.{bytes_of}
+use Rattle.mqb_packet.specs.Parts.{packet_of as parts_in}
+use Rattle.mqb_heads.specs.declared.base.TheConstants.{MAX_PACKET}
+use Rattle.mqb_base.specs.declared.ids.Guid.{Guid}
+use Rattle.mqb_base.specs.declared.message.Message.{Message}
+use Rattle.mqb_packet.specs.Plain.{message_size, packet_size, plain_spelling}
+use Rattle.mqb_packet.specs.declared.packet.Headers.TheVariants.{Bare}
+use Rattle.mqb_packet.specs.Spelled.{Spells, packet_in}
+use Rattle.mqb_packet.specs.declared.packet.Packet.{Packet}
+use Rattle.mqb_packet.specs.declared.packet.Packet.TheVariants as packet
+use Rattle.mqb_packet.specs.declared.packet.UserPacket.{UserPacket}
+use Rattle.mqb_model.specs.calls.Commit.{Trial, commit, commit_tried, trial_of, try_ops, whole_refusal}
+use Rattle.mqb_model.specs.declared.answers.Done.{Done}
+use Rattle.mqb_model.specs.declared.faults.CommitFault.{CommitFault}
+use Rattle.mqb_model.specs.laws.Fitting.{IsFitting, IsSpelled, RecordsAreSpelled, RecordsFit}
+use Rattle.mqb_model.specs.managers.Manager.{Manager, unlinked}
+use Rattle.mqb_model.specs.managers.Outcomes.{recording, unless}
+use Rattle.mqb_model.specs.records.Applying.{fits}
+use Rattle.mqb_model.specs.records.Counting.{IsSpellable, commit_size, op_size}
+use Rattle.mqb_model.specs.records.Reading.{all_some, as_user, op_of, record_in, user_packet_of}
+use Rattle.mqb_model.specs.records.Record.{RecordOp}
+use Rattle.mqb_model.specs.records.Record as entry
+use Rattle.mqb_model.specs.state.State.{State}
+use Rattle.mqb_trying.specs.declared.notes.PlannedOp.{PlannedOp}
+use Rattle.mqb_trying.specs.declared.notes.PlannedOp.TheVariants.{Send, Take}
+use Rattle.mqb_trying.specs.Notes.{packet_of, record_op}
+use Rattle.mqb_trying.specs.Trials.{op_view}
+use Rattle.mqb_trying.specs.Trying.{count_refusal, tried}
+use Rattle.mqb_trying.specs.Trying as trying
+
+-- What the definitions say of it.
+
+pub tried_is : (s : State) (now : ℕ) (ops : List Op) (t : Trial) → count_refusal (length ops) ≡ None → try_ops now 0 (trial_of s) ops ≡ Ok t → whole_refusal t ≡ None → tried s now ops ≡ Ok t
+tried_is s now ops t few passed whole =
+    ap (λ c. trying.unless c (try_ops now 0 (trial_of s) ops >>= λ t. trying.unless (whole_refusal t) (Ok t))) few
+    ∙ ap (λ r. r >>= λ t. trying.unless (whole_refusal t) (Ok t)) passed
+    ∙ ap (λ w. trying.unless w (Ok t)) whole
+
+module _ (s : State) (now : ℕ) (ops : List Op) (t : Trial) (few : count_refusal (length ops) ≡ None) (passed : try_ops now 0 (trial_of s) ops ≡ Ok t) (whole : whole_refusal t ≡ None) where
+  abbrev m : Manager
+  m = unlinked s
+
+  commit_is : commit m ops now ≡ recording m (entry.Commit now t.ops) (Ok t.done)
+  commit_is =
+      ap (λ (c : Option CommitFault). unless m c (commit_tried m now (try_ops now 0 (trial_of s) ops))) few
+      ∙ ap (commit_tried m now) passed
+      ∙ ap (λ (w : Option CommitFault). unless m w (recording m (entry.Commit now t.ops) (Ok t.done))) whole
+
+  pub fits_is : RecordsFit → fits s (entry.Commit now t.ops) ≡ true
+  fits_is law = subst (IsFitting m) commit_is ((law m).commits ops now)
+
+  pub spellable : RecordsAreSpelled → IsSpellable (entry.Commit now t.ops)
+  spellable law = subst IsSpelled commit_is ((law m).commits ops now)
+
+-- How long it is.
+
+module _ (sized : (p : Packet) → length (plain_spelling p) ≡ packet_size p) where
+  op_len : (op : PlannedOp) → length (spelled_op (op_view (record_op op))) ≡ op_size (record_op op)
+  op_len (Send m to) = let bytes : List ℕ = plain_spelling (packet.User (packet_of m to)) in
+      let long = sized (packet.User (packet_of m to)) in let joined = length-append (bytes_of 4 (length bytes)) bytes in omega (arith, long, joined)
+  op_len (Take queue id) = refl
+
+  ops_len : (ops : List PlannedOp) → length (flat_map spelled_op (map op_view (map record_op ops))) ≡ sum_by op_size (map record_op ops)
+  ops_len [] = refl
+  ops_len (op ∷ ops) =
+      let rest : List OpView = map op_view (map record_op ops) in
+      let split = ap length (flat_map-cons spelled_op (op_view (record_op op)) rest) in
+      let joined = length-append (spelled_op (op_view (record_op op))) (flat_map spelled_op rest) in
+      omega (arith, split, joined, op_len op, ops_len ops, sum_by-cons op_size (record_op op) (map record_op ops))
+
+  pub entry_len : (now : ℕ) (ops : List PlannedOp) → length (spelled (form.Commit now (map op_view (map record_op ops)))) ≡ commit_size (map record_op ops)
+  entry_len now ops =
+      let views : List OpView = map op_view (map record_op ops) in
+      let whole = length-append (bytes_of 4 now) (bytes_of 1 (length views) ++ flat_map spelled_op views) in
+      let list = length-append (bytes_of 1 (length views)) (flat_map spelled_op views) in
+      omega (arith, whole, list, ops_len ops)
+
+-- What it is read as.
+
+-- bytes that spell a user packet are read as it
+pub packet_read : (p : UserPacket) (bytes : List ℕ) → Spells (packet.User p) bytes → user_packet_of bytes ≡ Some p
+packet_read p bytes spells = ap (λ r. option_and_then as_user (option_and_then packet_in (result_ok r))) spells.read ∙ ap (option_and_then as_user) spells.said
+
+-- ops that are read each are read together
+pub all_read : (ops : List PlannedOp) → AllByRecursion (λ op. op_of (op_view (record_op op)) ≡ Some (record_op op)) ops
+    → all_some (map op_of (map op_view (map record_op ops))) ≡ Some (map record_op ops)
+all_read [] h = refl
+all_read (op ∷ ops) h = ap (λ o. option_and_then (λ x. option_map (λ xs. x ∷ xs) (all_some (map op_of (map op_view (map record_op ops))))) o) h.0
+    ∙ ap (option_map (λ xs. record_op op ∷ xs)) (all_read ops h.1)
+
+pub record_read : (now : ℕ) (ops : List RecordOp) → all_some (map op_of (map op_view ops)) ≡ Some ops → record_in (form.Commit now (map op_view ops)) ≡ Some (entry.Commit now ops)
+record_read now ops h = ap (option_map (λ ops. entry.Commit now ops)) h
+
+pub few_ops : (now : ℕ) (ops : List RecordOp) → (1 ≤ length ops) × (length ops ≤ 64) → Fits (form.Commit now (map op_view ops))
+few_ops now ops h = subst (λ n. (1 ≤ n) × (n ≤ 64)) (sym (length-map ops op_view)) h
+
+-- a packet is short
+pub short : ((p : Packet) → length (plain_spelling p) ≡ packet_size p) → (m : Message) (to : Guid) (bytes : List ℕ) → bytes ≡ plain_spelling (packet.User (packet_of m to))
+    → message_size Bare m ≤ MAX_PACKET → length bytes < 2 ^ 32
+short sized m to bytes is most = let long = ap length is in let size = sized (packet.User (packet_of m to)) in omega (arith, long, size, most)

@@ -1,0 +1,13 @@
+pub mod Names
+pub mod Left
+pub mod Ends
+pub mod Following
+pub mod TakesAgree
+pub mod SendsAgree
+pub mod Agreeing
+pub mod Finishing
+pub mod Walks
+pub mod Drafted
+pub mod Lookups
+pub mod Finished
+pub mod Walked

@@ -1,0 +1,5 @@
+use Rattle.mqb_trying.proofs.Drafted.{well_formed}
+use Rattle.mqb_trying.proofs.messages.recorded_message.Goals as goal
+
+pub returns-clause-well_formed : goal.returns-clause-well_formed
+returns-clause-well_formed c = well_formed c.args.id c.args.now c.args.parts.now c.in_ok-message.message c.in_ok-message.ensures c.requires

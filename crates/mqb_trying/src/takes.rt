@@ -1,0 +1,193 @@
+ghost use Rattle.std.specs.Prelude.{◌≡◌, ◌<◌, ◌≤◌, IfErr, IfOk, IfSome, IsSome, Ok, OnOk, length, option_copied, option_map};
+ghost use Rattle.mqb_base.specs.declared.roomed.TheConstants.{MAX_MEMBERS};
+ghost use Rattle.mqb_model.specs.state.Resolving.{queue_named};
+ghost use Rattle.mqb_queue.specs.Places.{numbered};
+ghost use Rattle.mqb_trying.specs.Takes.{durable, index_from, is_taken, may_take, message_of_take, next_index, next_take, noted_take, take_by, take_of, top_from, try_take};
+ghost use Rattle.mqb_trying.specs.Trying.{IsRefusedBy, at_op};
+
+use crate::notes::{Notes, PlannedOp, Take, push_op};
+use mqb_base::{EntryPlace, Lane, Memory, Message, Name, is_due};
+use mqb_contents::Contents;
+use mqb_model::{CommitFault, Done, OpFault};
+
+fn is_taken(takes: &[Take], queue: u32, index: usize) -> bool
+    ensures { result ≡ is_taken takes.now queue index }
+{
+    takes
+        .iter()
+        .any(|take| take.queue == queue && take.index as usize == index)
+}
+
+fn may_take(takes: &[Take], queue: u32, now: u32, index: usize, message: &Message) -> bool
+    ensures { result ≡ may_take takes.now queue now index message.now }
+{
+    !is_taken(takes, queue, index) && !is_due(message.sent, message.life, now)
+}
+
+/// The greatest priority of the messages of a queue that may be taken, or 0.
+fn top_priority(takes: &[Take], queue: u32, now: u32, messages: &[Message]) -> u8
+    ensures { result ≡ top_from (may_take takes.now queue now) 0 0 messages.now }
+{
+    let mut top: u8 = 0;
+    for index in 0..messages.len() {
+        let message = &messages[index];
+        if may_take(takes, queue, now, index, message) {
+            top = top.max(message.priority);
+        }
+    }
+    top
+}
+
+/// Where the oldest one stands that has at least this priority.
+fn index_at_least(
+    takes: &[Take],
+    queue: u32,
+    now: u32,
+    least: u8,
+    messages: &[Message],
+) -> Option<usize>
+    ensures index { result ≡ index_from (may_take takes.now queue now) least 0 messages.now }
+    ensures within { IfSome result (λ k. k < length messages.now) }
+{
+    for index in 0..messages.len() {
+        let message = &messages[index];
+        if may_take(takes, queue, now, index, message) && message.priority >= least {
+            return Some(index);
+        }
+    }
+    None
+}
+
+fn next_index(takes: &[Take], queue: u32, now: u32, messages: &[Message]) -> Option<usize>
+    ensures index { result ≡ next_index takes.now queue now messages.now }
+    ensures within { IfSome result (λ k. k < length messages.now) }
+{
+    let top = top_priority(takes, queue, now, messages);
+    index_at_least(takes, queue, now, top, messages)
+}
+
+/// The next take of a queue of these messages, where it is transactional.
+fn take_by(
+    takes: &[Take],
+    now: u32,
+    queue: u32,
+    transactional: bool,
+    messages: &[Message],
+) -> Result<Take, OpFault>
+    requires { length messages.now ≤ MAX_MEMBERS }
+    ensures take { result ≡ take_by takes.now now queue transactional messages.now }
+    ensures within { IfOk result (λ take. take.index < length messages.now) }
+    ensures queue { IfOk result (λ take. take.queue ≡ queue) }
+{
+    if !transactional {
+        return Err(OpFault::NotTransactional);
+    }
+    match next_index(takes, queue, now, messages) {
+        Some(index) => Ok(Take {
+            queue,
+            index: index as u32,
+        }),
+        None => Err(OpFault::QueueEmpty),
+    }
+}
+
+/// The durable messages of the queue of a number, the oldest first.
+#[tactic(auto, using(crate::proofs::Lookups::durable_is))]
+fn messages_of(contents: &Contents, queue: u32) -> Option<&[Message]>
+    ensures messages { option_copied result ≡ option_map durable
+        (numbered contents.now.lists.places.queues queue) }
+    ensures few { IfSome (option_copied result) (λ ms. length ms ≤ MAX_MEMBERS) }
+{
+    contents
+        .queues()
+        .messages_at(EntryPlace::Queue(queue), Lane::Durable)
+}
+
+/// The next take of the queue of a number.
+#[tactic(auto, using(crate::proofs::Lookups::none_is, crate::proofs::Lookups::take_is, crate::proofs::Lookups::message_there))]
+fn take_of(contents: &Contents, takes: &[Take], now: u32, queue: u32) -> Result<Take, OpFault>
+    ensures take { result ≡ take_of contents.now.lists takes.now now queue }
+    ensures there { IfOk result (λ take. IsSome (message_of_take contents.now.lists take)) }
+{
+    let Some(plan) = contents.queues().plan_numbered(queue) else {
+        return Err(OpFault::NoQueue);
+    };
+    let Some(messages) = messages_of(contents, queue) else {
+        return Err(OpFault::NoQueue);
+    };
+    take_by(takes, now, queue, plan.transactional, messages)
+}
+
+fn queue_named(contents: &Contents, name: &Name) -> Option<u32>
+    ensures { result ≡ queue_named contents.now.lists name.now }
+{
+    match contents.queues().find(name) {
+        Some(k) => Some(k + 1),
+        None => None,
+    }
+}
+
+/// The next take of the queue with a name.
+pub(crate) fn next_take(
+    contents: &Contents,
+    takes: &[Take],
+    now: u32,
+    name: &Name,
+) -> Result<Take, OpFault>
+    ensures take { result ≡ next_take contents.now.lists takes.now now name.now }
+    ensures there { IfOk result (λ take. IsSome (message_of_take contents.now.lists take)) }
+{
+    match queue_named(contents, name) {
+        Some(queue) => take_of(contents, takes, now, queue),
+        None => Err(OpFault::NoQueue),
+    }
+}
+
+/// The message of a take.
+fn message_of_take(contents: &Contents, take: Take) -> Option<&Message>
+    ensures { option_copied result ≡ message_of_take contents.now.lists take }
+{
+    messages_of(contents, take.queue)?.get(take.index as usize)
+}
+
+impl Notes {
+    /// The message of a take is taken, and copied for the answer.
+    fn note_take(&mut self, contents: &Contents, take: Take) -> Result<(), Memory>
+        requires { IsSome (message_of_take contents.now.lists take) }
+        ensures { OnOk result (noted_take contents.now.lists self.old take ≡ Ok self.new) }
+    {
+        let Some(message) = message_of_take(contents, take) else {
+            unreachable!();
+        };
+        let op = PlannedOp::Take {
+            queue: take.queue,
+            id: message.id,
+        };
+        self.takes.push(take)?;
+        push_op(&mut self.ops, op)?;
+        self.done.push(Done::Took(message.clone()?))?;
+        Ok(())
+    }
+
+    /// The next message of the queue with a name is taken.
+    pub(crate) fn try_take(
+        &mut self,
+        contents: &Contents,
+        now: u32,
+        index: u32,
+        name: &Name,
+    ) -> Result<(), CommitFault>
+        ensures ok { OnOk result
+            (try_take contents.now.lists now self.old name.now ≡ Ok self.new) }
+        ensures refused { IfErr result
+            (IsRefusedBy (at_op index (try_take contents.now.lists now self.old name.now))) }
+    {
+        match next_take(contents, &self.takes, now, name) {
+            Ok(take) => {
+                self.note_take(contents, take)?;
+                Ok(())
+            }
+            Err(fault) => Err(CommitFault::AtOp { index, fault }),
+        }
+    }
+}
