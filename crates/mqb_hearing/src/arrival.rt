@@ -1,0 +1,81 @@
+ghost use Rattle.std.specs.Prelude.{◌&&◌, ◌==◌, ◌≡◌, ◌≤◌, IfSome, None, Some, length, option_map};
+ghost use Rattle.mqb_entries.specs.SpelledEntries.{Fits, spelled};
+ghost use Rattle.mqb_model.specs.declared.limits.TheConstants.{MAX_RECORD};
+ghost use Rattle.mqb_model.specs.records.Reading.{record_in};
+ghost use Rattle.mqb_hearing.specs.Arrivals.{IsArrival, arrival_of, part_shown};
+
+use mqb_entries::{ArrivedPart, Entry, Numbers, PacketSlice};
+use std::alloc::Global;
+use std::marker::Model;
+
+/// What arrived: the numbers of the messages that the peer has stored, and what the packet brings. Contracts see the record that tells of it, or none
+/// where there is nothing to tell.
+#[derive(Debug, Drop)]
+pub struct Arrival<'a> {
+    moment: u32,
+    released: Vec<u32>,
+    part: ArrivedPart<'a>,
+}
+
+impl<'a> Model for Arrival<'a> {
+    ghost use Rattle.std.specs.Prelude.{Option};
+    ghost use Rattle.mqb_model.specs.records.Record.{Record};
+    ghost use Rattle.mqb_hearing.specs.Arrivals.{IsArrival, arrival_of, part_shown};
+
+    ghost Value = { Option Record };
+
+    ghost view = { λ a. arrival_of a.moment a.released.items (part_shown a.part) };
+
+    ghost invariant = { λ a. IsArrival a.released.items a.part };
+}
+
+fn again<'a>(part: &ArrivedPart<'a>) -> ArrivedPart<'a>
+    ensures { result ≡ part.now }
+{
+    match part {
+        ArrivedPart::Nothing => ArrivedPart::Nothing,
+        ArrivedPart::Decided(packet) => ArrivedPart::Decided(PacketSlice::new(packet.as_slice())),
+        ArrivedPart::Stored(packet) => ArrivedPart::Stored(PacketSlice::new(packet.as_slice())),
+        ArrivedPart::OrderAcknowledged { ordinal, number } => ArrivedPart::OrderAcknowledged {
+            ordinal: *ordinal,
+            number: *number,
+        },
+        ArrivedPart::Final(packet) => ArrivedPart::Final(PacketSlice::new(packet.as_slice())),
+    }
+}
+
+impl<'a> Arrival<'a> {
+    pub(crate) fn new(now: u32, released: Vec<u32>, part: ArrivedPart<'a>) -> Arrival<'a>
+        requires { IsArrival released.items part }
+        ensures { result ≡ arrival_of now released.items (part_shown part.entry) }
+    {
+        Arrival {
+            moment: now,
+            released,
+            part,
+        }
+    }
+
+    /// Nothing arrived.
+    pub(crate) fn nothing(alloc: Global, now: u32) -> Arrival<'a>
+        ensures { result ≡ None }
+    {
+        Arrival::new(now, Vec::new(alloc), ArrivedPart::Nothing)
+    }
+
+    /// The entry that is to be written.
+    pub fn entry(&self) -> Option<Entry<'_>>
+        ensures record { option_map record_in result ≡ option_map (λ r. Some r) self.now }
+        ensures fits { IfSome result Fits }
+        ensures size { IfSome result (λ e. length (spelled e) ≤ MAX_RECORD) }
+    {
+        if self.released.is_empty() && matches!(self.part, ArrivedPart::Nothing) {
+            return None;
+        }
+        Some(Entry::Arrived {
+            now: self.moment,
+            released: Numbers::of(self.released.as_slice()),
+            part: again(&self.part),
+        })
+    }
+}

@@ -1,0 +1,167 @@
+ghost use Rattle.std.specs.Prelude.{◌≡◌, ◌<◌, ◌≤◌, All, IfOk, Some, length};
+ghost use Rattle.mqb_fate.specs.Asking.{is_ordinary};
+ghost use Rattle.mqb_heads.specs.declared.base.TheConstants.{MAX_PACKET};
+ghost use Rattle.mqb_model.specs.calls.hear.Hear.{IsReadable};
+ghost use Rattle.mqb_model.specs.records.Reading.{user_packet_of};
+ghost use Rattle.mqb_model.specs.state.Places.{is_express};
+ghost use Rattle.mqb_packet.specs.Spelled.{IsLent, packet_in};
+ghost use Rattle.mqb_packet.specs.Parts.{seen_packet};
+ghost use Rattle.mqb_packet.specs.declared.lent.PacketView.TheVariants as lent;
+ghost use Rattle.mqb_packet.specs.declared.packet.Packet.TheVariants as packet;
+
+use mqb_base::{Class, Delivery, Guid, Memory, Message, MessageId, QueueName, SessionHead, TxHead};
+use mqb_entries::PacketSlice;
+use mqb_packet::{Packet, PacketView, UserView, each_view_spells_a_packet, to_owned};
+use mqb_packet_laws::read_is_written;
+use std::alloc::Global;
+use std::marker::Model;
+
+/// A user packet that is heard. Its destination is owned, since names are looked up by it, and its other parts are lent. Contracts see the packet.
+#[derive(Debug, Drop)]
+pub(crate) struct LentPacket<'a> {
+    view: UserView<'a>,
+    destination: QueueName,
+}
+
+impl<'a> Model for LentPacket<'a> {
+    ghost use Rattle.mqb_packet.specs.declared.packet.UserPacket.{UserPacket};
+    ghost use Rattle.mqb_hearing.specs.Lent.{IsShown, packet_shown};
+
+    ghost Value = { UserPacket };
+
+    ghost view = { λ p. packet_shown p.view p.destination };
+
+    ghost invariant = { λ p. IsShown p.view p.destination };
+}
+
+fn are_bytes(bytes: &[u8])
+    ensures { All (λ b. b < 256) bytes.now }
+{}
+
+impl<'a> LentPacket<'a> {
+    /// The packet that a view shows.
+    pub(crate) fn new(alloc: Global, view: &UserView<'a>) -> Result<LentPacket<'a>, Memory>
+        requires { IsLent (lent.User view.now) }
+        ensures shown { IfOk result (λ p. packet_in (seen_packet (lent.User view.now)) ≡
+            Some (packet.User p)) }
+        ensures readable { IfOk result (λ p. IsReadable (packet.User p)) }
+    {
+        each_view_spells_a_packet();
+        read_is_written();
+        are_bytes(view.whole);
+        let destination = view.user.destination.to_owned(alloc)?;
+        Ok(LentPacket {
+            view: *view,
+            destination,
+        })
+    }
+
+    /// The manager from which it comes.
+    pub(crate) fn source(&self) -> Guid
+        ensures { result ≡ self.now.message.id.qm }
+    {
+        self.view.user.source
+    }
+
+    /// The manager to which it goes.
+    pub(crate) fn target(&self) -> Guid
+        ensures { result ≡ self.now.to }
+    {
+        self.view.user.target
+    }
+
+    /// The seconds that are left for its message to reach its queue.
+    pub(crate) fn remaining(&self) -> u32
+        ensures { result ≡ self.now.remaining }
+    {
+        self.view.base.reach
+    }
+
+    pub(crate) fn tx(&self) -> Option<TxHead>
+        ensures { result ≡ self.now.tx }
+    {
+        self.view.tx
+    }
+
+    pub(crate) fn session(&self) -> Option<SessionHead>
+        ensures { result ≡ self.now.session }
+    {
+        self.view.session
+    }
+
+    /// The identifier of its message.
+    pub(crate) fn id(&self) -> MessageId
+        ensures { result ≡ self.now.message.id }
+    {
+        MessageId {
+            qm: self.view.user.source,
+            number: self.view.user.number,
+        }
+    }
+
+    pub(crate) fn class(&self) -> Class
+        ensures { result ≡ self.now.message.class }
+    {
+        self.view.props.class
+    }
+
+    /// Whether its message is of the class of ordinary messages.
+    pub(crate) fn is_ordinary(&self) -> bool
+        ensures { result ≡ is_ordinary self.now.message }
+    {
+        self.view.props.class == Class::NORMAL
+    }
+
+    pub(crate) fn delivery(&self) -> Delivery
+        ensures { result ≡ self.now.message.delivery }
+    {
+        match (self.view.tx.is_some(), self.view.user.recoverable) {
+            (true, _) => Delivery::Transactional,
+            (false, true) => Delivery::Recoverable,
+            (false, false) => Delivery::Express,
+        }
+    }
+
+    pub(crate) fn is_express(&self) -> bool
+        ensures { result ≡ is_express self.now.message.delivery }
+    {
+        matches!(self.delivery(), Delivery::Express)
+    }
+
+    pub(crate) fn destination(&self) -> &QueueName
+        ensures { result.now ≡ self.now.message.destination }
+    {
+        &self.destination
+    }
+
+    /// The message about which its message tells.
+    pub(crate) fn correlation(&self) -> MessageId
+        ensures { result ≡ self.now.message.correlation }
+    {
+        self.view.props.correlation
+    }
+
+    pub(crate) fn body(&self) -> &'a [u8]
+        ensures { result.now ≡ self.now.message.body }
+    {
+        self.view.props.body
+    }
+
+    /// All of its bytes.
+    pub(crate) fn whole(&self) -> PacketSlice<'a>
+        ensures spells { user_packet_of result ≡ Some self.now }
+        ensures size { length result ≤ MAX_PACKET }
+    {
+        PacketSlice::new(self.view.whole)
+    }
+
+    /// Its message, with its parts copied.
+    pub(crate) fn to_message(&self, alloc: Global) -> Result<Message, Memory>
+        ensures { IfOk result (λ m. m ≡ self.now.message) }
+    {
+        match to_owned(alloc, &PacketView::User(self.view))? {
+            Packet::User(owned) => Ok(owned.message),
+            Packet::Establish(_) | Packet::Parameters(_) | Packet::Ack(_) => unreachable!(),
+        }
+    }
+}
