@@ -5,6 +5,8 @@
 #[cfg(test)]
 mod disks;
 #[cfg(test)]
+mod network;
+#[cfg(test)]
 mod outside;
 #[cfg(test)]
 mod reading;

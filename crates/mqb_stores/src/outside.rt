@@ -34,12 +34,12 @@ fn a_medium(rt: HostRuntime) -> Result<(), Fail> {
     Ok(())
 }
 
-fn moment<C: Clock>(clock: &mut C) -> u32 {
+pub(crate) fn moment<C: Clock>(clock: &mut C) -> u32 {
     clock.now()
 }
 
 /// Sends back the first bytes that come, at most four.
-fn echo<C: Conn>(conn: &mut C) -> Result<usize, Failed> {
+pub(crate) fn echo<C: Conn>(conn: &mut C) -> Result<usize, Failed> {
     let mut buf = [0; 4];
     let n = conn.receive(&mut buf)?;
     conn.send(&buf[..n])

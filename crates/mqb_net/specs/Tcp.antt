@@ -1,0 +1,15 @@
+use Rattle.std.specs.Prelude.{◌≡◌, ℕ}
+use Rattle.mqb_net.specs.declared.tcp_conn.TcpConn.{TcpConn}
+use Rattle.mqb_net.specs.declared.tcp_net.TcpNet.{TcpNet}
+
+-- neither a read of a connection nor a write to it has failed
+abbrev pub IsFaultless : TcpConn → Type 0
+IsFaultless conn = (conn.read_faults ≡ 0) × (conn.write_faults ≡ 0)
+
+-- how often a net over TCP gave no connection
+abbrev pub faults_of : TcpNet → ℕ
+faults_of net = net.faults
+
+-- how many of its connections were lost
+abbrev pub lost_by : TcpNet → ℕ
+lost_by net = net.lost
