@@ -1,0 +1,5 @@
+use Rattle.mqb_serving.proofs.Asking.{one_is_asked}
+use Rattle.mqb_serving.proofs.runs.one_is_asked.Goals as goal
+
+pub returns : goal.returns
+returns c = one_is_asked

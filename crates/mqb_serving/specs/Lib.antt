@@ -1,0 +1,3 @@
+pub mod Conversations
+pub mod Laws
+pub mod Worked
