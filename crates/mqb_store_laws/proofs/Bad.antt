@@ -1,19 +1,21 @@
 -- Where a store is bad.
-use Rattle.std.proofs.Common.{inl, inr, ⊎_elim, refl, sym, ◌∙◌, ap, subst, arith, append_assoc, length-append}
+use Rattle.std.proofs.Common.{inl, inr, ⊎_elim, refl, sym, ◌∙◌, ap, subst, arith, length-append}
 use Rattle.std.proofs.lemmas.List.Sums.{fold-append}
 use Rattle.std.specs.Prelude.{[], ◌+◌, ◌++◌, ◌∷◌, ◌≡◌, ◌⊎◌, Bool, IsSome, List, None, Option, Some, cond, false, fold, length, map, option_and_then, option_map, true, ℕ}
 use Rattle.mqb_base.specs.Same.{same_guid}
 use Rattle.mqb_base.specs.declared.ids.Guid.{Guid}
+use Rattle.mqb_base.specs.declared.ids.Identity.{Identity}
 use Rattle.mqb_journal.specs.Scan.{Begins, GoesTo, HasNoHeader, IsBadAt}
 use Rattle.mqb_journal.specs.Scan as journal
-use Rattle.mqb_journal.specs.Store.{IsFront, StandsFor, chain}
+use Rattle.mqb_journal.specs.Store.{StandsFor, chain}
 use Rattle.mqb_model.specs.records.Folding.{applied_after, state_of}
 use Rattle.mqb_model.specs.records.Reading.{all_some, record_of}
 use Rattle.mqb_model.specs.records.Record.{Record}
 use Rattle.mqb_model.specs.records.Record as entry
 use Rattle.mqb_model.specs.state.State.{State, empty}
-use Rattle.mqb_store_laws.specs.Faults.{BreaksOff, GoesWell, HasNoRecord, HasUnfit, IsBadStore, MayGoOn}
-use Rattle.mqb_store_laws.specs.Images.{OpensTo, begins_as, records_in, state_by, state_in}
+use Rattle.mqb_store_laws.proofs.Joining.{entries_begin}
+use Rattle.mqb_store_laws.specs.Faults.{GoesWell, HasNoRecord, HasOtherGuid, HasUnfit, IsBadStore, MayGoOn}
+use Rattle.mqb_store_laws.specs.Images.{OpensTo, begins_as, identity_in, records_in, state_by, state_from, state_in, with_guid}
 use Rattle.mqb_store_laws.specs.Laws.{BadAtOnePlace, ImagesOpenToOne, OpenedIsNotBad}
 
 -- What the journal knows of chains in one image.
@@ -111,6 +113,18 @@ none_within guid entries all entry good none begins = ⊎_elim empty some good
     some : IsSome (state_in guid all) → ⊥
     some is = let no : false ≡ true = subst IsSome (ap (state_in guid) begins.1 ∙ none_behind guid entries entry begins.0 none) is in absurd cc
 
+-- what stands for no state does not in a store
+none_in : (guid : Guid) (entries : List (List ℕ)) → state_from entries ≡ None → state_in guid entries ≡ None
+none_in guid entries none = at (records_in entries) none
+  where
+    at : (o : Option (List Record)) → option_and_then state_of o ≡ None → option_and_then (state_by guid) o ≡ None
+    at None is = refl
+    at (Some records) is = tested (begins_as guid records)
+      where
+        tested : (b : Bool) → cond b (state_of records) None ≡ None
+        tested false = refl
+        tested true = is
+
 -- the first entry of a list, and those behind it
 abbrev head_of : List (List ℕ) → List ℕ
 head_of [] = []
@@ -143,6 +157,12 @@ same_place guid other image r s at place same first second =
 guid_is : (g h : Guid) → g.0 ≡ h.0 → g ≡ h
 guid_is g h same = ap (λ (l : List ℕ). record { 0 = l }) same
 
+-- in no store does an identity with another GUID stand for a state
+other_none : (guid : Guid) (first : List ℕ) (identity : Identity) → identity_in (record_of first) ≡ Some identity → same_guid identity.guid guid ≡ false
+    → state_in guid (first ∷ []) ≡ None
+other_none guid first identity is other = entries_begin.in_store guid first ∙ ap (λ o. option_map empty (option_and_then (with_guid guid) o)) is
+    ∙ ap (λ (b : Bool). option_map empty (cond b (Some identity) None)) other
+
 module _ (k : Alike) where
   no_more : (guid : List ℕ) (image : List ℕ) (a b : ℕ) (records : List (List ℕ)) → HasNoHeader a image → GoesTo guid records b image → ⊥
   no_more guid image a b records none goes = k.header guid image records b a goes none
@@ -161,9 +181,32 @@ module _ (k : Alike) where
   unfit_within : (a b : ℕ) (image : List ℕ) (bad : HasUnfit a image) (guid : Guid) (all : List (List ℕ)) → GoesWell guid all b image
       → Begins (bad.entries ++ bad.entry ∷ []) all → ⊥
   unfit_within a b image bad guid all well begins =
-      let same : bad.guid ≡ guid = guid_is bad.guid guid (k.guid bad.guid.0 guid.0 image bad.entries all a b bad.here.whole well.whole bad.here.goes well.goes) in
-      none_within guid bad.entries all bad.entry well.good
-      (subst (λ (g : Guid). state_in g (bad.entries ++ bad.entry ∷ []) ≡ None) same bad.unfit) begins
+      none_within guid bad.entries all bad.entry well.good (none_in guid (bad.entries ++ bad.entry ∷ []) bad.unfit) begins
+
+  -- entries that may go on do not begin with an identity that has another GUID
+  other_within : (a b : ℕ) (image : List ℕ) (bad : HasOtherGuid a image) (guid : Guid) (all : List (List ℕ)) → GoesWell guid all b image
+      → Begins (bad.first ∷ []) all → ⊥
+  other_within a b image bad guid all well begins =
+      let same : bad.guid ≡ guid = guid_is bad.guid guid (k.guid bad.guid.0 guid.0 image (bad.first ∷ []) all bad.next b bad.whole well.whole bad.behind well.goes) in
+      none_within guid [] all bad.first well.good
+      (subst (λ (g : Guid). state_in g (bad.first ∷ []) ≡ None) same (other_none bad.guid bad.first bad.identity bad.is_identity bad.other)) begins
+
+  -- nor are they an identity, and unfit
+  other_or_unfit : (a b : ℕ) (image : List ℕ) → HasOtherGuid a image → HasUnfit b image → ⊥
+  other_or_unfit a b image bad unfit = ⊎_elim
+      (λ before. other_within a b image bad unfit.guid unfit.entries unfit.here before)
+      (λ is. let no : None ≡ Some (empty bad.identity) = sym unfit.unfit ∙ ap state_from is ∙ entries_begin.anywhere bad.first ∙ ap (option_map empty) bad.is_identity in absurd cc)
+      (first_or_behind unfit.entries unfit.entry bad.first
+      (k.one bad.guid.0 unfit.guid.0 image (bad.first ∷ []) (unfit.entries ++ unfit.entry ∷ []) bad.next unfit.next bad.behind unfit.behind))
+    where
+      -- of one entry and some that end with another, the one begins those before it, or is it
+      first_or_behind : (ys : List (List ℕ)) (y first : List ℕ) → Begins (first ∷ []) (ys ++ y ∷ []) ⊎ Begins (ys ++ y ∷ []) (first ∷ [])
+          → Begins (first ∷ []) ys ⊎ (ys ++ y ∷ [] ≡ first ∷ [])
+      first_or_behind [] y first (inl is) = inr (ap (λ (l : List (List ℕ)). head_of l ∷ []) is.1)
+      first_or_behind [] y first (inr is) = inr (ap (λ (l : List (List ℕ)). head_of l ∷ []) (sym is.1))
+      first_or_behind (z ∷ ys) y first (inl is) = inl (ys, ap (λ (l : List (List ℕ)). head_of l ∷ ys) is.1)
+      first_or_behind (z ∷ ys) y first (inr is) =
+          absurd (let long = ap length is.1 in let no : ⊥ = omega (arith, long, length-append (z ∷ (ys ++ y ∷ [])) is.0, length-append ys (y ∷ [])) in no)
 
   unfit_alike : (a b : ℕ) (image : List ℕ) (first : HasUnfit a image) (second : HasUnfit b image) → Begins (first.entries ++ first.entry ∷ []) (second.entries ++ second.entry ∷ []) → a ≡ b
   unfit_alike a b image first second begins = ⊎_elim
@@ -181,31 +224,48 @@ module _ (k : Alike) where
           (λ same. inr (ap (λ (l : List (List ℕ)). head_of l ∷ xs) (sym is.1) ∙ ap (λ (l : List (List ℕ)). w ∷ l) same))
           (last_or_before xs ys x y (is.0, ap tail_of is.1))
 
+  -- a header with another GUID than the first entry's, whatever else is bad
+  other_at_one : (a b : ℕ) (image : List ℕ) → HasOtherGuid a image → IsBadStore b image → a ≡ b
+  other_at_one a b image bad (inl none) = bad.place ∙ sym none.place
+  other_at_one a b image bad (inr (inl other)) = bad.place ∙ sym other.place
+  other_at_one a b image bad (inr (inr (inl none))) =
+      absurd (let begins = k.whole bad.guid.0 none.guid.0 image (bad.first ∷ []) [] bad.next bad.behind none.none in
+      let long = ap length begins.1 in let no : ⊥ = omega (arith, long) in no)
+  other_at_one a b image bad (inr (inr (inr (inl off)))) =
+      absurd (other_within a b image bad off.guid off.entries off.here
+      (k.broken bad.guid.0 off.guid.0 image (bad.first ∷ []) off.entries bad.next b bad.behind off.here.goes off.broken))
+  other_at_one a b image bad (inr (inr (inr (inr unfit)))) = absurd (other_or_unfit a b image bad unfit)
+
   pub bad_at_one : BadAtOnePlace
   bad_at_one a b image (inl none) (inl other) = none.place ∙ sym other.place
-  bad_at_one a b image (inl none) (inr (inl other)) = absurd (no_more other.guid.0 image a b [] none other.here.goes)
-  bad_at_one a b image (inl none) (inr (inr (inl other))) = absurd (no_more other.guid.0 image a b other.entries none other.here.goes)
-  bad_at_one a b image (inl none) (inr (inr (inr other))) = absurd (no_more other.guid.0 image a b other.entries none other.here.goes)
-  bad_at_one a b image (inr (inl none)) (inl other) = absurd (no_more none.guid.0 image b a [] other none.here.goes)
-  bad_at_one a b image (inr (inl none)) (inr (inl other)) = nothing_there a b image none other.guid.0 [] other.here.goes
-  bad_at_one a b image (inr (inl none)) (inr (inr (inl other))) = nothing_there a b image none other.guid.0 other.entries other.here.goes
-  bad_at_one a b image (inr (inl none)) (inr (inr (inr other))) = nothing_there a b image none other.guid.0 other.entries other.here.goes
-  bad_at_one a b image (inr (inr (inl off))) (inl other) = absurd (no_more off.guid.0 image b a off.entries other off.here.goes)
-  bad_at_one a b image (inr (inr (inl off))) (inr (inl other)) = sym (nothing_there b a image other off.guid.0 off.entries off.here.goes)
-  bad_at_one a b image (inr (inr (inl off))) (inr (inr (inl other))) =
+  bad_at_one a b image (inl none) (inr (inl other)) = none.place ∙ sym other.place
+  bad_at_one a b image (inl none) (inr (inr (inl other))) = absurd (no_more other.guid.0 image a b [] none other.here.goes)
+  bad_at_one a b image (inl none) (inr (inr (inr (inl other)))) = absurd (no_more other.guid.0 image a b other.entries none other.here.goes)
+  bad_at_one a b image (inl none) (inr (inr (inr (inr other)))) = absurd (no_more other.guid.0 image a b other.entries none other.here.goes)
+  bad_at_one a b image (inr (inl bad)) other = other_at_one a b image bad other
+  bad_at_one a b image (inr (inr (inl none))) (inl other) = absurd (no_more none.guid.0 image b a [] other none.here.goes)
+  bad_at_one a b image (inr (inr (inl none))) (inr (inl bad)) = sym (other_at_one b a image bad (inr (inr (inl none))))
+  bad_at_one a b image (inr (inr (inl none))) (inr (inr (inl other))) = nothing_there a b image none other.guid.0 [] other.here.goes
+  bad_at_one a b image (inr (inr (inl none))) (inr (inr (inr (inl other)))) = nothing_there a b image none other.guid.0 other.entries other.here.goes
+  bad_at_one a b image (inr (inr (inl none))) (inr (inr (inr (inr other)))) = nothing_there a b image none other.guid.0 other.entries other.here.goes
+  bad_at_one a b image (inr (inr (inr (inl off)))) (inl other) = absurd (no_more off.guid.0 image b a off.entries other off.here.goes)
+  bad_at_one a b image (inr (inr (inr (inl off)))) (inr (inl bad)) = sym (other_at_one b a image bad (inr (inr (inr (inl off)))))
+  bad_at_one a b image (inr (inr (inr (inl off)))) (inr (inr (inl other))) = sym (nothing_there b a image other off.guid.0 off.entries off.here.goes)
+  bad_at_one a b image (inr (inr (inr (inl off)))) (inr (inr (inr (inl other)))) =
       same_place off.guid.0 other.guid.0 image off.entries other.entries a b
       (nothing_more off.entries other.entries
       (k.broken off.guid.0 other.guid.0 image off.entries other.entries a b off.here.goes other.here.goes other.broken)
       (k.broken other.guid.0 off.guid.0 image other.entries off.entries b a other.here.goes off.here.goes off.broken)) off.here.goes other.here.goes
-  bad_at_one a b image (inr (inr (inl off))) (inr (inr (inr other))) =
+  bad_at_one a b image (inr (inr (inr (inl off)))) (inr (inr (inr (inr other)))) =
       absurd (unfit_within b a image other off.guid off.entries off.here
       (k.broken other.guid.0 off.guid.0 image (other.entries ++ other.entry ∷ []) off.entries other.next a other.behind off.here.goes off.broken))
-  bad_at_one a b image (inr (inr (inr bad))) (inl other) = absurd (no_more bad.guid.0 image b a bad.entries other bad.here.goes)
-  bad_at_one a b image (inr (inr (inr bad))) (inr (inl other)) = sym (nothing_there b a image other bad.guid.0 bad.entries bad.here.goes)
-  bad_at_one a b image (inr (inr (inr bad))) (inr (inr (inl off))) =
+  bad_at_one a b image (inr (inr (inr (inr bad)))) (inl other) = absurd (no_more bad.guid.0 image b a bad.entries other bad.here.goes)
+  bad_at_one a b image (inr (inr (inr (inr bad)))) (inr (inl other)) = sym (other_at_one b a image other (inr (inr (inr (inr bad)))))
+  bad_at_one a b image (inr (inr (inr (inr bad)))) (inr (inr (inl other))) = sym (nothing_there b a image other bad.guid.0 bad.entries bad.here.goes)
+  bad_at_one a b image (inr (inr (inr (inr bad)))) (inr (inr (inr (inl off)))) =
       absurd (unfit_within a b image bad off.guid off.entries off.here
       (k.broken bad.guid.0 off.guid.0 image (bad.entries ++ bad.entry ∷ []) off.entries bad.next b bad.behind off.here.goes off.broken))
-  bad_at_one a b image (inr (inr (inr bad))) (inr (inr (inr other))) = ⊎_elim
+  bad_at_one a b image (inr (inr (inr (inr bad)))) (inr (inr (inr (inr other)))) = ⊎_elim
       (λ begins. unfit_alike a b image bad other begins)
       (λ begins. sym (unfit_alike b a image other bad begins))
       (k.one bad.guid.0 other.guid.0 image (bad.entries ++ bad.entry ∷ []) (other.entries ++ other.entry ∷ []) bad.next other.next bad.behind other.behind)
@@ -215,10 +275,14 @@ module _ (k : Alike) where
 
   pub opened_not_bad : OpenedIsNotBad
   opened_not_bad guid count at s image long opens (inl none) = k.stands guid.0 image opens.entries at opens.stands (inl none)
-  opened_not_bad guid count at s image long opens (inr (inl none)) =
+  opened_not_bad guid count at s image long opens (inr (inl bad)) =
+      let end = k.end guid.0 image opens.entries opens.stands in
+      other_within at end.0 image bad guid opens.entries (record { whole = long; goes = end.1; good = opened_good guid count s image opens })
+      (k.whole bad.guid.0 guid.0 image (bad.first ∷ []) opens.entries bad.next bad.behind opens.stands)
+  opened_not_bad guid count at s image long opens (inr (inr (inl none))) =
       let is : [] ≡ opens.entries = k.same none.guid.0 guid.0 image [] opens.entries none.none opens.stands in
       let no : None ≡ Some s = ap (state_in guid) is ∙ opens.state in cc
-  opened_not_bad guid count at s image long opens (inr (inr (inl off))) = k.stands guid.0 image opens.entries at opens.stands (inr (record {
+  opened_not_bad guid count at s image long opens (inr (inr (inr (inl off)))) = k.stands guid.0 image opens.entries at opens.stands (inr (record {
     guid = off.guid.0;
     front = off.here.goes.front;
     records = off.entries;
@@ -228,15 +292,9 @@ module _ (k : Alike) where
     begins = off.here.goes.begins;
     broken = off.broken;
   }))
-  opened_not_bad guid count at s image long opens (inr (inr (inr bad))) =
-      none_within guid bad.entries opens.entries bad.entry (opened_good guid count s image opens)
-      (subst (λ (g : Guid). state_in g (bad.entries ++ bad.entry ∷ []) ≡ None) same_guids bad.unfit)
+  opened_not_bad guid count at s image long opens (inr (inr (inr (inr bad)))) =
+      none_within guid bad.entries opens.entries bad.entry (opened_good guid count s image opens) (none_in guid (bad.entries ++ bad.entry ∷ []) bad.unfit)
       (k.whole bad.guid.0 guid.0 image (bad.entries ++ bad.entry ∷ []) opens.entries bad.next bad.behind opens.stands)
-    where
-      -- the header is one
-      same_guids : bad.guid ≡ guid
-      same_guids = let end = k.end guid.0 image opens.entries opens.stands in
-          guid_is bad.guid guid (k.guid bad.guid.0 guid.0 image bad.entries opens.entries at end.0 bad.here.whole long bad.here.goes end.1)
 
 pub one_opening : ((guid other image : List ℕ) (records later : List (List ℕ)) → StandsFor guid records image → StandsFor other later image → records ≡ later) → ImagesOpenToOne
 one_opening one guid other count more s t image first second =

@@ -1,12 +1,12 @@
 -- How entries join those of a store.
-use Rattle.std.proofs.Common.{refl, sym, ◌∙◌, ap, subst}
+use Rattle.std.proofs.Common.{refl, ◌∙◌, ap}
 use Rattle.std.proofs.lemmas.List.Sums.{fold-append}
 use Rattle.std.specs.Prelude.{[], ◌++◌, ◌∷◌, ◌≡◌, Bool, List, None, Option, Some, cond, false, fold, map, option_and_then, option_map, true, ℕ}
 use Rattle.mqb_base.specs.Same.{same_guid}
 use Rattle.mqb_base.specs.declared.ids.Guid.{Guid}
 use Rattle.mqb_base.specs.declared.ids.Identity.{Identity}
 use Rattle.mqb_model.specs.laws.Durable.{DurableIsApplied, DurableIsFitted}
-use Rattle.mqb_model.specs.records.Applying.{apply, effect_of, fits}
+use Rattle.mqb_model.specs.records.Applying.{apply, fits}
 use Rattle.mqb_model.specs.records.Folding.{applied, applied_after, state_of}
 use Rattle.mqb_model.specs.records.Reading.{all_some, record_of}
 use Rattle.mqb_model.specs.records.Record.{Record}
@@ -14,7 +14,7 @@ use Rattle.mqb_model.specs.records.Record as entry
 use Rattle.mqb_model.specs.rules.Effects.{Effect}
 use Rattle.mqb_model.specs.state.Durable.{durable}
 use Rattle.mqb_model.specs.state.State.{State, empty}
-use Rattle.mqb_store_laws.specs.Images.{begins_as, identity_by, records_in, state_by, state_in}
+use Rattle.mqb_store_laws.specs.Images.{begins_as, identity_in, records_in, state_by, state_from, state_in, with_guid}
 use Rattle.mqb_store_laws.specs.Laws.{EntriesBegin, EntriesGoOn, RecordsJoin}
 
 -- what is there, and one more
@@ -42,6 +42,21 @@ records_push : (entries : List (List ℕ)) (more : List ℕ) (r : Record) → re
 records_push entries more r is = ap all_some (mapped_push record_of entries more) ∙ all_some_pushed (map record_of entries) (record_of more) r is
 
 -- the state that they stand for goes on by it
+of_push : (records : List Record) (s : State) (r : Record) → state_of records ≡ Some s → state_of (records ++ r ∷ []) ≡ applied s r
+of_push [] s r is = absurd (let no : None ≡ Some s = is in cc)
+of_push (entry.Identity identity ∷ records) s r is = fold-append applied_after (Some (empty identity)) records (r ∷ []) ∙ ap (λ o. applied_after o r) is
+of_push (entry.Peer peer ∷ records) s r is = absurd (let no : None ≡ Some s = is in cc)
+of_push (entry.CreateQueue number plan ∷ records) s r is = absurd (let no : None ≡ Some s = is in cc)
+of_push (entry.Commit now ops ∷ records) s r is = absurd (let no : None ≡ Some s = is in cc)
+of_push (entry.Plain now p ∷ records) s r is = absurd (let no : None ≡ Some s = is in cc)
+of_push (entry.Offered marks ∷ records) s r is = absurd (let no : None ≡ Some s = is in cc)
+of_push (entry.Arrived now numbers part ∷ records) s r is = absurd (let no : None ≡ Some s = is in cc)
+of_push (entry.Taken now at id ∷ records) s r is = absurd (let no : None ≡ Some s = is in cc)
+of_push (entry.Purged now at ∷ records) s r is = absurd (let no : None ≡ Some s = is in cc)
+of_push (entry.Ticked now ∷ records) s r is = absurd (let no : None ≡ Some s = is in cc)
+of_push (entry.Roll count ∷ records) s r is = absurd (let no : None ≡ Some s = is in cc)
+
+-- in a store too
 by_push : (guid : Guid) (records : List Record) (s : State) (r : Record) → state_by guid records ≡ Some s → state_by guid (records ++ r ∷ []) ≡ applied s r
 by_push guid [] s r is = absurd (let no : None ≡ Some s = is in cc)
 by_push guid (entry.Identity identity ∷ records) s r is = at (same_guid identity.guid guid) is
@@ -79,12 +94,45 @@ with_record guid entries more s r is reads = ap (option_and_then (state_by guid)
     at None none = absurd (let no : None ≡ Some s = none in cc)
     at (Some records) by = by_push guid records s r by
 
-pub entries_go_on : EntriesGoOn
-entries_go_on guid entries more s is = at (record_of more) refl
+-- whatever GUID the store has
+with_any : (entries : List (List ℕ)) (more : List ℕ) (s : State) (r : Record) → state_from entries ≡ Some s → record_of more ≡ Some r
+    → state_from (entries ++ more ∷ []) ≡ applied s r
+with_any entries more s r is reads = ap (option_and_then state_of) (records_push entries more r reads) ∙ at (records_in entries) is
+  where
+    at : (o : Option (List Record)) → option_and_then state_of o ≡ Some s → option_and_then state_of (option_map (push r) o) ≡ applied s r
+    at None none = absurd (let no : None ≡ Some s = none in cc)
+    at (Some records) of = of_push records s r of
+
+-- what entries stand for in a store they stand for
+from_store : (guid : Guid) (entries : List (List ℕ)) (s : State) → state_in guid entries ≡ Some s → state_from entries ≡ Some s
+from_store guid entries s is = at (records_in entries) is
+  where
+    at : (o : Option (List Record)) → option_and_then (state_by guid) o ≡ Some s → option_and_then state_of o ≡ Some s
+    at None none = absurd (let no : None ≡ Some s = none in cc)
+    at (Some records) by = tested (begins_as guid records) by
+      where
+        tested : (b : Bool) → cond b (state_of records) None ≡ Some s → state_of records ≡ Some s
+        tested false none = absurd (let no : None ≡ Some s = none in cc)
+        tested true of = of
+
+go_on_anywhere : (guid : Guid) (entries : List (List ℕ)) (more : List ℕ) (s : State) → state_in guid entries ≡ Some s
+    → state_from (entries ++ more ∷ []) ≡ option_and_then (applied s) (record_of more)
+go_on_anywhere guid entries more s is = at (record_of more) refl
+  where
+    at : (o : Option Record) → record_of more ≡ o → state_from (entries ++ more ∷ []) ≡ option_and_then (applied s) o
+    at None none = ap (option_and_then state_of) (records_none entries more none)
+    at (Some r) reads = with_any entries more s r (from_store guid entries s is) reads
+
+go_on_in_store : (guid : Guid) (entries : List (List ℕ)) (more : List ℕ) (s : State) → state_in guid entries ≡ Some s
+    → state_in guid (entries ++ more ∷ []) ≡ option_and_then (applied s) (record_of more)
+go_on_in_store guid entries more s is = at (record_of more) refl
   where
     at : (o : Option Record) → record_of more ≡ o → state_in guid (entries ++ more ∷ []) ≡ option_and_then (applied s) o
     at None none = ap (option_and_then (state_by guid)) (records_none entries more none)
     at (Some r) reads = with_record guid entries more s r is reads
+
+pub entries_go_on : EntriesGoOn
+entries_go_on = record { anywhere = go_on_anywhere; in_store = go_on_in_store }
 
 applied_where : (s : State) (r : Record) → fits s r ≡ true → applied s r ≡ Some (apply s r)
 applied_where s r fit = ap (λ b. cond b (Some (apply s r)) None) fit
@@ -93,14 +141,32 @@ pub records_join : DurableIsApplied → DurableIsFitted → RecordsJoin
 records_join same fitted guid entries more s r valid is reads fit = with_record guid entries more (durable s) r is reads
     ∙ applied_where (durable s) r (fitted s r valid ∙ fit) ∙ ap (λ (e : Effect). Some e.state) (same s r valid fit)
 
-pub entries_begin : EntriesBegin
-entries_begin guid first = at (record_of first)
+begin_anywhere : (first : List ℕ) → state_from (first ∷ []) ≡ option_map empty (identity_in (record_of first))
+begin_anywhere first = at (record_of first)
+  where
+    at : (o : Option Record) → option_and_then state_of (all_some (o ∷ [])) ≡ option_map empty (identity_in o)
+    at None = refl
+    at (Some (entry.Identity identity)) = refl
+    at (Some (entry.Peer peer)) = refl
+    at (Some (entry.CreateQueue number plan)) = refl
+    at (Some (entry.Commit now ops)) = refl
+    at (Some (entry.Plain now p)) = refl
+    at (Some (entry.Offered marks)) = refl
+    at (Some (entry.Arrived now numbers part)) = refl
+    at (Some (entry.Taken now place id)) = refl
+    at (Some (entry.Purged now place)) = refl
+    at (Some (entry.Ticked now)) = refl
+    at (Some (entry.Roll count)) = refl
+
+begin_in_store : (guid : Guid) (first : List ℕ)
+    → state_in guid (first ∷ []) ≡ option_map empty (option_and_then (with_guid guid) (identity_in (record_of first)))
+begin_in_store guid first = at (record_of first)
   where
     tested : (identity : Identity) (b : Bool) → cond b (Some (empty identity)) None ≡ option_map empty (cond b (Some identity) None)
     tested identity true = refl
     tested identity false = refl
 
-    at : (o : Option Record) → option_and_then (state_by guid) (all_some (o ∷ [])) ≡ option_map empty (identity_by guid o)
+    at : (o : Option Record) → option_and_then (state_by guid) (all_some (o ∷ [])) ≡ option_map empty (option_and_then (with_guid guid) (identity_in o))
     at None = refl
     at (Some (entry.Identity identity)) = tested identity (same_guid identity.guid guid)
     at (Some (entry.Peer peer)) = refl
@@ -113,3 +179,6 @@ entries_begin guid first = at (record_of first)
     at (Some (entry.Purged now place)) = refl
     at (Some (entry.Ticked now)) = refl
     at (Some (entry.Roll count)) = refl
+
+pub entries_begin : EntriesBegin
+entries_begin = record { anywhere = begin_anywhere; in_store = begin_in_store }

@@ -1,6 +1,6 @@
 -- What carries the condition of a state on a disk from call to call.
 use Rattle.std.proofs.Common.{inl, inr, sym, ⊎_elim, ◌∙◌, ap, subst, arith, length-append}
-use Rattle.std.specs.Prelude.{[], ◌+◌, ◌++◌, ◌∷◌, ◌≡◌, List, None, Option, Some, length, true, ℕ}
+use Rattle.std.specs.Prelude.{[], ◌++◌, ◌∷◌, ◌≡◌, List, None, Option, Some, true, ℕ}
 use Rattle.mqb_base.specs.declared.ids.Guid.{Guid}
 use Rattle.mqb_devices.specs.Disk.{IsSettled, Lawful, LeavesOnly, OnlyReads, View}
 use Rattle.mqb_devices.specs.Images.{Each}
@@ -8,7 +8,7 @@ use Rattle.mqb_devices.specs.Runs.{started, weaker}
 use Rattle.mqb_journal.specs.Carrying.{goes_on_read, goes_on_refused, goes_on_stands, goes_on_told}
 use Rattle.mqb_journal.specs.Journals.{GoesOn}
 use Rattle.mqb_journal.specs.States.{JournalState}
-use Rattle.mqb_journal.specs.Store.{IsBeforeOrAfter, StandsFor}
+use Rattle.mqb_journal.specs.Store.{IsBeforeOrAfter}
 use Rattle.mqb_model.specs.records.Applying.{apply, fits}
 use Rattle.mqb_model.specs.records.Reading.{record_of}
 use Rattle.mqb_model.specs.records.Record.{Record}

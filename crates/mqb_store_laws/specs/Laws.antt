@@ -9,16 +9,20 @@ use Rattle.mqb_model.specs.state.Durable.{durable}
 use Rattle.mqb_model.specs.state.State.{State, empty}
 use Rattle.mqb_model.specs.state.Valid.{IsValidState}
 use Rattle.mqb_store_laws.specs.Faults.{IsBadStore}
-use Rattle.mqb_store_laws.specs.Images.{OpensTo, identity_by, state_in}
+use Rattle.mqb_store_laws.specs.Images.{OpensTo, identity_in, state_from, state_in, with_guid}
 
--- The first entry stands for a manager that has nothing but its identity, where it is one with the store's GUID.
-abbrev pub EntriesBegin : Type 0
-EntriesBegin = (guid : Guid) (first : List ℕ) → state_in guid (first ∷ []) ≡ option_map empty (identity_by guid (record_of first))
+-- The first entry stands for a manager that has nothing but its identity, where it is an identity; in a store, where that has the store's GUID.
+pub record EntriesBegin : Type 0 where
+  pub anywhere : (first : List ℕ) → state_from (first ∷ []) ≡ option_map empty (identity_in (record_of first))
+  pub in_store : (guid : Guid) (first : List ℕ)
+      → state_in guid (first ∷ []) ≡ option_map empty (option_and_then (with_guid guid) (identity_in (record_of first)))
 
 -- One entry more stands for what its record, where it fits, makes of the state.
-abbrev pub EntriesGoOn : Type 0
-EntriesGoOn = (guid : Guid) (entries : List (List ℕ)) (more : List ℕ) (s : State) → state_in guid entries ≡ Some s
-    → state_in guid (entries ++ more ∷ []) ≡ option_and_then (applied s) (record_of more)
+pub record EntriesGoOn : Type 0 where
+  pub anywhere : (guid : Guid) (entries : List (List ℕ)) (more : List ℕ) (s : State) → state_in guid entries ≡ Some s
+      → state_from (entries ++ more ∷ []) ≡ option_and_then (applied s) (record_of more)
+  pub in_store : (guid : Guid) (entries : List (List ℕ)) (more : List ℕ) (s : State) → state_in guid entries ≡ Some s
+      → state_in guid (entries ++ more ∷ []) ≡ option_and_then (applied s) (record_of more)
 
 -- A record that fits a valid state joins the entries that stand for what a store has of it.
 abbrev pub RecordsJoin : Type 0

@@ -3,7 +3,7 @@ ghost use Rattle.mqb_store_laws.specs.Laws.{BadAtOnePlace, EntriesBegin, Entries
 use mqb_journal::{chains_begin_alike, records_are_not_bad, stands_for_one_list};
 use mqb_model::{durable_is_applied, durable_is_fitted};
 
-/// The first entry stands for a manager that has nothing but its identity, where it is one with the store's GUID.
+/// The first entry stands for a manager that has nothing but its identity, where it is one; in a store, where that has the store's GUID.
 pub fn entries_begin()
     ensures { EntriesBegin }
 {}

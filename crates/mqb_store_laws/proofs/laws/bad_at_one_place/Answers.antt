@@ -1,4 +1,4 @@
-use Rattle.mqb_store_laws.proofs.Bad.{Alike, bad_at_one}
+use Rattle.mqb_store_laws.proofs.Bad.{bad_at_one}
 use Rattle.mqb_store_laws.proofs.laws.bad_at_one_place.Goals as goal
 
 pub returns : goal.returns

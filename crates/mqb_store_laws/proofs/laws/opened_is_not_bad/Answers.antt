@@ -1,4 +1,4 @@
-use Rattle.mqb_store_laws.proofs.Bad.{Alike, opened_not_bad}
+use Rattle.mqb_store_laws.proofs.Bad.{opened_not_bad}
 use Rattle.mqb_store_laws.proofs.laws.opened_is_not_bad.Goals as goal
 
 pub returns : goal.returns
