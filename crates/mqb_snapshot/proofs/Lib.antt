@@ -4,6 +4,7 @@ pub mod Sized
 pub mod Carried
 mod Backs
 pub mod Members
+pub mod SoFar
 mod FieldsAgain
 mod PeersAgain
 mod PlacesAgain

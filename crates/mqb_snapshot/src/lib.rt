@@ -12,6 +12,7 @@ mod parts;
 mod puts;
 mod snapshot;
 mod tail;
+mod typed;
 
 pub use laws::{one_peer_is_spelled, snapshots_are_read_back};
 pub use messages::NOBODY;

@@ -6,8 +6,10 @@ ghost use Rattle.mqb_fate.specs.Asking.{is_transactional};
 ghost use Rattle.mqb_packet.specs.Plain.{base_for, message_size, plain_user_packet};
 ghost use Rattle.mqb_packet.specs.declared.packet.Headers.TheVariants.{Bare};
 ghost use Rattle.mqb_snapshot.specs.Spelled.{IsSized, header_of, spelled_message, spelled_messages, stored};
+ghost use Rattle.mqb_snapshot.specs.Values.{AreHeld, IsHeld};
 
 use crate::tail::Tail;
+use crate::typed::message_fits;
 use mqb_base::{Bytes, Delivery, Guid, Memory, Message, QueueName, Units};
 use mqb_heads::BaseHead;
 use mqb_packet::{Headers, message_size, plain_size};
@@ -89,7 +91,9 @@ impl Tail {
         requires { IsSized message.now }
         ensures added { OnOk result (self.new.text ≡ self.old.text ++ spelled_message message.now) }
         ensures front { self.new.front ≡ self.old.front }
+        ensures typed { IsHeld message.now }
     {
+        message_fits(message);
         self.flag(matches!(message.delivery, Delivery::Transactional))?;
         self.packet(alloc, message)?;
         Ok(())
@@ -102,6 +106,7 @@ impl Tail {
         ensures added { OnOk result (self.new.text ≡
             self.old.text ++ spelled_messages messages.now) }
         ensures front { self.new.front ≡ self.old.front }
+        ensures typed { OnOk result (AreHeld messages.now) }
     {
         self.u32(messages.len() as u32)?;
         for message in messages {

@@ -3,8 +3,10 @@ ghost use Rattle.mqb_base.specs.QueueNames.{names_queue};
 ghost use Rattle.mqb_base.specs.declared.roomed.TheConstants.{MAX_MEMBERS};
 ghost use Rattle.mqb_orders.specs.Rows.{row_of};
 ghost use Rattle.mqb_snapshot.specs.Spelled.{IsSized, counted, spelled_identity, spelled_in, spelled_kept, spelled_out, spelled_plan};
+ghost use Rattle.mqb_snapshot.specs.Values.{IsCounted, IsHeld, IsIdentity, IsIn, IsOut, IsPlan};
 
 use crate::tail::Tail;
+use crate::typed::{destination_fits, identity_fits, in_row_fits, plan_fits, word_fits};
 use mqb_base::{Identity, Memory, QueuePlan};
 use mqb_orders::{InRow, Kept, KeptList, OutRow};
 use std::alloc::Global;
@@ -14,7 +16,9 @@ impl Tail {
         ensures added { OnOk result (self.new.text ≡
             self.old.text ++ spelled_identity identity.now) }
         ensures front { self.new.front ≡ self.old.front }
+        ensures typed { IsIdentity identity.now }
     {
+        identity_fits(identity);
         self.name(&identity.host)?;
         self.guid(&identity.guid)?;
         self.put(&identity.address)
@@ -25,6 +29,7 @@ impl Tail {
         ensures added { OnOk result (self.new.text ≡
             self.old.text ++ counted spelled_identity identities.now) }
         ensures front { self.new.front ≡ self.old.front }
+        ensures typed { OnOk result (All IsIdentity identities.now) }
     {
         self.u32(identities.len() as u32)?;
         for identity in identities {
@@ -36,7 +41,9 @@ impl Tail {
     pub(crate) fn queue_plan(&mut self, plan: &QueuePlan) -> Result<(), Memory>
         ensures added { OnOk result (self.new.text ≡ self.old.text ++ spelled_plan plan.now) }
         ensures front { self.new.front ≡ self.old.front }
+        ensures typed { IsPlan plan.now }
     {
+        plan_fits(plan);
         self.name(&plan.name)?;
         self.public(&plan.public)?;
         self.flag(plan.transactional)?;
@@ -49,6 +56,7 @@ impl Tail {
         requires { IsSized kept.now.message }
         ensures added { OnOk result (self.new.text ≡ self.old.text ++ spelled_kept kept.now) }
         ensures front { self.new.front ≡ self.old.front }
+        ensures typed { OnOk result (IsHeld kept.now.message) }
     {
         self.u32(kept.number)?;
         self.message(alloc, &kept.message)
@@ -59,6 +67,8 @@ impl Tail {
         ensures added { OnOk result (self.new.text ≡
             self.old.text ++ counted spelled_kept list.now.items) }
         ensures front { self.new.front ≡ self.old.front }
+        ensures few { OnOk result (IsCounted list.now.items) }
+        ensures typed { OnOk result (All (λ k. IsHeld k.message) list.now.items) }
     {
         self.u32(list.len())?;
         for at in 0..list.len() {
@@ -73,7 +83,10 @@ impl Tail {
         ensures added { OnOk result (self.new.text ≡
             self.old.text ++ spelled_out (row_of row.now)) }
         ensures front { self.new.front ≡ self.old.front }
+        ensures typed { OnOk result (IsOut (row_of row.now)) }
     {
+        destination_fits(&row.destination);
+        word_fits(row.sequence.stamp);
         self.u32(row.peer)?;
         self.destination(&row.destination)?;
         self.u32(row.sequence.ordinal)?;
@@ -88,7 +101,9 @@ impl Tail {
         requires { IsTrue (names_queue row.now.destination) }
         ensures added { OnOk result (self.new.text ≡ self.old.text ++ spelled_in row.now) }
         ensures front { self.new.front ≡ self.old.front }
+        ensures typed { IsIn row.now }
     {
+        in_row_fits(row);
         self.guid(&row.source)?;
         self.destination(&row.destination)?;
         self.u32(row.sequence.ordinal)?;

@@ -9,6 +9,7 @@ ghost use Rattle.mqb_queue.specs.Places.{lists_at};
 ghost use Rattle.mqb_snapshot.specs.Snapshot.{snapshot, spelled_counters};
 ghost use Rattle.mqb_snapshot.specs.Spellable.{AreSized, IsSpellable};
 ghost use Rattle.mqb_snapshot.specs.Spelled.{IsSized, counted, spelled_in, spelled_messages, spelled_out, spelled_places, spelled_plain, spelled_plan, spelled_queue};
+ghost use Rattle.mqb_snapshot.specs.Values.{AreHeld, IsIn, IsOut, IsPlan, IsState};
 
 use crate::tail::Tail;
 use mqb_base::{EntryPlace, Lane, Memory};
@@ -24,6 +25,7 @@ impl Tail {
         ensures added { OnOk result (self.new.text ≡
             self.old.text ++ counted (λ q. spelled_plan q.plan) queues.now.lists.queues) }
         ensures front { self.new.front ≡ self.old.front }
+        ensures typed { OnOk result (All (λ q. IsPlan q.plan) queues.now.lists.queues) }
     {
         let count = queues.count();
         self.u32(count)?;
@@ -39,6 +41,8 @@ impl Tail {
         ensures added { OnOk result (IsSomeAnd (lists_at queues.now.lists at)
             (λ l. self.new.text ≡ self.old.text ++ spelled_messages l.durable)) }
         ensures front { self.new.front ≡ self.old.front }
+        ensures typed { OnOk result (IsSomeAnd (lists_at queues.now.lists at)
+            (λ l. AreHeld l.durable)) }
     {
         match (queues.messages_at(at, Lane::Durable), queues.len_at(at)) {
             (Some(messages), Some(_)) => self.messages(alloc, messages),
@@ -54,6 +58,8 @@ impl Tail {
         ensures added { OnOk result (IsSomeAnd (slice_get queues.now.lists.queues k)
             (λ q. self.new.text ≡ self.old.text ++ spelled_queue q)) }
         ensures front { self.new.front ≡ self.old.front }
+        ensures typed { OnOk result (IsSomeAnd (slice_get queues.now.lists.queues k)
+            (λ q. AreHeld q.lists.durable × AreHeld q.journal.durable)) }
     {
         self.place(alloc, queues, EntryPlace::Queue(k + 1))?;
         self.place(alloc, queues, EntryPlace::JournalOf(k + 1))
@@ -65,6 +71,8 @@ impl Tail {
         ensures added { OnOk result (self.new.text ≡
             self.old.text ++ flat_map spelled_queue queues.now.lists.queues) }
         ensures front { self.new.front ≡ self.old.front }
+        ensures typed { OnOk result (All (λ q. AreHeld q.lists.durable × AreHeld q.journal.durable)
+            queues.now.lists.queues) }
     {
         for k in 0..queues.count() {
             self.queue(alloc, queues, k)?;
@@ -77,6 +85,11 @@ impl Tail {
         ensures added { OnOk result (self.new.text ≡
             self.old.text ++ spelled_places queues.now.lists) }
         ensures front { self.new.front ≡ self.old.front }
+        ensures queues { OnOk result (All (λ q. AreHeld q.lists.durable × AreHeld q.journal.durable)
+            queues.now.lists.queues) }
+        ensures dead { OnOk result (AreHeld queues.now.lists.dead.durable) }
+        ensures dead_xact { OnOk result (AreHeld queues.now.lists.dead_xact.durable) }
+        ensures journal { OnOk result (AreHeld queues.now.lists.journal.durable) }
     {
         self.queues(alloc, queues)?;
         self.place(alloc, queues, EntryPlace::Dead)?;
@@ -91,6 +104,8 @@ impl Tail {
         ensures added { OnOk result (IsSomeAnd (slice_get contents.now.lists.plain k)
             (λ p. self.new.text ≡ self.old.text ++ spelled_plain p)) }
         ensures front { self.new.front ≡ self.old.front }
+        ensures typed { OnOk result (IsSomeAnd (slice_get contents.now.lists.plain k)
+            (λ p. AreHeld (messages_of p.recoverable))) }
     {
         let plain = contents.plain(k);
         let _count = plain.len();
@@ -102,6 +117,8 @@ impl Tail {
         ensures added { OnOk result (self.new.text ≡
             self.old.text ++ flat_map spelled_plain contents.now.lists.plain) }
         ensures front { self.new.front ≡ self.old.front }
+        ensures typed { OnOk result (All (λ p. AreHeld (messages_of p.recoverable))
+            contents.now.lists.plain) }
     {
         for k in 0..contents.peers().len() as u32 {
             self.waiting(alloc, contents, k)?;
@@ -116,6 +133,7 @@ impl Tail {
         ensures added { OnOk result (self.new.text ≡
             self.old.text ++ counted spelled_out (map row_of rows.now)) }
         ensures front { self.new.front ≡ self.old.front }
+        ensures typed { OnOk result (All IsOut (map row_of rows.now)) }
     {
         self.u32(rows.len() as u32)?;
         for row in rows {
@@ -129,6 +147,7 @@ impl Tail {
         requires named { All (λ row. IsTrue (names_queue row.destination)) rows.now }
         ensures added { OnOk result (self.new.text ≡ self.old.text ++ counted spelled_in rows.now) }
         ensures front { self.new.front ≡ self.old.front }
+        ensures typed { OnOk result (All IsIn rows.now) }
     {
         self.u32(rows.len() as u32)?;
         for row in rows {
@@ -154,6 +173,7 @@ impl Tail {
         requires { IsSpellable contents.now.lists }
         ensures added { OnOk result (self.new.text ≡ self.old.text ++ snapshot contents.now.lists) }
         ensures front { self.new.front ≡ self.old.front }
+        ensures typed { OnOk result (IsState contents.now.lists) }
     {
         self.identity(contents.identity())?;
         self.identities(contents.peers())?;
@@ -172,6 +192,7 @@ pub fn spell(alloc: Global, contents: &Contents, out: &mut Vec<u8>) -> Result<()
     requires { IsValidState contents.now.lists }
     ensures spelled { OnOk result (out.new.items ≡
         out.old.items ++ snapshot contents.now.lists) }
+    ensures typed { OnOk result (IsState contents.now.lists) }
     ensures refused { OnErr result (out.new.items ≡ out.old.items) }
 {
     let mut tail = Tail::new(mem::replace(out, Vec::new(alloc)));

@@ -1,16 +1,21 @@
-ghost use Rattle.std.specs.Prelude.{◌≡◌, ◌++◌, ◌<◌, OnErr, OnOk, Some, length, map, slice_get};
+ghost use Rattle.std.specs.Prelude.{◌≡◌, ◌++◌, ◌<◌, Ok, OnErr, OnOk, Some, length, map, slice_get};
 ghost use Rattle.mqb_listing.specs.Listing.{listing};
+ghost use Rattle.mqb_model.specs.state.Durable.{durable};
 ghost use Rattle.mqb_model.specs.state.Valid.{IsValidState};
 ghost use Rattle.mqb_orders.specs.Rows.{row_of};
+ghost use Rattle.mqb_snapshot.specs.Reading.{state_of};
 ghost use Rattle.mqb_snapshot.specs.Snapshot.{snapshot};
+ghost use Rattle.mqb_snapshot.specs.Values.{IsState};
 ghost use Rattle.mqb_tables.specs.Tables.{LeadsTo, LeadsToLast, LeadsToSource};
 
 use crate::state::State;
 use indexmap::IndexMap;
 use mqb_base::{Identity, Memory};
+use mqb_contents::Contents;
 use mqb_orders::{InKey, InRow, OutKey, OutRow};
 use mqb_plain::PlainOut;
 use mqb_queue::Queues;
+use mqb_snapshot::snapshots_are_read_back;
 
 /// What it has.
 impl State {
@@ -19,6 +24,13 @@ impl State {
         ensures { IsValidState self.now.lists }
     {
         let _identity = self.contents.identity();
+    }
+
+    /// What it keeps, for calls that look through all of it.
+    pub fn contents(&self) -> &Contents
+        ensures { result.now ≡ self.now }
+    {
+        &self.contents
     }
 
     pub fn identity(&self) -> &Identity
@@ -117,10 +129,15 @@ impl State {
     /// Adds the bytes of what a store stands for: express messages and marks are left out.
     pub fn spell(&self, out: &mut Vec<u8>) -> Result<(), Memory>
         ensures valid { IsValidState self.now.lists }
+        ensures typed { OnOk result (IsState self.now.lists) }
         ensures spelled { OnOk result (out.new.items ≡
             out.old.items ++ snapshot self.now.lists) }
         ensures refused { OnErr result (out.new.items ≡ out.old.items) }
+        // Those bytes are read as it, without what a store does not stand for.
+        ensures again { OnOk result (state_of (snapshot self.now.lists) ≡
+            Ok (durable self.now.lists)) }
     {
+        snapshots_are_read_back();
         mqb_snapshot::spell(self.alloc, &self.contents, out)
     }
 }

@@ -1,9 +1,12 @@
-use Rattle.std.proofs.Common.{◌++◌, ap, map, ◌∙◌}
+use Rattle.std.proofs.Common.{◌++◌, ap, arith, map, subst, ◌∙◌}
 use Rattle.std.specs.List.{flat_map}
+use Rattle.std.specs.Prelude.{All}
 use Rattle.mqb_base.specs.declared.ids.Identity.{Identity}
 use Rattle.mqb_orders.specs.Rows.{row_of}
+use Rattle.mqb_queue.specs.Places.{Places}
 use Rattle.mqb_snapshot.specs.Spelled.{counted, spelled_identity, spelled_in, spelled_out, spelled_places, spelled_plain, spelled_plan}
 use Rattle.mqb_snapshot.specs.Snapshot.{spelled_counters}
+use Rattle.mqb_snapshot.specs.Values.{AreHeld, IsIdentity, IsIn, IsOut, IsPlan}
 use Rattle.mqb_snapshot.proofs.Walks.{chained, two_added}
 use Rattle.mqb_snapshot.proofs.tail.Tail.contents.Goals as goal
 
@@ -26,3 +29,25 @@ returns-clause-added c =
     let six = chained (counted spelled_out) old plain c.waiting_for_all.new.self.text c.out_rows.new.self.text (map row_of c.outs.result.now) s.outs five c.in_ok-out_rows.ensures.added c.outs.ensures.rows in
     let seven = chained (counted spelled_in) old outs c.out_rows.new.self.text c.in_rows.new.self.text c.ins.result.now s.ins six c.in_ok-in_rows.ensures.added c.ins.ensures.rows in
     two_added old ins (spelled_counters s) c.in_rows.new.self.text c.counters.new.self.text seven c.in_ok-counters.ensures.added
+
+pub returns-clause-typed : goal.returns-clause-typed
+returns-clause-typed c =
+    let s = c.args.contents.now.lists in
+    let plans : All (λ q. IsPlan q.plan) s.places.queues = subst (λ (p : Places). All (λ q. IsPlan q.plan) p.queues) c.queues.ensures.places c.in_ok-plans.ensures.typed in
+    let held : All (λ q. AreHeld q.lists.durable × AreHeld q.journal.durable) s.places.queues =
+    subst (λ (p : Places). All (λ q. AreHeld q.lists.durable × AreHeld q.journal.durable) p.queues) c.queues-2.ensures.places c.in_ok-places.ensures.queues in
+    record {
+      identity = subst IsIdentity c.identity.ensures c.in_ok-identity.ensures.typed;
+      peers = subst (All IsIdentity) c.peers.ensures.peers c.in_ok-identities.ensures.typed;
+      places = record {
+        queues = λ k d lt. record { plan = plans k d lt; lists = (held k d lt).0; journal = (held k d lt).1 };
+        dead = subst (λ (p : Places). AreHeld p.dead.durable) c.queues-2.ensures.places c.in_ok-places.ensures.dead;
+        dead_xact = subst (λ (p : Places). AreHeld p.dead_xact.durable) c.queues-2.ensures.places c.in_ok-places.ensures.dead_xact;
+        journal = subst (λ (p : Places). AreHeld p.journal.durable) c.queues-2.ensures.places c.in_ok-places.ensures.journal;
+      };
+      plain = c.in_ok-waiting_for_all.ensures.typed;
+      few_outs = let most = c.outs.ensures.within in omega (arith, most);
+      outs = subst (All IsOut) c.outs.ensures.rows c.in_ok-out_rows.ensures.typed;
+      few_ins = let most = c.ins.ensures.within in omega (arith, most);
+      ins = subst (All IsIn) c.ins.ensures.rows c.in_ok-in_rows.ensures.typed;
+    }

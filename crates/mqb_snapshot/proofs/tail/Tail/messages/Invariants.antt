@@ -1,5 +1,7 @@
 use Rattle.std.proofs.Common.{◌≡◌}
 use Rattle.mqb_snapshot.specs.Spelled.{spelled_message}
+use Rattle.mqb_snapshot.specs.Values.{IsHeld}
+use Rattle.mqb_snapshot.proofs.SoFar.{SoFar}
 use Rattle.mqb_snapshot.proofs.Walks.{PutSoFar}
 use Rattle.mqb_snapshot.proofs.tail.Tail.messages.Given as goal
 
@@ -7,4 +9,5 @@ abbrev pub invariant-loop-message : goal.invariant-loop-message
 invariant-loop-message l = record {
   put : PutSoFar spelled_message l.messages l.message-index l.initial.self.text l.self.text;
   front : l.self.front ≡ l.fn.self.front;
+  typed : SoFar IsHeld l.messages l.message-index;
 }

@@ -7,6 +7,8 @@ use Rattle.std.proofs.lemmas.List.Folds.{flat_map-map}
 use Rattle.mqb_orders.specs.Rows.{row_of}
 use Rattle.mqb_snapshot.specs.Spelled.{IsSized, spelled_out, word}
 use Rattle.mqb_snapshot.proofs.Carried.{item_of}
+use Rattle.mqb_snapshot.specs.Values.{IsOut}
+use Rattle.mqb_snapshot.proofs.SoFar.{more, of_all, of_seen}
 use Rattle.mqb_snapshot.proofs.Walks.{put_more, put_all}
 use Rattle.mqb_snapshot.proofs.tail.Tail.out_rows.Goals as goal
 
@@ -22,6 +24,7 @@ pub loop-row-preserved : goal.loop-row-preserved
 loop-row-preserved c = record {
   put = put_more (λ r. spelled_out (row_of r)) c.args.rows.now c.loop-row.row-index c.u32.new.self.text c.loop-row.self.text c.row-item.result c.out_row.new.self.text c.loop-row.invariant.put c.loop-row-test.true c.row-item.is c.in_ok-out_row.ensures.added;
   front = c.in_ok-out_row.ensures.front ∙ c.loop-row.invariant.front;
+  typed = more (λ r. IsOut (row_of r)) c.args.rows.now c.loop-row.row-index c.row-item.result c.loop-row.invariant.typed c.loop-row-test.true c.row-item.is c.in_ok-out_row.ensures.typed;
 }
 
 pub returns : goal.returns
@@ -31,4 +34,5 @@ returns c = record {
       ∙ ap (λ (t : List ℕ). c.args.self.now.text ++ (word (length c.args.rows.now) ++ t)) (sym (flat_map-map spelled_out row_of c.args.rows.now))
       ∙ ap (λ (n : ℕ). c.args.self.now.text ++ (word n ++ flat_map spelled_out (map row_of c.args.rows.now))) (sym (length-map c.args.rows.now row_of));
   front = c.loop-row.invariant.front;
+  typed = of_seen IsOut row_of c.args.rows.now (of_all (λ r. IsOut (row_of r)) c.args.rows.now c.loop-row.row-index (omega (arith, c.loop-row-test.false)) c.loop-row.invariant.typed);
 }
