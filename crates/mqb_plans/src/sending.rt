@@ -1,0 +1,153 @@
+ghost use Rattle.std.specs.Prelude.{◌≡◌, IfErr, IfOk, false, true};
+ghost use Rattle.mqb_base.specs.Messages.{IsWellFormed};
+ghost use Rattle.mqb_base.specs.declared.message.Delivery.TheVariants.{Recoverable};
+ghost use Rattle.mqb_model.specs.calls.Send.{send};
+ghost use Rattle.mqb_model.specs.laws.Fitting.{IsDrafted};
+ghost use Rattle.mqb_model.specs.records.Packets.{is_too_large};
+ghost use Rattle.mqb_model.specs.state.Resolving.{guid_at};
+ghost use Rattle.mqb_packet.specs.declared.packet.Headers.TheVariants as headers;
+ghost use Rattle.mqb_plans.specs.Answers.{send_plan};
+ghost use Rattle.mqb_plans.specs.Calls.{sending};
+ghost use Rattle.mqb_plans.specs.Plans.{CanWrite, ComesTo, KeepsStore, KeepsValid, RefusesSend};
+
+use crate::messages::plain_message;
+use crate::refusals::{message_fault, target_fault};
+use crate::spelling::SentRecord;
+use crate::values::draft_fits;
+use mqb_base::{Draft, Guid, Memory, Message, MessageId};
+use mqb_contents::Contents;
+use mqb_express::ExpressWork;
+use mqb_model::{
+    SendFault, Target, calls_keep_valid, calls_leave_store, records_are_read, records_fit,
+};
+use mqb_rules::resolved;
+use std::alloc::Global;
+
+/// A message that is to be sent: a recoverable one by its record, and an express one without.
+#[derive(Debug, Drop)]
+pub struct Sending {
+    /// The message's identifier, for the answer.
+    pub id: MessageId,
+    /// What is to be written.
+    pub sent: SentRecord,
+    /// What is to be done beside it.
+    pub work: ExpressWork,
+}
+
+/// The manager to which a message for a target goes.
+fn guid_at(contents: &Contents, target: Target) -> Guid
+    ensures { result ≡ guid_at contents.now.lists target }
+{
+    match target {
+        Target::AtPeer(k) => match contents.peers().get(k as usize) {
+            Some(peer) => peer.guid,
+            None => contents.identity().guid,
+        },
+        Target::Here(_) | Target::Nowhere => contents.identity().guid,
+    }
+}
+
+fn send_recoverable(
+    alloc: Global,
+    contents: &Contents,
+    message: &Message,
+    now: u32,
+) -> Result<Sending, Memory>
+    requires well_formed { IsWellFormed message.now }
+    requires recoverable { message.now.delivery ≡ Recoverable }
+    requires size { is_too_large headers.Session message.now ≡ false }
+    ensures plan { IfOk result (λ t.
+        send_plan t ≡ sending contents.now.lists true now message.now) }
+    ensures id { IfOk result (λ t. t.id ≡ message.now.id) }
+{
+    let to = guid_at(contents, resolved(contents, &message.destination));
+    Ok(Sending {
+        id: message.id,
+        sent: SentRecord::new(alloc, message, to, now)?,
+        work: ExpressWork::Nothing,
+    })
+}
+
+fn send_express(contents: &Contents, message: Message, now: u32) -> Sending
+    ensures plan { send_plan result ≡ sending contents.now.lists false now message }
+    ensures id { result.id ≡ message.id }
+{
+    Sending {
+        id: message.id,
+        sent: SentRecord::none(now),
+        work: ExpressWork::Sends { now, message },
+    }
+}
+
+/// A message that no reason is against is to be sent.
+fn send_message(
+    alloc: Global,
+    contents: &Contents,
+    message: Message,
+    recoverable: bool,
+    now: u32,
+) -> Result<Sending, Memory>
+    requires well_formed { IsWellFormed message }
+    requires recoverable { recoverable ≡ true → message.delivery ≡ Recoverable }
+    requires size { is_too_large headers.Session message ≡ false }
+    ensures plan { IfOk result (λ t.
+        send_plan t ≡ sending contents.now.lists recoverable now message) }
+    ensures id { IfOk result (λ t. t.id ≡ message.id) }
+{
+    if recoverable {
+        send_recoverable(alloc, contents, &message, now)
+    } else {
+        Ok(send_express(contents, message, now))
+    }
+}
+
+fn send(
+    alloc: Global,
+    contents: &Contents,
+    draft: &Draft,
+    recoverable: bool,
+    now: u32,
+) -> Result<Sending, SendFault>
+    ensures planned { IfOk result (λ t. ComesTo contents.now.lists
+        (λ m. send m draft.now recoverable now) (send_plan t) t.id) }
+    ensures refused { IfErr result (RefusesSend contents.now.lists
+        (λ m. send m draft.now recoverable now)) }
+{
+    let parts = draft.parts();
+    if let Some(fault) = target_fault(contents, resolved(contents, &parts.destination)) {
+        return Err(fault);
+    }
+    let message = plain_message(contents, parts, recoverable, now)?;
+    if let Some(fault) = message_fault(contents, recoverable, &message) {
+        return Err(fault);
+    }
+    Ok(send_message(alloc, contents, message, recoverable, now)?)
+}
+
+/// A message of what its sender chose is to be sent, outside of transactions. It is made once, and a recoverable one is spelled once. A refusal is the
+/// first reason against it in the order of `SendFault`, or want of memory.
+pub fn plan_send(
+    alloc: Global,
+    contents: &Contents,
+    draft: &Draft,
+    recoverable: bool,
+    now: u32,
+) -> Result<Sending, SendFault>
+    ensures planned { IfOk result (λ t. ComesTo contents.now.lists
+        (λ m. send m draft.now recoverable now) (send_plan t) t.id) }
+    ensures refused { IfErr result (RefusesSend contents.now.lists
+        (λ m. send m draft.now recoverable now)) }
+    ensures writable { IfOk result (λ t. CanWrite contents.now.lists (send_plan t)) }
+    ensures stays_valid { IfOk result (λ t. KeepsValid contents.now.lists (send_plan t)) }
+    ensures stays_stored { IfOk result (λ t. KeepsStore contents.now.lists (send_plan t)) }
+
+    // What a sender chooses is sound.
+    ensures drafted { IsDrafted draft.now }
+{
+    draft_fits(draft);
+    records_fit();
+    records_are_read();
+    calls_keep_valid();
+    calls_leave_store();
+    send(alloc, contents, draft, recoverable, now)
+}
