@@ -1,0 +1,6 @@
+pub mod Short
+pub mod Beginning
+pub mod Kept
+pub mod Faulty
+pub mod Read
+pub mod Steps

@@ -1,0 +1,109 @@
+-- What a step of a scan tells of a store.
+use Rattle.std.proofs.Common.{◌∙◌, ap, refl, subst, sym}
+use Rattle.std.specs.Prelude.{[], ◌++◌, ◌<◌, ◌≡◌, ◌∷◌, Bool, Err, List, None, Ok, Result, cond, false, length, not, option_map, true, ℕ}
+use Rattle.mqb_base.specs.declared.ids.Guid.{Guid}
+use Rattle.mqb_devices.specs.Disk.{OnlyReads, View}
+use Rattle.mqb_devices.specs.Images.{Each}
+use Rattle.mqb_journal.specs.Causes.{FaultsAsSaid, open_failed}
+use Rattle.mqb_journal.specs.Journals.{Lent}
+use Rattle.mqb_journal.specs.States.{ScanState, advanced, ended}
+use Rattle.mqb_journal.specs.declared.faults.OpenFault.{OpenFault}
+use Rattle.mqb_journal.specs.declared.faults.OpenFault.TheVariants as opening
+use Rattle.mqb_model.specs.records.Reading.{record_of}
+use Rattle.mqb_model.specs.state.State.{empty}
+use Rattle.mqb_outside.specs.Faults.{Rose}
+use Rattle.mqb_store.proofs.Faulty.{StandsBehind, does_not_fit, no_record}
+use Rattle.mqb_store_laws.specs.Faults.{IsBadStore, MayGoOn}
+use Rattle.mqb_store_laws.specs.Images.{identity_in, state_from}
+use Rattle.mqb_store_laws.specs.Laws.{EntriesBegin}
+
+-- the place that a fault tells
+place_in : {T : Type 0} → Result T OpenFault → ℕ
+place_in (Ok x) = 0
+place_in (Err opening.NotEmpty) = 0
+place_in (Err (opening.BadStore at)) = at
+place_in (Err opening.Memory) = 0
+place_in (Err opening.DiskFault) = 0
+
+pub same_place : {T : Type 0} (at other : ℕ) → ◌≡◌ {A = Result T OpenFault} (Err (opening.BadStore at)) (Err (opening.BadStore other)) → at ≡ other
+unfolding place_in
+same_place {T} at other is = ap (place_in {T = T}) is
+
+-- A scan that stood behind these records went on to one more.
+pub record HasGoneOn (d e : View) (s t : ScanState) (records : List (List ℕ)) : Type 0 where
+  pub behind : StandsBehind d s records
+  pub next : t ≡ advanced s t.lent
+  pub within : t.gate < t.len
+  pub lent : Lent e t (records ++ t.lent ∷ [])
+  pub reads : OnlyReads d e
+
+pub same_guid_then : {d e : View} {s t : ScanState} {records : List (List ℕ)} → HasGoneOn d e s t records → t.guid ≡ s.guid
+same_guid_then gone = ap (λ (u : ScanState). u.guid) gone.next
+
+pub stands_then : {d e : View} {s t : ScanState} {records : List (List ℕ)} → HasGoneOn d e s t records → StandsBehind e t (records ++ t.lent ∷ [])
+stands_then gone = record {
+  whole = subst (λ (g : Guid). length g.0 ≡ 16) (sym (same_guid_then gone)) gone.behind.whole;
+  within = gone.within;
+  lent = gone.lent;
+}
+
+-- the entry that was lent does not go on from those before it
+pub unfit_then : {d e : View} {s t : ScanState} {records : List (List ℕ)} (gone : HasGoneOn d e s t records) (at : ℕ) → MayGoOn s.guid records
+    → at ≡ t.place → state_from (records ++ t.lent ∷ []) ≡ None → Each d.reads (IsBadStore at)
+unfit_then {d} {e} {s} {t} {records} gone at good place unfit =
+    does_not_fit d e s t records t.lent at gone.behind good (stands_then gone) (same_guid_then gone) gone.reads
+    (place ∙ ap (λ (u : ScanState). u.place) gone.next) unfit
+
+-- A scan that stood behind these records came to their end.
+pub record HasEnded (d e : View) (s t : ScanState) (records : List (List ℕ)) : Type 0 where
+  pub behind : StandsBehind d s records
+  pub next : t ≡ ended s
+  pub within : t.gate < t.len
+  pub lent : Lent e t records
+  pub reads : OnlyReads d e
+
+pub stands_at_end : {d e : View} {s t : ScanState} {records : List (List ℕ)} → HasEnded d e s t records → StandsBehind e t records
+stands_at_end done = record {
+  whole = subst (λ (u : ScanState). length u.guid.0 ≡ 16) (sym done.next) done.behind.whole;
+  within = done.within;
+  lent = done.lent;
+}
+
+-- there is no first record
+pub none_then : {d e : View} {s t : ScanState} (done : HasEnded d e s t []) (at : ℕ) → s.place ≡ s.gate → at ≡ t.place → Each d.reads (IsBadStore at)
+none_then {d} {e} {s} {t} done at first place c told =
+    subst (λ (k : ℕ). IsBadStore k c)
+    (ap (λ (u : ScanState). u.gate) done.next ∙ (sym first ∙ (sym (ap (λ (u : ScanState). u.place) done.next) ∙ sym place)))
+    (no_record e t (stands_at_end done) (ap (λ (u : ScanState). u.ended) done.next) c (done.reads.unchanged.reads.none_lost c told))
+
+-- the first record is no identity
+pub no_identity : EntriesBegin → (first : List ℕ) → identity_in (record_of first) ≡ None → state_from ([] ++ first ∷ []) ≡ None
+no_identity law first none = law.anywhere first ∙ ap (λ o. option_map empty o) none
+
+pub not_false : (b : Bool) → true ≡ not b → b ≡ false
+not_false false is = refl
+not_false true is = is
+
+pub not_true : (b : Bool) → false ≡ not b → b ≡ true
+not_true true is = refl
+not_true false is = is
+
+fault_in : {T : Type 0} → Result T OpenFault → OpenFault
+fault_in (Ok x) = opening.Memory
+fault_in (Err fault) = fault
+
+pub same_fault : {T : Type 0} (a b : OpenFault) → ◌≡◌ {A = Result T OpenFault} (Err a) (Err b) → a ≡ b
+unfolding fault_in
+same_fault {T} a b is = ap (fault_in {T = T}) is
+
+-- over the disk from before calls that only read
+pub bad_before : (d e : View) (at : ℕ) → OnlyReads d e → Each e.reads (IsBadStore at) → Each d.reads (IsBadStore at)
+bad_before d e at reads bad c told = bad c (reads.unchanged.reads.none_lost c told)
+
+-- a fault that is handed on has the cause that it had
+pub cause_of : {T : Type 0} (r : Result T OpenFault) (f g : OpenFault) (before mid after : ℕ) → r ≡ Err g → g ≡ f → mid ≡ before
+    → cond (open_failed f) (Rose mid after) (after ≡ mid) → FaultsAsSaid open_failed before after r
+cause_of {T} r f g before mid after is same quiet said =
+    subst (λ (q : Result T OpenFault). FaultsAsSaid open_failed before after q) (sym is)
+    (subst (λ (x : OpenFault). cond (open_failed x) (Rose before after) (after ≡ before)) (sym same)
+    (subst (λ (n : ℕ). cond (open_failed f) (Rose n after) (after ≡ n)) quiet said))

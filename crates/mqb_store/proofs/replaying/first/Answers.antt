@@ -1,0 +1,91 @@
+use Rattle.std.proofs.Common.{[], ◌≡◌, ◌∙◌, ap, inl, length, refl, subst, sym}
+use Rattle.std.specs.Prelude.{false, true, ℕ}
+use Rattle.mqb_base.specs.Rooms.{WithRooms}
+use Rattle.mqb_base.specs.Same.{same_guid}
+use Rattle.mqb_base.specs.declared.ids.Guid.{Guid}
+use Rattle.mqb_contents.specs.Rooms.{StateRooms}
+use Rattle.mqb_devices.specs.Images.{Each}
+use Rattle.mqb_model.specs.records.Reading.{record_of}
+use Rattle.mqb_model.specs.state.State.{State}
+use Rattle.mqb_store.proofs.Faulty.{other_guid}
+use Rattle.mqb_store.proofs.Read.{read_first}
+use Rattle.mqb_store.proofs.Steps.{HasEnded, HasGoneOn, no_identity, none_then, not_false, not_true, same_guid_then, same_place, stands_then, unfit_then}
+use Rattle.mqb_store.proofs.replaying.first.Goals as goal
+use Rattle.mqb_store.specs.Replaying.{IsReadUpTo}
+use Rattle.mqb_store_laws.specs.Faults.{IsBadStore}
+use Rattle.mqb_store_laws.specs.Images.{identity_in}
+
+pub returns-then-not-branch-clause-bad : goal.returns-then-not-branch-clause-bad
+returns-then-not-branch-clause-bad g c at is =
+    let done : HasEnded (g.D.Disk.view c.args.disk.now) (g.D.Disk.view c.advance.new.disk) c.args.scan.now c.advance.new.self [] = record {
+      behind = record {
+        whole = subst (λ (i : Guid). length i.0 ≡ 16) c.guid-guid.ensures c.guid_is_whole.ensures;
+        within = c.requires.within;
+        lent = c.requires.begun;
+      };
+      next = c.in_ok-advance.ensures.ended c.if-not-branch.true;
+      within = c.advance.ensures.within;
+      lent = c.in_ok-advance.ensures.all [] c.requires.begun c.if-not-branch.true;
+      reads = c.advance.ensures.reads;
+    } in
+    none_then done at c.requires.place (sym (same_place c.place.result at is) ∙ c.place.ensures.place)
+
+pub returns-in_default-clause-bad : goal.returns-in_default-clause-bad
+returns-in_default-clause-bad g c at is =
+    let t = c.advance.new.self in
+    let gone : HasGoneOn (g.D.Disk.view c.args.disk.now) (g.D.Disk.view c.advance.new.disk) c.args.scan.now t [] = record {
+      behind = record {
+        whole = subst (λ (i : Guid). length i.0 ≡ 16) c.guid-guid.ensures c.guid_is_whole.ensures;
+        within = c.requires.within;
+        lent = c.requires.begun;
+      };
+      next = c.in_ok-advance.ensures.advanced c.if-not-branch.false;
+      within = c.advance.ensures.within;
+      lent = c.in_ok-advance.ensures.more [] c.requires.begun c.if-not-branch.false;
+      reads = c.advance.ensures.reads;
+    } in
+    unfit_then gone at (inl refl) (sym (same_place c.place-in_default.result at is) ∙ c.place-in_default.ensures.place)
+    (no_identity c.entries_begin.ensures t.lent (ap (λ l. identity_in (record_of l)) (sym c.record.ensures.lent) ∙ (sym c.in_ok-identity.ensures ∙ c.in_default.is)))
+
+pub returns-then-ne-clause-bad : goal.returns-then-ne-clause-bad
+returns-then-ne-clause-bad g c at is =
+    let d = g.D.Disk.view c.args.disk.now in
+    let e = g.D.Disk.view c.advance.new.disk in
+    let t = c.advance.new.self in
+    let gone : HasGoneOn d e c.args.scan.now t [] = record {
+      behind = record {
+        whole = subst (λ (i : Guid). length i.0 ≡ 16) c.guid-guid.ensures c.guid_is_whole.ensures;
+        within = c.requires.within;
+        lent = c.requires.begun;
+      };
+      next = c.in_ok-advance.ensures.advanced c.if-not-branch.false;
+      within = c.advance.ensures.within;
+      lent = c.in_ok-advance.ensures.more [] c.requires.begun c.if-not-branch.false;
+      reads = c.advance.ensures.reads;
+    } in
+    subst (λ (k : ℕ). Each d.reads (IsBadStore k)) (same_place 0 at is)
+    (other_guid d e t t.lent c.in-Some.identity (stands_then gone) c.advance.ensures.reads
+    (ap (λ l. identity_in (record_of l)) (sym c.record.ensures.lent) ∙ (sym c.in_ok-identity.ensures ∙ c.in-Some.is))
+    (subst (λ (i : Guid). same_guid c.in-Some.identity.guid i ≡ false) (c.guid-guid.ensures ∙ sym (same_guid_then gone))
+    (not_false (same_guid c.in-Some.identity.guid c.guid-guid.result) c.if-ne.ensures)))
+
+pub returns-clause-read : goal.returns-clause-read
+returns-clause-read g c =
+    let e = g.D.Disk.view c.advance.new.disk in
+    let t = c.advance.new.self in
+    let gone : HasGoneOn (g.D.Disk.view c.args.disk.now) e c.args.scan.now t [] = record {
+      behind = record {
+        whole = subst (λ (i : Guid). length i.0 ≡ 16) c.guid-guid.ensures c.guid_is_whole.ensures;
+        within = c.requires.within;
+        lent = c.requires.begun;
+      };
+      next = c.in_ok-advance.ensures.advanced c.if-not-branch.false;
+      within = c.advance.ensures.within;
+      lent = c.in_ok-advance.ensures.more [] c.requires.begun c.if-not-branch.false;
+      reads = c.advance.ensures.reads;
+    } in
+    subst (λ (w : WithRooms State StateRooms). IsReadUpTo e t w.lists []) (sym c.in_ok-empty.ensures)
+    (read_first c.entries_begin.ensures e t t.lent c.in-Some.identity (stands_then gone)
+    (ap (λ l. identity_in (record_of l)) (sym c.record.ensures.lent) ∙ (sym c.in_ok-identity.ensures ∙ c.in-Some.is))
+    (subst (λ (i : Guid). same_guid c.in-Some.identity.guid i ≡ true) (c.guid-guid.ensures ∙ sym (same_guid_then gone))
+    (not_true (same_guid c.in-Some.identity.guid c.guid-guid.result) c.if-ne.ensures)))

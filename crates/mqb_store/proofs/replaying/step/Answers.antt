@@ -1,0 +1,59 @@
+use Rattle.std.proofs.Common.{◌≡◌, ◌∙◌, ap, subst, sym}
+use Rattle.std.proofs.lemmas.Result.{err_from_is_err_and}
+use Rattle.std.specs.Prelude.{Err, List, false, ℕ}
+use Rattle.mqb_journal.specs.declared.faults.OpenFault.{OpenFault}
+use Rattle.mqb_journal.specs.declared.faults.OpenFault.TheVariants as opening
+use Rattle.mqb_model.specs.records.Reading.{record_of}
+use Rattle.mqb_records.specs.Unfit.{is_fit}
+use Rattle.mqb_store.proofs.Read.{IsMade, may_go_on, read_all, read_in, read_more, stands_behind, unfit_from}
+use Rattle.mqb_store.proofs.Steps.{HasEnded, HasGoneOn, same_guid_then, same_fault, stands_at_end, stands_then, unfit_then}
+use Rattle.mqb_journal.specs.States.{ScanState}
+use Rattle.mqb_store.proofs.replaying.step.Goals as goal
+
+pub returns-then-not-branch-clause-read : goal.returns-then-not-branch-clause-read
+returns-then-not-branch-clause-read g c =
+    let d = g.D.Disk.view c.args.disk.now in
+    let e = g.D.Disk.view c.advance.new.disk in
+    let done : HasEnded d e c.args.scan.now c.advance.new.self (read_in c.requires.read) = record {
+      behind = stands_behind c.requires.read;
+      next = c.in_ok-advance.ensures.ended c.if-not-branch.true;
+      within = c.advance.ensures.within;
+      lent = c.in_ok-advance.ensures.all (read_in c.requires.read) c.requires.read.lent c.if-not-branch.true;
+      reads = c.advance.ensures.reads;
+    } in
+    read_all d e c.args.scan.now c.advance.new.self c.args.state.now.lists c.args.lines.now.items c.requires.read
+    (ap (λ (s : ScanState). s.guid) done.next) (stands_at_end done)
+
+pub returns-in_err-apply-clause-bad : goal.returns-in_err-apply-clause-bad
+returns-in_err-apply-clause-bad g c at is =
+    let d = g.D.Disk.view c.args.disk.now in
+    let e = g.D.Disk.view c.advance.new.disk in
+    let t = c.advance.new.self in
+    let s = c.args.state.now.lists in
+    let gone : HasGoneOn d e c.args.scan.now t (read_in c.requires.read) = record {
+      behind = stands_behind c.requires.read;
+      next = c.in_ok-advance.ensures.advanced c.if-not-branch.false;
+      within = c.advance.ensures.within;
+      lent = c.in_ok-advance.ensures.more (read_in c.requires.read) c.requires.read.lent c.if-not-branch.false;
+      reads = c.advance.ensures.reads;
+    } in
+    let p = err_from_is_err_and c.from_residual-in_err-apply.result c.from_residual-in_err-apply.ensures.1 in
+    let h = c.in_err-apply.ensures.bad at (ap (λ (f : OpenFault). Err f) (sym p.2 ∙ same_fault p.0 (opening.BadStore at) (sym p.1 ∙ is))) in
+    unfit_then gone at (may_go_on c.requires.read) (h.0 ∙ c.place.ensures.place)
+    (unfit_from c.entries_go_on.ensures c.args.scan.now.guid (read_in c.requires.read) t.lent s c.requires.read.state
+    (subst (λ (l : List ℕ). is_fit s (record_of l) ≡ false) c.record.ensures.lent h.1))
+
+pub returns-clause-read : goal.returns-clause-read
+returns-clause-read g c =
+    let d = g.D.Disk.view c.args.disk.now in
+    let e = g.D.Disk.view c.advance.new.disk in
+    let gone : HasGoneOn d e c.args.scan.now c.advance.new.self (read_in c.requires.read) = record {
+      behind = stands_behind c.requires.read;
+      next = c.in_ok-advance.ensures.advanced c.if-not-branch.false;
+      within = c.advance.ensures.within;
+      lent = c.in_ok-advance.ensures.more (read_in c.requires.read) c.requires.read.lent c.if-not-branch.false;
+      reads = c.advance.ensures.reads;
+    } in
+    read_more c.entries_go_on.ensures c.durable_is_applied.ensures d e c.args.scan.now c.advance.new.self c.args.state.now.lists c.apply.new.state.lists
+    c.args.lines.now.items c.apply.new.lines.items c.advance.new.self.lent c.requires.read c.is_valid.ensures (same_guid_then gone) (stands_then gone)
+    (subst (λ (l : List ℕ). IsMade c.args.state.now.lists (record_of l) c.apply.new.state.lists c.apply.new.lines.items) c.record.ensures.lent c.in_ok-apply.ensures.ok)

@@ -1,0 +1,85 @@
+use Rattle.std.proofs.Common.{◌∙◌, ap, inl, subst, sym}
+use Rattle.std.proofs.lemmas.Result.{err_from_is_err_and}
+use Rattle.std.specs.Prelude.{Err}
+use Rattle.mqb_devices.specs.Images.{Each}
+use Rattle.mqb_devices.specs.Runs.{reads_then}
+use Rattle.mqb_journal.specs.States.{JournalState}
+use Rattle.mqb_journal.specs.declared.faults.OpenFault.{OpenFault}
+use Rattle.mqb_journal.specs.declared.faults.OpenFault.TheVariants as opening
+use Rattle.mqb_store.proofs.Read.{read_lines, read_on, read_opens}
+use Rattle.mqb_store.proofs.Steps.{bad_before, cause_of, same_fault}
+use Rattle.mqb_store.proofs.store.Store.start.Goals as goal
+use Rattle.mqb_store_laws.specs.Images.{HasLastLines, IsOn, OpensTo}
+
+pub returns-in_err-scan-clause-bad : goal.returns-in_err-scan-clause-bad
+returns-in_err-scan-clause-bad g c at is =
+    let p = err_from_is_err_and c.from_residual.result c.from_residual.ensures.1 in
+    let none = c.in_err-scan.ensures.bad at (ap (λ (f : OpenFault). Err f) (sym p.2 ∙ same_fault p.0 (opening.BadStore at) (sym p.1 ∙ is))) in
+    λ content told. inl (none content told)
+
+pub returns-in_err-state-clause-bad : goal.returns-in_err-state-clause-bad
+returns-in_err-state-clause-bad g c at is =
+    let p = err_from_is_err_and c.from_residual-in_err-state.result c.from_residual-in_err-state.ensures.1 in
+    bad_before (g.D.Disk.view c.args.disk.now) (g.D.Disk.view c.begin.new.disk) at c.begin.ensures.reads
+    (c.in_err-state.ensures.bad at (ap (λ (f : OpenFault). Err f) (sym p.2 ∙ same_fault p.0 (opening.BadStore at) (sym p.1 ∙ is))))
+
+pub returns-in_err-lines-clause-bad : goal.returns-in_err-lines-clause-bad
+returns-in_err-lines-clause-bad g c at is =
+    let d = g.D.Disk.view c.args.disk.now in
+    let m = g.D.Disk.view c.begin.new.disk in
+    let n = g.D.Disk.view c.first.new.disk in
+    let p = err_from_is_err_and c.from_residual-in_err-lines.result c.from_residual-in_err-lines.ensures.1 in
+    bad_before d n at (reads_then d m n c.begin.ensures.reads c.first.ensures.reads)
+    (c.in_err-lines.ensures.bad at (ap (λ (f : OpenFault). Err f) (sym p.2 ∙ same_fault p.0 (opening.BadStore at) (sym p.1 ∙ is))))
+
+pub returns-clause-on : goal.returns-clause-on
+returns-clause-on g c =
+    let e = g.D.Disk.view c.replay.new.disk in
+    let s = c.replay.new.state.lists in
+    subst (λ (j : JournalState). IsOn e j s) (sym c.finish.ensures)
+    (read_on e c.replay.new.scan c.finish.result.room s c.in_ok-lines.lines.items c.in_ok-lines.ensures.read c.in_ok-lines.ensures.ended)
+
+pub returns-clause-opens : goal.returns-clause-opens
+returns-clause-opens g c =
+    let d = g.D.Disk.view c.args.disk.now in
+    let m = g.D.Disk.view c.begin.new.disk in
+    let n = g.D.Disk.view c.first.new.disk in
+    let e = g.D.Disk.view c.replay.new.disk in
+    let s = c.replay.new.state.lists in
+    subst (λ (j : JournalState). Each d.reads (OpensTo j.guid j.count s)) (sym c.finish.ensures)
+    (read_opens d e c.replay.new.scan s c.in_ok-lines.lines.items c.in_ok-lines.ensures.read c.in_ok-lines.ensures.ended
+    (reads_then d m e c.begin.ensures.reads (reads_then m n e c.first.ensures.reads c.replay.ensures.reads)))
+
+pub returns-clause-lines : goal.returns-clause-lines
+returns-clause-lines g c =
+    let d = g.D.Disk.view c.args.disk.now in
+    let m = g.D.Disk.view c.begin.new.disk in
+    let n = g.D.Disk.view c.first.new.disk in
+    let e = g.D.Disk.view c.replay.new.disk in
+    let s = c.replay.new.state.lists in
+    subst (λ (j : JournalState). Each d.reads (HasLastLines j.guid c.in_ok-lines.lines.items)) (sym c.finish.ensures)
+    (read_lines d e c.replay.new.scan s c.in_ok-lines.lines.items c.in_ok-lines.ensures.read c.in_ok-lines.ensures.ended
+    (reads_then d m e c.begin.ensures.reads (reads_then m n e c.first.ensures.reads c.replay.ensures.reads)))
+
+pub returns-in_err-lines-clause-reads : goal.returns-in_err-lines-clause-reads
+returns-in_err-lines-clause-reads g c =
+    let d = g.D.Disk.view c.args.disk.now in
+    let m = g.D.Disk.view c.begin.new.disk in
+    let n = g.D.Disk.view c.first.new.disk in
+    let e = g.D.Disk.view c.replay.new.disk in
+    reads_then d m e c.begin.ensures.reads (reads_then m n e c.first.ensures.reads c.replay.ensures.reads)
+
+pub returns-clause-reads : goal.returns-clause-reads
+returns-clause-reads g c =
+    let d = g.D.Disk.view c.args.disk.now in
+    let m = g.D.Disk.view c.begin.new.disk in
+    let n = g.D.Disk.view c.first.new.disk in
+    let e = g.D.Disk.view c.replay.new.disk in
+    reads_then d m e c.begin.ensures.reads (reads_then m n e c.first.ensures.reads c.replay.ensures.reads)
+
+pub returns-in_err-lines-clause-cause : goal.returns-in_err-lines-clause-cause
+returns-in_err-lines-clause-cause g c =
+    let p = err_from_is_err_and c.from_residual-in_err-lines.result c.from_residual-in_err-lines.ensures.1 in
+    cause_of c.from_residual-in_err-lines.result c.in_err-lines.field-0.0 p.0 (g.D.Disk.view c.args.disk.now).faults
+    (g.D.Disk.view c.first.new.disk).faults (g.D.Disk.view c.replay.new.disk).faults p.1 p.2
+    (c.in_ok-state.ensures.cause ∙ c.in_ok-scan.ensures.cause) c.in_err-lines.ensures.cause

@@ -1,0 +1,9 @@
+use Rattle.std.specs.Prelude.{option_copied}
+use Rattle.mqb_store.proofs.store.Store.write.Goals as goal
+use Rattle.mqb_store.specs.Writing.{change_in}
+use Rattle.mqb_store_laws.specs.Carrying.{quiet_opens}
+
+pub returns-in-None-clause-moments : goal.returns-in-None-clause-moments
+returns-in-None-clause-moments g c settled =
+    quiet_opens (g.D.Disk.view c.args.disk.now) c.args.self.now.journal c.args.self.now.state (change_in (option_copied c.args.entry))
+    (g.met.D.Disk.lawful c.args.disk.now) c.requires.on settled

@@ -1,0 +1,76 @@
+use Rattle.std.proofs.Common.{◌≡◌, ◌∙◌, ap, subst, sym}
+use Rattle.std.specs.Prelude.{IsSomeAnd, Some, true}
+use Rattle.mqb_devices.specs.Disk.{LeavesOnly}
+use Rattle.mqb_express.specs.Work.{beside_of}
+use Rattle.mqb_journal.specs.Carrying.{goes_on_gate}
+use Rattle.mqb_journal.specs.States.{JournalState}
+use Rattle.mqb_model.specs.records.Applying.{fits}
+use Rattle.mqb_model.specs.records.Reading.{record_in, record_of}
+use Rattle.mqb_store.proofs.Kept.{CanJoin, written_moments, written_on}
+use Rattle.mqb_store.proofs.store.Store.write_entry.Goals as goal
+use Rattle.mqb_store.specs.States.{IsStoredOn, StoreState}
+use Rattle.mqb_store.specs.Writing.{LeavesStore}
+use Rattle.mqb_store_laws.specs.Carrying.{quiet_opens}
+use Rattle.mqb_store_laws.specs.Images.{IsOn, Opens}
+
+pub append-requires-clause-gate : goal.append-requires-clause-gate
+append-requires-clause-gate g c =
+    let d = g.D.Disk.view c.args.disk.now in
+    let at : IsOn d c.self.inside.journal c.self.inside.state.lists = subst (λ (w : StoreState). IsStoredOn d w) (sym c.self.view_is) c.requires.on in
+    goes_on_gate d c.self.inside.journal at.entries at.goes_on
+
+pub returns-in_err-spell-clause-moments : goal.returns-in_err-spell-clause-moments
+returns-in_err-spell-clause-moments g c settled =
+    quiet_opens (g.D.Disk.view c.args.disk.now) c.args.self.now.journal c.args.self.now.state (record_in c.args.entry.now)
+    (g.met.D.Disk.lawful c.args.disk.now) c.requires.on settled
+
+pub returns-in_err-prepared-clause-moments : goal.returns-in_err-prepared-clause-moments
+returns-in_err-prepared-clause-moments g c settled =
+    quiet_opens (g.D.Disk.view c.args.disk.now) c.args.self.now.journal c.args.self.now.state (record_in c.args.entry.now)
+    (g.met.D.Disk.lawful c.args.disk.now) c.requires.on settled
+
+pub returns-in_err-append-clause-moments : goal.returns-in_err-append-clause-moments
+returns-in_err-append-clause-moments g c settled =
+    let d = g.D.Disk.view c.args.disk.now in
+    let e = g.D.Disk.view c.append.new.disk in
+    let o = record_in c.args.entry.now in
+    let at : IsOn d c.self.inside.journal c.self.inside.state.lists = subst (λ (w : StoreState). IsStoredOn d w) (sym c.self.view_is) c.requires.on in
+    let new : CanJoin c.self.inside.state.lists c.deref.result.now o = record {
+      valid = c.is_valid.ensures;
+      reads = ap record_of c.deref.ensures.value ∙ c.in_ok-spell.ensures.record;
+      fit = subst (λ (w : StoreState). IsSomeAnd o (λ r. fits w.state r ≡ true)) (sym c.self.view_is) c.requires.can.fits;
+    } in
+    subst (λ (w : StoreState). LeavesOnly d e (Opens w.journal w.state o)) c.self.view_is
+    (written_moments c.records_join.ensures d e c.self.inside.journal c.self.inside.state.lists c.deref.result.now o at new c.append.ensures.moments settled)
+
+pub returns-clause-moments : goal.returns-clause-moments
+returns-clause-moments g c settled =
+    let d = g.D.Disk.view c.args.disk.now in
+    let e = g.D.Disk.view c.append.new.disk in
+    let o = record_in c.args.entry.now in
+    let at : IsOn d c.self.inside.journal c.self.inside.state.lists = subst (λ (w : StoreState). IsStoredOn d w) (sym c.self.view_is) c.requires.on in
+    let new : CanJoin c.self.inside.state.lists c.deref.result.now o = record {
+      valid = c.is_valid.ensures;
+      reads = ap record_of c.deref.ensures.value ∙ c.in_ok-spell.ensures.record;
+      fit = subst (λ (w : StoreState). IsSomeAnd o (λ r. fits w.state r ≡ true)) (sym c.self.view_is) c.requires.can.fits;
+    } in
+    subst (λ (w : StoreState). LeavesOnly d e (Opens w.journal w.state o)) c.self.view_is
+    (written_moments c.records_join.ensures d e c.self.inside.journal c.self.inside.state.lists c.deref.result.now o at new c.append.ensures.moments settled)
+
+pub returns-clause-on : goal.returns-clause-on
+returns-clause-on g c =
+    let d = g.D.Disk.view c.args.disk.now in
+    let e = g.D.Disk.view c.append.new.disk in
+    let s = c.self.inside.state.lists in
+    let o = record_in c.args.entry.now in
+    let b = beside_of c.args.work in
+    let at : IsOn d c.self.inside.journal s = subst (λ (w : StoreState). IsStoredOn d w) (sym c.self.view_is) c.requires.on in
+    let new : CanJoin s c.deref.result.now o = record {
+      valid = c.is_valid.ensures;
+      reads = ap record_of c.deref.ensures.value ∙ c.in_ok-spell.ensures.record;
+      fit = subst (λ (w : StoreState). IsSomeAnd o (λ r. fits w.state r ≡ true)) (sym c.self.view_is) c.requires.can.fits;
+    } in
+    written_on c.records_join.ensures d e c.self.inside.journal c.append.new.journal s c.install.new.state.lists c.deref.result.now o b at new
+    c.in_ok-append.ensures.done (ap (λ (j : JournalState). j.guid) c.in_ok-append.ensures.appended)
+    (subst (λ (w : StoreState). LeavesStore w.state (Some c.args.entry.now) b) (sym c.self.view_is) c.requires.stored)
+    (c.install.ensures.state ∙ c.in_ok-prepared.ensures.ok.gives)

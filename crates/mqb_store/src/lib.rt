@@ -1,0 +1,21 @@
+//! The store of one manager: its state, and the records that it stands for. This is the one place where a record is written.
+//!
+//! `Store::write` spells an entry, prepares what it does, appends it to the journal, and only then installs what was prepared. So a call that is refused
+//! changes nothing, and what was acknowledged is on the disk. `Store::start` makes the state again from the records, one at a time.
+#![tactic(auto)]
+
+mod appending;
+mod faults;
+mod marks;
+mod preparing;
+mod readers;
+mod replaying;
+mod spelling;
+mod starting;
+mod store;
+mod typed;
+mod writing;
+
+pub use faults::WriteFault;
+pub use mqb_journal::OpenFault;
+pub use store::Store;

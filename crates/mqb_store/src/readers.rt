@@ -1,0 +1,51 @@
+ghost use Rattle.std.specs.Prelude.{◌≡◌, None, Some, if◌then◌else◌, option_copied};
+ghost use Rattle.mqb_model.specs.state.Valid.{IsValidState};
+
+use crate::store::Store;
+use mqb_base::Line;
+use mqb_state::State;
+
+/// What it has.
+impl Store {
+    /// The state, with what makes it valid.
+    pub fn state(&self) -> &State
+        ensures state { result.now.lists ≡ self.now.state }
+        ensures valid { IsValidState self.now.state }
+    {
+        self.state.is_valid();
+        &self.state
+    }
+
+    /// How many records there are.
+    pub fn lsn(&self) -> u64
+        ensures { result ≡ self.now.journal.count }
+    {
+        self.journal.lsn()
+    }
+
+    /// Whether a write has failed.
+    pub fn is_down(&self) -> bool
+        ensures { result ≡ self.now.journal.down }
+    {
+        self.journal.is_down()
+    }
+
+    /// The entry of a write that failed.
+    pub fn doubt(&self) -> Option<&[u8]>
+        ensures { option_copied result
+            ≡ if self.now.journal.down then Some self.now.entry else None }
+    {
+        if self.journal.is_down() {
+            Some(self.entry.as_slice())
+        } else {
+            None
+        }
+    }
+
+    /// The lines of the last record.
+    pub fn lines(&self) -> &[Line]
+        ensures { result.now ≡ self.now.lines }
+    {
+        self.lines.as_slice()
+    }
+}

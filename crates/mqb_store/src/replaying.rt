@@ -1,0 +1,140 @@
+//! The state of a store is made again from its records, one at a time.
+ghost use Rattle.std.specs.Prelude.{[], ◌-◌, ◌<◌, ◌≡◌, ◌≢◌, Err, IfOk, IsSomeAnd, OnOk, false, true, ℕ};
+ghost use Rattle.mqb_devices.specs.Disk.{OnlyReads};
+ghost use Rattle.mqb_devices.specs.Images.{Each};
+ghost use Rattle.mqb_journal.specs.Causes.{FaultsAsSaid, open_failed};
+ghost use Rattle.mqb_journal.specs.Journals.{Lent};
+ghost use Rattle.mqb_model.specs.records.Applying.{effect_of, fits};
+ghost use Rattle.mqb_model.specs.records.Reading.{record_of};
+ghost use Rattle.mqb_records.specs.Unfit.{is_fit};
+ghost use Rattle.mqb_store.specs.Replaying.{IsReadUpTo};
+ghost use Rattle.mqb_store_laws.specs.Faults.{IsBadStore};
+
+use crate::spelling::identity_of;
+use crate::typed::guid_is_whole;
+use mqb_base::{Line, Roomed};
+use mqb_devices::Disk;
+use mqb_entries::entry_view;
+use mqb_journal::{OpenFault, Scan};
+use mqb_model::durable_is_applied;
+use mqb_state::{PrepareFault, State};
+use mqb_store_laws::{entries_begin, entries_go_on};
+use std::alloc::Global;
+
+/// The state that the first record leaves, which is an identity with the GUID of the header.
+pub(crate) fn first<D: Disk>(
+    alloc: Global,
+    disk: &mut D,
+    scan: &mut Scan,
+) -> Result<State, OpenFault>
+    requires begun { Lent (D.view disk.old) scan.old [] }
+    requires going { scan.old.ended ≡ false }
+    requires place { scan.old.place ≡ scan.old.gate }
+    requires within { scan.old.gate < scan.old.len }
+    ensures read { IfOk result (λ s. IsReadUpTo (D.view disk.new) scan.new s.lists []) }
+    ensures going { OnOk result (scan.new.ended ≡ false) }
+    ensures bad { (at : ℕ) → result ≡ Err (OpenFault.BadStore at)
+        → Each (D.view disk.old).reads (IsBadStore at) }
+    ensures never { result ≢ Err OpenFault.NotEmpty }
+    ensures reads { OnlyReads (D.view disk.old) (D.view disk.new) }
+    ensures cause { FaultsAsSaid open_failed (D.view disk.old).faults
+        (D.view disk.new).faults result }
+{
+    entries_begin();
+    let guid = scan.guid();
+    guid_is_whole(guid);
+    if !scan.advance(disk)? {
+        return Err(OpenFault::BadStore { at: scan.place() });
+    }
+    let Some(identity) = identity_of(alloc, scan.record())? else {
+        return Err(OpenFault::BadStore { at: scan.place() });
+    };
+    if identity.guid != guid {
+        return Err(OpenFault::BadStore { at: 0 });
+    }
+    Ok(State::empty(alloc, &identity)?)
+}
+
+/// Makes on a state what bytes say that are the entry at a place, and takes its lines.
+fn apply(
+    state: &mut State,
+    lines: &mut Roomed<Line>,
+    bytes: &[u8],
+    at: u64,
+) -> Result<(), OpenFault>
+    ensures ok { OnOk result (IsSomeAnd (record_of bytes.now)
+        (λ r. (fits state.old.lists r ≡ true) × (effect_of state.old.lists r
+        ≡ record { state = state.new.lists; lines = lines.new.items }))) }
+    ensures bad { (k : ℕ) → result ≡ Err (OpenFault.BadStore k)
+        → (k ≡ at) × (is_fit state.old.lists (record_of bytes.now) ≡ false) }
+    ensures not_empty { result ≢ Err OpenFault.NotEmpty }
+    ensures no_call { result ≢ Err OpenFault.DiskFault }
+{
+    let Ok(entry) = entry_view(bytes) else {
+        return Err(OpenFault::BadStore { at });
+    };
+    match state.apply(&entry) {
+        Ok(made) => {
+            *lines = made;
+            Ok(())
+        }
+        Err(PrepareFault::Unfit) => Err(OpenFault::BadStore { at }),
+        Err(PrepareFault::Memory) => Err(OpenFault::Memory),
+    }
+}
+
+/// Reads one record more and makes it on the state, or finds that there is none.
+fn step<D: Disk>(
+    disk: &mut D,
+    scan: &mut Scan,
+    state: &mut State,
+    lines: &mut Roomed<Line>,
+) -> Result<bool, OpenFault>
+    requires read { IsReadUpTo (D.view disk.old) scan.old state.old.lists lines.old.items }
+    requires going { scan.old.ended ≡ false }
+    ensures read { OnOk result
+        (IsReadUpTo (D.view disk.new) scan.new state.new.lists lines.new.items) }
+    ensures going { IfOk result (λ more. more ≡ true → scan.new.ended ≡ false) }
+    ensures ended { IfOk result (λ more. more ≡ false → scan.new.ended ≡ true) }
+    ensures further { IfOk result (λ more. more ≡ true
+        → scan.new.len - scan.new.gate < scan.old.len - scan.old.gate) }
+    ensures bad { (at : ℕ) → result ≡ Err (OpenFault.BadStore at)
+        → Each (D.view disk.old).reads (IsBadStore at) }
+    ensures never { result ≢ Err OpenFault.NotEmpty }
+    ensures reads { OnlyReads (D.view disk.old) (D.view disk.new) }
+    ensures cause { FaultsAsSaid open_failed (D.view disk.old).faults
+        (D.view disk.new).faults result }
+{
+    entries_go_on();
+    durable_is_applied();
+    state.is_valid();
+    if !scan.advance(disk)? {
+        return Ok(false);
+    }
+    apply(state, lines, scan.record(), scan.place())?;
+    Ok(true)
+}
+
+/// Makes all records that are left, and answers the lines of the last.
+pub(crate) fn replay<D: Disk>(
+    alloc: Global,
+    disk: &mut D,
+    scan: &mut Scan,
+    state: &mut State,
+) -> Result<Roomed<Line>, OpenFault>
+    requires read { IsReadUpTo (D.view disk.old) scan.old state.old.lists [] }
+    requires going { scan.old.ended ≡ false }
+    ensures read { IfOk result (λ lines.
+        IsReadUpTo (D.view disk.new) scan.new state.new.lists lines.items) }
+    ensures ended { OnOk result (scan.new.ended ≡ true) }
+    ensures bad { (at : ℕ) → result ≡ Err (OpenFault.BadStore at)
+        → Each (D.view disk.old).reads (IsBadStore at) }
+    ensures never { result ≢ Err OpenFault.NotEmpty }
+    ensures reads { OnlyReads (D.view disk.old) (D.view disk.new) }
+    ensures cause { FaultsAsSaid open_failed (D.view disk.old).faults
+        (D.view disk.new).faults result }
+{
+    let mut lines = Roomed::new(alloc);
+    'records: while step(disk, scan, state, &mut lines)? {}
+    Ok(lines)
+}

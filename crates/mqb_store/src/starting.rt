@@ -1,0 +1,124 @@
+ghost use Rattle.std.specs.Prelude.{[], ◌+◌, ◌<◌, ◌≡◌, ◌≢◌, ◌≤◌, ◌∷◌, Err, IfOk, List, OnErr, OnOk, false, length, ℕ};
+ghost use Rattle.mqb_devices.specs.Disk.{Counted, IsSettled, OnlyReads};
+ghost use Rattle.mqb_devices.specs.Images.{Each};
+ghost use Rattle.mqb_journal.specs.Causes.{FaultsAsSaid, open_failed};
+ghost use Rattle.mqb_journal.specs.Journals.{GoesOn};
+ghost use Rattle.mqb_journal.specs.States.{appended};
+ghost use Rattle.mqb_model.specs.state.Durable.{durable};
+ghost use Rattle.mqb_model.specs.state.State.{empty};
+ghost use Rattle.mqb_store.specs.States.{IsStoredOn, IsUp};
+ghost use Rattle.mqb_store.specs.declared.spelling.TheConstants.{FIRST_RECORD};
+ghost use Rattle.mqb_store_laws.specs.Faults.{IsBadStore};
+ghost use Rattle.mqb_store_laws.specs.Images.{HasLastLines, OpensTo};
+
+use crate::appending::append;
+use crate::faults::WriteFault;
+use crate::replaying::{first, replay};
+use crate::spelling::spell_identity;
+use crate::store::Store;
+use mqb_base::{Identity, Roomed};
+use mqb_devices::Disk;
+use mqb_journal::{Journal, OpenFault};
+use mqb_state::State;
+use mqb_store_laws::entries_begin;
+use std::alloc::Global;
+
+/// Appends a first record, for which a journal that was formatted has the memory.
+fn append_first<D: Disk>(journal: &mut Journal, disk: &mut D, entry: &[u8]) -> Result<(), OpenFault>
+    requires up { journal.old.down ≡ false }
+    requires short { length entry.now ≤ FIRST_RECORD }
+    requires room { FIRST_RECORD + 5 ≤ journal.old.room }
+    requires on { GoesOn (D.view disk.old) journal.old [] }
+    ensures on { OnOk result (GoesOn (D.view disk.new) journal.new (entry.now ∷ [])) }
+    ensures settled { OnOk result (IsSettled (D.view disk.new)) }
+    ensures appended { OnOk result (journal.new
+        ≡ record (appended journal.old (length entry.now)) { room = journal.new.room }) }
+    ensures never { OnErr result (result ≡ Err OpenFault.DiskFault) }
+    ensures calls { OnOk result (Counted 4 (D.view disk.old).calls (D.view disk.new).calls) }
+    ensures switch { (D.view disk.new).switch ≡ (D.view disk.old).switch }
+    ensures cause { FaultsAsSaid open_failed (D.view disk.old).faults
+        (D.view disk.new).faults result }
+{
+    match append(journal, disk, entry) {
+        Ok(()) => Ok(()),
+        Err(WriteFault::DiskFault) => Err(OpenFault::DiskFault),
+        Err(WriteFault::Memory) => unreachable!(),
+    }
+}
+
+/// How a store begins.
+impl Store {
+    /// Makes an empty disk the store of a manager with this identity, and nothing else.
+    ///
+    /// # Errors
+    /// `NotEmpty`, `Memory` and `DiskFault`. After `DiskFault` the disk may have any part of the store, and is formatted anew once it was emptied.
+    pub fn format<D: Disk>(
+        alloc: Global,
+        disk: &mut D,
+        identity: &Identity,
+    ) -> Result<Store, OpenFault>
+        ensures on { IfOk result (IsStoredOn (D.view disk.new)) }
+        ensures up { IfOk result IsUp }
+        ensures settled { OnOk result (IsSettled (D.view disk.new)) }
+        ensures state { IfOk result (λ w. w.state ≡ empty identity.now) }
+        ensures count { IfOk result (λ w. w.journal.count ≡ 1) }
+        ensures lines { IfOk result (λ w. w.lines ≡ []) }
+        ensures empty { OnOk result (Each (D.view disk.old).reads (λ c. c ≡ [])) }
+        ensures not_empty { result ≡ Err OpenFault.NotEmpty
+            → Each (D.view disk.old).reads (λ c. 0 < length c) }
+        ensures only_reads { (c : List ℕ) → (D.view disk.old).reads c → 0 < length c
+            → OnlyReads (D.view disk.old) (D.view disk.new) }
+        ensures not_written { result ≡ Err OpenFault.NotEmpty
+            → OnlyReads (D.view disk.old) (D.view disk.new) }
+        ensures memory { result ≡ Err OpenFault.Memory → disk.new ≡ disk.old }
+        ensures never { (at : ℕ) → result ≢ Err (OpenFault.BadStore at) }
+        ensures calls { OnOk result (Counted 7 (D.view disk.old).calls (D.view disk.new).calls) }
+        ensures switch { (D.view disk.new).switch ≡ (D.view disk.old).switch }
+        ensures cause { FaultsAsSaid open_failed (D.view disk.old).faults
+            (D.view disk.new).faults result }
+    {
+        entries_begin();
+        let entry = spell_identity(alloc, identity)?;
+        let state = State::empty(alloc, identity)?;
+        let mut journal = Journal::format(alloc, disk, identity.guid)?;
+        append_first(&mut journal, disk, &entry)?;
+        Ok(Store {
+            state,
+            journal,
+            entry,
+            lines: Roomed::new(alloc),
+            alloc,
+        })
+    }
+
+    /// The store on a disk: each record is made on one state as it is read. The disk is only read.
+    ///
+    /// # Errors
+    /// `BadStore` with the first place where the disk is no store of a manager; `Memory`; `DiskFault`.
+    pub fn start<D: Disk>(alloc: Global, disk: &mut D) -> Result<Store, OpenFault>
+        ensures on { IfOk result (IsStoredOn (D.view disk.new)) }
+        ensures up { IfOk result IsUp }
+        ensures durable { IfOk result (λ w. durable w.state ≡ w.state) }
+        ensures opens { IfOk result (λ w. Each (D.view disk.old).reads
+            (OpensTo w.journal.guid w.journal.count w.state)) }
+        ensures lines { IfOk result (λ w. Each (D.view disk.old).reads
+            (HasLastLines w.journal.guid w.lines)) }
+        ensures bad { (at : ℕ) → result ≡ Err (OpenFault.BadStore at)
+            → Each (D.view disk.old).reads (IsBadStore at) }
+        ensures never { result ≢ Err OpenFault.NotEmpty }
+        ensures reads { OnlyReads (D.view disk.old) (D.view disk.new) }
+        ensures cause { FaultsAsSaid open_failed (D.view disk.old).faults
+            (D.view disk.new).faults result }
+    {
+        let mut scan = Journal::begin(alloc, disk)?;
+        let mut state = first(alloc, disk, &mut scan)?;
+        let lines = replay(alloc, disk, &mut scan, &mut state)?;
+        Ok(Store {
+            state,
+            journal: scan.finish(),
+            entry: Vec::new(alloc),
+            lines,
+            alloc,
+        })
+    }
+}
