@@ -1,0 +1,76 @@
+-- How a pump goes, step by step.
+use Rattle.std.specs.Prelude.{[], ◌++◌, ◌==◌, ◌∷◌, ◌≡◌, All, Bool, IfSome, IsSomeAnd, List, None, OnErr, OnOk, Option, Result, Some, flat_map, fold, if◌then◌else◌, length, map, slice_get, ℕ}
+use Rattle.mqb_base.specs.declared.heads.SessionHead.{SessionHead}
+use Rattle.mqb_devices.specs.Disk.{Counted, View}
+use Rattle.mqb_entries.specs.declared.entry.Entry.{Entry}
+use Rattle.mqb_entries.specs.declared.entry.Entry.TheVariants as form
+use Rattle.mqb_entries.specs.declared.members.Mark.{Mark}
+use Rattle.mqb_packet.specs.Plain.{plain_spelling}
+use Rattle.mqb_session.specs.State as one_end
+use Rattle.mqb_choosing.specs.Choices.{IsThere, origin_of, shown_in}
+use Rattle.mqb_choosing.specs.Going.{Going, candidates_to, chosen_to, known}
+use Rattle.mqb_choosing.specs.declared.choice.Choice.{Choice}
+use Rattle.mqb_express.specs.Noting.{CanNote}
+use Rattle.mqb_model.specs.calls.pump.Candidates.{Candidate}
+use Rattle.mqb_model.specs.calls.pump.Choosing.{session_behind, with_heads}
+use Rattle.mqb_model.specs.calls.pump.Pump.{PumpOutcome, pump, sending_all, settled}
+use Rattle.mqb_model.specs.declared.faults.PumpFault.{PumpFault}
+use Rattle.mqb_model.specs.declared.faults.PumpFault.TheVariants as fault
+use Rattle.mqb_model.specs.managers.Beside.{Origin, noted}
+use Rattle.mqb_model.specs.state.State.{State}
+use Rattle.mqb_store.specs.declared.faults.WriteFault.{WriteFault}
+use Rattle.mqb_store.specs.declared.faults.WriteFault.TheVariants as write
+use Rattle.mqb_manager.specs.Calls.{IsCall}
+use Rattle.mqb_manager.specs.Seen.{seen}
+use Rattle.mqb_manager.specs.States.{ManagerState, manager_of}
+
+-- what a pump answers whose marks were not written
+abbrev pub pump_fault : WriteFault → PumpFault
+pump_fault write.Memory = fault.Memory
+pump_fault write.DiskFault = fault.DiskFault
+
+-- the entry of the marks that rise, where one does
+abbrev pub offered_form : List Mark → Option Entry
+offered_form marks = if length marks == 0 then None else Some (form.Offered marks)
+
+-- where a packet came from, and its header
+abbrev pub sent_as : Choice → Origin × SessionHead
+sent_as choice = (origin_of choice.origin, choice.head)
+
+-- each packet can be noted in its turn
+abbrev pub CanNoteAll : ℕ → State → List (Origin × SessionHead) → Type 0
+CanNoteAll peer s [] = Unit {0}
+CanNoteAll peer s (given ∷ sent) = CanNote peer given.1 s given.0 × CanNoteAll peer (noted peer s given) sent
+
+-- a manager that sent these packets to the peer at an index
+abbrev pub with_sent : ManagerState → ℕ → Going → List ℕ → List Bool → ManagerState
+with_sent m peer g cursors owes = seen (record m.store { state = fold (noted peer) m.store.state (map sent_as g.choices) }) (Some g.session) cursors owes
+
+-- whatever could go from a session to the peer at an index
+abbrev pub waiting_for : ManagerState → one_end.State → ℕ → ℕ → List Candidate
+waiting_for m session now k = candidates_to m.store.state (known session m.cursors m.owes) now k
+
+-- what goes to it
+abbrev pub going_to : ManagerState → one_end.State → ℕ → ℕ → List Candidate
+going_to m session now k = chosen_to m.store.state session m.cursors m.owes now k
+
+-- These packets, and what is known of the connection once they went, are what the definition chooses.
+pub record IsPlanned (m : ManagerState) (session : one_end.State) (now k : ℕ) (g : Going) (cursors : List ℕ) (owes : List Bool) : Type 0 where
+  pub there : All (IsThere m.store.state) g.choices
+  pub packets : shown_in m.store.state g.choices ≡ with_heads session (going_to m session now k)
+  pub count : length g.choices ≡ length (going_to m session now k)
+  pub behind : g.session ≡ session_behind session (going_to m session now k)
+  pub settled : known session cursors owes ≡ settled (known session m.cursors m.owes) (going_to m session now k)
+
+-- A pump comes to sending them.
+abbrev pub ComesToSend : ManagerState → one_end.State → ℕ → ℕ → Type 0
+ComesToSend m session now k = IsSomeAnd (slice_get m.store.state.peers k)
+    (λ to. pump (manager_of m) now ≡ sending_all (manager_of m) now session k to.guid (going_to m session now k))
+
+-- How a pump ends that comes to an outcome. `kept` says that the disk is as it was.
+pub record IsPumped (d e : View) (kept : Type 0) (m n : ManagerState) (o : PumpOutcome) (before after : List ℕ) (r : Result ℕ PumpFault) : Type 0 where
+  pub call : IsCall fault.Memory fault.DiskFault d e m n o r
+  pub sent : OnOk r (after ≡ before ++ flat_map plain_spelling o.packets)
+  pub refused : OnErr r (after ≡ before)
+  pub untouched : o.entry ≡ None → kept
+  pub calls : OnOk r (IfSome o.entry (λ _. Counted 4 d.calls e.calls))

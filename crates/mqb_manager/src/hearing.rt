@@ -1,0 +1,161 @@
+//! How a packet is heard: a plan is made, what arrived is written, and then the connection is as planned.
+ghost use Rattle.std.specs.Prelude.{◌≡◌, ◌<◌, ◌≤◌, All, IfSome, None, OnOk, Some, false};
+ghost use Rattle.std.specs.Vec.{vec_capacity};
+ghost use Rattle.mqb_devices.specs.Disk.{Counted};
+ghost use Rattle.mqb_hearing.specs.Plans.{ShowsReadable, outcome_of};
+ghost use Rattle.mqb_manager.specs.Calls.{IsCall};
+ghost use Rattle.mqb_manager.specs.Marks.{marked};
+ghost use Rattle.mqb_manager.specs.States.{IsOnDisk, IsUp, manager_of};
+ghost use Rattle.mqb_model.specs.Lists.{grown};
+ghost use Rattle.mqb_model.specs.calls.hear.Hear.{hear};
+ghost use Rattle.mqb_model.specs.laws.Durable.{LeavesStore};
+ghost use Rattle.mqb_model.specs.laws.Fitting.{IsFitting};
+ghost use Rattle.mqb_model.specs.laws.Keeping.{StaysValid};
+ghost use Rattle.mqb_packet.specs.Parts.{seen_packet};
+ghost use Rattle.mqb_packet.specs.Spelled.{IsLent, packet_in};
+ghost use Rattle.mqb_packet.specs.declared.packet.Packet.{Packet};
+
+use crate::manager::Manager;
+use crate::writing::calls_can_be_written;
+use mqb_base::{Heard, Memory};
+use mqb_devices::Disk;
+use mqb_hearing::Hearing;
+use mqb_model::HearFault;
+use mqb_packet::{PacketView, each_view_spells_a_packet};
+use mqb_packet_laws::read_is_written;
+use mqb_store::WriteFault;
+
+fn are_bytes(bytes: &[u8])
+    ensures { All (λ b. b < 256) bytes.now }
+{}
+
+/// A packet that was read can be heard. This says so, and does nothing.
+fn can_be_heard(packet: &PacketView<'_>)
+    requires { IsLent packet.now }
+    ensures { ShowsReadable packet.now }
+{
+    each_view_spells_a_packet();
+    read_is_written();
+    if let PacketView::User(view) = packet {
+        are_bytes(view.whole);
+    }
+}
+
+/// Takes the memory for the mark of a row, where there is one.
+fn make_room(owes: &mut Vec<bool>, row: Option<u32>) -> Result<(), Memory>
+    ensures items { owes.new.items ≡ owes.old.items }
+    ensures room { OnOk result (IfSome row (λ k. k < vec_capacity owes.new)) }
+{
+    if let Some(row) = row {
+        let wanted = row as usize + 1;
+        owes.reserve(wanted.saturating_sub(owes.len()))?;
+    }
+    Ok(())
+}
+
+/// The list has at least so many marks: rows that were missing owe nothing.
+#[tactic(auto, using(crate::proofs::Marks::grown_more, crate::proofs::Rests::grown_length))]
+fn grow(owes: &mut Vec<bool>, len: usize)
+    requires { len ≤ vec_capacity owes.old }
+    ensures { owes.new.items ≡ grown false len owes.old.items }
+{
+    for _ in owes.len()..len {
+        owes.push_reserved(false);
+    }
+}
+
+/// The row at an index owes an acknowledgement, where there is one.
+fn mark(owes: &mut Vec<bool>, row: Option<u32>)
+    requires { IfSome row (λ k. k < vec_capacity owes.old) }
+    ensures { owes.new.items ≡ marked row owes.old.items }
+{
+    if let Some(row) = row {
+        let row = row as usize;
+        grow(owes, row + 1);
+        owes[row] = true;
+    }
+}
+
+impl Manager {
+    /// Has what arrived written and does the work beside it, all of whose memory is taken before the disk is called. Behind it the connection is as
+    /// planned; where the disk fails, it is forgotten.
+    fn follow<D: Disk>(&mut self, disk: &mut D, hearing: Hearing<'_>) -> Result<Heard, HearFault>
+        requires up { IsUp self.old }
+        requires on { IsOnDisk (D.view disk.old) self.old }
+        requires fits { IsFitting (manager_of self.old)
+            (outcome_of (manager_of self.old) hearing) }
+        requires valid { StaysValid (manager_of self.old)
+            (outcome_of (manager_of self.old) hearing) }
+        requires stored { LeavesStore (manager_of self.old)
+            (outcome_of (manager_of self.old) hearing) }
+        ensures call { IsCall HearFault.Memory HearFault.DiskFault (D.view disk.old)
+            (D.view disk.new) self.old self.new
+            (outcome_of (manager_of self.old) hearing.entry) result }
+        ensures untouched { hearing.entry.arrival ≡ None → disk.new ≡ disk.old }
+        ensures calls { OnOk result (IfSome hearing.entry.arrival
+            (λ _. Counted 4 (D.view disk.old).calls (D.view disk.new).calls)) }
+    {
+        let Hearing {
+            answer,
+            session,
+            arrival,
+            work,
+            owes,
+        } = hearing;
+        make_room(&mut self.owes, owes)?;
+        let entry = arrival.entry();
+        match self.store.write(disk, entry.as_ref(), work) {
+            Ok(()) => {
+                self.session = Some(session);
+                mark(&mut self.owes, owes);
+                Ok(answer)
+            }
+            Err(WriteFault::Memory) => Err(HearFault::Memory),
+            Err(WriteFault::DiskFault) => {
+                self.session = None;
+                self.cursors.clear();
+                self.owes.clear();
+                Err(HearFault::DiskFault)
+            }
+        }
+    }
+
+    /// Hears a packet that was read, at a moment in seconds, and answers what it was heard as.
+    ///
+    /// # Errors
+    /// `Down` and `NotLinked`: nothing has changed, and neither has it after `Memory`. After `DiskFault` the manager is down.
+    pub fn hear<D: Disk>(
+        &mut self,
+        disk: &mut D,
+        packet: &PacketView<'_>,
+        now: u32,
+    ) -> Result<Heard, HearFault>
+        requires on { IsUp self.old → IsOnDisk (D.view disk.old) self.old }
+        requires lent { IsLent packet.now }
+        ensures call { (p : Packet) → packet_in (seen_packet packet.now) ≡ Some p →
+            IsCall HearFault.Memory HearFault.DiskFault (D.view disk.old) (D.view disk.new)
+            self.old self.new (hear (manager_of self.old) p now) result }
+        // There is such a packet.
+        ensures readable { ShowsReadable packet.now }
+        ensures untouched { (p : Packet) → packet_in (seen_packet packet.now) ≡ Some p →
+            (hear (manager_of self.old) p now).entry ≡ None → disk.new ≡ disk.old }
+        // A record is four calls of the disk.
+        ensures calls { (p : Packet) → packet_in (seen_packet packet.now) ≡ Some p →
+            OnOk result (IfSome (hear (manager_of self.old) p now).entry
+            (λ _. Counted 4 (D.view disk.old).calls (D.view disk.new).calls)) }
+    {
+        calls_can_be_written();
+        self.is_valid();
+        can_be_heard(packet);
+        if self.is_down() {
+            return Err(HearFault::Down);
+        }
+        let Some(session) = self.session else {
+            return Err(HearFault::NotLinked);
+        };
+        let alloc = *self.owes.allocator();
+        let contents = self.store.state().contents();
+        let hearing = mqb_hearing::hear(alloc, contents, session, packet, now)?;
+        self.follow(disk, hearing)
+    }
+}

@@ -1,0 +1,95 @@
+//! How a connection begins and ends, and how it starts sending anew. None of it writes a record or takes memory.
+ghost use Rattle.std.specs.List.{zip};
+ghost use Rattle.std.specs.Prelude.{◌≡◌, ◌≤◌, length, map};
+ghost use Rattle.mqb_manager.specs.Calls.{Succeeds};
+ghost use Rattle.mqb_manager.specs.States.{manager_of};
+ghost use Rattle.mqb_model.specs.calls.Link.{begun_anew, link, resend, session_for, unlink};
+ghost use Rattle.mqb_orders.specs.Rows.{row_of};
+
+use crate::manager::Manager;
+use crate::readers::linked_peer;
+use mqb_model::{
+    LinkFault, Role, linked_is_valid, refused_is_same, resent_is_valid, unlinked_is_valid,
+};
+use mqb_orders::OutRow;
+use mqb_session::Session;
+use mqb_state::State;
+
+/// The end of a session that begins, where its peer is there.
+fn session_for(state: &State, role: Role, window: u16) -> Option<Session>
+    ensures { result ≡ session_for state.now.lists role window }
+{
+    let own = state.identity().guid;
+    match role {
+        Role::Initiator { peer } => match state.peers().get(peer as usize) {
+            Some(peer) => Some(Session::initiator(own, peer.guid, window)),
+            None => None,
+        },
+        Role::Acceptor => Some(Session::acceptor(own, window)),
+    }
+}
+
+/// The number of a row, once the rows to the peer at an index begin anew.
+fn begun_anew(row: &OutRow, cursor: u32, peer: u32) -> u32
+    ensures { result ≡ begun_anew peer (row_of row.now, cursor) }
+{
+    if row.peer == peer { 0 } else { cursor }
+}
+
+/// The rows to the peer at an index begin anew.
+fn rewind(rows: &[OutRow], peer: u32, cursors: &mut Vec<u32>)
+    requires { length cursors.old.items ≤ length rows.now }
+    ensures { cursors.new.items ≡
+        map (begun_anew peer) (zip (map row_of rows.now) cursors.old.items) }
+{
+    for k in 0..cursors.len() {
+        let cursor = begun_anew(&rows[k], cursors[k], peer);
+        cursors[k] = cursor;
+    }
+}
+
+impl Manager {
+    /// Begins a session, as the end that `role` says. `window` is how many user packets may come to it that it did not acknowledge.
+    pub fn link(&mut self, role: Role, window: u16) -> Result<(), LinkFault>
+        requires { 1 ≤ window }
+        ensures answer { result ≡ (link (manager_of self.old) role window).answer }
+        ensures left { Succeeds self.old self.new (link (manager_of self.old) role window) }
+    {
+        linked_is_valid();
+        refused_is_same();
+        if self.store.is_down() {
+            return Err(LinkFault::Down);
+        }
+        if self.session.is_some() {
+            return Err(LinkFault::Linked);
+        }
+        let Some(session) = session_for(self.store.state(), role, window) else {
+            return Err(LinkFault::NoPeer);
+        };
+        self.session = Some(session);
+        Ok(())
+    }
+
+    /// The connection ended, and is forgotten: what is not acknowledged is sent again in the next one.
+    pub fn unlink(&mut self)
+        ensures { Succeeds self.old self.new (unlink (manager_of self.old)) }
+    {
+        unlinked_is_valid();
+        self.store.unmark();
+        self.session = None;
+        self.cursors.clear();
+        self.owes.clear();
+    }
+
+    /// What the rows to the linked peer have is sent again from what is not acknowledged on.
+    pub fn resend(&mut self)
+        ensures { Succeeds self.old self.new (resend (manager_of self.old)) }
+    {
+        resent_is_valid();
+        if let Some(session) = &self.session {
+            let state = self.store.state();
+            let peer = linked_peer(state, session);
+            rewind(state.out_rows(), peer, &mut self.cursors);
+        }
+    }
+}
