@@ -1,0 +1,25 @@
+#!/bin/sh
+# Times commits, arrivals and takes of messages of 1,000 bytes over states of 100, 10,000 and 100,000 messages, and prints how many a second and how
+# many hundredths each cost is of that over the smallest. A state has so many messages in a queue, and as many that are kept for a peer.
+# At each depth there are 100,000 messages of each in all, so that what is called is as far from the caches in each. MESSAGES=10000 takes fewer.
+# What is timed is a record that is read, prepared and installed. Nothing is written.
+#
+# The program is built in a copy of the crates, so that it is no part of what is proved with each change. HOW=try runs it without a proof.
+set -e
+top=$(cd "$(dirname "$0")/.." && pwd)
+work=$(mktemp -d)
+trap 'rm -rf "$work"' EXIT
+git -C "$top" archive HEAD crates crates.txt HANDLES | tar -x -C "$work"
+for name in $(sed -n "s/^mqb_state_cases: //p" "$top/crates.txt"); do # what rt has kept of them is not proved again
+  [ ! -d "$top/crates/$name/out" ] || cp -a "$top/crates/$name/out" "$work/crates/$name/"
+done
+crate=$work/crates/mqb_depths
+mkdir -p "$crate/src"
+sed "s/100_000/${MESSAGES:-100_000}/" "$top/bench/state/main.txt" > "$crate/src/main.rt"
+cp "$top/bench/state/calls.txt" "$crate/src/calls.rt"
+for name in records samples spelling; do # how the tests of the state spell their records
+  cp "$top/crates/mqb_state_cases/src/$name.rt" "$crate/src/"
+done
+sed -n 's/^mqb_state_cases: \(.*\)/mqb_depths: \1/p' "$top/crates.txt" >> "$work/crates.txt"
+cd "$crate"
+rt "${HOW:-run}"
