@@ -54,6 +54,8 @@ impl Manager {
         requires { 1 ≤ window }
         ensures answer { result ≡ (link (manager_of self.old) role window).answer }
         ensures left { Succeeds self.old self.new (link (manager_of self.old) role window) }
+        // So the disk stands for its records as before.
+        ensures journal { self.new.store.journal ≡ self.old.store.journal }
     {
         linked_is_valid();
         refused_is_same();
@@ -72,7 +74,8 @@ impl Manager {
 
     /// The connection ended, and is forgotten: what is not acknowledged is sent again in the next one.
     pub fn unlink(&mut self)
-        ensures { Succeeds self.old self.new (unlink (manager_of self.old)) }
+        ensures left { Succeeds self.old self.new (unlink (manager_of self.old)) }
+        ensures journal { self.new.store.journal ≡ self.old.store.journal }
     {
         unlinked_is_valid();
         self.store.unmark();
@@ -83,7 +86,8 @@ impl Manager {
 
     /// What the rows to the linked peer have is sent again from what is not acknowledged on.
     pub fn resend(&mut self)
-        ensures { Succeeds self.old self.new (resend (manager_of self.old)) }
+        ensures left { Succeeds self.old self.new (resend (manager_of self.old)) }
+        ensures journal { self.new.store.journal ≡ self.old.store.journal }
     {
         resent_is_valid();
         if let Some(session) = &self.session {

@@ -14,8 +14,8 @@ invariant_of-self c = let m = c.self.inside in let k = c.linked_peer-peer.result
     (c.linked_peer-peer.ensures ∙ ap (λ (s : State). linked_peer s c.in-Some.session) c.state-state.ensures.state)
     (c.rewind.ensures ∙ ap (λ (rows : List Row). map (begun_anew k) (zip rows m.cursors.items)) (c.out_rows.ensures ∙ ap (λ (s : State). s.outs) c.state-state.ensures.state))
 
-pub returns-in-Some : goal.returns-in-Some
-returns-in-Some c = let m = c.self.inside in let k = c.linked_peer-peer.result in
+pub returns-in-Some-clause-left : goal.returns-in-Some-clause-left
+returns-in-Some-clause-left c = let m = c.self.inside in let k = c.linked_peer-peer.result in
     anew_left c.args.self.now m.store m.session c.in-Some.session k m.cursors.items c.rewind.new.cursors.items m.owes.items c.self.view_is c.in-Some.is c.self.invariant
     (c.linked_peer-peer.ensures ∙ ap (λ (s : State). linked_peer s c.in-Some.session) c.state-state.ensures.state)
     (c.rewind.ensures ∙ ap (λ (rows : List Row). map (begun_anew k) (zip rows m.cursors.items)) (c.out_rows.ensures ∙ ap (λ (s : State). s.outs) c.state-state.ensures.state))
