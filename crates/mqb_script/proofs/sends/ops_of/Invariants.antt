@@ -1,7 +1,0 @@
-use Rattle.std.proofs.Common.{map}
-use Rattle.mqb_script.specs.Sends.{ops_of}
-use Rattle.mqb_script.proofs.Steps.{IsReadTo}
-use Rattle.mqb_script.proofs.sends.ops_of.Given as goal
-
-abbrev pub invariant-loop-word : goal.invariant-loop-word
-invariant-loop-word l = IsReadTo (ops_of (map (λ word. word.now) l.words)) l.word-index l.words l.ops

@@ -1,0 +1,6 @@
+pub mod Table
+pub mod Values
+pub mod Calls
+pub mod Words
+pub mod Stores
+pub mod Formed

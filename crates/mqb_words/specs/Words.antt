@@ -1,0 +1,103 @@
+-- What the words of a command line ask for.
+use Rattle.std.specs.Prelude.{◌≡◌, ℕ, List, [], ◌∷◌, Option, Some, None, Result, Ok, Err}
+use Rattle.std.specs.Result.{result_ok}
+use Rattle.mqb_fields.specs.Reading.{◌>>=◌}
+use Rattle.mqb_forms.specs.declared.faults.LineKind.{LineKind}
+use Rattle.mqb_forms.specs.declared.faults.LineKind.TheVariants.{Word, Value}
+use Rattle.mqb_forms.specs.declared.faults.LineFault.{LineFault}
+use Rattle.mqb_forms.specs.declared.faults.LineFault.TheVariants as line
+use Rattle.mqb_forms.specs.Values.{name_of}
+use Rattle.mqb_words.specs.declared.faults.WordsFault.{WordsFault}
+use Rattle.mqb_words.specs.declared.faults.WordsFault.TheVariants.{Usage, Memory}
+use Rattle.mqb_words.specs.declared.forms.Form.{Form}
+use Rattle.mqb_words.specs.declared.forms.Form.TheVariants as form
+use Rattle.mqb_words.specs.declared.commands.Call.{Call}
+use Rattle.mqb_words.specs.declared.commands.Command.{Command}
+use Rattle.mqb_words.specs.declared.commands.Command.TheVariants as command
+use Rattle.mqb_words.specs.Table.{form_of}
+use Rattle.mqb_words.specs.Values.{orders_of, connections_of, identity_of}
+use Rattle.mqb_words.specs.Calls.{peer_from, create_from, send_from, commit_from, take_from, purge_from, tick_from, roll_from}
+
+-- The words behind the first one.
+
+-- none
+unfoldable pub alone : Command → List (List ℕ) → Result Command LineKind
+alone command [] = Ok command
+alone command _ = Err Value
+
+-- the store alone
+unfoldable pub of_store : Command → List (List ℕ) → Result Command LineKind
+of_store command (store ∷ []) = Ok command
+of_store command _ = Err Value
+
+unfoldable pub make_from : List (List ℕ) → Result Command LineKind
+make_from (orders ∷ []) = do
+  count ← orders_of orders
+  Ok (command.Make count)
+make_from _ = Err Value
+
+unfoldable pub init_from : List (List ℕ) → Result Command LineKind
+init_from (store ∷ host ∷ guid ∷ address ∷ []) = do
+  identity ← identity_of host guid address
+  Ok (command.Init identity)
+init_from _ = Err Value
+
+abbrev pub calling : Result Call LineKind → Result Command LineKind
+calling read = do
+  call ← read
+  Ok (command.Call call)
+
+unfoldable pub serve_from : List (List ℕ) → Result Command LineKind
+serve_from (store ∷ count ∷ []) = do
+  connections ← connections_of count
+  Ok (command.Serve connections)
+serve_from _ = Err Value
+
+unfoldable pub push_from : List (List ℕ) → Result Command LineKind
+push_from (store ∷ host ∷ []) = do
+  name ← name_of host
+  Ok (command.Push name)
+push_from _ = Err Value
+
+-- by the form that the first word tells
+unfoldable pub command_with : Form → List (List ℕ) → Result Command LineKind
+command_with form.Replay words = alone command.Replay words
+command_with form.Make words = make_from words
+command_with form.Show words = alone command.Show words
+command_with form.Init words = init_from words
+command_with form.Peer words = calling (peer_from words)
+command_with form.Create words = calling (create_from words)
+command_with form.Send words = calling (send_from words)
+command_with form.Commit words = calling (commit_from words)
+command_with form.Take words = calling (take_from words)
+command_with form.Purge words = calling (purge_from words)
+command_with form.Tick words = calling (tick_from words)
+command_with form.Roll words = calling (roll_from words)
+command_with form.List words = of_store command.List words
+command_with form.Probe words = of_store command.Probe words
+command_with form.Serve words = serve_from words
+command_with form.Push words = push_from words
+command_with form.Help words = alone command.Help words
+command_with form.Version words = alone command.Version words
+
+-- All the words.
+
+unfoldable pub command_from : List (List ℕ) → Result Command LineKind
+command_from [] = Err Word
+command_from (word ∷ words) = do
+  form ← form_of word
+  command_with form words
+
+-- what words ask for, where they are within their forms
+abbrev pub command_of : List (List ℕ) → Option Command
+command_of words = result_ok (command_from words)
+
+abbrev pub fault_of : LineFault → WordsFault
+fault_of (line.Faulty kind) = Usage
+fault_of line.Memory = Memory
+
+-- A call answers what words ask for, or that they ask for nothing, or wants memory.
+abbrev pub Answers : Option Command → Result Command WordsFault → Type 0
+Answers asked (Ok read) = asked ≡ Some read
+Answers asked (Err Usage) = asked ≡ None
+Answers asked (Err Memory) = Unit {0}

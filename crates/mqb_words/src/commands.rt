@@ -1,0 +1,81 @@
+ghost use Rattle.std.specs.Prelude.{◌≡◌};
+ghost use Rattle.std.specs.Option.{option_copied};
+ghost use Rattle.mqb_words.specs.Stores.{has_store, store_of};
+
+use mqb_base::{Draft, Identity, Name, Place, QueuePlan};
+use mqb_forms::Ops;
+
+/// What the words of a command line ask for. STORE is the second word, and no part of a command: `store_of` finds it.
+#[derive(Debug, Drop)]
+pub enum Command {
+    /// `replay`
+    Replay,
+    /// `make N`, from 1 to 10000
+    Make { orders: u32 },
+    /// `show`
+    Show,
+    /// `init STORE HOST GUID ADDRESS`
+    Init { identity: Identity },
+    Call(Call),
+    /// `list STORE`
+    List,
+    /// `probe STORE`
+    Probe,
+    /// `serve STORE COUNT`, from 1 to 1000000
+    Serve { count: u32 },
+    /// `push STORE HOST`
+    Push { host: Name },
+    /// `--help`
+    Help,
+    /// `--version`
+    Version,
+}
+
+/// One call of the manager of a store.
+#[derive(Debug, Drop)]
+pub enum Call {
+    /// `peer STORE HOST GUID ADDRESS`
+    AddPeer(Identity),
+    /// `create STORE NAME tx|plain QUOTA journal|none [GUID]`
+    CreateQueue(QueuePlan),
+    /// `send STORE express|recoverable PRIORITY SEND`, the priority in the draft
+    Send { recoverable: bool, draft: Draft },
+    /// `commit STORE OP ..`, one op or more
+    Commit(Ops),
+    /// `take STORE PLACE`
+    Take(Place),
+    /// `purge STORE PLACE`
+    Purge(Place),
+    /// `tick STORE`
+    Tick,
+    /// `roll STORE COUNT`, from 1 to 65535
+    SetRoll { count: u32 },
+}
+
+impl Command {
+    /// Whether the second word of such a command line is a store.
+    pub fn has_store(&self) -> bool
+        ensures { result ≡ has_store self.now }
+    {
+        match self {
+            Command::Init { .. }
+            | Command::Call(_)
+            | Command::List
+            | Command::Probe
+            | Command::Serve { .. }
+            | Command::Push { .. } => true,
+            Command::Replay
+            | Command::Make { .. }
+            | Command::Show
+            | Command::Help
+            | Command::Version => false,
+        }
+    }
+
+    /// The word of the store among the words of a command line, where this command has a store.
+    pub fn store_of<'w>(&self, words: &'w [String]) -> Option<&'w String>
+        ensures { option_copied result ≡ store_of self.now words.now }
+    {
+        if self.has_store() { words.get(1) } else { None }
+    }
+}

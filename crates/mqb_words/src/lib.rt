@@ -1,0 +1,14 @@
+//! The words of a command line: what they ask for, or that they are outside their forms.
+//! Of the definitions, `Table` has the forms of words by their first one, and `Words` what the words of a command line ask for. `command_of` reads them.
+#![tactic(auto)]
+
+mod calls;
+mod commands;
+mod faults;
+mod forms;
+mod reading;
+mod values;
+
+pub use commands::{Call, Command};
+pub use faults::WordsFault;
+pub use reading::command_of;

@@ -1,0 +1,68 @@
+ghost use Rattle.std.specs.Prelude.{◌≡◌, ◌<◌, map, IfOk};
+ghost use Rattle.mqb_forms.specs.Faults.{Reads};
+ghost use Rattle.mqb_words.specs.Values.{orders_of, connections_of, octet_of, address_from, address_of, identity_of};
+
+use mqb_base::Identity;
+use mqb_forms::{LineFault, LineKind, guid_of, name_of, number_in, parts};
+use std::alloc::Global;
+
+const MAX_ORDERS: u32 = 10_000;
+
+pub(crate) fn orders_of(word: &[u8]) -> Result<u32, LineKind>
+    ensures { result ≡ orders_of word.now }
+{
+    number_in(1, MAX_ORDERS, word)
+}
+
+const MAX_CONNECTIONS: u32 = 1_000_000;
+
+pub(crate) fn connections_of(word: &[u8]) -> Result<u32, LineKind>
+    ensures { result ≡ connections_of word.now }
+{
+    number_in(1, MAX_CONNECTIONS, word)
+}
+
+fn octet_of(word: &[u8]) -> Result<u8, LineKind>
+    ensures { result ≡ octet_of word.now }
+{
+    let octet = number_in(0, u32::from(u8::MAX), word)?;
+    Ok(octet as u8)
+}
+
+#[tactic(auto, unfolding(crate::specs::Values::address_from))]
+fn address_from(octets: &[&[u8]]) -> Result<[u8; 4], LineKind>
+    ensures { result ≡ address_from (map (λ octet. octet.now) octets.now) }
+{
+    let [a, b, c, d] = octets else {
+        return Err(LineKind::Value);
+    };
+    Ok([octet_of(a)?, octet_of(b)?, octet_of(c)?, octet_of(d)?])
+}
+
+#[tactic(auto, unfolding(crate::specs::Values::address_of))]
+fn address_of(alloc: Global, word: &[u8]) -> Result<[u8; 4], LineFault>
+    ensures { Reads (address_of word.now) result }
+{
+    let octets = parts(alloc, word, b'.')?;
+    Ok(address_from(octets.as_slice())?)
+}
+
+/// The manager that a host, a GUID and an address tell.
+#[tactic(auto, unfolding(crate::specs::Values::identity_of))]
+pub(crate) fn identity_of(
+    alloc: Global,
+    host: &[u8],
+    guid: &[u8],
+    address: &[u8],
+) -> Result<Identity, LineFault>
+    ensures { Reads (identity_of host.now guid.now address.now) result }
+{
+    let host = name_of(alloc, host)?;
+    let guid = guid_of(guid)?;
+    let address = address_of(alloc, address)?;
+    Ok(Identity {
+        host,
+        guid,
+        address,
+    })
+}
