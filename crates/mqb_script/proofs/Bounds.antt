@@ -1,30 +1,26 @@
 -- What the events of a script keep, and that there are no more events than lines.
-use Rattle.std.proofs.Common.{◌≡◌, ℕ, ◌+◌, ◌≤◌, Bool, true, false, ◌==◌, ◌&&◌, nat_le, if◌then◌else◌, List, [], ◌∷◌, drop, length, codes, Result, Ok, Err, refl, arith}
+use Rattle.std.proofs.Common.{◌≡◌, ℕ, ◌+◌, ◌≤◌, true, ◌==◌, nat_le, List, [], ◌∷◌, length, Result, Ok, Err, arith}
 use Rattle.std.specs.Result.{IfOk}
 use Rattle.std.specs.List.{AllByRecursion, list_all}
 use Rattle.std.proofs.lemmas.Result.{IfOk-at_ok}
 use Rattle.std.proofs.lemmas.Bool.Decides.{nat_tests}
-use Rattle.mqb_base.specs.Same.{same_bytes}
-use Rattle.mqb_base.specs.declared.draft.Op.{Op}
-use Rattle.mqb_base.specs.declared.draft.Parts.{Parts}
-use Rattle.mqb_fields.specs.Reading.{◌>>=◌}
-use Rattle.mqb_script.specs.declared.faults.LineKind.{LineKind}
+use Rattle.mqb_forms.specs.declared.faults.LineKind.{LineKind}
+use Rattle.mqb_forms.specs.Values.{MOST, MOST_WINDOW, MOST_CALL, MOST_ROLL, packet_of, window_of, call_of, roll_of, mode_of, pick_of, place_of, moment_of}
+use Rattle.mqb_forms.specs.Sends.{send_of, ops_of}
+use Rattle.mqb_forms.specs.Plans.{plan_of, how_of}
+use Rattle.mqb_forms.proofs.Tests.{both}
+use Rattle.mqb_forms.proofs.Formed.{then_gives, choice_gives, number_bounds, IsSent, word_sent, AreFormed, ops_formed}
 use Rattle.mqb_script.specs.declared.faults.ScriptFault.{ScriptFault}
 use Rattle.mqb_script.specs.declared.forms.Form.{Form}
 use Rattle.mqb_script.specs.declared.forms.Form.TheVariants.{Queue, Commit, Send, Take, Purge, Tick, Connect, Disconnect, Pump, Deliver, Drop, Flow, Resend, Arm, Restart, Roll}
 use Rattle.mqb_script.specs.declared.events.Event.{Event}
-use Rattle.mqb_script.specs.Faults.{only_if}
-use Rattle.mqb_script.specs.Words.{lines_of, words_of, fields_of, value_of, is_decimal, is_within, number_in}
+use Rattle.mqb_script.specs.Lines.{words_of, is_skipped, is_printable, is_some_word, are_counted, event_of_words, event_of}
+use Rattle.mqb_script.specs.Script.{lines_of, numbered, script_from, script_of}
 use Rattle.mqb_script.specs.Managers.{manager_of}
-use Rattle.mqb_script.specs.Values.{MOST, MOST_WINDOW, MOST_CALL, MOST_ROLL, packet_of, window_of, call_of, roll_of, mode_of, pick_of, place_of, name_of, moment_of}
-use Rattle.mqb_script.specs.Sends.{names_from, terms_from, body_of, message_of, parts_from, send_from, send_of, take_from, sending, is_take, op_from, op_of, ops_of}
 use Rattle.mqb_script.specs.Forms.{form_of, has_count}
-use Rattle.mqb_script.specs.Grammar.{at_of, plan_of, queue_from, commit_from, how_of, sent_with, send_event, take_event, purge_from, tick_from, connect_from, disconnect_from, pump_from, deliver_from, drop_from, flow_from, resend_from, arm_from, restart_from, roll_from, event_from}
-use Rattle.mqb_script.specs.Lines.{is_skipped, is_printable, is_some_word, are_counted, event_of_words, event_of}
-use Rattle.mqb_script.specs.Script.{numbered, script_from, script_of}
+use Rattle.mqb_script.specs.Grammar.{at_of, queue_from, commit_from, sent_with, send_event, take_event, purge_from, tick_from, connect_from, disconnect_from, pump_from, deliver_from, drop_from, flow_from, resend_from, arm_from, restart_from, roll_from, event_from}
 use Rattle.mqb_script.specs.Reading.{begun, line_count}
-use Rattle.mqb_script.specs.Formed.{IsPlain, IsFormedOp, IsFormed}
-use Rattle.mqb_script.proofs.Tests.{both}
+use Rattle.mqb_script.specs.Formed.{IsFormed}
 
 numbered_gives : {T : Type 0} (P : T → Type 0) (n : ℕ) (r : Result T LineKind) → IfOk r P → IfOk (numbered n r) P
 numbered_gives P n (Ok x) h = h

@@ -6,8 +6,8 @@ use Rattle.std.proofs.lemmas.Fmt.{decimal_by_steps, decimal_digit, decimal_nonem
 use Rattle.std.proofs.lemmas.List.Folds.{list_all-append}
 use Rattle.std.proofs.lemmas.List.Sums.{fold-append}
 use Rattle.std.proofs.lemmas.Bool.Decides.{nat_tests}
-use Rattle.mqb_script.specs.Words.{is_digit, value_of, is_decimal, number_in}
-use Rattle.mqb_script.specs.Values.{MOST}
+use Rattle.mqb_forms.specs.Words.{is_digit, value_of, is_decimal, number_in}
+use Rattle.mqb_forms.specs.Values.{MOST}
 
 -- digits, and the number that they spell
 pub record Spells (n : ℕ) (digits : List ℕ) : Type 0 where

@@ -1,9 +1,10 @@
 -- The faults of lines.
 use Rattle.std.proofs.Common.{ℕ, Result, refl, ap}
-use Rattle.mqb_script.specs.declared.faults.LineKind.{LineKind}
-use Rattle.mqb_script.specs.declared.faults.LineFault.{LineFault}
-use Rattle.mqb_script.specs.declared.faults.LineFault.TheVariants.{Faulty, Memory}
-use Rattle.mqb_script.specs.Faults.{IsFaultOf, at_line}
+use Rattle.mqb_forms.specs.declared.faults.LineKind.{LineKind}
+use Rattle.mqb_forms.specs.declared.faults.LineFault.{LineFault}
+use Rattle.mqb_forms.specs.declared.faults.LineFault.TheVariants.{Faulty, Memory}
+use Rattle.mqb_forms.specs.Faults.{IsFaultOf}
+use Rattle.mqb_script.specs.Faults.{at_line}
 use Rattle.mqb_script.specs.Script.{numbered}
 use Rattle.mqb_script.specs.Reading.{IsScriptFault}
 

@@ -18,9 +18,9 @@ use Rattle.mqb_base.specs.Names.{is_name_byte}
 use Rattle.mqb_base.specs.QueueNames.{names_queue}
 use Rattle.mqb_names.specs.Printed.{decimal_octet, dot, path, printed, printed_guid, printed_number, printed_octet, printed_address, printed_host, printed_direct}
 use Rattle.mqb_names.specs.Values.{AreBytes, IsName, IsHost, IsQueueName}
-use Rattle.mqb_script.specs.Words.{is_digit}
-use Rattle.mqb_script.specs.Sends.{is_body_byte}
-use Rattle.mqb_script.proofs.Tests.{both}
+use Rattle.mqb_forms.specs.Words.{is_digit}
+use Rattle.mqb_forms.specs.Sends.{is_body_byte}
+use Rattle.mqb_forms.proofs.Tests.{both}
 use Rattle.mqb_script.proofs.Decimals.{decimal_spells}
 
 -- each byte of a text can stand in a field of a send

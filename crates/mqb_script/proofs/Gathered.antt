@@ -6,13 +6,12 @@ use Rattle.std.proofs.lemmas.List.Sums.{count_by-le-length, sum_by-cons}
 use Rattle.std.proofs.lemmas.List.Splits.{length-slice_split}
 use Rattle.mqb_outside.specs.Told.{Gave}
 use Rattle.mqb_fields.specs.Reading.{◌>>=◌}
-use Rattle.mqb_script.specs.declared.faults.LineKind.{LineKind}
+use Rattle.mqb_forms.specs.declared.faults.LineKind.{LineKind}
 use Rattle.mqb_script.specs.declared.faults.ScriptFault.{ScriptFault}
 use Rattle.mqb_script.specs.declared.faults.ScriptFault.TheVariants as fault
 use Rattle.mqb_script.specs.declared.events.Event.{Event}
-use Rattle.mqb_script.specs.Words.{lines_of}
+use Rattle.mqb_script.specs.Script.{lines_of, numbered, script_from}
 use Rattle.mqb_script.specs.Lines.{is_skipped, event_of}
-use Rattle.mqb_script.specs.Script.{numbered, script_from}
 use Rattle.mqb_script.specs.Reading.{begun, line_count, in_front, ReadsLine, IsScriptFault}
 
 pub in_front_nothing : (r : Result (List (ℕ × Event)) (ℕ × LineKind)) → r ≡ in_front [] r

@@ -1,8 +1,4 @@
-pub mod Tests
 pub mod Counts
-pub mod Hyphens
-pub mod FlagLetters
-pub mod Steps
 pub mod Faulty
 pub mod Gathered
 pub mod Bounds

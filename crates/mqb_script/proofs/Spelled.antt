@@ -12,20 +12,21 @@ use Rattle.mqb_base.specs.Same.{same_bytes}
 use Rattle.mqb_devices.specs.declared.power.Mode.{Mode}
 use Rattle.mqb_devices.specs.declared.power.Pick.{Pick}
 use Rattle.mqb_names.specs.Values.{AreBytes, IsName}
-use Rattle.mqb_script.specs.declared.faults.LineKind.{LineKind}
+use Rattle.mqb_forms.specs.declared.faults.LineKind.{LineKind}
+use Rattle.mqb_forms.specs.declared.sends.Names.{Names}
+use Rattle.mqb_forms.specs.declared.sends.Terms.{Terms}
+use Rattle.mqb_forms.specs.Words.{number_in}
+use Rattle.mqb_forms.specs.Values.{MOST, MOST_WINDOW, MOST_CALL, MOST_ROLL, choice_of}
+use Rattle.mqb_forms.specs.Sends.{parts_of}
+use Rattle.mqb_forms.specs.Plans.{plan_of, how_of}
 use Rattle.mqb_script.specs.declared.managers.Which.{Which}
-use Rattle.mqb_script.specs.declared.sends.Names.{Names}
-use Rattle.mqb_script.specs.declared.sends.Terms.{Terms}
 use Rattle.mqb_script.specs.declared.forms.Form.{Form}
 use Rattle.mqb_script.specs.declared.forms.Form.TheVariants as form
 use Rattle.mqb_script.specs.declared.events.Event.{Event}
 use Rattle.mqb_script.specs.declared.events.Event.TheVariants.{Queue, Commit, Send, Take, Purge, Tick, Connect, Disconnect, Pump, Deliver, Drop, Flow, Resend, Arm, Restart, Roll}
 use Rattle.mqb_script.specs.Managers.{host_of}
-use Rattle.mqb_script.specs.Words.{number_in}
-use Rattle.mqb_script.specs.Values.{MOST, MOST_WINDOW, MOST_CALL, MOST_ROLL, choice_of}
-use Rattle.mqb_script.specs.Sends.{parts_of}
 use Rattle.mqb_script.specs.Forms.{word_of, has_count}
-use Rattle.mqb_script.specs.Grammar.{plan_of, queue_from, commit_from, how_of, sent_with, send_event, take_event, purge_from, tick_from, connect_from, disconnect_from, pump_from, deliver_from, drop_from, flow_from, resend_from, arm_from, restart_from, roll_from, event_from}
+use Rattle.mqb_script.specs.Grammar.{queue_from, commit_from, sent_with, send_event, take_event, purge_from, tick_from, connect_from, disconnect_from, pump_from, deliver_from, drop_from, flow_from, resend_from, arm_from, restart_from, roll_from, event_from}
 use Rattle.mqb_script.specs.Lines.{is_skipped, event_of}
 use Rattle.mqb_script.specs.Spelling.{choice_text, mode_text, pick_text, place_text, public_words, op_text, words_from, line_of, IsTold, IsSpelledOp, IsPlaceName, IsSpelled}
 use Rattle.mqb_script.proofs.Decimals.{number_up_to, number_back}

@@ -3,7 +3,7 @@ use Rattle.std.proofs.Common.{◌≡◌, ℕ, Bool, true, false, ◌==◌, ◌&&
 use Rattle.std.specs.List.{list_all, slice_split, join_with_byte}
 use Rattle.std.proofs.lemmas.List.Folds.{list_all-append}
 use Rattle.std.proofs.lemmas.Bool.Decides.{nat_tests}
-use Rattle.mqb_script.proofs.Tests.{both}
+use Rattle.mqb_forms.proofs.Tests.{both}
 
 abbrev pub lacks : ℕ → List ℕ → Bool
 lacks c part = list_all (λ b. not (b == c)) part

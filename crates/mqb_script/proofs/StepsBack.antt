@@ -12,16 +12,16 @@ use Rattle.mqb_base.specs.QueueNames.{names_queue, absent_or_queue}
 use Rattle.mqb_names.specs.Printed.{printed}
 use Rattle.mqb_names.specs.Values.{IsName, IsQueueName}
 use Rattle.mqb_names.specs.lemmas.PrintedAgain.{printed_again}
-use Rattle.mqb_script.specs.declared.sends.Names.{Names}
-use Rattle.mqb_script.specs.declared.sends.Terms.{Terms}
-use Rattle.mqb_script.specs.Words.{fields_of, is_digit}
-use Rattle.mqb_script.specs.Values.{MOST}
-use Rattle.mqb_script.specs.Sends.{is_dash, queue_name, destination_of, optional_of, MOST_SECONDS, seconds_of, flags_text, is_body_byte, is_starred, MOST_COUNTED, body_of, names_from, terms_from, parts_of, message_of, parts_from, send_from, send_of, take_from, op_from, op_of, ops_of}
+use Rattle.mqb_forms.specs.declared.sends.Names.{Names}
+use Rattle.mqb_forms.specs.declared.sends.Terms.{Terms}
+use Rattle.mqb_forms.specs.Words.{fields_of, is_digit}
+use Rattle.mqb_forms.specs.Values.{MOST}
+use Rattle.mqb_forms.specs.Sends.{is_dash, queue_name, destination_of, optional_of, MOST_SECONDS, seconds_of, flags_text, is_body_byte, is_starred, MOST_COUNTED, body_of, names_from, terms_from, parts_of, message_of, parts_from, send_from, send_of, take_from, op_from, op_of, ops_of}
+use Rattle.mqb_forms.proofs.Tests.{both}
+use Rattle.mqb_forms.proofs.FlagLetters.{flags_back, flags_bytes}
 use Rattle.mqb_script.specs.Spelling.{optional_text, seconds_text, send_text, op_text, is_plain, IsTold, IsSpelledOp}
-use Rattle.mqb_script.proofs.Tests.{both}
 use Rattle.mqb_script.proofs.Splitting.{lacks, all_lack, split_join, lacks_where}
 use Rattle.mqb_script.proofs.Decimals.{decimal_spells, number_up_to}
-use Rattle.mqb_script.proofs.FlagLetters.{flags_back, flags_bytes}
 use Rattle.mqb_script.proofs.Fields.{is_field, name_field, number_field, queue_field}
 use Rattle.mqb_script.proofs.WordsBack.{are_words, field_bytes, is_word, is_word_byte, join_all, name_back, no_comma, word_is}
 

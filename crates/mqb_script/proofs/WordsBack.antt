@@ -20,20 +20,20 @@ use Rattle.mqb_devices.specs.declared.power.Pick.{Pick}
 use Rattle.mqb_devices.specs.declared.power.Pick.TheVariants.{Old, New, Half, Ones}
 use Rattle.mqb_names.specs.Printed.{printed_guid}
 use Rattle.mqb_names.specs.Values.{AreBytes, IsName}
+use Rattle.mqb_forms.specs.Values.{MOST, mode_of, pick_of, name_of, guid_from, guid_of, journal_suffix, is_journal, before_journal, place_of}
+use Rattle.mqb_forms.specs.Sends.{is_body_byte}
+use Rattle.mqb_forms.specs.Plans.{public_of}
+use Rattle.mqb_forms.proofs.Tests.{both}
 use Rattle.mqb_script.specs.declared.managers.Which.{Which}
 use Rattle.mqb_script.specs.declared.managers.Which.TheVariants.{Alpha, Beta}
 use Rattle.mqb_script.specs.declared.forms.Form.{Form}
 use Rattle.mqb_script.specs.declared.forms.Form.TheVariants as form
 use Rattle.mqb_script.specs.declared.events.Event.{Event}
 use Rattle.mqb_script.specs.Managers.{host_of, manager_of}
-use Rattle.mqb_script.specs.Words.{words_of}
-use Rattle.mqb_script.specs.Values.{MOST, mode_of, pick_of, name_of, guid_from, guid_of, journal_suffix, is_journal, before_journal, place_of}
-use Rattle.mqb_script.specs.Sends.{is_body_byte}
+use Rattle.mqb_script.specs.Lines.{words_of, is_printable, is_some_word, are_counted, event_of_words, event_of}
 use Rattle.mqb_script.specs.Forms.{word_of, form_of, has_count}
-use Rattle.mqb_script.specs.Grammar.{at_of, public_of, event_from}
-use Rattle.mqb_script.specs.Lines.{is_printable, is_some_word, are_counted, event_of_words, event_of}
+use Rattle.mqb_script.specs.Grammar.{at_of, event_from}
 use Rattle.mqb_script.specs.Spelling.{choice_text, mode_text, pick_text, place_text, public_words, IsPlaceName}
-use Rattle.mqb_script.proofs.Tests.{both}
 use Rattle.mqb_script.proofs.Splitting.{all_lack, split_join, lacks_where}
 use Rattle.mqb_script.proofs.Decimals.{number_back}
 use Rattle.std.proofs.lemmas.Fmt.{decimal_nonempty}

@@ -1,25 +1,10 @@
-use Rattle.std.specs.Prelude.{◌≡◌, ℕ, Bool, Result, Ok, Err, IfOk, IfErr, if◌then◌else◌}
-use Rattle.mqb_script.specs.declared.faults.LineKind.{LineKind}
-use Rattle.mqb_script.specs.declared.faults.LineKind.TheVariants.{Value}
-use Rattle.mqb_script.specs.declared.faults.LineFault.{LineFault}
-use Rattle.mqb_script.specs.declared.faults.LineFault.TheVariants.{Faulty}
-use Rattle.mqb_script.specs.declared.faults.LineFault.TheVariants as line
+use Rattle.std.specs.Prelude.{ℕ}
+use Rattle.mqb_forms.specs.declared.faults.LineFault.{LineFault}
+use Rattle.mqb_forms.specs.declared.faults.LineFault.TheVariants as line
 use Rattle.mqb_script.specs.declared.faults.ScriptFault.{ScriptFault}
 use Rattle.mqb_script.specs.declared.faults.ScriptFault.TheVariants as script
 
--- what is read, where the test holds; a word is outside its form otherwise
-abbrev pub only_if : {T : Type 0} → Bool → Result T LineKind → Result T LineKind
-only_if test read = if test then read else Err Value
-
--- a fault that is no want of memory is that of the definition
-abbrev pub IsFaultOf : {T : Type 0} → Result T LineKind → LineFault → Type 0
-IsFaultOf read fault = (kind : LineKind) → fault ≡ Faulty kind → read ≡ Err kind
-
--- A call answers what the definition reads, or wants memory.
-abbrev pub Reads : {T : Type 0} → Result T LineKind → Result T LineFault → Type 0
-Reads read r = IfOk r (λ x. read ≡ Ok x) × IfErr r (IsFaultOf read)
-
 -- the fault of a script whose line n is the first that fails
 abbrev pub at_line : ℕ → LineFault → ScriptFault
-at_line n (Faulty kind) = script.Line n kind
+at_line n (line.Faulty kind) = script.Line n kind
 at_line n line.Memory = script.Memory

@@ -1,8 +1,8 @@
 -- The forms of lines.
 use Rattle.std.specs.Prelude.{ℕ, Bool, ◌==◌, ◌||◌, nat_le, List, [], ◌∷◌, codes, find, Option, ok_or, Result}
 use Rattle.mqb_base.specs.Same.{same_bytes}
-use Rattle.mqb_script.specs.declared.faults.LineKind.{LineKind}
-use Rattle.mqb_script.specs.declared.faults.LineKind.TheVariants.{Word}
+use Rattle.mqb_forms.specs.declared.faults.LineKind.{LineKind}
+use Rattle.mqb_forms.specs.declared.faults.LineKind.TheVariants.{Word}
 use Rattle.mqb_script.specs.declared.forms.Form.{Form}
 use Rattle.mqb_script.specs.declared.forms.Form.TheVariants.{Queue, Commit, Send, Take, Purge, Tick, Connect, Disconnect, Pump, Deliver, Drop, Flow, Resend, Arm, Restart, Roll}
 

@@ -1,18 +1,17 @@
 -- The event of a line, from the words behind the first one.
-use Rattle.std.specs.Prelude.{ℕ, Bool, List, [], ◌∷◌, codes, Option, Some, None, Result, Ok, Err}
-use Rattle.mqb_base.specs.declared.ids.Guid.{Guid}
-use Rattle.mqb_base.specs.declared.queues.QueuePlan.{QueuePlan}
+use Rattle.std.specs.Prelude.{ℕ, List, [], ◌∷◌, Result, Ok, Err}
 use Rattle.mqb_fields.specs.Reading.{◌>>=◌}
-use Rattle.mqb_script.specs.declared.faults.LineKind.{LineKind}
-use Rattle.mqb_script.specs.declared.faults.LineKind.TheVariants.{Value}
+use Rattle.mqb_forms.specs.declared.faults.LineKind.{LineKind}
+use Rattle.mqb_forms.specs.declared.faults.LineKind.TheVariants.{Value}
+use Rattle.mqb_forms.specs.Values.{moment_of, packet_of, window_of, call_of, roll_of, mode_of, pick_of, place_of}
+use Rattle.mqb_forms.specs.Plans.{plan_of, how_of}
+use Rattle.mqb_forms.specs.Sends.{send_of, ops_of}
 use Rattle.mqb_script.specs.declared.managers.Which.{Which}
 use Rattle.mqb_script.specs.declared.forms.Form.{Form}
 use Rattle.mqb_script.specs.declared.forms.Form.TheVariants as form
 use Rattle.mqb_script.specs.declared.events.Event.{Event}
 use Rattle.mqb_script.specs.declared.events.Event.TheVariants.{Queue, Commit, Send, Take, Purge, Tick, Connect, Disconnect, Pump, Deliver, Drop, Flow, Resend, Arm, Restart, Roll}
 use Rattle.mqb_script.specs.Managers.{manager_of}
-use Rattle.mqb_script.specs.Values.{moment_of, packet_of, quota_of, priority_of, window_of, call_of, roll_of, choice_of, mode_of, pick_of, name_of, guid_of, place_of}
-use Rattle.mqb_script.specs.Sends.{send_of, ops_of}
 
 -- a manager and a moment
 unfoldable pub at_of : List ℕ → List ℕ → Result (Which × ℕ) LineKind
@@ -20,23 +19,6 @@ at_of manager now = do
   which ← manager_of manager
   moment ← moment_of now
   Ok (which, moment)
-
--- the GUID under which a queue is registered, where a line has one
-unfoldable pub public_of : List (List ℕ) → Result (Option Guid) LineKind
-public_of [] = Ok None
-public_of (word ∷ []) = do
-  guid ← guid_of word
-  Ok (Some guid)
-public_of _ = Err Value
-
-unfoldable pub plan_of : List ℕ → List ℕ → List ℕ → List ℕ → List (List ℕ) → Result QueuePlan LineKind
-plan_of name kind quota journal guid = do
-  called ← name_of name
-  public ← public_of guid
-  transactional ← choice_of (codes "tx") (codes "plain") kind
-  most ← quota_of quota
-  keeps ← choice_of (codes "journal") (codes "none") journal
-  Ok (record { name = called; public = public; transactional = transactional; quota = most; journal = keeps })
 
 unfoldable pub queue_from : List (List ℕ) → Result Event LineKind
 queue_from (manager ∷ name ∷ kind ∷ quota ∷ journal ∷ guid) = do
@@ -51,13 +33,6 @@ commit_from (manager ∷ now ∷ ops) = do
   steps ← ops_of ops
   Ok (Commit at.0 at.1 steps)
 commit_from _ = Err Value
-
--- whether a message is recoverable, and its priority
-unfoldable pub how_of : List ℕ → List ℕ → Result (Bool × ℕ) LineKind
-how_of kind priority = do
-  recoverable ← choice_of (codes "recoverable") (codes "express") kind
-  first ← priority_of priority
-  Ok (recoverable, first)
 
 unfoldable pub sent_with : List ℕ → List ℕ → List ℕ → List ℕ → List ℕ → Result Event LineKind
 sent_with manager now kind priority send = do

@@ -1,14 +1,17 @@
 -- A line of a script, and what is wrong with it.
 use Rattle.std.specs.Prelude.{ℕ, Bool, true, ◌==◌, ◌&&◌, not, nat_le, List, [], ◌∷◌, length, Result, Err, if◌then◌else◌}
-use Rattle.std.specs.List.{list_all}
+use Rattle.std.specs.List.{list_all, slice_split}
 use Rattle.mqb_fields.specs.Reading.{◌>>=◌}
-use Rattle.mqb_script.specs.declared.faults.LineKind.{LineKind}
-use Rattle.mqb_script.specs.declared.faults.LineKind.TheVariants.{Byte, Word, Count}
+use Rattle.mqb_forms.specs.declared.faults.LineKind.{LineKind}
+use Rattle.mqb_forms.specs.declared.faults.LineKind.TheVariants.{Byte, Word, Count}
 use Rattle.mqb_script.specs.declared.forms.Form.{Form}
 use Rattle.mqb_script.specs.declared.events.Event.{Event}
-use Rattle.mqb_script.specs.Words.{words_of}
 use Rattle.mqb_script.specs.Forms.{form_of, has_count}
 use Rattle.mqb_script.specs.Grammar.{event_from}
+
+-- the words of a line: its parts between spaces, so that two spaces stand round an empty word
+abbrev pub words_of : List ℕ → List (List ℕ)
+words_of line = slice_split (λ b. b == 32) line
 
 -- an empty line and a comment are skipped
 abbrev pub is_skipped : List ℕ → Bool

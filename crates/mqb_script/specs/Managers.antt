@@ -1,8 +1,8 @@
 -- The two managers of a replay.
 use Rattle.std.specs.Prelude.{ℕ, List, codes, Result, Ok, Err, if◌then◌else◌}
 use Rattle.mqb_base.specs.Same.{same_bytes}
-use Rattle.mqb_script.specs.declared.faults.LineKind.{LineKind}
-use Rattle.mqb_script.specs.declared.faults.LineKind.TheVariants.{Value}
+use Rattle.mqb_forms.specs.declared.faults.LineKind.{LineKind}
+use Rattle.mqb_forms.specs.declared.faults.LineKind.TheVariants.{Value}
 use Rattle.mqb_script.specs.declared.managers.Which.{Which}
 use Rattle.mqb_script.specs.declared.managers.Which.TheVariants.{Alpha, Beta}
 

@@ -1,10 +1,14 @@
 -- The events of a script.
-use Rattle.std.specs.Prelude.{ℕ, ◌+◌, List, [], ◌∷◌, Result, Ok, Err, if◌then◌else◌}
+use Rattle.std.specs.Prelude.{ℕ, ◌+◌, ◌==◌, List, [], ◌∷◌, Result, Ok, Err, if◌then◌else◌}
+use Rattle.std.specs.List.{slice_split}
 use Rattle.mqb_fields.specs.Reading.{◌>>=◌}
-use Rattle.mqb_script.specs.declared.faults.LineKind.{LineKind}
+use Rattle.mqb_forms.specs.declared.faults.LineKind.{LineKind}
 use Rattle.mqb_script.specs.declared.events.Event.{Event}
-use Rattle.mqb_script.specs.Words.{lines_of}
 use Rattle.mqb_script.specs.Lines.{is_skipped, event_of}
+
+-- the lines of a text: its parts between line feeds
+abbrev pub lines_of : List ℕ → List (List ℕ)
+lines_of text = slice_split (λ b. b == 10) text
 
 -- the event of line n, or the line and what is wrong with it
 abbrev pub numbered : {T : Type 0} → ℕ → Result T LineKind → Result T (ℕ × LineKind)

@@ -16,15 +16,15 @@ use Rattle.mqb_devices.specs.declared.power.Pick.{Pick}
 use Rattle.mqb_devices.specs.declared.power.Pick.TheVariants.{Old, New, Half, Ones}
 use Rattle.mqb_names.specs.Printed.{printed, printed_guid}
 use Rattle.mqb_names.specs.Values.{AreBytes, IsName, IsQueueName}
+use Rattle.mqb_forms.specs.declared.sends.Names.{Names}
+use Rattle.mqb_forms.specs.declared.sends.Terms.{Terms}
+use Rattle.mqb_forms.specs.Values.{MOST, MOST_WINDOW, MOST_CALL, MOST_ROLL, journal_suffix}
+use Rattle.mqb_forms.specs.Sends.{AreQueues, flags_text, is_body_byte, is_starred, parts_of}
 use Rattle.mqb_script.specs.declared.managers.Which.{Which}
-use Rattle.mqb_script.specs.declared.sends.Names.{Names}
-use Rattle.mqb_script.specs.declared.sends.Terms.{Terms}
 use Rattle.mqb_script.specs.declared.forms.Form.TheVariants as form
 use Rattle.mqb_script.specs.declared.events.Event.{Event}
 use Rattle.mqb_script.specs.declared.events.Event.TheVariants.{Queue, Commit, Send, Take, Purge, Tick, Connect, Disconnect, Pump, Deliver, Drop, Flow, Resend, Arm, Restart, Roll}
 use Rattle.mqb_script.specs.Managers.{host_of}
-use Rattle.mqb_script.specs.Values.{MOST, MOST_WINDOW, MOST_CALL, MOST_ROLL, journal_suffix}
-use Rattle.mqb_script.specs.Sends.{AreQueues, flags_text, is_body_byte, is_starred, parts_of}
 use Rattle.mqb_script.specs.Forms.{word_of}
 
 abbrev pub choice_text : List ℕ → List ℕ → Bool → List ℕ

@@ -1,32 +1,9 @@
 ghost use Rattle.std.specs.Prelude.{◌≡◌};
 ghost use Rattle.mqb_script.specs.Faults.{at_line};
 
-use mqb_base::Memory;
+use mqb_forms::{LineFault, LineKind};
 use std::alloc::AllocError;
 use thiserror::Error;
-
-/// What is wrong with a line: the first of these that holds.
-#[derive(Clone, Copy, Debug, PartialEq, Eq, Error)]
-pub enum LineKind {
-    /// A byte is not printable ASCII.
-    #[error("a byte outside of printable ASCII")]
-    Byte,
-    #[error("no such first word")]
-    Word,
-    /// There are too few words or too many, or one is empty.
-    #[error("a wrong count of words")]
-    Count,
-    /// A word is outside its form.
-    #[error("a word outside its form")]
-    Value,
-}
-
-/// Why a line is not read as an event.
-#[derive(Clone, Copy, Debug, PartialEq, Eq)]
-pub enum LineFault {
-    Faulty(LineKind),
-    Memory,
-}
 
 /// Why there is no script.
 #[derive(Clone, Copy, Debug, PartialEq, Eq, Error)]
@@ -44,50 +21,13 @@ pub enum ScriptFault {
     Memory,
 }
 
-impl LineFault {
-    pub(crate) const VALUE: LineFault = LineFault::Faulty(LineKind::Value);
-
-    /// The fault of a script whose line of this number is the first that fails.
-    pub(crate) fn at(self, number: u32) -> ScriptFault
-        ensures { result ≡ at_line number self }
-    {
-        match self {
-            LineFault::Faulty(kind) => ScriptFault::Line { number, kind },
-            LineFault::Memory => ScriptFault::Memory,
-        }
-    }
-}
-
-impl From<LineKind> for LineFault {
-    ghost use Rattle.std.specs.Prelude.{◌≡◌};
-    ghost use Rattle.mqb_script.specs.declared.faults.LineFault.TheVariants as fault;
-
-    ghost from_gives = { λ kind given. given ≡ fault.Faulty kind };
-
-    fn from(kind: LineKind) -> LineFault {
-        LineFault::Faulty(kind)
-    }
-}
-
-impl From<Memory> for LineFault {
-    ghost use Rattle.std.specs.Prelude.{◌≡◌};
-    ghost use Rattle.mqb_script.specs.declared.faults.LineFault.TheVariants as fault;
-
-    ghost from_gives = { λ _ given. given ≡ fault.Memory };
-
-    fn from(_memory: Memory) -> LineFault {
-        LineFault::Memory
-    }
-}
-
-impl From<AllocError> for LineFault {
-    ghost use Rattle.std.specs.Prelude.{◌≡◌};
-    ghost use Rattle.mqb_script.specs.declared.faults.LineFault.TheVariants as fault;
-
-    ghost from_gives = { λ _ given. given ≡ fault.Memory };
-
-    fn from(_error: AllocError) -> LineFault {
-        LineFault::Memory
+/// The fault of a script whose line of this number is the first that fails.
+pub(crate) fn at_line(number: u32, fault: LineFault) -> ScriptFault
+    ensures { result ≡ at_line number fault }
+{
+    match fault {
+        LineFault::Faulty(kind) => ScriptFault::Line { number, kind },
+        LineFault::Memory => ScriptFault::Memory,
     }
 }
 

@@ -3,8 +3,7 @@ ghost use Rattle.std.specs.Option.{option_copied};
 ghost use Rattle.mqb_base.specs.Same.{same_bytes};
 ghost use Rattle.mqb_script.specs.Forms.{form_among, form_of, word_of, has_count};
 
-use crate::faults::LineKind;
-use crate::words::is_word;
+use mqb_forms::{LineKind, is_word};
 
 /// The form of a line, which its first word tells.
 #[derive(Clone, Copy, Debug, PartialEq, Eq)]

@@ -1,7 +1,7 @@
 ghost use Rattle.std.specs.Prelude.{◌≡◌, ◌≤◌, ◌++◌, ℕ, codes, replicate, false, Ok};
 ghost use Rattle.std.specs.Fmt.{decimal};
+ghost use Rattle.mqb_forms.specs.Sends.{MOST_COUNTED, body_of};
 ghost use Rattle.mqb_script.specs.declared.events.Event.{Event};
-ghost use Rattle.mqb_script.specs.Sends.{MOST_COUNTED, body_of};
 ghost use Rattle.mqb_script.specs.Lines.{is_skipped, event_of};
 ghost use Rattle.mqb_script.specs.Spelling.{IsSpelled, line_of};
 

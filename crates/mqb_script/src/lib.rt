@@ -5,20 +5,15 @@
 
 mod events;
 mod faults;
-mod flags;
 mod forms;
 mod laws;
 mod lines;
 mod managers;
-mod ops;
 mod reading;
-mod sends;
-mod values;
-mod words;
 
 pub use events::Event;
-pub use faults::{LineKind, ScriptFault};
+pub use faults::ScriptFault;
 pub use laws::{lines_are_read_back, one_event_a_line};
 pub use managers::Which;
-pub use ops::Ops;
+pub use mqb_forms::{LineKind, Ops};
 pub use reading::{Script, read_script};

@@ -1,21 +1,17 @@
 ghost use Rattle.std.specs.Prelude.{◌≡◌, ◌≤◌, map, IfOk};
 ghost use Rattle.std.specs.List.{list_all};
-ghost use Rattle.mqb_script.specs.Faults.{Reads};
-ghost use Rattle.mqb_script.specs.Words.{words_of};
-ghost use Rattle.mqb_script.specs.Grammar.{at_of, public_of, plan_of, queue_from, commit_from, how_of, sent_with, send_event, take_event, purge_from, tick_from, connect_from, disconnect_from, pump_from, deliver_from, drop_from, flow_from, resend_from, arm_from, restart_from, roll_from, event_from};
-ghost use Rattle.mqb_script.specs.Lines.{is_skipped, is_printable, is_some_word, are_counted, event_of_words, event_of};
+ghost use Rattle.mqb_forms.specs.Faults.{Reads};
+ghost use Rattle.mqb_forms.specs.Plans.{public_of, plan_of, how_of};
+ghost use Rattle.mqb_script.specs.Lines.{words_of, is_skipped, is_printable, is_some_word, are_counted, event_of_words, event_of};
+ghost use Rattle.mqb_script.specs.Grammar.{at_of, queue_from, commit_from, sent_with, send_event, take_event, purge_from, tick_from, connect_from, disconnect_from, pump_from, deliver_from, drop_from, flow_from, resend_from, arm_from, restart_from, roll_from, event_from};
 
 use crate::events::Event;
-use crate::faults::{LineFault, LineKind};
 use crate::forms::{Form, form_of};
 use crate::managers::{Which, manager_of};
-use crate::sends::{ops_of, send_of};
-use crate::values::{
-    call_of, choice_of, guid_of, mode_of, moment_of, name_of, packet_of, pick_of, place_of,
-    priority_of, quota_of, roll_of, window_of,
+use mqb_forms::{
+    LineFault, LineKind, call_of, how_of, mode_of, moment_of, ops_of, packet_of, parts, pick_of,
+    place_of, plan_of, roll_of, send_of, window_of,
 };
-use crate::words::parts;
-use mqb_base::{Guid, QueuePlan};
 use std::alloc::Global;
 
 #[tactic(auto, unfolding(crate::specs::Grammar::at_of))]
@@ -23,43 +19,6 @@ fn at_of(manager: &[u8], now: &[u8]) -> Result<(Which, u32), LineKind>
     ensures { result ≡ at_of manager.now now.now }
 {
     Ok((manager_of(manager)?, moment_of(now)?))
-}
-
-#[tactic(auto, unfolding(crate::specs::Grammar::public_of))]
-fn public_of(words: &[&[u8]]) -> Result<Option<Guid>, LineKind>
-    ensures { result ≡ public_of (map (λ word. word.now) words.now) }
-{
-    match words {
-        [] => Ok(None),
-        [word] => Ok(Some(guid_of(word)?)),
-        _ => Err(LineKind::Value),
-    }
-}
-
-#[tactic(auto, unfolding(crate::specs::Grammar::plan_of))]
-fn plan_of(
-    alloc: Global,
-    name: &[u8],
-    kind: &[u8],
-    quota: &[u8],
-    journal: &[u8],
-    guid: &[&[u8]],
-) -> Result<QueuePlan, LineFault>
-    ensures { Reads (plan_of name.now kind.now quota.now journal.now
-        (map (λ word. word.now) guid.now)) result }
-{
-    let name = name_of(alloc, name)?;
-    let public = public_of(guid)?;
-    let transactional = choice_of(b"tx", b"plain", kind)?;
-    let quota = quota_of(quota)?;
-    let journal = choice_of(b"journal", b"none", journal)?;
-    Ok(QueuePlan {
-        name,
-        public,
-        transactional,
-        quota,
-        journal,
-    })
 }
 
 #[tactic(auto, unfolding(crate::specs::Grammar::queue_from))]
@@ -84,17 +43,6 @@ fn commit_from(alloc: Global, words: &[&[u8]]) -> Result<Event, LineFault>
     let (manager, now) = at_of(manager, now)?;
     let ops = ops_of(alloc, ops)?;
     Ok(Event::Commit { manager, now, ops })
-}
-
-#[tactic(auto, unfolding(crate::specs::Grammar::how_of))]
-fn how_of(kind: &[u8], priority: &[u8]) -> Result<(bool, u8), LineKind>
-    ensures how { result ≡ how_of kind.now priority.now }
-    ensures most { IfOk result (λ how. how.1 ≤ 7) }
-{
-    Ok((
-        choice_of(b"recoverable", b"express", kind)?,
-        priority_of(priority)?,
-    ))
 }
 
 #[tactic(auto, unfolding(crate::specs::Grammar::sent_with))]

@@ -1,9 +1,8 @@
 ghost use Rattle.std.specs.Prelude.{◌≡◌};
-ghost use Rattle.mqb_script.specs.declared.faults.LineKind.TheVariants.{Value};
+ghost use Rattle.mqb_forms.specs.declared.faults.LineKind.TheVariants.{Value};
 ghost use Rattle.mqb_script.specs.Managers.{host_of, other, manager_of};
 
-use crate::faults::LineKind;
-use crate::words::is_word;
+use mqb_forms::{LineKind, is_word};
 
 /// One of the two managers of a replay.
 #[derive(Clone, Copy, Debug, PartialEq, Eq)]

@@ -6,9 +6,9 @@ ghost use Rattle.mqb_script.specs.Reading.{LONGEST, MOST_LINES, line_count, Read
 ghost use Rattle.mqb_script.specs.Formed.{IsFormed};
 
 use crate::events::Event;
-use crate::faults::ScriptFault;
+use crate::faults::{ScriptFault, at_line};
 use crate::lines::{event_of, is_skipped};
-use crate::words::parts;
+use mqb_forms::parts;
 use mqb_outside::Source;
 use std::alloc::Global;
 use std::marker::Model;
@@ -33,7 +33,7 @@ fn event_at(alloc: Global, number: u32, line: &[u8]) -> Result<Event, ScriptFaul
     ensures event { IfOk result (λ event. numbered number (event_of line.now) ≡ Ok event) }
     ensures fault { IfErr result (IsScriptFault (numbered number (event_of line.now))) }
 {
-    event_of(alloc, line).map_err(|fault| fault.at(number))
+    event_of(alloc, line).map_err(|fault| at_line(number, fault))
 }
 
 impl Script {

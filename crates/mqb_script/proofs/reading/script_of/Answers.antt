@@ -1,6 +1,6 @@
 use Rattle.std.proofs.Common.{◌≡◌, ◌≤◌, ap, ◌+◌, length, map, arith}
 use Rattle.std.proofs.lemmas.List.{length-map}
-use Rattle.mqb_script.specs.Words.{lines_of}
+use Rattle.mqb_script.specs.Script.{lines_of}
 use Rattle.mqb_script.proofs.Gathered.{few_lines}
 use Rattle.mqb_script.proofs.reading.script_of.Goals as goal
 
