@@ -236,6 +236,7 @@ fn send_from(alloc: Global, priority: u8, fields: &[&[u8]]) -> Result<Draft, Lin
     draft_from(alloc, priority, fields)
 }
 
+/// The message of this priority that a word describes.
 #[tactic(auto, unfolding(crate::specs::Sends::send_of))]
 pub fn send_of(alloc: Global, priority: u8, word: &[u8]) -> Result<Draft, LineFault>
     requires { priority ≤ 7 }
@@ -273,6 +274,7 @@ fn op_of(alloc: Global, word: &[u8]) -> Result<Op, LineFault>
     op_from(alloc, fields.as_slice())
 }
 
+/// The steps that words are, in order.
 pub fn ops_of(alloc: Global, words: &[&[u8]]) -> Result<Ops, LineFault>
     ensures { Reads (ops_of (map (λ word. word.now) words.now)) result }
 {

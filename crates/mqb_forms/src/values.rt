@@ -10,24 +10,28 @@ use mqb_devices::{Mode, Pick};
 use std::alloc::Global;
 use uuid::Uuid;
 
+/// A moment, in seconds since 1970.
 pub fn moment_of(word: &[u8]) -> Result<u32, LineKind>
     ensures { result ≡ moment_of word.now }
 {
     number_in(0, u32::MAX, word)
 }
 
+/// The number of a packet, from 1.
 pub fn packet_of(word: &[u8]) -> Result<u32, LineKind>
     ensures { result ≡ packet_of word.now }
 {
     number_in(1, u32::MAX, word)
 }
 
+/// How many messages a queue holds at most.
 pub fn quota_of(word: &[u8]) -> Result<u32, LineKind>
     ensures { result ≡ quota_of word.now }
 {
     number_in(0, u32::MAX, word)
 }
 
+/// A priority, from 0 to 7.
 pub fn priority_of(word: &[u8]) -> Result<u8, LineKind>
     ensures priority { result ≡ priority_of word.now }
     ensures most { IfOk result (λ n. n ≤ 7) }
@@ -36,6 +40,7 @@ pub fn priority_of(word: &[u8]) -> Result<u8, LineKind>
     Ok(priority as u8)
 }
 
+/// A window, from 1.
 pub fn window_of(word: &[u8]) -> Result<u16, LineKind>
     ensures { result ≡ window_of word.now }
 {
@@ -45,6 +50,7 @@ pub fn window_of(word: &[u8]) -> Result<u16, LineKind>
 
 const MAX_CALL: u32 = 1000;
 
+/// The number of a device call, from 1 to `MAX_CALL`.
 pub fn call_of(word: &[u8]) -> Result<u32, LineKind>
     ensures { result ≡ call_of word.now }
 {
@@ -53,6 +59,7 @@ pub fn call_of(word: &[u8]) -> Result<u32, LineKind>
 
 const MAX_ROLL: u32 = 65_535;
 
+/// The count at which sequences are full, from 1 to `MAX_ROLL`.
 pub fn roll_of(word: &[u8]) -> Result<u32, LineKind>
     ensures { result ≡ roll_of word.now }
 {
@@ -73,6 +80,7 @@ pub fn choice_of(first: &[u8], second: &[u8], word: &[u8]) -> Result<bool, LineK
     Err(LineKind::Value)
 }
 
+/// How an armed disk goes wrong.
 #[tactic(auto, unfolding(crate::specs::Values::mode_of))]
 pub fn mode_of(word: &[u8]) -> Result<Mode, LineKind>
     ensures { result ≡ mode_of word.now }
@@ -86,6 +94,7 @@ pub fn mode_of(word: &[u8]) -> Result<Mode, LineKind>
     Err(LineKind::Value)
 }
 
+/// Which image a restarted disk has.
 #[tactic(auto, unfolding(crate::specs::Values::pick_of))]
 pub fn pick_of(word: &[u8]) -> Result<Pick, LineKind>
     ensures { result ≡ pick_of word.now }
@@ -105,6 +114,7 @@ pub fn pick_of(word: &[u8]) -> Result<Pick, LineKind>
     Err(LineKind::Value)
 }
 
+/// A name of a queue or a host.
 #[tactic(auto, unfolding(crate::specs::Values::name_of))]
 pub fn name_of(alloc: Global, word: &[u8]) -> Result<Name, LineFault>
     ensures { Reads (name_of word.now) result }
@@ -132,6 +142,7 @@ pub fn guid_of(word: &[u8]) -> Result<Guid, LineKind>
 
 const JOURNAL: &[u8] = b";journal";
 
+/// A place of a manager.
 #[tactic(auto, unfolding(crate::specs::Values::place_of))]
 pub fn place_of(alloc: Global, word: &[u8]) -> Result<Place, LineFault>
     ensures { Reads (place_of word.now) result }

@@ -6,6 +6,7 @@ ghost use Rattle.mqb_forms.specs.Words.{is_decimal, is_digit, value_of, number_i
 use crate::faults::LineKind;
 use std::alloc::{AllocError, Global};
 
+/// The parts of a text between bytes; where there is no such byte, the text itself.
 pub fn parts(alloc: Global, text: &[u8], by: u8) -> Result<Vec<&[u8]>, AllocError>
     ensures { IfOk result (λ p. map (λ w. w.now) p.items ≡ slice_split (λ b. b == by) text.now) }
 {

@@ -11,7 +11,7 @@ pub(crate) fn read(alloc: Global, text: &[u8], failing: &[u32]) -> Result<Script
     }
 }
 
-fn place_number(place: &Place) -> u64 {
+pub(crate) fn place_number(place: &Place) -> u64 {
     match place {
         Place::Queue(name) => name.as_slice().len() as u64,
         Place::JournalOf(name) => 100 + name.as_slice().len() as u64,
@@ -21,7 +21,7 @@ fn place_number(place: &Place) -> u64 {
     }
 }
 
-fn plan_number(plan: &QueuePlan) -> u64 {
+pub(crate) fn plan_number(plan: &QueuePlan) -> u64 {
     u64::from(plan.transactional)
         + 2 * u64::from(plan.journal)
         + 4 * u64::from(plan.public.is_some())
@@ -43,7 +43,7 @@ fn mode_number(mode: Mode) -> u64 {
     }
 }
 
-fn count(ops: &[Op]) -> u64 {
+pub(crate) fn count(ops: &[Op]) -> u64 {
     let mut sends = 0u64;
     for op in ops {
         if let Op::Send(_) = op {
@@ -54,12 +54,12 @@ fn count(ops: &[Op]) -> u64 {
 }
 
 /// The two times of a message, the bits of journal and acknowledgement, whether there are an admin and a response name, and the length of the body.
-type Said = (u32, u32, u8, u8, bool, bool, usize);
+pub(crate) type Said = (u32, u32, u8, u8, bool, bool, usize);
 
 /// What is said of no message.
-const NO: Said = (0, 0, 0, 0, false, false, 0);
+pub(crate) const NO: Said = (0, 0, 0, 0, false, false, 0);
 
-fn said(draft: &Draft) -> Said {
+pub(crate) fn said(draft: &Draft) -> Said {
     let parts = draft.parts();
     (
         parts.reach,
@@ -145,7 +145,7 @@ const ALPHA: Option<Which> = Some(Which::Alpha);
 
 const BETA: Option<Which> = Some(Which::Beta);
 
-const MAX: u32 = u32::MAX;
+pub(crate) const MAX: u32 = u32::MAX;
 
 /// A line, and what its event tells.
 static LINES: [(&[u8], Told); 52] = [

@@ -1,4 +1,4 @@
-//! Tests alone: every line form, what is wrong with faulty lines, the text of every reply and ledger line, and the script of the generator.
+//! Tests alone: every line form, what is wrong with faulty lines, the words of command lines, the text of every reply and ledger line, and the script of the generator.
 #![tactic(auto)]
 
 #[cfg(test)]
@@ -9,3 +9,5 @@ mod forms;
 mod generator;
 #[cfg(test)]
 mod replies;
+#[cfg(test)]
+mod words;
