@@ -138,6 +138,13 @@ pub call_answered : {V E : Type 0} (value : V) (memory broken : E) (d e : View) 
 call_answered {V} {E} value memory broken d e m n r b o w result differ is call answer =
     subst (λ (q : Result V E). IsCall memory broken d e m n o q) (sym answer) (call_by_write value memory broken d e m n r b o w differ is call)
 
+-- where memory was wanting, so it was when the record was to be written
+pub memory_answered : {V E : Type 0} (value : V) (memory broken : E) (P : Type 0) (w : Result (Unit {0}) WriteFault) (result : Result V E) → (memory ≡ broken → ⊥)
+    → (w ≡ Err fault.Memory → P) → result ≡ answered w value memory broken → result ≡ Err memory → P
+memory_answered value memory broken P (Ok done) result differ stayed answer same = absurd (let none : ⊥ = cc in none)
+memory_answered value memory broken P (Err fault.Memory) result differ stayed answer same = stayed refl
+memory_answered value memory broken P (Err fault.DiskFault) result differ stayed answer same = absurd (errs memory broken differ (sym same ∙ answer))
+
 pub ok_answered : {V E : Type 0} (value : V) (memory broken : E) (P : Type 0) (w : Result (Unit {0}) WriteFault) → OnOk w P → OnOk (answered w value memory broken) P
 ok_answered value memory broken P (Ok done) h = h
 ok_answered value memory broken P (Err fault.Memory) h = tt

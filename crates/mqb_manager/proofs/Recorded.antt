@@ -92,6 +92,12 @@ no_form marks = at (length marks == 0)
     at true none = refl
     at false none = absurd (let no : ⊥ = cc in no)
 
+-- where memory was wanting, so it was when they were to be written
+memory_fault : (P : Type 0) (w : WriteFault) (why : PumpFault) → why ≡ pump_fault w → (◌≡◌ {A = Result (Unit {0}) WriteFault} (Err w) (Err write.Memory) → P)
+    → ◌≡◌ {A = Result ℕ PumpFault} (Err why) (Err fault.Memory) → P
+memory_fault P write.Memory why is stayed same = stayed refl
+memory_fault P write.DiskFault why is stayed same = absurd (let no : ⊥ = cc in no)
+
 if_formed : (P : Type 0) (marks : List Mark) → IfSome (offered_form marks) (λ _. P) → IfSome (if length marks == 0 then None else Some (entry.Offered marks)) (λ _. P)
 if_formed P marks = at (length marks == 0)
   where
@@ -255,17 +261,20 @@ module _ (m : ManagerState) (session : one_end.State) (now k : ℕ) (g : Going) 
               ∙ ap (λ (bytes : List ℕ). before ++ bytes) (spelled_all x.to.guid now (with_heads session cs));
           refused = tt;
           untouched = λ none. untouched (no_form marks (sym entry_is ∙ ap (λ (o : PumpOutcome). o.entry) x.comes ∙ none));
+          memory = λ wanting. absurd (let no : ⊥ = cc in no);
           calls = subst (λ (r : Option Record). IfSome r (λ _. Counted 4 d.calls e.calls)) (sym entry_is ∙ ap (λ (o : PumpOutcome). o.entry) x.comes)
               (if_formed (Counted 4 d.calls e.calls) marks calls);
         })
 
     pub unsent_pumped : (kept : Type 0) (before after : List ℕ) (w : WriteFault) (why : PumpFault) → Written (Err w) → why ≡ pump_fault w → after ≡ before
-        → (offered_form marks ≡ None → kept) → IsPumped d e kept m n (pump M now) before after (Err why)
-    unsent_pumped kept before after w why call is back untouched = record {
+        → (offered_form marks ≡ None → kept) → (◌≡◌ {A = Result (Unit {0}) WriteFault} (Err w) (Err write.Memory) → kept)
+        → IsPumped d e kept m n (pump M now) before after (Err why)
+    unsent_pumped kept before after w why call is back untouched stayed = record {
       call = subst (λ (f : PumpFault). IsCall fault.Memory fault.DiskFault d e m n (pump M now) (Err f)) (sym is)
           (unsent_call d e m n (offered_form marks) (pump M now) w (change ∙ sym entry_is) call);
       sent = tt;
       refused = back;
       untouched = λ none. untouched (no_form marks (sym entry_is ∙ none));
+      memory = memory_fault kept w why is stayed;
       calls = tt;
     }

@@ -44,6 +44,7 @@ module _ (d : View) (kept : Type 0) (m : ManagerState) (law : Lawful d) (same : 
     sent = sent;
     refused = refused;
     untouched = λ none. same;
+    memory = λ wanting. same;
     calls = no_record (λ _. Counted 4 d.calls d.calls) r p.entry quiet.entry;
   })
 
@@ -68,6 +69,7 @@ module _ (d : View) (kept : Type 0) (m : ManagerState) (law : Lawful d) (same : 
     sent = tt;
     refused = stays;
     untouched = λ none. same;
+    memory = λ wanting. same;
     calls = tt;
   }
 

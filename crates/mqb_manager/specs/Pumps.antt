@@ -1,5 +1,5 @@
 -- How a pump goes, step by step.
-use Rattle.std.specs.Prelude.{[], ◌++◌, ◌==◌, ◌∷◌, ◌≡◌, All, Bool, IfSome, IsSomeAnd, List, None, OnErr, OnOk, Option, Result, Some, flat_map, fold, if◌then◌else◌, length, map, slice_get, ℕ}
+use Rattle.std.specs.Prelude.{[], ◌++◌, ◌==◌, ◌∷◌, ◌≡◌, All, Bool, Err, IfSome, IsSomeAnd, List, None, OnErr, OnOk, Option, Result, Some, flat_map, fold, if◌then◌else◌, length, map, slice_get, ℕ}
 use Rattle.mqb_base.specs.declared.heads.SessionHead.{SessionHead}
 use Rattle.mqb_devices.specs.Disk.{Counted, View}
 use Rattle.mqb_entries.specs.declared.entry.Entry.{Entry}
@@ -73,4 +73,5 @@ pub record IsPumped (d e : View) (kept : Type 0) (m n : ManagerState) (o : PumpO
   pub sent : OnOk r (after ≡ before ++ flat_map plain_spelling o.packets)
   pub refused : OnErr r (after ≡ before)
   pub untouched : o.entry ≡ None → kept
+  pub memory : r ≡ Err fault.Memory → kept
   pub calls : OnOk r (IfSome o.entry (λ _. Counted 4 d.calls e.calls))

@@ -1,4 +1,4 @@
-ghost use Rattle.std.specs.Prelude.{◌≡◌, IfSome, None, OnOk, Some};
+ghost use Rattle.std.specs.Prelude.{◌≡◌, Err, IfSome, None, OnOk, Some};
 ghost use Rattle.mqb_devices.specs.Disk.{Counted};
 ghost use Rattle.mqb_entries.specs.declared.entry.Entry.TheVariants as form;
 ghost use Rattle.mqb_manager.specs.Calls.{IsCall};
@@ -31,6 +31,7 @@ impl Manager {
         ensures call { IsCall WriteFault.Memory WriteFault.DiskFault (D.view disk.old)
             (D.view disk.new) self.old self.new
             (write_of (manager_of self.old) (Some (form.Commit now trial.now.ops)) Nothing) result }
+        ensures memory { result ≡ Err WriteFault.Memory → disk.new ≡ disk.old }
         ensures calls { OnOk result (Counted 4 (D.view disk.old).calls (D.view disk.new).calls) }
     {
         let views = trial.ops(self.alloc)?;
@@ -53,6 +54,7 @@ impl Manager {
             (D.view disk.new) self.old self.new (commit (manager_of self.old) ops.now now) result }
         ensures untouched { (commit (manager_of self.old) ops.now now).entry ≡ None
             → disk.new ≡ disk.old }
+        ensures memory { result ≡ Err CommitFault.Memory → disk.new ≡ disk.old }
         ensures calls { OnOk result (IfSome (commit (manager_of self.old) ops.now now).entry
             (λ _. Counted 4 (D.view disk.old).calls (D.view disk.new).calls)) }
     {

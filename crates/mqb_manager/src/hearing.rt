@@ -1,5 +1,5 @@
 //! How a packet is heard: a plan is made, what arrived is written, and then the connection is as planned.
-ghost use Rattle.std.specs.Prelude.{◌≡◌, ◌<◌, ◌≤◌, All, IfSome, None, OnOk, Some, false};
+ghost use Rattle.std.specs.Prelude.{◌≡◌, ◌<◌, ◌≤◌, All, Err, IfSome, None, OnOk, Some, false};
 ghost use Rattle.std.specs.Vec.{vec_capacity};
 ghost use Rattle.mqb_devices.specs.Disk.{Counted};
 ghost use Rattle.mqb_hearing.specs.Plans.{ShowsReadable, outcome_of};
@@ -92,6 +92,7 @@ impl Manager {
             (D.view disk.new) self.old self.new
             (outcome_of (manager_of self.old) hearing.entry) result }
         ensures untouched { hearing.entry.arrival ≡ None → disk.new ≡ disk.old }
+        ensures memory { result ≡ Err HearFault.Memory → disk.new ≡ disk.old }
         ensures calls { OnOk result (IfSome hearing.entry.arrival
             (λ _. Counted 4 (D.view disk.old).calls (D.view disk.new).calls)) }
     {
@@ -139,6 +140,7 @@ impl Manager {
         ensures readable { ShowsReadable packet.now }
         ensures untouched { (p : Packet) → packet_in (seen_packet packet.now) ≡ Some p →
             (hear (manager_of self.old) p now).entry ≡ None → disk.new ≡ disk.old }
+        ensures memory { result ≡ Err HearFault.Memory → disk.new ≡ disk.old }
         // A record is four calls of the disk.
         ensures calls { (p : Packet) → packet_in (seen_packet packet.now) ≡ Some p →
             OnOk result (IfSome (hear (manager_of self.old) p now).entry

@@ -1,4 +1,4 @@
-ghost use Rattle.std.specs.Prelude.{◌<◌, ◌≡◌, ◌≤◌, All, IfSome, None, OnOk, length};
+ghost use Rattle.std.specs.Prelude.{◌<◌, ◌≡◌, ◌≤◌, All, Err, IfSome, None, OnOk, length};
 ghost use Rattle.mqb_devices.specs.Disk.{Counted};
 ghost use Rattle.mqb_entries.specs.SpelledEntries.{spelled};
 ghost use Rattle.mqb_entries.specs.declared.entry.Entry.TheVariants as form;
@@ -70,6 +70,7 @@ impl Manager {
         // Where no record is written the disk is not called.
         ensures untouched { (add_peer (manager_of self.old) peer.now).entry ≡ None
             → disk.new ≡ disk.old }
+        ensures memory { result ≡ Err AddPeerFault.Memory → disk.new ≡ disk.old }
         // A record is four calls of the disk.
         ensures calls { OnOk result (IfSome (add_peer (manager_of self.old) peer.now).entry
             (λ _. Counted 4 (D.view disk.old).calls (D.view disk.new).calls)) }

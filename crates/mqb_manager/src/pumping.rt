@@ -2,7 +2,7 @@
 //!
 //! Their bytes are made before the disk is called, since that takes memory. Where a mark rises it is recorded, and only then do the packets go: where it was
 //! not, they are taken back. What is noted behind the record takes no memory.
-ghost use Rattle.std.specs.Prelude.{[], ◌∷◌, ◌++◌, ◌<◌, ◌≡◌, ◌≤◌, ◌==◌, IfSome, None, OnErr, OnOk, Some, flat_map, length, nat_lt, not};
+ghost use Rattle.std.specs.Prelude.{[], ◌∷◌, ◌++◌, ◌<◌, ◌≡◌, ◌≤◌, ◌==◌, Err, IfSome, None, OnErr, OnOk, Some, flat_map, length, nat_lt, not};
 ghost use Rattle.mqb_choosing.specs.Going.{any_waits};
 ghost use Rattle.mqb_devices.specs.Disk.{Counted};
 ghost use Rattle.mqb_heads.specs.declared.base.TheConstants.{MAX_PACKET};
@@ -315,6 +315,7 @@ impl Manager {
         ensures refused { OnErr result (out.new.items ≡ out.old.items) }
         ensures untouched { (pump (manager_of self.old) now).entry ≡ None
             → disk.new ≡ disk.old }
+        ensures memory { result ≡ Err PumpFault.Memory → disk.new ≡ disk.old }
         ensures calls { OnOk result (IfSome (pump (manager_of self.old) now).entry
             (λ _. Counted 4 (D.view disk.old).calls (D.view disk.new).calls)) }
     {

@@ -1,4 +1,4 @@
-ghost use Rattle.std.specs.Prelude.{◌≡◌, ◌≤◌, IfSome, None, OnOk, length};
+ghost use Rattle.std.specs.Prelude.{◌≡◌, ◌≤◌, Err, IfSome, None, OnOk, length};
 ghost use Rattle.mqb_devices.specs.Disk.{Counted};
 ghost use Rattle.mqb_entries.specs.SpelledEntries.{spelled};
 ghost use Rattle.mqb_entries.specs.declared.entry.Entry.TheVariants as form;
@@ -71,6 +71,7 @@ impl Manager {
             (create_queue (manager_of self.old) plan.now) result }
         ensures untouched { (create_queue (manager_of self.old) plan.now).entry ≡ None
             → disk.new ≡ disk.old }
+        ensures memory { result ≡ Err CreateFault.Memory → disk.new ≡ disk.old }
         ensures calls { OnOk result (IfSome (create_queue (manager_of self.old) plan.now).entry
             (λ _. Counted 4 (D.view disk.old).calls (D.view disk.new).calls)) }
     {

@@ -1,4 +1,4 @@
-ghost use Rattle.std.specs.Prelude.{◌≡◌, IfSome, None, OnOk, true};
+ghost use Rattle.std.specs.Prelude.{◌≡◌, Err, IfSome, None, OnOk, true};
 ghost use Rattle.mqb_devices.specs.Disk.{Counted};
 ghost use Rattle.mqb_manager.specs.Calls.{IsCall};
 ghost use Rattle.mqb_manager.specs.States.{IsOnDisk, IsUp, manager_of};
@@ -21,6 +21,7 @@ impl Manager {
             (D.view disk.new) self.old self.new (set_roll (manager_of self.old) count) result }
         ensures untouched { (set_roll (manager_of self.old) count).entry ≡ None
             → disk.new ≡ disk.old }
+        ensures memory { result ≡ Err StoreFault.Memory → disk.new ≡ disk.old }
         ensures calls { OnOk result (IfSome (set_roll (manager_of self.old) count).entry
             (λ _. Counted 4 (D.view disk.old).calls (D.view disk.new).calls)) }
     {

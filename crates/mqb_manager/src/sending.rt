@@ -1,5 +1,5 @@
 //! What goes to a peer: it is planned, its bytes are made, its marks are written, and then it is noted.
-ghost use Rattle.std.specs.Prelude.{[], ◌&&◌, ◌++◌, ◌<◌, ◌≡◌, ◌≤◌, ◌==◌, All, IfOk, IfSome, IsSomeAnd, None, OnErr, OnOk, Some, flat_map, fold, length, map, not, slice_get};
+ghost use Rattle.std.specs.Prelude.{[], ◌&&◌, ◌++◌, ◌<◌, ◌≡◌, ◌≤◌, ◌==◌, All, Err, IfOk, IfSome, IsSomeAnd, None, OnErr, OnOk, Some, flat_map, fold, length, map, not, slice_get};
 ghost use Rattle.mqb_choosing.specs.Choices.{IsThere, origin_of, shown_in};
 ghost use Rattle.mqb_choosing.specs.Going.{any_waits};
 ghost use Rattle.mqb_devices.specs.Disk.{Counted};
@@ -221,6 +221,7 @@ impl Manager {
             (D.view disk.new) self.old self.new
             (write_of (manager_of self.old) (offered_form marks.now) beside.Nothing) result }
         ensures untouched { offered_form marks.now ≡ None → disk.new ≡ disk.old }
+        ensures memory { result ≡ Err WriteFault.Memory → disk.new ≡ disk.old }
         ensures calls { OnOk result (IfSome (offered_form marks.now)
             (λ _. Counted 4 (D.view disk.old).calls (D.view disk.new).calls)) }
     {

@@ -1,4 +1,4 @@
-ghost use Rattle.std.specs.Prelude.{◌≡◌, IfSome, None, OnOk};
+ghost use Rattle.std.specs.Prelude.{◌≡◌, Err, IfSome, None, OnOk};
 ghost use Rattle.mqb_devices.specs.Disk.{Counted};
 ghost use Rattle.mqb_manager.specs.Calls.{IsCall};
 ghost use Rattle.mqb_manager.specs.States.{IsOnDisk, IsUp, manager_of};
@@ -26,6 +26,7 @@ impl Manager {
             (send (manager_of self.old) draft.now recoverable now) result }
         ensures untouched { (send (manager_of self.old) draft.now recoverable now).entry ≡ None
             → disk.new ≡ disk.old }
+        ensures memory { result ≡ Err SendFault.Memory → disk.new ≡ disk.old }
         ensures calls { OnOk result
             (IfSome (send (manager_of self.old) draft.now recoverable now).entry
             (λ _. Counted 4 (D.view disk.old).calls (D.view disk.new).calls)) }

@@ -1,5 +1,5 @@
 //! How messages leave places without being sent: each call makes a plan, and has it written.
-ghost use Rattle.std.specs.Prelude.{◌≡◌, IfSome, None, OnOk};
+ghost use Rattle.std.specs.Prelude.{◌≡◌, Err, IfSome, None, OnOk};
 ghost use Rattle.mqb_devices.specs.Disk.{Counted};
 ghost use Rattle.mqb_manager.specs.Calls.{IsCall};
 ghost use Rattle.mqb_manager.specs.States.{IsOnDisk, IsUp, manager_of};
@@ -28,6 +28,7 @@ impl Manager {
             (take_message (manager_of self.old) place.now now) result }
         ensures untouched { (take_message (manager_of self.old) place.now now).entry ≡ None
             → disk.new ≡ disk.old }
+        ensures memory { result ≡ Err TakeFault.Memory → disk.new ≡ disk.old }
         ensures calls { OnOk result
             (IfSome (take_message (manager_of self.old) place.now now).entry
             (λ _. Counted 4 (D.view disk.old).calls (D.view disk.new).calls)) }
@@ -64,6 +65,7 @@ impl Manager {
             (purge (manager_of self.old) place.now now) result }
         ensures untouched { (purge (manager_of self.old) place.now now).entry ≡ None
             → disk.new ≡ disk.old }
+        ensures memory { result ≡ Err PurgeFault.Memory → disk.new ≡ disk.old }
         ensures calls { OnOk result (IfSome (purge (manager_of self.old) place.now now).entry
             (λ _. Counted 4 (D.view disk.old).calls (D.view disk.new).calls)) }
     {
@@ -92,6 +94,7 @@ impl Manager {
         ensures call { IsCall StoreFault.Memory StoreFault.DiskFault (D.view disk.old)
             (D.view disk.new) self.old self.new (tick (manager_of self.old) now) result }
         ensures untouched { (tick (manager_of self.old) now).entry ≡ None → disk.new ≡ disk.old }
+        ensures memory { result ≡ Err StoreFault.Memory → disk.new ≡ disk.old }
         ensures calls { OnOk result (IfSome (tick (manager_of self.old) now).entry
             (λ _. Counted 4 (D.view disk.old).calls (D.view disk.new).calls)) }
     {

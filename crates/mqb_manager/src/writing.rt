@@ -1,5 +1,5 @@
 //! A record is written and what a connection knows is kept, or forgotten where the disk failed.
-ghost use Rattle.std.specs.Prelude.{◌≡◌, IfSome, None, OnOk, option_copied};
+ghost use Rattle.std.specs.Prelude.{◌≡◌, Err, IfSome, None, OnOk, option_copied};
 ghost use Rattle.mqb_devices.specs.Disk.{Counted};
 ghost use Rattle.mqb_express.specs.Work.{beside_of};
 ghost use Rattle.mqb_manager.specs.Calls.{IsCall};
@@ -48,7 +48,7 @@ pub(crate) fn answer<V: Drop, E: Drop>(
 
 impl Manager {
     /// A manager is valid. This says so, and does nothing.
-    pub(crate) fn is_valid(&self)
+    pub fn is_valid(&self)
         ensures { IsValidManager (manager_of self.now) }
     {
         let _cursors = &self.cursors;
@@ -67,6 +67,7 @@ impl Manager {
             (D.view disk.new) self.old self.new
             (write_of (manager_of self.old) (option_copied entry.entry) (beside_of work)) result }
         ensures untouched { option_copied entry.entry ≡ None → disk.new ≡ disk.old }
+        ensures memory { result ≡ Err WriteFault.Memory → disk.new ≡ disk.old }
         ensures calls { OnOk result (IfSome (option_copied entry.entry)
             (λ _. Counted 4 (D.view disk.old).calls (D.view disk.new).calls)) }
     {

@@ -1,4 +1,4 @@
-use Rattle.std.proofs.Common.{Some, ap, length, sym, ◌∙◌}
+use Rattle.std.proofs.Common.{◌≡◌, Some, ap, length, sym, ◌∙◌}
 use Rattle.mqb_entries.specs.declared.entry.Entry.TheVariants as form
 use Rattle.mqb_model.specs.calls.AddPeer.{add_peer}
 use Rattle.mqb_model.specs.declared.faults.AddPeerFault.TheVariants as fault
@@ -6,7 +6,7 @@ use Rattle.mqb_model.specs.managers.Beside.{Nothing}
 use Rattle.mqb_store.specs.Writing.{change_in}
 use Rattle.mqb_manager.specs.States.{manager_of}
 use Rattle.mqb_manager.proofs.AddPeer.{add_peer_is, add_peer_ready, add_peer_refused}
-use Rattle.mqb_manager.proofs.Calls.{call_answered}
+use Rattle.mqb_manager.proofs.Calls.{call_answered, memory_answered}
 use Rattle.mqb_manager.proofs.manager.Manager.add_peer.Goals as goal
 
 pub returns-in-Some-clause-call : goal.returns-in-Some-clause-call
@@ -26,3 +26,8 @@ returns-clause-call g c = let m = c.args.self.now in
     (add_peer_is (manager_of m) c.args.peer.now c.view_of.result (length c.peers.result.now) (sym c.add_peer_refusal.ensures ∙ c.in_default.is) c.view_of.ensures.identity
     (ap length (c.peers.ensures.peers ∙ ap (λ w. w.lists.peers) c.contents.ensures ∙ ap (λ s. s.peers) c.state.ensures)))
     c.write-written.ensures.call c.answer.ensures
+
+pub returns-clause-memory : goal.returns-clause-memory
+returns-clause-memory g c =
+    memory_answered (length c.peers.result.now) fault.Memory fault.DiskFault (c.write-written.new.disk ≡ c.args.disk.now) c.write-written.result c.answer.result
+    (λ same. let none : ⊥ = cc in none) c.write-written.ensures.memory c.answer.ensures

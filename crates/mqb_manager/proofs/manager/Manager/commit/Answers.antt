@@ -1,4 +1,4 @@
-use Rattle.std.proofs.Common.{IfSome, List, OnOk, Result, Some, ap, subst, sym, ◌∙◌}
+use Rattle.std.proofs.Common.{◌≡◌, IfSome, List, OnOk, Result, Some, ap, subst, sym, ◌∙◌}
 use Rattle.std.proofs.lemmas.Result.{err_from_is_err_and}
 use Rattle.mqb_devices.specs.Disk.{Counted}
 use Rattle.mqb_entries.specs.declared.entry.Entry.TheVariants as form
@@ -12,7 +12,7 @@ use Rattle.mqb_store.specs.Writing.{change_in}
 use Rattle.mqb_trying.specs.Trying.{IsRefusedBy, tried}
 use Rattle.mqb_manager.specs.Calls.{IsCall}
 use Rattle.mqb_manager.specs.States.{manager_of}
-use Rattle.mqb_manager.proofs.Calls.{call_answered}
+use Rattle.mqb_manager.proofs.Calls.{call_answered, memory_answered}
 use Rattle.mqb_manager.proofs.Commit.{commit_is, commit_ready, commit_refused, counted_answered, trial_of_store}
 use Rattle.mqb_manager.proofs.manager.Manager.commit.Goals as goal
 
@@ -50,3 +50,8 @@ returns-clause-calls g c = let m = c.args.self.now in
     let o = (commit (manager_of m) c.args.ops.now c.args.now).entry in
     subst (λ (r : Result (List Done) CommitFault). OnOk r (IfSome o (λ _. P))) (sym c.answer.ensures)
     (counted_answered c.into_committed.result fault.Memory fault.DiskFault o P c.write_trial-written.result c.write_trial-written.ensures.calls)
+
+pub returns-clause-memory : goal.returns-clause-memory
+returns-clause-memory g c =
+    memory_answered c.into_committed.result fault.Memory fault.DiskFault (c.write_trial-written.new.disk ≡ c.args.disk.now) c.write_trial-written.result c.answer.result
+    (λ same. let none : ⊥ = cc in none) c.write_trial-written.ensures.memory c.answer.ensures

@@ -1,11 +1,11 @@
-use Rattle.std.proofs.Common.{Some, sym, ◌∙◌}
+use Rattle.std.proofs.Common.{◌≡◌, Some, sym, ◌∙◌}
 use Rattle.mqb_entries.specs.declared.entry.Entry.TheVariants as form
 use Rattle.mqb_model.specs.calls.CreateQueue.{create_queue}
 use Rattle.mqb_model.specs.declared.faults.CreateFault.TheVariants as fault
 use Rattle.mqb_model.specs.managers.Beside.{Nothing}
 use Rattle.mqb_store.specs.Writing.{change_in}
 use Rattle.mqb_manager.specs.States.{manager_of}
-use Rattle.mqb_manager.proofs.Calls.{call_answered}
+use Rattle.mqb_manager.proofs.Calls.{call_answered, memory_answered}
 use Rattle.mqb_manager.proofs.CreateQueue.{create_queue_is, create_queue_ready, create_queue_refused}
 use Rattle.mqb_manager.proofs.manager.Manager.create_queue.Goals as goal
 
@@ -25,3 +25,8 @@ returns-clause-call g c = let m = c.args.self.now in let v = c.view_of.ensures i
     (λ same. let none : ⊥ = cc in none)
     (create_queue_is (manager_of m) c.args.plan.now c.view_of.result c.next_queue-number.result (sym c.create_refusal.ensures ∙ c.in_default.is) v.plan v.number c.next_queue-number.ensures)
     c.write-written.ensures.call c.answer.ensures
+
+pub returns-clause-memory : goal.returns-clause-memory
+returns-clause-memory g c =
+    memory_answered c.next_queue-number.result fault.Memory fault.DiskFault (c.write-written.new.disk ≡ c.args.disk.now) c.write-written.result c.answer.result
+    (λ same. let none : ⊥ = cc in none) c.write-written.ensures.memory c.answer.ensures

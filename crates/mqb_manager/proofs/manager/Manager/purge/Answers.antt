@@ -1,4 +1,4 @@
-use Rattle.std.proofs.Common.{Option, ap, length, subst, sym, ◌≤◌, ◌∙◌}
+use Rattle.std.proofs.Common.{◌≡◌, Option, ap, length, subst, sym, ◌≤◌, ◌∙◌}
 use Rattle.std.specs.Prelude.{IfSome, option_copied, option_map}
 use Rattle.mqb_base.specs.Rooms.{WithRooms}
 use Rattle.mqb_contents.specs.Rooms.{StateRooms}
@@ -13,6 +13,7 @@ use Rattle.mqb_model.specs.managers.Manager.{Manager}
 use Rattle.mqb_model.specs.records.Reading.{record_in}
 use Rattle.mqb_model.specs.state.State.{State}
 use Rattle.mqb_plans.specs.Answers.{purge_plan}
+use Rattle.mqb_manager.proofs.Calls.{memory_answered}
 use Rattle.mqb_manager.proofs.Planned.{IsPlan, Keeps, planned_call, planned_counted, planned_ready, planned_untouched}
 use Rattle.mqb_manager.proofs.Taking.{purge_down, purge_refused}
 use Rattle.mqb_manager.proofs.manager.Manager.purge.Goals as goal
@@ -121,3 +122,8 @@ returns-in-Err-clause-call g c =
       kept = sym (ap (λ (w : WithRooms State StateRooms). w.lists) c.contents.ensures ∙ c.state.ensures);
     } in
     purge_refused (g.D.Disk.view c.args.disk.now) c.args.self.now s c.args.place.now c.args.now c.in-Err.fault (g.met.D.Disk.lawful c.args.disk.now) keeps c.in-Err.ensures.refused
+
+pub returns-in-Ok-clause-memory : goal.returns-in-Ok-clause-memory
+returns-in-Ok-clause-memory g c =
+    memory_answered c.in-Ok.plan.count fault.Memory fault.DiskFault (c.write-written.new.disk ≡ c.args.disk.now) c.write-written.result c.answer.result
+    (λ same. let none : ⊥ = cc in none) c.write-written.ensures.memory c.answer.ensures

@@ -1,4 +1,4 @@
-use Rattle.std.proofs.Common.{IfSome, Ok, OnOk, Option, Result, ap, subst, sym, ◌∙◌}
+use Rattle.std.proofs.Common.{◌≡◌, IfSome, Ok, OnOk, Option, Result, ap, subst, sym, ◌∙◌}
 use Rattle.std.proofs.lemmas.Result.{err_from_is_err_and}
 use Rattle.std.specs.Prelude.{option_copied, option_map}
 use Rattle.mqb_base.specs.declared.ids.MessageId.{MessageId}
@@ -16,7 +16,7 @@ use Rattle.mqb_plans.specs.Plans.{RefusesSend}
 use Rattle.mqb_manager.specs.Calls.{IsCall}
 use Rattle.mqb_manager.specs.States.{manager_of}
 use Rattle.mqb_manager.specs.Writing.{IsReady}
-use Rattle.mqb_manager.proofs.Calls.{call_answered}
+use Rattle.mqb_manager.proofs.Calls.{call_answered, memory_answered}
 use Rattle.mqb_manager.proofs.Send.{counted_form, no_entry, send_is, send_ready, send_refused}
 use Rattle.mqb_manager.proofs.manager.Manager.send.Goals as goal
 
@@ -68,3 +68,8 @@ returns-clause-calls g c = let m = c.args.self.now in let form = option_copied c
     subst (λ (r : Result MessageId SendFault). OnOk r (IfSome o.entry (λ _. P))) (sym c.answer.ensures)
     (counted_form c.in_ok-sending.sending.id fault.Memory fault.DiskFault form o.entry P c.write-written.result
     (ap (λ (o : Outcome (Result MessageId SendFault)). o.entry) is) c.write-written.ensures.calls)
+
+pub returns-clause-memory : goal.returns-clause-memory
+returns-clause-memory g c =
+    memory_answered c.in_ok-sending.sending.id fault.Memory fault.DiskFault (c.write-written.new.disk ≡ c.args.disk.now) c.write-written.result c.answer.result
+    (λ same. let none : ⊥ = cc in none) c.write-written.ensures.memory c.answer.ensures

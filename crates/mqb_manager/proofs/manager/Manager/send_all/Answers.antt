@@ -62,4 +62,4 @@ returns-in-Err-write_marks g c = let m = c.args.self.now in let s = c.args.sendi
     (c.truncate.ensures.items ∙ taken_back m c.args.session c.args.now k s.choices s.cursors.items s.owes.items c.deref.result.now c.requires.planned c.requires.linked c.is_valid.ensures c.requires.up
     (target m c.args.session c.args.now k c.requires.comes) (c.deref.ensures.value ∙ c.in-Ok.ensures.marks) (g.D.Disk.view c.args.disk.now) (g.D.Disk.view c.write_marks.new.disk) c.write_marks.new.self
     c.args.out.now.items c.put_chosen.new.out.items c.len-start.result (let len : c.args.out.now.len ≡ length c.args.out.now.items = search rules in c.len-start.ensures ∙ len) c.in-Ok.ensures.put)
-    c.in-Err-write_marks.ensures.untouched
+    c.in-Err-write_marks.ensures.untouched c.in-Err-write_marks.ensures.memory

@@ -1,11 +1,11 @@
-use Rattle.std.proofs.Common.{Some, sym, ◌∙◌}
+use Rattle.std.proofs.Common.{◌≡◌, Some, sym, ◌∙◌}
 use Rattle.mqb_entries.specs.declared.entry.Entry.TheVariants as form
 use Rattle.mqb_model.specs.calls.SetRoll.{set_roll}
 use Rattle.mqb_model.specs.declared.faults.StoreFault.TheVariants as fault
 use Rattle.mqb_model.specs.managers.Beside.{Nothing}
 use Rattle.mqb_store.specs.Writing.{change_in}
 use Rattle.mqb_manager.specs.States.{manager_of}
-use Rattle.mqb_manager.proofs.Calls.{call_answered}
+use Rattle.mqb_manager.proofs.Calls.{call_answered, memory_answered}
 use Rattle.mqb_manager.proofs.SetRoll.{set_roll_is, set_roll_ready, set_roll_refused}
 use Rattle.mqb_manager.proofs.manager.Manager.set_roll.Goals as goal
 
@@ -25,3 +25,8 @@ returns-clause-call g c = let m = c.args.self.now in
     (λ same. let none : ⊥ = cc in none)
     (set_roll_is (manager_of m) c.args.count (sym c.is_down.ensures ∙ c.if-is_down.false))
     c.write-written.ensures.call c.answer.ensures
+
+pub returns-clause-memory : goal.returns-clause-memory
+returns-clause-memory g c =
+    memory_answered tt fault.Memory fault.DiskFault (c.write-written.new.disk ≡ c.args.disk.now) c.write-written.result c.answer.result
+    (λ same. let none : ⊥ = cc in none) c.write-written.ensures.memory c.answer.ensures

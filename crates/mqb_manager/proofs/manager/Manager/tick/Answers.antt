@@ -1,4 +1,4 @@
-use Rattle.std.proofs.Common.{Option, ap, length, subst, sym, ◌≤◌, ◌∙◌}
+use Rattle.std.proofs.Common.{◌≡◌, Option, ap, length, subst, sym, ◌≤◌, ◌∙◌}
 use Rattle.std.specs.Prelude.{IfSome, option_copied, option_map}
 use Rattle.mqb_base.specs.Rooms.{WithRooms}
 use Rattle.mqb_contents.specs.Rooms.{StateRooms}
@@ -14,6 +14,7 @@ use Rattle.mqb_model.specs.records.Reading.{record_in}
 use Rattle.mqb_model.specs.state.State.{State}
 use Rattle.mqb_model.specs.state.Valid.{IsValidState}
 use Rattle.mqb_plans.specs.Answers.{tick_plan}
+use Rattle.mqb_manager.proofs.Calls.{memory_answered}
 use Rattle.mqb_manager.proofs.Planned.{IsPlan, Keeps, planned_call, planned_counted, planned_ready, planned_untouched}
 use Rattle.mqb_manager.proofs.Taking.{tick_down}
 use Rattle.mqb_manager.proofs.manager.Manager.tick.Goals as goal
@@ -115,3 +116,8 @@ returns-clause-calls g c =
     planned_counted s (λ (m : Manager). tick m c.args.now) (tick_plan c.plan_tick-plan.result) c.plan_tick-plan.result.due entry (beside_of c.work.result) c.args.self.now keeps plan fault.Memory fault.DiskFault
     (Counted 4 (g.D.Disk.view c.args.disk.now).calls (g.D.Disk.view c.write-written.new.disk).calls) c.write-written.result c.answer.result
     c.write-written.ensures.calls c.answer.ensures
+
+pub returns-clause-memory : goal.returns-clause-memory
+returns-clause-memory g c =
+    memory_answered c.plan_tick-plan.result.due fault.Memory fault.DiskFault (c.write-written.new.disk ≡ c.args.disk.now) c.write-written.result c.answer.result
+    (λ same. let none : ⊥ = cc in none) c.write-written.ensures.memory c.answer.ensures

@@ -46,3 +46,6 @@ returns-in-Err-DiskFault-clause-call g c =
       rose = cause_rose (g.D.Disk.view c.args.disk.now).faults (g.D.Disk.view c.write.new.disk).faults c.write.result is h.cause;
       switch = h.switch;
     }))
+
+pub returns-in-Err-Memory-clause-memory : goal.returns-in-Err-Memory-clause-memory
+returns-in-Err-Memory-clause-memory g c = λ same. (c.write.ensures.refused (c.in-Err-Memory.is ∙ ap Err c.in-Err-Memory.field-0-is)).0
