@@ -24,7 +24,7 @@ use Rattle.mqb_store_laws.specs.Carrying.{quiet_opens}
 use Rattle.mqb_manager.specs.Calls.{Ends, IsCall}
 use Rattle.mqb_manager.specs.States.{IsOnDisk, IsSame, IsUp, ManagerState, manager_of}
 use Rattle.mqb_manager.specs.Writing.{IsReady, answered, outcome_by}
-use Rattle.mqb_manager.proofs.Rests.{grown_whole}
+use Rattle.mqb_steps.proofs.Rests.{grown_whole}
 
 -- A call that is not refused.
 

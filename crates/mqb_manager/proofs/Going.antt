@@ -33,7 +33,8 @@ use Rattle.mqb_store.specs.declared.faults.WriteFault.TheVariants as write
 use Rattle.mqb_store_laws.specs.Carrying.{on_beside}
 use Rattle.mqb_store_laws.specs.Images.{Opens}
 use Rattle.mqb_manager.specs.Calls.{Ends, IsCall, Succeeds}
-use Rattle.mqb_manager.specs.Pumps.{offered_form, pump_fault, sent_as, with_sent}
+use Rattle.mqb_manager.specs.Pumps.{pump_fault, sent_as, with_sent}
+use Rattle.mqb_steps.specs.Plans.{offered_form}
 use Rattle.mqb_manager.specs.States.{IsUp, ManagerState, condition_of, manager_of}
 use Rattle.mqb_manager.specs.Writing.{write_of}
 use Rattle.mqb_manager.proofs.Conditions.{down_is, up_from}

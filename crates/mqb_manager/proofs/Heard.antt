@@ -36,15 +36,15 @@ use Rattle.mqb_store.specs.States as stores
 use Rattle.mqb_store.specs.States.{IsSameStore, StoreState}
 use Rattle.mqb_store.specs.Writing.{CanWrite, LeavesStore, change_in, written}
 use Rattle.mqb_manager.specs.Calls.{IsCall}
-use Rattle.mqb_manager.specs.Marks.{marked}
+use Rattle.mqb_steps.specs.Marks.{marked}
 use Rattle.mqb_manager.specs.Seen.{seen}
 use Rattle.mqb_manager.specs.States.{IsUp, ManagerState, condition_of, manager_of}
 use Rattle.mqb_store_laws.specs.Images.{Opens}
 use Rattle.mqb_state.specs.Together.{LeavesValid}
 use Rattle.mqb_manager.proofs.Calls.{change_is}
 use Rattle.mqb_manager.proofs.Conditions.{up_condition}
-use Rattle.mqb_manager.proofs.Marks.{marked_grown}
-use Rattle.mqb_manager.proofs.Rests.{grown_again, no_more}
+use Rattle.mqb_steps.proofs.Marks.{marked_grown}
+use Rattle.mqb_steps.proofs.Rests.{grown_again, no_more}
 use Rattle.mqb_manager.proofs.Written.{IsBroken, IsStored}
 use Rattle.mqb_manager.proofs.Written as writes
 

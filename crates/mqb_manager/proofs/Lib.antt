@@ -1,4 +1,3 @@
-mod Rests
 mod Conditions
 mod Written
 mod Calls
@@ -15,10 +14,8 @@ mod Quiet
 mod Spelled
 mod Sent
 mod Recorded
-mod Marks
 mod Readable
 mod Heard
-mod Drafted
 mod Commit
 mod Send
 mod Planned

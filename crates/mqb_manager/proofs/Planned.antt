@@ -1,6 +1,8 @@
 -- A call of a manager that comes to a plan, and what is written by it.
 use Rattle.std.proofs.Common.{refl, sym, ap, subst, ◌∙◌}
 use Rattle.std.specs.Prelude.{◌≡◌, ◌≤◌, Err, IfSome, None, Ok, OnOk, Option, Result, Some, false, length, option_map, true}
+use Rattle.mqb_base.specs.Rooms.{WithRooms}
+use Rattle.mqb_contents.specs.Rooms.{StateRooms}
 use Rattle.mqb_devices.specs.Disk.{Lawful, View}
 use Rattle.mqb_entries.specs.SpelledEntries.{Fits, spelled}
 use Rattle.mqb_entries.specs.declared.entry.Entry.{Entry}
@@ -42,6 +44,25 @@ pub record IsPlan {V E : Type 0} (s : State) (call : Manager → Outcome (Result
   pub put : IfSome entry Fits
   pub small : IfSome entry (λ e. length (spelled e) ≤ MAX_RECORD)
   pub work : b ≡ p.beside
+
+-- It keeps what its store has.
+pub keeps_by : (m : ManagerState) (w : WithRooms State StateRooms) → IsValidManager (manager_of m) → is_down (manager_of m) ≡ false → w.lists ≡ m.store.state → Keeps w.lists m
+keeps_by m w valid up kept = record { valid = valid; up = up; kept = sym kept }
+
+-- What its maker says of a plan, and what is said of the entry of its record, is a plan, where that entry is written.
+pub plan_by : {V E : Type 0} (s : State) (call : Manager → Outcome (Result V E)) (p : Plan) (value : V) (from entry : Option Entry) (b : Beside) → entry ≡ from
+    → ComesTo s call p value → plans.CanWrite s p → KeepsValid s p → KeepsStore s p → option_map record_in from ≡ option_map (λ r. Some r) p.written
+    → IfSome from Fits → IfSome from (λ e. length (spelled e) ≤ MAX_RECORD) → b ≡ p.beside → IsPlan s call p value entry b
+plan_by s call p value from entry b is planned writable stays_valid stays_stored shown put small work = record {
+  planned = planned;
+  writable = writable;
+  stays_valid = stays_valid;
+  stays_stored = stays_stored;
+  shown = ap (λ (o : Option Entry). option_map record_in o) is ∙ shown;
+  put = subst (λ (o : Option Entry). IfSome o Fits) (sym is) put;
+  small = subst (λ (o : Option Entry). IfSome o (λ e. length (spelled e) ≤ MAX_RECORD)) (sym is) small;
+  work = work;
+}
 
 writable_fits : (s : State) (r : Option Record) → IfSome r (IsWritable s) → IfSome r (λ r. fits s r ≡ true)
 writable_fits s None h = tt

@@ -20,7 +20,7 @@ use Rattle.mqb_store_laws.specs.Images.{Opens}
 use Rattle.mqb_manager.specs.Calls.{Ends, IsCall}
 use Rattle.mqb_manager.specs.Quiet.{IsQuiet}
 use Rattle.mqb_manager.specs.States.{ManagerState, manager_of}
-use Rattle.mqb_manager.proofs.Rests.{grown_whole}
+use Rattle.mqb_steps.proofs.Rests.{grown_whole}
 
 abbrev fault_or : {V E : Type 0} → Result V E → E → E
 fault_or (Err e) d = e

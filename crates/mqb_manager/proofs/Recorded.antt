@@ -5,7 +5,6 @@ use Rattle.std.proofs.lemmas.Option.{slice_get_within}
 use Rattle.std.proofs.Math.Seq.{take-append_seam}
 use Rattle.std.specs.Prelude.{◌++◌, ◌==◌, ◌≡◌, ◌≤◌, Bool, Err, IfSome, IsSomeAnd, List, None, Ok, Option, Result, Some, false, flat_map, fold, if◌then◌else◌, length, map, slice_get, take, true, ℕ}
 use Rattle.mqb_base.specs.declared.heads.SessionHead.{SessionHead}
-use Rattle.mqb_base.specs.declared.ids.Guid.{Guid}
 use Rattle.mqb_base.specs.declared.ids.Identity.{Identity}
 use Rattle.mqb_devices.specs.Disk.{Counted, View}
 use Rattle.mqb_entries.specs.declared.entry.Entry.TheVariants as form
@@ -41,7 +40,8 @@ use Rattle.mqb_store.specs.Writing.{CanWrite, change_in}
 use Rattle.mqb_store.specs.declared.faults.WriteFault.{WriteFault}
 use Rattle.mqb_store.specs.declared.faults.WriteFault.TheVariants as write
 use Rattle.mqb_manager.specs.Calls.{IsCall}
-use Rattle.mqb_manager.specs.Pumps.{CanNoteAll, ComesToSend, IsPlanned, IsPumped, going_to, offered_form, pump_fault, sent_as, with_sent}
+use Rattle.mqb_steps.specs.Plans.{offered_form}
+use Rattle.mqb_manager.specs.Pumps.{CanNoteAll, ComesToSend, IsPlanned, IsPumped, going_to, pump_fault, sent_as, with_sent}
 use Rattle.mqb_manager.specs.States.{IsOnDisk, IsUp, ManagerState, manager_of}
 use Rattle.mqb_manager.specs.Writing.{IsReady, write_of}
 use Rattle.mqb_manager.proofs.Borne.{borne}
@@ -54,13 +54,8 @@ use Rattle.mqb_manager.proofs.Offered.{rows_raised, rows_valid}
 use Rattle.mqb_manager.proofs.Sent.{IsPeer, known_is}
 use Rattle.mqb_manager.proofs.Spelled.{candidates_are, marks_small, sent_shown, spelled_all, with_heads_of}
 
--- Bytes to the peer at an index.
+-- Bytes to the peer are taken back.
 
-pub put_to : (o : Option Identity) (guid : Guid) (P : Guid → Type 0) → IsSomeAnd o (λ to. guid ≡ to.guid) → P guid → IsSomeAnd o (λ to. P to.guid)
-put_to None guid P is h = absurd is
-put_to (Some to) guid P is h = subst P is h
-
--- they are taken back
 pub cut_back : (before bytes : List ℕ) (n : ℕ) → n ≡ length before → take n (before ++ bytes) ≡ before
 cut_back before bytes n is = ap (λ (k : ℕ). take k (before ++ bytes)) is ∙ take-append_seam before bytes
 

@@ -29,7 +29,7 @@ use Rattle.mqb_manager.specs.Seen.{seen}
 use Rattle.mqb_manager.specs.States.{ManagerState, condition_of, manager_of}
 use Rattle.mqb_manager.specs.Writing.{IsReady, write_of}
 use Rattle.mqb_manager.proofs.Conditions.{down_condition, up_condition}
-use Rattle.mqb_manager.proofs.Rests.{grown_again, no_more}
+use Rattle.mqb_steps.proofs.Rests.{grown_again, no_more}
 
 -- What a store answers of a write that went well.
 pub record IsStored (d e : View) (w x : StoreState) (entry : Option Entry) (b : Beside) : Type 0 where

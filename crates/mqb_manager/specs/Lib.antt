@@ -4,5 +4,4 @@ pub mod Seen
 pub mod Writing
 pub mod Quiet
 pub mod Pumps
-pub mod Marks
 pub mod Keeping

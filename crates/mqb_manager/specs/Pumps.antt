@@ -1,37 +1,30 @@
 -- How a pump goes, step by step.
-use Rattle.std.specs.Prelude.{[], ◌++◌, ◌==◌, ◌∷◌, ◌≡◌, All, Bool, Err, IfSome, IsSomeAnd, List, None, OnErr, OnOk, Option, Result, Some, flat_map, fold, if◌then◌else◌, length, map, slice_get, ℕ}
+use Rattle.std.specs.Prelude.{[], ◌++◌, ◌∷◌, ◌≡◌, Bool, Err, IfSome, IsSomeAnd, List, None, OnErr, OnOk, Result, Some, flat_map, fold, map, slice_get, ℕ}
 use Rattle.mqb_base.specs.declared.heads.SessionHead.{SessionHead}
 use Rattle.mqb_devices.specs.Disk.{Counted, View}
-use Rattle.mqb_entries.specs.declared.entry.Entry.{Entry}
-use Rattle.mqb_entries.specs.declared.entry.Entry.TheVariants as form
-use Rattle.mqb_entries.specs.declared.members.Mark.{Mark}
 use Rattle.mqb_packet.specs.Plain.{plain_spelling}
 use Rattle.mqb_session.specs.State as one_end
-use Rattle.mqb_choosing.specs.Choices.{IsThere, origin_of, shown_in}
+use Rattle.mqb_choosing.specs.Choices.{origin_of}
 use Rattle.mqb_choosing.specs.Going.{Going, candidates_to, chosen_to, known}
 use Rattle.mqb_choosing.specs.declared.choice.Choice.{Choice}
 use Rattle.mqb_express.specs.Noting.{CanNote}
 use Rattle.mqb_model.specs.calls.pump.Candidates.{Candidate}
-use Rattle.mqb_model.specs.calls.pump.Choosing.{session_behind, with_heads}
-use Rattle.mqb_model.specs.calls.pump.Pump.{PumpOutcome, pump, sending_all, settled}
+use Rattle.mqb_model.specs.calls.pump.Pump.{PumpOutcome, pump, sending_all}
 use Rattle.mqb_model.specs.declared.faults.PumpFault.{PumpFault}
 use Rattle.mqb_model.specs.declared.faults.PumpFault.TheVariants as fault
 use Rattle.mqb_model.specs.managers.Beside.{Origin, noted}
 use Rattle.mqb_model.specs.state.State.{State}
 use Rattle.mqb_store.specs.declared.faults.WriteFault.{WriteFault}
 use Rattle.mqb_store.specs.declared.faults.WriteFault.TheVariants as write
+use Rattle.mqb_steps.specs.Plans as plans
 use Rattle.mqb_manager.specs.Calls.{IsCall}
 use Rattle.mqb_manager.specs.Seen.{seen}
-use Rattle.mqb_manager.specs.States.{ManagerState, manager_of}
+use Rattle.mqb_manager.specs.States.{IsOnDisk, IsUp, ManagerState, manager_of}
 
 -- what a pump answers whose marks were not written
 abbrev pub pump_fault : WriteFault → PumpFault
 pump_fault write.Memory = fault.Memory
 pump_fault write.DiskFault = fault.DiskFault
-
--- the entry of the marks that rise, where one does
-abbrev pub offered_form : List Mark → Option Entry
-offered_form marks = if length marks == 0 then None else Some (form.Offered marks)
 
 -- where a packet came from, and its header
 abbrev pub sent_as : Choice → Origin × SessionHead
@@ -54,13 +47,15 @@ waiting_for m session now k = candidates_to m.store.state (known session m.curso
 abbrev pub going_to : ManagerState → one_end.State → ℕ → ℕ → List Candidate
 going_to m session now k = chosen_to m.store.state session m.cursors m.owes now k
 
--- These packets, and what is known of the connection once they went, are what the definition chooses.
-pub record IsPlanned (m : ManagerState) (session : one_end.State) (now k : ℕ) (g : Going) (cursors : List ℕ) (owes : List Bool) : Type 0 where
-  pub there : All (IsThere m.store.state) g.choices
-  pub packets : shown_in m.store.state g.choices ≡ with_heads session (going_to m session now k)
-  pub count : length g.choices ≡ length (going_to m session now k)
-  pub behind : g.session ≡ session_behind session (going_to m session now k)
-  pub settled : known session cursors owes ≡ settled (known session m.cursors m.owes) (going_to m session now k)
+-- They go, as it was planned.
+abbrev pub IsPlanned : ManagerState → one_end.State → ℕ → ℕ → Going → List ℕ → List Bool → Type 0
+IsPlanned m session now k g cursors owes = plans.IsPlanned m.store.state session m.cursors m.owes now k g cursors owes
+
+-- A manager that is up, on a disk, with its end of a session.
+pub record IsLinkedOn (d : View) (m : ManagerState) (end : one_end.State) : Type 0 where
+  pub up : IsUp m
+  pub on : IsOnDisk d m
+  pub session : m.session ≡ Some end
 
 -- A pump comes to sending them.
 abbrev pub ComesToSend : ManagerState → one_end.State → ℕ → ℕ → Type 0

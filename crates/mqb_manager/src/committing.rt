@@ -7,7 +7,6 @@ ghost use Rattle.mqb_manager.specs.Writing.{IsReady, write_of};
 ghost use Rattle.mqb_model.specs.calls.Commit.{commit};
 ghost use Rattle.mqb_model.specs.managers.Beside.{Nothing};
 
-use crate::drafts::ops_fit;
 use crate::manager::Manager;
 use crate::writing::{answer, calls_can_be_written};
 use mqb_base::Op;
@@ -15,6 +14,7 @@ use mqb_devices::Disk;
 use mqb_entries::{Entry, Ops};
 use mqb_model::{CommitFault, Committed};
 use mqb_state::ExpressWork;
+use mqb_steps::ops_fit;
 use mqb_store::WriteFault;
 use mqb_trying::{Trial, try_ops};
 

@@ -1,12 +1,9 @@
 //! How a packet is heard: a plan is made, what arrived is written, and then the connection is as planned.
-ghost use Rattle.std.specs.Prelude.{◌≡◌, ◌<◌, ◌≤◌, All, Err, IfSome, None, OnOk, Some, false};
-ghost use Rattle.std.specs.Vec.{vec_capacity};
+ghost use Rattle.std.specs.Prelude.{◌≡◌, ◌<◌, All, Err, IfSome, None, OnOk, Some};
 ghost use Rattle.mqb_devices.specs.Disk.{Counted};
 ghost use Rattle.mqb_hearing.specs.Plans.{ShowsReadable, outcome_of};
 ghost use Rattle.mqb_manager.specs.Calls.{IsCall};
-ghost use Rattle.mqb_manager.specs.Marks.{marked};
 ghost use Rattle.mqb_manager.specs.States.{IsOnDisk, IsUp, manager_of};
-ghost use Rattle.mqb_model.specs.Lists.{grown};
 ghost use Rattle.mqb_model.specs.calls.hear.Hear.{hear};
 ghost use Rattle.mqb_model.specs.laws.Durable.{LeavesStore};
 ghost use Rattle.mqb_model.specs.laws.Fitting.{IsFitting};
@@ -17,12 +14,13 @@ ghost use Rattle.mqb_packet.specs.declared.packet.Packet.{Packet};
 
 use crate::manager::Manager;
 use crate::writing::calls_can_be_written;
-use mqb_base::{Heard, Memory};
+use mqb_base::Heard;
 use mqb_devices::Disk;
 use mqb_hearing::Hearing;
 use mqb_model::HearFault;
 use mqb_packet::{PacketView, each_view_spells_a_packet};
 use mqb_packet_laws::read_is_written;
+use mqb_steps::{make_room, mark};
 use mqb_store::WriteFault;
 
 fn are_bytes(bytes: &[u8])
@@ -38,41 +36,6 @@ fn can_be_heard(packet: &PacketView<'_>)
     read_is_written();
     if let PacketView::User(view) = packet {
         are_bytes(view.whole);
-    }
-}
-
-/// Takes the memory for the mark of a row, where there is one.
-fn make_room(owes: &mut Vec<bool>, row: Option<u32>) -> Result<(), Memory>
-    ensures items { owes.new.items ≡ owes.old.items }
-    ensures room { OnOk result (IfSome row (λ k. k < vec_capacity owes.new)) }
-{
-    if let Some(row) = row {
-        let wanted = row as usize + 1;
-        owes.reserve(wanted.saturating_sub(owes.len()))?;
-    }
-    Ok(())
-}
-
-/// The list has at least so many marks: rows that were missing owe nothing.
-#[tactic(auto, using(crate::proofs::Marks::grown_more, crate::proofs::Rests::grown_length))]
-fn grow(owes: &mut Vec<bool>, len: usize)
-    requires { len ≤ vec_capacity owes.old }
-    ensures { owes.new.items ≡ grown false len owes.old.items }
-{
-    for _ in owes.len()..len {
-        owes.push_reserved(false);
-    }
-}
-
-/// The row at an index owes an acknowledgement, where there is one.
-fn mark(owes: &mut Vec<bool>, row: Option<u32>)
-    requires { IfSome row (λ k. k < vec_capacity owes.old) }
-    ensures { owes.new.items ≡ marked row owes.old.items }
-{
-    if let Some(row) = row {
-        let row = row as usize;
-        grow(owes, row + 1);
-        owes[row] = true;
     }
 }
 

@@ -5,7 +5,6 @@
 #![tactic(auto)]
 
 mod committing;
-mod drafts;
 mod hearing;
 mod links;
 mod manager;

@@ -1,19 +1,17 @@
 //! How a connection begins and ends, and how it starts sending anew. None of it writes a record or takes memory.
-ghost use Rattle.std.specs.List.{zip};
-ghost use Rattle.std.specs.Prelude.{◌≡◌, ◌≤◌, length, map};
+ghost use Rattle.std.specs.Prelude.{◌≡◌, ◌≤◌};
 ghost use Rattle.mqb_manager.specs.Calls.{Succeeds};
 ghost use Rattle.mqb_manager.specs.States.{manager_of};
-ghost use Rattle.mqb_model.specs.calls.Link.{begun_anew, link, resend, session_for, unlink};
-ghost use Rattle.mqb_orders.specs.Rows.{row_of};
+ghost use Rattle.mqb_model.specs.calls.Link.{link, resend, session_for, unlink};
 
 use crate::manager::Manager;
 use crate::readers::linked_peer;
 use mqb_model::{
     LinkFault, Role, linked_is_valid, refused_is_same, resent_is_valid, unlinked_is_valid,
 };
-use mqb_orders::OutRow;
 use mqb_session::Session;
 use mqb_state::State;
+use mqb_steps::rewind;
 
 /// The end of a session that begins, where its peer is there.
 fn session_for(state: &State, role: Role, window: u16) -> Option<Session>
@@ -26,25 +24,6 @@ fn session_for(state: &State, role: Role, window: u16) -> Option<Session>
             None => None,
         },
         Role::Acceptor => Some(Session::acceptor(own, window)),
-    }
-}
-
-/// The number of a row, once the rows to the peer at an index begin anew.
-fn begun_anew(row: &OutRow, cursor: u32, peer: u32) -> u32
-    ensures { result ≡ begun_anew peer (row_of row.now, cursor) }
-{
-    if row.peer == peer { 0 } else { cursor }
-}
-
-/// The rows to the peer at an index begin anew.
-fn rewind(rows: &[OutRow], peer: u32, cursors: &mut Vec<u32>)
-    requires { length cursors.old.items ≤ length rows.now }
-    ensures { cursors.new.items ≡
-        map (begun_anew peer) (zip (map row_of rows.now) cursors.old.items) }
-{
-    for k in 0..cursors.len() {
-        let cursor = begun_anew(&rows[k], cursors[k], peer);
-        cursors[k] = cursor;
     }
 }
 

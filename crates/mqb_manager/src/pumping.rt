@@ -8,7 +8,7 @@ ghost use Rattle.mqb_devices.specs.Disk.{Counted};
 ghost use Rattle.mqb_heads.specs.declared.base.TheConstants.{MAX_PACKET};
 ghost use Rattle.mqb_manager.specs.Calls.{IsCall};
 ghost use Rattle.mqb_manager.specs.Quiet.{IsQuiet};
-ghost use Rattle.mqb_manager.specs.Pumps.{ComesToSend, IsPlanned, IsPumped, pump_fault, waiting_for};
+ghost use Rattle.mqb_manager.specs.Pumps.{ComesToSend, IsLinkedOn, IsPlanned, IsPumped, pump_fault, waiting_for};
 ghost use Rattle.mqb_manager.specs.States.{IsOnDisk, IsUp, manager_of};
 ghost use Rattle.mqb_model.specs.calls.pump.Pump.{pump, pump_at, sending_ack, sending_one, set_up_packet};
 ghost use Rattle.mqb_model.specs.managers.Manager.{linked_peer};
@@ -21,13 +21,14 @@ ghost use Rattle.mqb_session.specs.Sending.{is_ready};
 
 use crate::manager::Manager;
 use crate::readers::linked_peer;
-use crate::sending::{Sending, is_idle, is_stuck, pump_fault, set_up_packet};
+use crate::sending::pump_fault;
 use crate::writing::calls_can_be_written;
 use mqb_choosing::sent_are_next;
 use mqb_devices::Disk;
 use mqb_model::{PumpFault, applied_is_valid};
 use mqb_packet::{Packet, PutFault, put_packet};
 use mqb_session::{Kind, Phase, Session};
+use mqb_steps::{Sending, set_up_packet};
 
 fn is_ready(session: &Session) -> bool
     ensures { result ≡ is_ready session.now.phase }
@@ -115,9 +116,7 @@ impl Manager {
         now: u32,
         out: &mut Vec<u8>,
     ) -> Result<u32, PumpFault>
-        requires up { IsUp self.old }
-        requires on { IsOnDisk (D.view disk.old) self.old }
-        requires linked { self.old.session ≡ Some session }
+        requires linked { IsLinkedOn (D.view disk.old) self.old session }
         requires index { sending.peer ≡ linked_peer self.old.store.state session }
         requires planned { IsPlanned self.old session now sending.peer sending.choices
             sending.cursors.items sending.owes.items }
@@ -155,9 +154,7 @@ impl Manager {
         now: u32,
         out: &mut Vec<u8>,
     ) -> Result<u32, PumpFault>
-        requires up { IsUp self.old }
-        requires on { IsOnDisk (D.view disk.old) self.old }
-        requires linked { self.old.session ≡ Some session }
+        requires linked { IsLinkedOn (D.view disk.old) self.old session }
         requires index { sending.peer ≡ linked_peer self.old.store.state session }
         requires peer { sending.peer < length self.old.store.state.peers }
         requires planned { IsPlanned self.old session now sending.peer sending.choices
@@ -171,10 +168,10 @@ impl Manager {
     {
         calls_can_be_written();
         self.is_valid();
-        if is_stuck(&session, &sending.choices) {
+        if sending.is_stuck(&session) {
             return Err(PumpFault::Spent);
         }
-        if is_idle(&sending.choices) {
+        if sending.is_idle() {
             return self.send_ack(session, out);
         }
         self.send_all(disk, session, sending, now, out)
@@ -189,9 +186,7 @@ impl Manager {
         now: u32,
         out: &mut Vec<u8>,
     ) -> Result<u32, PumpFault>
-        requires up { IsUp self.old }
-        requires on { IsOnDisk (D.view disk.old) self.old }
-        requires linked { self.old.session ≡ Some session }
+        requires linked { IsLinkedOn (D.view disk.old) self.old session }
         requires index { peer ≡ linked_peer self.old.store.state session }
         requires peer { peer < length self.old.store.state.peers }
         requires comes { pump (manager_of self.old) now ≡
@@ -213,9 +208,7 @@ impl Manager {
         now: u32,
         out: &mut Vec<u8>,
     ) -> Result<u32, PumpFault>
-        requires up { IsUp self.old }
-        requires on { IsOnDisk (D.view disk.old) self.old }
-        requires linked { self.old.session ≡ Some session }
+        requires linked { IsLinkedOn (D.view disk.old) self.old session }
         requires comes { pump (manager_of self.old) now ≡ pump_at (manager_of self.old) now session
             (linked_peer self.old.store.state session) }
         ensures { IsPumped (D.view disk.old) (D.view disk.new) (disk.new ≡ disk.old) self.old
@@ -238,9 +231,7 @@ impl Manager {
         now: u32,
         out: &mut Vec<u8>,
     ) -> Result<u32, PumpFault>
-        requires up { IsUp self.old }
-        requires on { IsOnDisk (D.view disk.old) self.old }
-        requires linked { self.old.session ≡ Some session }
+        requires linked { IsLinkedOn (D.view disk.old) self.old session }
         requires none { owed_by session.phase now session ≡ None }
         ensures { IsPumped (D.view disk.old) (D.view disk.new) (disk.new ≡ disk.old) self.old
             self.new (pump (manager_of self.old) now) out.old.items out.new.items result }
@@ -261,9 +252,7 @@ impl Manager {
         now: u32,
         out: &mut Vec<u8>,
     ) -> Result<u32, PumpFault>
-        requires up { IsUp self.old }
-        requires on { IsOnDisk (D.view disk.old) self.old }
-        requires linked { self.old.session ≡ Some session }
+        requires { IsLinkedOn (D.view disk.old) self.old session }
         ensures { IsPumped (D.view disk.old) (D.view disk.new) (disk.new ≡ disk.old) self.old
             self.new (pump (manager_of self.old) now) out.old.items out.new.items result }
     {

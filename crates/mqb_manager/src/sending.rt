@@ -1,70 +1,31 @@
 //! What goes to a peer: it is planned, its bytes are made, its marks are written, and then it is noted.
-ghost use Rattle.std.specs.Prelude.{[], ◌&&◌, ◌++◌, ◌<◌, ◌≡◌, ◌≤◌, ◌==◌, All, Err, IfOk, IfSome, IsSomeAnd, None, OnErr, OnOk, Some, flat_map, fold, length, map, not, slice_get};
+ghost use Rattle.std.specs.Prelude.{◌++◌, ◌<◌, ◌≡◌, ◌≤◌, ◌==◌, All, Err, IfOk, IfSome, IsSomeAnd, None, OnErr, OnOk, Some, flat_map, fold, length, map, not, slice_get};
 ghost use Rattle.mqb_choosing.specs.Choices.{IsThere, origin_of, shown_in};
 ghost use Rattle.mqb_choosing.specs.Going.{any_waits};
 ghost use Rattle.mqb_devices.specs.Disk.{Counted};
 ghost use Rattle.mqb_express.specs.Noting as noting;
-ghost use Rattle.mqb_heads.specs.declared.base.TheConstants.{MAX_PACKET};
 ghost use Rattle.mqb_manager.specs.Calls.{IsCall};
-ghost use Rattle.mqb_manager.specs.Pumps.{CanNoteAll, IsPlanned, offered_form, pump_fault, sent_as, waiting_for, with_sent};
+ghost use Rattle.mqb_manager.specs.Pumps.{CanNoteAll, IsPlanned, pump_fault, sent_as, waiting_for, with_sent};
 ghost use Rattle.mqb_manager.specs.States.{manager_of};
 ghost use Rattle.mqb_manager.specs.Writing.{IsReady, write_of};
-ghost use Rattle.mqb_model.specs.Lists.{grown};
-ghost use Rattle.mqb_model.specs.calls.pump.Pump.{marks_for, packet_for, set_up_packet};
+ghost use Rattle.mqb_model.specs.calls.pump.Pump.{marks_for, packet_for};
 ghost use Rattle.mqb_model.specs.declared.limits.TheConstants.{MAX_PACKETS};
 ghost use Rattle.mqb_model.specs.managers.Beside as beside;
 ghost use Rattle.mqb_model.specs.managers.Beside.{noted};
 ghost use Rattle.mqb_model.specs.managers.Valid.{IsValidManager};
-ghost use Rattle.mqb_packet.specs.Plain.{IsWellFormedPacket, packet_size, plain_spelling};
-ghost use Rattle.mqb_session.specs.Sending.{is_spent};
+ghost use Rattle.mqb_packet.specs.Plain.{plain_spelling};
+ghost use Rattle.mqb_steps.specs.Plans.{offered_form};
 
 use crate::manager::Manager;
-use mqb_base::{Guid, Lane, Memory};
-use mqb_choosing::{Choices, Origin, choose, marks_for, put_choices, settle};
+use mqb_base::{Lane, Memory};
+use mqb_choosing::{Choices, Origin};
 use mqb_devices::Disk;
-use mqb_entries::{Entry, Mark, Marks};
+use mqb_entries::Mark;
 use mqb_model::PumpFault;
-use mqb_packet::Packet;
 use mqb_session::Session;
-use mqb_setup::Internal;
 use mqb_state::ExpressWork;
+use mqb_steps::{Sending, offered_entry, plan_sending, put_sending};
 use mqb_store::{Store, WriteFault};
-use std::alloc::Global;
-
-/// The packets that go to the peer at an index, and what is known of its connection once they went.
-#[derive(Drop)]
-pub(crate) struct Sending {
-    pub(crate) peer: u32,
-    pub(crate) choices: Choices,
-    pub(crate) cursors: Vec<u32>,
-    pub(crate) owes: Vec<bool>,
-}
-
-/// Whether a session has used all its numbers, and something could go.
-pub(crate) fn is_stuck(session: &Session, choices: &Choices) -> bool
-    ensures { result ≡ (is_spent session.now && any_waits choices.now) }
-{
-    session.is_spent() && choices.any_waits()
-}
-
-/// Whether nothing goes.
-pub(crate) fn is_idle(choices: &Choices) -> bool
-    ensures { result ≡ (length choices.now.choices == 0) }
-{
-    choices.as_slice().is_empty()
-}
-
-/// The entry of marks that rise, where one does.
-fn offered_entry(marks: &[Mark]) -> Option<Entry<'_>>
-    requires { length marks.now ≤ MAX_PACKETS }
-    ensures { result ≡ offered_form marks.now }
-{
-    if marks.is_empty() {
-        None
-    } else {
-        Some(Entry::Offered(Marks::of(marks)))
-    }
-}
 
 pub(crate) fn pump_fault(fault: WriteFault) -> PumpFault
     ensures { result ≡ pump_fault fault }
@@ -72,18 +33,6 @@ pub(crate) fn pump_fault(fault: WriteFault) -> PumpFault
     match fault {
         WriteFault::Memory => PumpFault::Memory,
         WriteFault::DiskFault => PumpFault::DiskFault,
-    }
-}
-
-pub(crate) fn set_up_packet(part: Internal) -> Packet
-    ensures packet { result ≡ set_up_packet part }
-    ensures well_formed { IsWellFormedPacket result }
-    ensures size { packet_size result ≤ MAX_PACKET }
-{
-    match part {
-        Internal::Establish(establish) => Packet::Establish(establish),
-        Internal::Parameters(parameters) => Packet::Parameters(parameters),
-        Internal::Ack(head) => Packet::Ack(head),
     }
 }
 
@@ -116,34 +65,7 @@ fn note_all(store: &mut Store, peer: u32, choices: &Choices)
     }
 }
 
-/// A copy of so many members. Those that are missing are blank.
-fn copied<T: Copy>(alloc: Global, list: &[T], blank: T, count: usize) -> Result<Vec<T>, Memory>
-    requires { length list.now ≤ count }
-    ensures { IfOk result (λ copy. copy.items ≡ grown blank count list.now) }
-{
-    let mut copy = Vec::with_capacity(alloc, count)?;
-    copy.extend_from_slice(list)?;
-    copy.resize(count, blank)?;
-    Ok(copy)
-}
-
 impl Manager {
-    /// The number that was sent last in each outgoing row.
-    fn all_cursors(&self, alloc: Global) -> Result<Vec<u32>, Memory>
-        ensures { IfOk result (λ cursors. cursors.items ≡ self.now.cursors) }
-    {
-        let count = self.store.state().out_rows().len();
-        copied(alloc, &self.cursors, 0, count)
-    }
-
-    /// Whether each incoming row owes an acknowledgement.
-    fn all_owes(&self, alloc: Global) -> Result<Vec<bool>, Memory>
-        ensures { IfOk result (λ owes. owes.items ≡ self.now.owes) }
-    {
-        let count = self.store.state().in_rows().len();
-        copied(alloc, &self.owes, false, count)
-    }
-
     /// What goes to the peer at an index.
     pub(crate) fn choose_for(
         &self,
@@ -159,29 +81,16 @@ impl Manager {
             (waiting_for self.now session now s.peer) == 0)) }
     {
         let alloc = *self.cursors.allocator();
-        let mut cursors = self.all_cursors(alloc)?;
-        let mut owes = self.all_owes(alloc)?;
-        self.is_valid();
         let contents = self.store.state().contents();
-        let choices = choose(alloc, contents, session, &cursors, &owes, peer, now)?;
-        settle(&choices, &mut cursors, &mut owes);
-        Ok(Sending {
+        plan_sending(
+            alloc,
+            contents,
+            session,
+            &self.cursors,
+            &self.owes,
             peer,
-            choices,
-            cursors,
-            owes,
-        })
-    }
-
-    fn guid_at(&self, peer: u32) -> Guid
-        requires { peer < length self.now.store.state.peers }
-        ensures { IsSomeAnd (slice_get self.now.store.state.peers peer)
-            (λ to. result ≡ to.guid) }
-    {
-        match self.store.state().peers().get(peer as usize) {
-            Some(to) => to.guid,
-            None => unreachable!(),
-        }
+            now,
+        )
     }
 
     /// Adds the bytes of packets, and answers the marks that rise.
@@ -202,11 +111,8 @@ impl Manager {
         ensures stays { OnErr result (out.new.items ≡ out.old.items) }
     {
         let alloc = *self.cursors.allocator();
-        let to = self.guid_at(sending.peer);
         let contents = self.store.state().contents();
-        let marks = marks_for(alloc, contents, &sending.choices)?;
-        put_choices(contents, &sending.choices, to, now, out)?;
-        Ok(marks)
+        put_sending(alloc, contents, sending, now, out)
     }
 
     /// Writes the marks that rise, where one does.

@@ -8,8 +8,6 @@ use Rattle.mqb_manager.proofs.manager.Manager.pump_peer.Goals as goal
 
 pub pump_to-requires : goal.pump_to-requires
 pump_to-requires g c = let m = c.args.self.now in record {
-  up = c.requires.up;
-  on = c.requires.on;
   linked = c.requires.linked;
   index = c.peer_of-peer.ensures;
   peer = is_below c.peer_of-peer.result (length m.store.state.peers) (sym c.has_peer.ensures ∙ c.if-has_peer.true);

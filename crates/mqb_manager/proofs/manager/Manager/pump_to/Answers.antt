@@ -16,8 +16,6 @@ returns-in-Err g c = let m = c.args.self.now in
 
 pub send_chosen-requires : goal.send_chosen-requires
 send_chosen-requires g c = let m = c.args.self.now in let same = c.in-Ok.ensures.peer in record {
-  up = c.requires.up;
-  on = c.requires.on;
   linked = c.requires.linked;
   index = same ∙ c.requires.index;
   peer = subst (λ (k : ℕ). k < length m.store.state.peers) (sym same) c.requires.peer;

@@ -14,7 +14,7 @@ returns-in-None g c = let m = c.args.self.now in
     c.is_valid.ensures (comes_unlinked (manager_of m) c.args.now (down_is m ∙ c.requires.up) (sym c.linked.ensures ∙ c.in-None.is)) (λ same. let none : ⊥ = cc in none)
 
 pub pump_linked-requires : goal.pump_linked-requires
-pump_linked-requires g c = record { up = c.requires.up; on = c.requires.on; linked = sym c.linked.ensures ∙ c.in-Some.is }
+pump_linked-requires g c = record { up = c.requires.up; on = c.requires.on; session = sym c.linked.ensures ∙ c.in-Some.is }
 
 pub returns-in-Some : goal.returns-in-Some
 returns-in-Some g c = c.pump_linked.ensures

@@ -1,21 +1,17 @@
-use Rattle.std.proofs.Common.{◌≡◌, Option, ap, length, subst, sym, ◌≤◌, ◌∙◌}
-use Rattle.std.specs.Prelude.{IfSome, option_copied, option_map}
+use Rattle.std.proofs.Common.{◌≡◌, ap, subst, sym, ◌∙◌}
+use Rattle.std.specs.Prelude.{option_copied}
 use Rattle.mqb_base.specs.Rooms.{WithRooms}
 use Rattle.mqb_contents.specs.Rooms.{StateRooms}
 use Rattle.mqb_devices.specs.Disk.{Counted}
-use Rattle.mqb_entries.specs.SpelledEntries.{Fits, spelled}
-use Rattle.mqb_entries.specs.declared.entry.Entry.{Entry}
 use Rattle.mqb_express.specs.Work.{beside_of}
 use Rattle.mqb_model.specs.calls.Tick.{tick}
 use Rattle.mqb_model.specs.declared.faults.StoreFault.TheVariants as fault
-use Rattle.mqb_model.specs.declared.limits.TheConstants.{MAX_RECORD}
 use Rattle.mqb_model.specs.managers.Manager.{Manager}
-use Rattle.mqb_model.specs.records.Reading.{record_in}
 use Rattle.mqb_model.specs.state.State.{State}
 use Rattle.mqb_model.specs.state.Valid.{IsValidState}
 use Rattle.mqb_plans.specs.Answers.{tick_plan}
 use Rattle.mqb_manager.proofs.Calls.{memory_answered}
-use Rattle.mqb_manager.proofs.Planned.{IsPlan, Keeps, planned_call, planned_counted, planned_ready, planned_untouched}
+use Rattle.mqb_manager.proofs.Planned.{keeps_by, plan_by, planned_call, planned_counted, planned_ready, planned_untouched}
 use Rattle.mqb_manager.proofs.Taking.{tick_down}
 use Rattle.mqb_manager.proofs.manager.Manager.tick.Goals as goal
 
@@ -29,90 +25,46 @@ plan_tick-plan-requires g c = subst IsValidState (sym (ap (λ (w : WithRooms Sta
 pub write-written-requires : goal.write-written-requires
 write-written-requires g c =
     let s = c.contents.result.now.lists in
-    let keeps : Keeps s c.args.self.now = record {
-      valid = c.is_valid.ensures;
-      up = sym c.is_down.ensures ∙ c.if-is_down.false;
-      kept = sym (ap (λ (w : WithRooms State StateRooms). w.lists) c.contents.ensures ∙ c.state.ensures);
-    } in
+    let keeps = keeps_by c.args.self.now c.contents.result.now c.is_valid.ensures (sym c.is_down.ensures ∙ c.if-is_down.false)
+    (ap (λ (w : WithRooms State StateRooms). w.lists) c.contents.ensures ∙ c.state.ensures) in
     let entry = option_copied c.as_ref.result in
     let h = c.plan_tick-plan.ensures in
-    let plan : IsPlan s (λ (m : Manager). tick m c.args.now) (tick_plan c.plan_tick-plan.result) c.plan_tick-plan.result.due entry (beside_of c.work.result) = record {
-      planned = h.planned;
-      writable = h.writable;
-      stays_valid = h.stays_valid;
-      stays_stored = h.stays_stored;
-      shown = ap (λ (o : Option Entry). option_map record_in o) c.as_ref.ensures.value ∙ c.entry-entry.ensures.entry;
-      put = subst (λ (o : Option Entry). IfSome o Fits) (sym c.as_ref.ensures.value) c.entry-entry.ensures.fits;
-      small = subst (λ (o : Option Entry). IfSome o (λ e. length (spelled e) ≤ MAX_RECORD)) (sym c.as_ref.ensures.value) c.entry-entry.ensures.size;
-      work = c.work.ensures;
-    } in
+    let plan = plan_by s (λ (m : Manager). tick m c.args.now) (tick_plan c.plan_tick-plan.result) c.plan_tick-plan.result.due c.entry-entry.result entry (beside_of c.work.result) c.as_ref.ensures.value
+    h.planned h.writable h.stays_valid h.stays_stored c.entry-entry.ensures.entry c.entry-entry.ensures.fits c.entry-entry.ensures.size c.work.ensures in
     planned_ready s (λ (m : Manager). tick m c.args.now) (tick_plan c.plan_tick-plan.result) c.plan_tick-plan.result.due entry (beside_of c.work.result) c.args.self.now keeps plan (g.D.Disk.view c.args.disk.now) c.requires
 
 pub returns-clause-call : goal.returns-clause-call
 returns-clause-call g c =
     let s = c.contents.result.now.lists in
-    let keeps : Keeps s c.args.self.now = record {
-      valid = c.is_valid.ensures;
-      up = sym c.is_down.ensures ∙ c.if-is_down.false;
-      kept = sym (ap (λ (w : WithRooms State StateRooms). w.lists) c.contents.ensures ∙ c.state.ensures);
-    } in
+    let keeps = keeps_by c.args.self.now c.contents.result.now c.is_valid.ensures (sym c.is_down.ensures ∙ c.if-is_down.false)
+    (ap (λ (w : WithRooms State StateRooms). w.lists) c.contents.ensures ∙ c.state.ensures) in
     let entry = option_copied c.as_ref.result in
     let h = c.plan_tick-plan.ensures in
-    let plan : IsPlan s (λ (m : Manager). tick m c.args.now) (tick_plan c.plan_tick-plan.result) c.plan_tick-plan.result.due entry (beside_of c.work.result) = record {
-      planned = h.planned;
-      writable = h.writable;
-      stays_valid = h.stays_valid;
-      stays_stored = h.stays_stored;
-      shown = ap (λ (o : Option Entry). option_map record_in o) c.as_ref.ensures.value ∙ c.entry-entry.ensures.entry;
-      put = subst (λ (o : Option Entry). IfSome o Fits) (sym c.as_ref.ensures.value) c.entry-entry.ensures.fits;
-      small = subst (λ (o : Option Entry). IfSome o (λ e. length (spelled e) ≤ MAX_RECORD)) (sym c.as_ref.ensures.value) c.entry-entry.ensures.size;
-      work = c.work.ensures;
-    } in
+    let plan = plan_by s (λ (m : Manager). tick m c.args.now) (tick_plan c.plan_tick-plan.result) c.plan_tick-plan.result.due c.entry-entry.result entry (beside_of c.work.result) c.as_ref.ensures.value
+    h.planned h.writable h.stays_valid h.stays_stored c.entry-entry.ensures.entry c.entry-entry.ensures.fits c.entry-entry.ensures.size c.work.ensures in
     planned_call s (λ (m : Manager). tick m c.args.now) (tick_plan c.plan_tick-plan.result) c.plan_tick-plan.result.due entry (beside_of c.work.result) c.args.self.now keeps plan fault.Memory fault.DiskFault (g.D.Disk.view c.args.disk.now) (g.D.Disk.view c.write-written.new.disk)
     c.write-written.new.self c.write-written.result c.answer.result (λ same. let none : ⊥ = cc in none) c.write-written.ensures.call c.answer.ensures
 
 pub returns-clause-untouched : goal.returns-clause-untouched
 returns-clause-untouched g c = λ none.
     let s = c.contents.result.now.lists in
-    let keeps : Keeps s c.args.self.now = record {
-      valid = c.is_valid.ensures;
-      up = sym c.is_down.ensures ∙ c.if-is_down.false;
-      kept = sym (ap (λ (w : WithRooms State StateRooms). w.lists) c.contents.ensures ∙ c.state.ensures);
-    } in
+    let keeps = keeps_by c.args.self.now c.contents.result.now c.is_valid.ensures (sym c.is_down.ensures ∙ c.if-is_down.false)
+    (ap (λ (w : WithRooms State StateRooms). w.lists) c.contents.ensures ∙ c.state.ensures) in
     let entry = option_copied c.as_ref.result in
     let h = c.plan_tick-plan.ensures in
-    let plan : IsPlan s (λ (m : Manager). tick m c.args.now) (tick_plan c.plan_tick-plan.result) c.plan_tick-plan.result.due entry (beside_of c.work.result) = record {
-      planned = h.planned;
-      writable = h.writable;
-      stays_valid = h.stays_valid;
-      stays_stored = h.stays_stored;
-      shown = ap (λ (o : Option Entry). option_map record_in o) c.as_ref.ensures.value ∙ c.entry-entry.ensures.entry;
-      put = subst (λ (o : Option Entry). IfSome o Fits) (sym c.as_ref.ensures.value) c.entry-entry.ensures.fits;
-      small = subst (λ (o : Option Entry). IfSome o (λ e. length (spelled e) ≤ MAX_RECORD)) (sym c.as_ref.ensures.value) c.entry-entry.ensures.size;
-      work = c.work.ensures;
-    } in
+    let plan = plan_by s (λ (m : Manager). tick m c.args.now) (tick_plan c.plan_tick-plan.result) c.plan_tick-plan.result.due c.entry-entry.result entry (beside_of c.work.result) c.as_ref.ensures.value
+    h.planned h.writable h.stays_valid h.stays_stored c.entry-entry.ensures.entry c.entry-entry.ensures.fits c.entry-entry.ensures.size c.work.ensures in
     c.write-written.ensures.untouched (planned_untouched s (λ (m : Manager). tick m c.args.now) (tick_plan c.plan_tick-plan.result) c.plan_tick-plan.result.due entry (beside_of c.work.result) c.args.self.now keeps plan none)
 
 pub returns-clause-calls : goal.returns-clause-calls
 returns-clause-calls g c =
     let s = c.contents.result.now.lists in
-    let keeps : Keeps s c.args.self.now = record {
-      valid = c.is_valid.ensures;
-      up = sym c.is_down.ensures ∙ c.if-is_down.false;
-      kept = sym (ap (λ (w : WithRooms State StateRooms). w.lists) c.contents.ensures ∙ c.state.ensures);
-    } in
+    let keeps = keeps_by c.args.self.now c.contents.result.now c.is_valid.ensures (sym c.is_down.ensures ∙ c.if-is_down.false)
+    (ap (λ (w : WithRooms State StateRooms). w.lists) c.contents.ensures ∙ c.state.ensures) in
     let entry = option_copied c.as_ref.result in
     let h = c.plan_tick-plan.ensures in
-    let plan : IsPlan s (λ (m : Manager). tick m c.args.now) (tick_plan c.plan_tick-plan.result) c.plan_tick-plan.result.due entry (beside_of c.work.result) = record {
-      planned = h.planned;
-      writable = h.writable;
-      stays_valid = h.stays_valid;
-      stays_stored = h.stays_stored;
-      shown = ap (λ (o : Option Entry). option_map record_in o) c.as_ref.ensures.value ∙ c.entry-entry.ensures.entry;
-      put = subst (λ (o : Option Entry). IfSome o Fits) (sym c.as_ref.ensures.value) c.entry-entry.ensures.fits;
-      small = subst (λ (o : Option Entry). IfSome o (λ e. length (spelled e) ≤ MAX_RECORD)) (sym c.as_ref.ensures.value) c.entry-entry.ensures.size;
-      work = c.work.ensures;
-    } in
+    let plan = plan_by s (λ (m : Manager). tick m c.args.now) (tick_plan c.plan_tick-plan.result) c.plan_tick-plan.result.due c.entry-entry.result entry (beside_of c.work.result) c.as_ref.ensures.value
+    h.planned h.writable h.stays_valid h.stays_stored c.entry-entry.ensures.entry c.entry-entry.ensures.fits c.entry-entry.ensures.size c.work.ensures in
     planned_counted s (λ (m : Manager). tick m c.args.now) (tick_plan c.plan_tick-plan.result) c.plan_tick-plan.result.due entry (beside_of c.work.result) c.args.self.now keeps plan fault.Memory fault.DiskFault
     (Counted 4 (g.D.Disk.view c.args.disk.now).calls (g.D.Disk.view c.write-written.new.disk).calls) c.write-written.result c.answer.result
     c.write-written.ensures.calls c.answer.ensures

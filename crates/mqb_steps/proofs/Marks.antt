@@ -3,8 +3,8 @@ use Rattle.std.proofs.Common.{sym, ap, ◌∙◌, length, arith, append_assoc}
 use Rattle.std.proofs.lemmas.List.{length-set, replicate_more, set-append_left}
 use Rattle.std.specs.Prelude.{[], ◌++◌, ◌+◌, ◌-◌, ◌<◌, ◌∷◌, ◌≡◌, ◌≤◌, Bool, List, None, Option, Some, false, replicate, slice_set, true, ℕ}
 use Rattle.mqb_model.specs.Lists.{grown}
-use Rattle.mqb_manager.specs.Marks.{marked}
-use Rattle.mqb_manager.proofs.Rests.{grown_again, grown_length, no_more}
+use Rattle.mqb_steps.specs.Marks.{marked}
+use Rattle.mqb_steps.proofs.Rests.{grown_again, grown_length, no_more}
 
 -- one member more
 pub grown_more : (n : ℕ) (xs : List Bool) → length xs ≤ n → grown false n xs ++ false ∷ [] ≡ grown false (n + 1) xs

@@ -4,8 +4,8 @@ use Rattle.std.specs.List.{zip}
 use Rattle.std.specs.Prelude.{◌+◌, slice_set, vec_len, ℕ}
 use Rattle.mqb_model.specs.calls.Link.{begun_anew}
 use Rattle.mqb_orders.specs.Rows.{row_of}
-use Rattle.mqb_manager.proofs.Rests.{none_left, one_anew}
-use Rattle.mqb_manager.proofs.links.rewind.Goals as goal
+use Rattle.mqb_steps.proofs.Rests.{none_left, one_anew}
+use Rattle.mqb_steps.proofs.rows.rewind.Goals as goal
 
 pub loop-k-preserved : goal.loop-k-preserved
 loop-k-preserved c =

@@ -1,6 +1,6 @@
 use Rattle.std.proofs.Common.{◌∙◌, arith}
-use Rattle.mqb_manager.proofs.Marks.{grown_same}
-use Rattle.mqb_manager.proofs.hearing.grow.Goals as goal
+use Rattle.mqb_steps.proofs.Marks.{grown_same}
+use Rattle.mqb_steps.proofs.rows.grow.Goals as goal
 
 pub returns : goal.returns
 returns c = let longer = c.loop.invariant.longer in let most = c.loop.invariant.most in let test = c.loop-test.false in

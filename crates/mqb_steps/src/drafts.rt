@@ -74,7 +74,7 @@ fn op_fits(op: &Op)
 }
 
 /// What the ops of a transaction send is sound.
-pub(crate) fn ops_fit(ops: &[Op])
+pub fn ops_fit(ops: &[Op])
     ensures { All IsDraftedOp ops.now }
 {
     for op in ops {

@@ -1,6 +1,6 @@
 use Rattle.std.proofs.Common.{All, take}
 use Rattle.mqb_model.specs.laws.Fitting.{IsDraftedOp}
-use Rattle.mqb_manager.proofs.drafts.ops_fit.Given as goal
+use Rattle.mqb_steps.proofs.drafts.ops_fit.Given as goal
 
 abbrev pub invariant-loop-op : goal.invariant-loop-op
 invariant-loop-op l = record {

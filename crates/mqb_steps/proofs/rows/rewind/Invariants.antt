@@ -2,7 +2,7 @@ use Rattle.std.proofs.Common.{◌≡◌, ◌++◌, drop, length, map, take}
 use Rattle.std.specs.List.{zip}
 use Rattle.mqb_model.specs.calls.Link.{begun_anew}
 use Rattle.mqb_orders.specs.Rows.{row_of}
-use Rattle.mqb_manager.proofs.links.rewind.Given as goal
+use Rattle.mqb_steps.proofs.rows.rewind.Given as goal
 
 abbrev pub invariant-loop-k : goal.invariant-loop-k
 invariant-loop-k l = record {

@@ -1,7 +1,7 @@
 use Rattle.std.specs.Prelude.{◌≡◌, ◌≤◌, false, length, max}
 use Rattle.std.specs.Vec.{vec_capacity}
 use Rattle.mqb_model.specs.Lists.{grown}
-use Rattle.mqb_manager.proofs.hearing.grow.Given as goal
+use Rattle.mqb_steps.proofs.rows.grow.Given as goal
 
 abbrev pub invariant-loop : goal.invariant-loop
 invariant-loop l = record {

@@ -1,8 +1,8 @@
 use Rattle.std.proofs.Common.{All, arith, subst}
 use Rattle.std.proofs.lemmas.List.{take_all}
 use Rattle.mqb_model.specs.laws.Fitting.{IsDraftedOp}
-use Rattle.mqb_manager.proofs.Drafted.{all_taken}
-use Rattle.mqb_manager.proofs.drafts.ops_fit.Goals as goal
+use Rattle.mqb_steps.proofs.Drafted.{all_taken}
+use Rattle.mqb_steps.proofs.drafts.ops_fit.Goals as goal
 
 pub loop-op-preserved : goal.loop-op-preserved
 loop-op-preserved c = record {
