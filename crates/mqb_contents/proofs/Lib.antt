@@ -1,12 +1,8 @@
-pub mod Members
 pub mod Places
 pub mod Laws
 pub mod Grown
 pub mod Ready
-pub mod Lens
-pub mod Waiting
 pub mod Named
 pub mod Reserved
 pub mod Sources
 pub mod InUse
-pub mod Each

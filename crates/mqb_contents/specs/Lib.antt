@@ -1,4 +1,3 @@
-pub mod Ends
 pub mod Rooms
 pub mod Rows
 pub mod Seen

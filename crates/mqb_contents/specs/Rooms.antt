@@ -1,6 +1,6 @@
 -- How many members each list of a manager can have without memory.
 use Rattle.std.specs.Option.{option_map_or}
-use Rattle.std.specs.Prelude.{[], ◌≡◌, ◌≤◌, List, length, slice_get, ℕ}
+use Rattle.std.specs.Prelude.{[], ◌≡◌, ◌≤◌, List, length, ℕ}
 use Rattle.mqb_base.specs.declared.message.Lane.{Lane}
 use Rattle.mqb_base.specs.declared.queues.EntryPlace.{EntryPlace}
 use Rattle.mqb_orders.specs.declared.keys.InKey.{InKey}
@@ -10,11 +10,7 @@ use Rattle.mqb_plain.specs.Plain as plain
 use Rattle.mqb_queue.specs.Lists as lists
 use Rattle.mqb_queue.specs.Places.{PlaceRooms, no_rooms, rooms_at}
 use Rattle.mqb_tables.specs.Keys.{AreKeysKept, same_in_key, same_out_key}
-
--- the rooms of the members of a list, and how many members it can have
-pub record MemberRooms (R : Type 0) : Type 0 where
-  pub each : List R
-  pub more : ℕ
+use Rattle.mqb_waiting.specs.Rooms.{AreMembersGrown, MemberRooms, member_room, no_members}
 
 -- of the places, of the list of peers, of the plain messages that wait for each of them, and of the rows; and the keys of the tables of rows
 pub record StateRooms : Type 0 where
@@ -25,9 +21,6 @@ pub record StateRooms : Type 0 where
   pub in_use : List OutKey
   pub ins : ℕ
   pub sources : List InKey
-
-abbrev pub no_members : {R : Type 0} → MemberRooms R
-no_members = record { each = []; more = 0 }
 
 abbrev pub no_room : StateRooms
 no_room = record { places = no_rooms; peers = 0; plain = no_members; outs = no_members; in_use = []; ins = 0; sources = [] }
@@ -42,17 +35,9 @@ pub record OutRooms : Type 0 where
   pub members : MemberRooms ℕ
   pub keys : List OutKey
 
--- how much room the member at an index has
-abbrev pub member_room : {R : Type 0} → (R → ℕ) → MemberRooms R → ℕ → ℕ
-member_room room r k = option_map_or room (slice_get r.each k) 0
-
 -- how many messages of a lane a place can have without memory
 abbrev pub place_room : PlaceRooms → EntryPlace → Lane → ℕ
 place_room r at kind = option_map_or (lists.room_in kind) (rooms_at r at) 0
-
--- how many plain messages of a lane can wait for the peer at an index
-abbrev pub plain_room : MemberRooms PlainRooms → ℕ → Lane → ℕ
-plain_room r peer kind = member_room (plain.room_in kind) r peer
 
 -- how many messages the outgoing row at an index can keep
 abbrev pub kept_room : MemberRooms ℕ → ℕ → ℕ
@@ -63,11 +48,6 @@ pub record ArePlacesGrown (old new : PlaceRooms) : Type 0 where
   pub rooms : (at : EntryPlace) (kind : Lane) → place_room old at kind ≤ place_room new at kind
   pub count : length new.queues ≡ length old.queues
   pub more : old.more_queues ≤ new.more_queues
-
-pub record AreMembersGrown {R : Type 0} (room : R → ℕ) (old new : MemberRooms R) : Type 0 where
-  pub rooms : (k : ℕ) → member_room room old k ≤ member_room room new k
-  pub count : length new.each ≡ length old.each
-  pub more : old.more ≤ new.more
 
 pub record IsGrown (old new : StateRooms) : Type 0 where
   pub places : ArePlacesGrown old.places new.places

@@ -3,15 +3,12 @@ use Rattle.std.specs.Option.{option_map_or}
 use Rattle.std.specs.Prelude.{[], ◌≡◌, ◌≤◌, All, List, None, Option, Some, if◌then◌else◌, insert, length, nat_lt, slice_get, ℕ}
 use Rattle.mqb_base.specs.declared.ids.Identity.{Identity}
 use Rattle.mqb_base.specs.declared.ids.SequenceId.{SequenceId}
-use Rattle.mqb_base.specs.declared.message.Lane.{Lane}
 use Rattle.mqb_base.specs.declared.queue_names.QueueName.{QueueName}
 use Rattle.mqb_orders.specs.KeptLists.{Rises}
 use Rattle.mqb_orders.specs.Rows.{Row}
 use Rattle.mqb_orders.specs.declared.kept.Kept.{Kept}
 use Rattle.mqb_orders.specs.declared.rows.InRow.{InRow}
-use Rattle.mqb_plain.specs.Lists.{InOrder}
-use Rattle.mqb_plain.specs.Plain.{PlainLists, PlainRooms, outgoing_in}
-use Rattle.mqb_plain.specs.declared.outgoing.Outgoing.{Outgoing}
+use Rattle.mqb_plain.specs.Plain.{PlainRooms}
 use Rattle.mqb_model.specs.Lists.{with_changed}
 use Rattle.mqb_model.specs.state.State.{State}
 use Rattle.mqb_contents.specs.declared.marks.RowMarks.{RowMarks}
@@ -52,17 +49,9 @@ KeepsCommitted row = All (λ k. k.number ≤ row.committed) row.kept
 abbrev pub CanKeep : ℕ → Kept → Row → Type 0
 CanKeep k kept row = (k ≤ length row.kept) × Rises (insert row.kept k kept) × (kept.number ≤ row.committed)
 
--- A plain message can wait in a lane before the one at an index, or at the end: the marks are in order.
-abbrev pub CanWait : Lane → ℕ → Outgoing → PlainLists → Type 0
-CanWait kind k o p = (k ≤ length (outgoing_in kind p)) × InOrder (insert (outgoing_in kind p) k o)
-
 -- how many messages the outgoing row at an index keeps
 abbrev pub kept_count : List Row → ℕ → ℕ
 kept_count rows k = option_map_or (λ r. length r.kept) (slice_get rows k) 0
-
--- how many plain messages of a lane wait for the peer at an index
-abbrev pub plain_count : List PlainLists → ℕ → Lane → ℕ
-plain_count plain peer kind = option_map_or (λ p. length (outgoing_in kind p)) (slice_get plain peer) 0
 
 -- the row, if it is not full: it has less than so many messages
 abbrev pub unless_full : ℕ → Row → Option Row

@@ -1,5 +1,5 @@
 -- What contracts see of what a manager keeps.
-use Rattle.std.specs.Prelude.{◌≡◌, ◌≤◌, List, length, map, ℕ}
+use Rattle.std.specs.Prelude.{◌≡◌, ◌≤◌, List, length, ℕ}
 use Rattle.mqb_base.specs.Rooms.{Room, WithRooms}
 use Rattle.mqb_base.specs.declared.ids.Identity.{Identity}
 use Rattle.mqb_orders.specs.Rows.{Row}
@@ -10,26 +10,13 @@ use Rattle.mqb_plain.specs.Plain.{PlainLists, PlainRooms}
 use Rattle.mqb_queue.specs.Places.{PlaceRooms, Places}
 use Rattle.mqb_model.specs.declared.limits.TheConstants.{MAX_PEERS, MAX_QUEUES}
 use Rattle.mqb_model.specs.state.State.{State}
-use Rattle.mqb_contents.specs.Rooms.{InRooms, MemberRooms, OutRooms, StateRooms}
+use Rattle.mqb_contents.specs.Rooms.{InRooms, OutRooms, StateRooms}
+use Rattle.mqb_waiting.specs.Rooms.{MemberRooms}
 use Rattle.mqb_contents.specs.declared.counters.Counters.{Counters}
-
--- members and their rooms, each as it is seen
-abbrev pub seen_members : {X Y R : Type 0} → (X → Y) → (X → R) → Room X → WithRooms (List Y) (MemberRooms R)
-seen_members see room members = record {
-  lists = map see members.items;
-  rooms = record { each = map room members.items; more = members.room };
-}
 
 -- outgoing rows and their rooms, with the keys of their table
 abbrev pub with_keys : List OutKey → WithRooms (List Row) (MemberRooms ℕ) → WithRooms (List Row) OutRooms
 with_keys keys rows = record { lists = rows.lists; rooms = record { members = rows.rooms; keys = keys } }
-
--- the plain messages for a peer, and their rooms
-abbrev pub lists_of : WithRooms PlainLists PlainRooms → PlainLists
-lists_of p = p.lists
-
-abbrev pub rooms_of : WithRooms PlainLists PlainRooms → PlainRooms
-rooms_of p = p.rooms
 
 -- how many messages an outgoing row can keep
 abbrev pub room_of : OutRow → ℕ

@@ -11,13 +11,13 @@ ghost use Rattle.mqb_orders.specs.Rows.{row_of};
 use crate::counters::Counters;
 use crate::in_rows::InRows;
 use crate::out_rows::OutRows;
-use crate::plain_outs::PlainOuts;
 use indexmap::IndexMap;
 use mqb_base::{Identity, Roomed};
 use mqb_model::{FIRST_EXPRESS, MAX_ROLL};
 use mqb_orders::{InKey, InRow, OutKey, OutRow};
 use mqb_plain::PlainOut;
 use mqb_queue::Queues;
+use mqb_waiting::PlainOuts;
 use std::alloc::Global;
 use std::marker::Model;
 

@@ -15,7 +15,6 @@ mod marks;
 mod new_peer;
 mod new_row;
 mod out_rows;
-mod plain_outs;
 mod sending;
 
 pub use change::Change;

@@ -1,12 +1,12 @@
 use Rattle.std.proofs.Common.{◌≡◌, Some, length, sym, subst}
 use Rattle.std.specs.Prelude.{slice_get}
-use Rattle.mqb_contents.specs.Rows.{CanWait}
+use Rattle.mqb_waiting.specs.Waits.{CanWait}
 use Rattle.mqb_plain.specs.Plain.{outgoing_in, room_in, without}
-use Rattle.mqb_contents.specs.Seen.{lists_of, rooms_of}
+use Rattle.mqb_waiting.specs.Seen.{lists_of, rooms_of}
 use Rattle.mqb_plain.specs.Plain.{PlainLists}
-use Rattle.mqb_contents.proofs.Lens.{changed, fact_back, fact_now, left}
-use Rattle.mqb_contents.proofs.Waiting.{can_wait_back}
-use Rattle.mqb_contents.proofs.plain_outs.PlainOuts.remove.Goals as goal
+use Rattle.mqb_waiting.proofs.Lens.{changed, fact_back, fact_now, left}
+use Rattle.mqb_waiting.proofs.Waiting.{can_wait_back}
+use Rattle.mqb_waiting.proofs.plain_outs.PlainOuts.remove.Goals as goal
 
 pub returns-clause-removed : goal.returns-clause-removed
 returns-clause-removed c =

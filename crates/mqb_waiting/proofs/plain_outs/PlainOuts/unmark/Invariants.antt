@@ -1,7 +1,7 @@
 use Rattle.std.proofs.Common.{◌≡◌, length}
-use Rattle.mqb_contents.proofs.Each.{first_changed}
+use Rattle.mqb_waiting.proofs.Each.{first_changed}
 use Rattle.mqb_model.specs.managers.Beside.{all_unmarked}
-use Rattle.mqb_contents.proofs.plain_outs.PlainOuts.unmark.Given as goal
+use Rattle.mqb_waiting.proofs.plain_outs.PlainOuts.unmark.Given as goal
 
 abbrev pub invariant-loop-peer : goal.invariant-loop-peer
 invariant-loop-peer l = record {

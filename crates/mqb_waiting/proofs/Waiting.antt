@@ -7,8 +7,8 @@ use Rattle.mqb_base.specs.declared.message.Lane.TheVariants as lane
 use Rattle.mqb_plain.specs.Lists.{InOrder}
 use Rattle.mqb_plain.specs.Plain.{PlainLists, outgoing_in, without}
 use Rattle.mqb_plain.specs.declared.outgoing.Outgoing.{Outgoing}
-use Rattle.mqb_contents.specs.Rows.{CanWait}
-use Rattle.mqb_contents.proofs.Members.{insert-remove, length-removed}
+use Rattle.mqb_waiting.specs.Waits.{CanWait}
+use Rattle.mqb_waiting.proofs.Members.{insert-remove, length-removed}
 
 back : (items : List Outgoing) (k : ℕ) (o : Outgoing) → slice_get items k ≡ Some o → InOrder items
     → (k ≤ length (remove items k)) × InOrder (insert (remove items k) k o)

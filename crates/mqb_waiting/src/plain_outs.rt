@@ -1,9 +1,9 @@
 ghost use Rattle.std.specs.Prelude.{◌≡◌, ◌<◌, ◌≤◌, [], ◌∷◌, ◌++◌, IsSomeAnd, OnOk, Some, length, map, slice_get};
-ghost use Rattle.mqb_contents.specs.Ends.{last_of, without_last};
-ghost use Rattle.mqb_contents.specs.Rooms.{AreMembersGrown, no_members, plain_room};
+ghost use Rattle.mqb_waiting.specs.Ends.{last_of, without_last};
+ghost use Rattle.mqb_waiting.specs.Rooms.{AreMembersGrown, no_members, plain_room};
 ghost use Rattle.mqb_base.specs.declared.message.Lane.{Lane};
-ghost use Rattle.mqb_contents.specs.Rows.{CanWait, plain_count};
-ghost use Rattle.mqb_contents.specs.Seen.{lists_of, rooms_of};
+ghost use Rattle.mqb_waiting.specs.Waits.{CanWait, plain_count};
+ghost use Rattle.mqb_waiting.specs.Seen.{lists_of, rooms_of};
 ghost use Rattle.mqb_model.specs.Lists.{with_changed};
 ghost use Rattle.mqb_model.specs.managers.Beside.{all_unmarked};
 ghost use Rattle.mqb_plain.specs.Lists.{InOrder, messages_of};
@@ -17,15 +17,15 @@ use std::marker::Model;
 /// The plain messages that wait for each peer. Contracts see them, and beside them how many messages each peer can have without memory, and how
 /// many peers there can be.
 #[derive(Debug, Drop)]
-pub(crate) struct PlainOuts {
+pub struct PlainOuts {
     peers: Roomed<PlainOut>,
 }
 
 impl Model for PlainOuts {
     ghost use Rattle.std.specs.Prelude.{List};
     ghost use Rattle.mqb_base.specs.Rooms.{WithRooms};
-    ghost use Rattle.mqb_contents.specs.Rooms.{MemberRooms};
-    ghost use Rattle.mqb_contents.specs.Seen.{lists_of, rooms_of, seen_members};
+    ghost use Rattle.mqb_waiting.specs.Rooms.{MemberRooms};
+    ghost use Rattle.mqb_waiting.specs.Seen.{lists_of, rooms_of, seen_members};
     ghost use Rattle.mqb_plain.specs.Plain.{PlainLists, PlainRooms};
 
     ghost Value = { WithRooms (List PlainLists) (MemberRooms PlainRooms) };
@@ -78,7 +78,8 @@ fn make_room_in(plain: &mut PlainOut, lane: Lane) -> Result<(), Memory>
 }
 
 impl PlainOuts {
-    pub(crate) fn new(alloc: Global) -> PlainOuts
+    /// There is no peer.
+    pub fn new(alloc: Global) -> PlainOuts
         ensures { result ≡ record { lists = []; rooms = no_members } }
     {
         PlainOuts {
@@ -86,14 +87,16 @@ impl PlainOuts {
         }
     }
 
-    pub(crate) fn count(&self) -> usize
+    /// How many peers there are.
+    pub fn count(&self) -> usize
         ensures count { result ≡ length self.now.lists }
         ensures rooms { length self.now.rooms.each ≡ length self.now.lists }
     {
         self.peers.len()
     }
 
-    pub(crate) fn get(&self, peer: u32) -> &PlainOut
+    /// The plain messages for the peer at an index.
+    pub fn get(&self, peer: u32) -> &PlainOut
         requires { peer < length self.now.lists }
         ensures { slice_get self.now.lists peer ≡ Some result.now.lists }
     {
@@ -101,7 +104,7 @@ impl PlainOuts {
     }
 
     /// How many messages of a lane wait for a peer.
-    pub(crate) fn count_in(&self, peer: u32, lane: Lane) -> u32
+    pub fn count_in(&self, peer: u32, lane: Lane) -> u32
         requires { peer < length self.now.lists }
         ensures count { result ≡ plain_count self.now.lists peer lane }
         ensures in_order { IsSomeAnd (slice_get self.now.lists peer)
@@ -111,7 +114,7 @@ impl PlainOuts {
     }
 
     /// A message of a lane waits for a peer before the one at an index, or at the end, where there is room.
-    pub(crate) fn insert(&mut self, peer: u32, lane: Lane, index: u32, outgoing: Outgoing)
+    pub fn insert(&mut self, peer: u32, lane: Lane, index: u32, outgoing: Outgoing)
         requires can { IsSomeAnd (slice_get self.old.lists peer) (CanWait lane index outgoing) }
         requires room { plain_count self.old.lists peer lane < plain_room self.old.rooms peer lane }
         ensures { self.new ≡ record self.old {
@@ -124,7 +127,7 @@ impl PlainOuts {
     }
 
     /// The message of a lane that waits for a peer at an index leaves.
-    pub(crate) fn remove(&mut self, peer: u32, lane: Lane, index: u32) -> Outgoing
+    pub fn remove(&mut self, peer: u32, lane: Lane, index: u32) -> Outgoing
         requires { IsSomeAnd (slice_get self.old.lists peer)
             (λ p. index < length (outgoing_in lane p)) }
         ensures removed { IsSomeAnd (slice_get self.old.lists peer)
@@ -139,7 +142,7 @@ impl PlainOuts {
     }
 
     /// The next message for a peer was sent with a session header.
-    pub(crate) fn mark_sent(&mut self, peer: u32, head: &SessionHead)
+    pub fn mark_sent(&mut self, peer: u32, head: &SessionHead)
         requires { IsSomeAnd (slice_get self.old.lists peer) (λ p. MaySend p head.now) }
         ensures { self.new ≡ record self.old {
           lists = with_changed (sent head.now) self.old.lists peer;
@@ -158,7 +161,7 @@ impl PlainOuts {
     }
 
     /// No message counts as sent any more.
-    pub(crate) fn unmark(&mut self)
+    pub fn unmark(&mut self)
         ensures { self.new ≡ record self.old { lists = map all_unmarked self.old.lists } }
     {
         for peer in 0..self.peers.len() {
@@ -167,7 +170,7 @@ impl PlainOuts {
     }
 
     /// A peer joins the others at the end, where there is room.
-    pub(crate) fn push(&mut self, plain: PlainOut)
+    pub fn push(&mut self, plain: PlainOut)
         requires { length self.old.lists < self.old.rooms.more }
         ensures lists { self.new.lists ≡ self.old.lists ++ plain.lists ∷ [] }
         ensures rooms { self.new.rooms ≡ record self.old.rooms {
@@ -178,7 +181,7 @@ impl PlainOuts {
     }
 
     /// The last peer leaves.
-    pub(crate) fn pop(&mut self) -> PlainOut
+    pub fn pop(&mut self) -> PlainOut
         requires { 0 < length self.old.lists }
         ensures last { last_of self.old.lists ≡ Some result.lists }
         ensures last_rooms { last_of self.old.rooms.each ≡ Some result.rooms }
@@ -192,7 +195,7 @@ impl PlainOuts {
     }
 
     /// Makes room for one more message of a lane that waits for a peer.
-    pub(crate) fn make_room_in(&mut self, peer: u32, lane: Lane) -> Result<(), Memory>
+    pub fn make_room_in(&mut self, peer: u32, lane: Lane) -> Result<(), Memory>
         requires { peer < length self.old.lists }
         ensures lists { self.new.lists ≡ self.old.lists }
         ensures grown { (kind : Lane) →
@@ -204,7 +207,7 @@ impl PlainOuts {
     }
 
     /// Makes room for one more peer.
-    pub(crate) fn make_room(&mut self) -> Result<(), Memory>
+    pub fn make_room(&mut self) -> Result<(), Memory>
         ensures lists { self.new.lists ≡ self.old.lists }
         ensures grown { (kind : Lane) →
             AreMembersGrown (room_in kind) self.old.rooms self.new.rooms }

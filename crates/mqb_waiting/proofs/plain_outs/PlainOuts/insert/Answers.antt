@@ -1,8 +1,8 @@
 use Rattle.std.proofs.Common.{ap}
 use Rattle.mqb_plain.specs.Plain.{inserted}
-use Rattle.mqb_contents.specs.Seen.{lists_of, rooms_of}
-use Rattle.mqb_contents.proofs.Lens.{changed}
-use Rattle.mqb_contents.proofs.plain_outs.PlainOuts.insert.Goals as goal
+use Rattle.mqb_waiting.specs.Seen.{lists_of, rooms_of}
+use Rattle.mqb_waiting.proofs.Lens.{changed}
+use Rattle.mqb_waiting.proofs.plain_outs.PlainOuts.insert.Goals as goal
 
 pub returns : goal.returns
 returns c =

@@ -1,11 +1,11 @@
 use Rattle.std.proofs.Common.{List, map, sym, ap, ◌∙◌}
-use Rattle.mqb_contents.specs.Ends.{last_of, without_last}
+use Rattle.mqb_waiting.specs.Ends.{last_of, without_last}
 use Rattle.mqb_base.specs.Rooms.{Room, WithRooms}
-use Rattle.mqb_contents.specs.Rooms.{MemberRooms}
-use Rattle.mqb_contents.specs.Seen.{lists_of, rooms_of}
+use Rattle.mqb_waiting.specs.Rooms.{MemberRooms}
+use Rattle.mqb_waiting.specs.Seen.{lists_of, rooms_of}
 use Rattle.mqb_plain.specs.Plain.{PlainLists, PlainRooms}
-use Rattle.mqb_contents.proofs.Members.{seen_last, seen_without_last}
-use Rattle.mqb_contents.proofs.plain_outs.PlainOuts.pop.Goals as goal
+use Rattle.mqb_waiting.proofs.Members.{seen_last, seen_without_last}
+use Rattle.mqb_waiting.proofs.plain_outs.PlainOuts.pop.Goals as goal
 
 pub returns-clause-last_rooms : goal.returns-clause-last_rooms
 returns-clause-last_rooms c =

@@ -7,9 +7,9 @@ use Rattle.std.proofs.lemmas.List.{length-map, length-set}
 use Rattle.std.proofs.lemmas.Option.{slice_get-map, slice_get_within}
 use Rattle.mqb_base.specs.Rooms.{Room, WithRooms}
 use Rattle.mqb_model.specs.Lists.{with_changed}
-use Rattle.mqb_contents.specs.Rooms.{AreMembersGrown, MemberRooms, member_room}
-use Rattle.mqb_contents.specs.Seen.{seen_members}
-use Rattle.mqb_contents.proofs.Members.{at_some, get-set_other, seen_changed, seen_now, seen_same, seen_there}
+use Rattle.mqb_waiting.specs.Rooms.{AreMembersGrown, MemberRooms, member_room}
+use Rattle.mqb_waiting.specs.Seen.{seen_members}
+use Rattle.mqb_waiting.proofs.Members.{at_some, get-set_other, seen_changed, seen_now, seen_same, seen_there}
 
 -- see: what a member is seen as; room: its room; s: all of them as they are seen
 module _ {X Y R : Type 0} (see : X → Y) (room : X → R) (l : Room X) (s : WithRooms (List Y) (MemberRooms R)) (view : seen_members see room l ≡ s) (k : ℕ) where

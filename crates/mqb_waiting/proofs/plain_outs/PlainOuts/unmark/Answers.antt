@@ -1,11 +1,11 @@
 use Rattle.std.proofs.Common.{◌<◌, List, length, ap, ◌∙◌, subst}
 use Rattle.mqb_base.specs.Rooms.{WithRooms}
-use Rattle.mqb_contents.specs.Rooms.{MemberRooms}
-use Rattle.mqb_contents.proofs.Each.{one_more}
+use Rattle.mqb_waiting.specs.Rooms.{MemberRooms}
+use Rattle.mqb_waiting.proofs.Each.{one_more}
 use Rattle.mqb_model.specs.Lists.{with_changed}
 use Rattle.mqb_model.specs.managers.Beside.{all_unmarked}
 use Rattle.mqb_plain.specs.Plain.{PlainLists, PlainRooms}
-use Rattle.mqb_contents.proofs.plain_outs.PlainOuts.unmark.Goals as goal
+use Rattle.mqb_waiting.proofs.plain_outs.PlainOuts.unmark.Goals as goal
 
 pub loop-peer-preserved : goal.loop-peer-preserved
 loop-peer-preserved c =

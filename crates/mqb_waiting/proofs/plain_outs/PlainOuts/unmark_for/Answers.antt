@@ -1,11 +1,11 @@
 use Rattle.std.proofs.Common.{ap}
 use Rattle.mqb_base.specs.Rooms.{Room, WithRooms}
-use Rattle.mqb_contents.specs.Rooms.{MemberRooms}
-use Rattle.mqb_contents.specs.Seen.{lists_of, rooms_of}
+use Rattle.mqb_waiting.specs.Rooms.{MemberRooms}
+use Rattle.mqb_waiting.specs.Seen.{lists_of, rooms_of}
 use Rattle.mqb_model.specs.managers.Beside.{all_unmarked}
 use Rattle.mqb_plain.specs.Plain.{PlainLists, PlainRooms}
-use Rattle.mqb_contents.proofs.Lens.{changed}
-use Rattle.mqb_contents.proofs.plain_outs.PlainOuts.unmark_for.Goals as goal
+use Rattle.mqb_waiting.proofs.Lens.{changed}
+use Rattle.mqb_waiting.proofs.plain_outs.PlainOuts.unmark_for.Goals as goal
 
 pub returns : goal.returns
 returns c =

@@ -8,7 +8,7 @@ use Rattle.std.proofs.lemmas.List.Edits.{length-remove}
 use Rattle.std.proofs.lemmas.List.Elements.{All-append, All-cons, All-drop, All-get_or, All-take}
 use Rattle.std.proofs.lemmas.Option.{get_or_from_slice_get, none-some, same_Some, slice_get-get_or, slice_get-map, slice_get_within}
 use Rattle.mqb_model.specs.Lists.{with_changed}
-use Rattle.mqb_contents.specs.Ends.{last_else, last_of, without_last}
+use Rattle.mqb_waiting.specs.Ends.{last_else, last_of, without_last}
 
 -- ---- one member
 

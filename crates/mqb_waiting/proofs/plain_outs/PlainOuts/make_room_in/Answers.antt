@@ -1,9 +1,9 @@
 use Rattle.std.proofs.Common.{length}
 use Rattle.mqb_queue.proofs.Changed.{on_ok}
 use Rattle.mqb_plain.specs.Plain.{outgoing_in, room_in}
-use Rattle.mqb_contents.specs.Seen.{lists_of, rooms_of}
-use Rattle.mqb_contents.proofs.Lens.{grown, left, stays}
-use Rattle.mqb_contents.proofs.plain_outs.PlainOuts.make_room_in.Goals as goal
+use Rattle.mqb_waiting.specs.Seen.{lists_of, rooms_of}
+use Rattle.mqb_waiting.proofs.Lens.{grown, left, stays}
+use Rattle.mqb_waiting.proofs.plain_outs.PlainOuts.make_room_in.Goals as goal
 
 pub returns-clause-lists : goal.returns-clause-lists
 returns-clause-lists c = stays lists_of rooms_of c.self.inside.peers c.args.self.now c.self.view_is c.args.peer c.get_mut.result.now c.get_mut.ensures.value c.make_room_in.new.plain c.make_room_in.ensures.lists

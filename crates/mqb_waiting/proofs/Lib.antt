@@ -1,0 +1,4 @@
+pub mod Members
+pub mod Lens
+pub mod Each
+pub mod Waiting
