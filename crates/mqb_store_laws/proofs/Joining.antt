@@ -1,12 +1,13 @@
 -- How entries join those of a store.
-use Rattle.std.proofs.Common.{refl, ◌∙◌, ap}
+use Rattle.std.proofs.Common.{refl, sym, ◌∙◌, ap}
 use Rattle.std.proofs.lemmas.List.Sums.{fold-append}
+use Rattle.std.specs.Option.{option_map_or}
 use Rattle.std.specs.Prelude.{[], ◌++◌, ◌∷◌, ◌≡◌, Bool, List, None, Option, Some, cond, false, fold, map, option_and_then, option_map, true, ℕ}
 use Rattle.mqb_base.specs.Same.{same_guid}
 use Rattle.mqb_base.specs.declared.ids.Guid.{Guid}
 use Rattle.mqb_base.specs.declared.ids.Identity.{Identity}
 use Rattle.mqb_model.specs.laws.Durable.{DurableIsApplied, DurableIsFitted}
-use Rattle.mqb_model.specs.records.Applying.{apply, fits}
+use Rattle.mqb_model.specs.records.Applying.{apply, fits, lines_of}
 use Rattle.mqb_model.specs.records.Folding.{applied, applied_after, state_of}
 use Rattle.mqb_model.specs.records.Reading.{all_some, record_of}
 use Rattle.mqb_model.specs.records.Record.{Record}
@@ -14,7 +15,7 @@ use Rattle.mqb_model.specs.records.Record as entry
 use Rattle.mqb_model.specs.rules.Effects.{Effect}
 use Rattle.mqb_model.specs.state.Durable.{durable}
 use Rattle.mqb_model.specs.state.State.{State, empty}
-use Rattle.mqb_store_laws.specs.Images.{begins_as, identity_in, records_in, state_by, state_from, state_in, with_guid}
+use Rattle.mqb_store_laws.specs.Images.{begins_as, identity_in, lines_added, records_in, state_by, state_from, state_in, with_guid}
 use Rattle.mqb_store_laws.specs.Laws.{EntriesBegin, EntriesGoOn, RecordsJoin}
 
 -- what is there, and one more
@@ -137,9 +138,19 @@ entries_go_on = record { anywhere = go_on_anywhere; in_store = go_on_in_store }
 applied_where : (s : State) (r : Record) → fits s r ≡ true → applied s r ≡ Some (apply s r)
 applied_where s r fit = ap (λ b. cond b (Some (apply s r)) None) fit
 
+-- its lines are those in the state that they stand for
+lines_where : (guid : Guid) (entries : List (List ℕ)) (more : List ℕ) (s : State) (r : Record) → state_in guid entries ≡ Some s → record_of more ≡ Some r
+    → lines_added guid entries more ≡ lines_of s r
+lines_where guid entries more s r is reads = ap (λ o. option_map_or (λ s. option_map_or (lines_of s) (record_of more) []) o []) is
+    ∙ ap (λ o. option_map_or (lines_of s) o []) reads
+
 pub records_join : DurableIsApplied → DurableIsFitted → RecordsJoin
-records_join same fitted guid entries more s r valid is reads fit = with_record guid entries more (durable s) r is reads
-    ∙ applied_where (durable s) r (fitted s r valid ∙ fit) ∙ ap (λ (e : Effect). Some e.state) (same s r valid fit)
+records_join same fitted = record {
+  state = λ guid entries more s r valid is reads fit. with_record guid entries more (durable s) r is reads
+      ∙ applied_where (durable s) r (fitted s r valid ∙ fit) ∙ ap (λ (e : Effect). Some e.state) (same s r valid fit);
+  lines = λ guid entries more s r valid is reads fit. sym (lines_where guid entries more (durable s) r is reads
+      ∙ ap (λ (e : Effect). e.lines) (same s r valid fit));
+}
 
 begin_anywhere : (first : List ℕ) → state_from (first ∷ []) ≡ option_map empty (identity_in (record_of first))
 begin_anywhere first = at (record_of first)

@@ -56,7 +56,7 @@ on_written join d e j k s entry r on new goes guid = record {
   entries = on.entries ++ entry ∷ [];
   goes_on = goes on.entries on.goes_on;
   state = subst (λ (g : Guid). state_in g (on.entries ++ entry ∷ []) ≡ Some (durable (apply s r))) (sym guid)
-      (join j.guid on.entries entry s r new.valid on.state new.reads new.fits);
+      (join.state j.guid on.entries entry s r new.valid on.state new.reads new.fits);
 }
 
 -- images with the record or without it
@@ -64,12 +64,20 @@ opens_after : RecordsJoin → (d : View) (j : JournalState) (s : State) (entry :
     → Each (IsBeforeOrAfter j.guid.0 on.entries entry) (Opens j s (Some r))
 opens_after join d j s entry r on new c stands = ⊎_elim
     (λ before. inl (record { entries = on.entries; stands = before; counted = sym on.goes_on.count; state = on.state }))
-    (λ after. inr (record {
-      entries = on.entries ++ entry ∷ [];
-      stands = after;
-      counted = omega (arith, on.goes_on.count, length-append on.entries (entry ∷ []));
-      state = join j.guid on.entries entry s r new.valid on.state new.reads new.fits;
-    }))
+    (λ after. inr (
+      record {
+        entries = on.entries ++ entry ∷ [];
+        stands = after;
+        counted = omega (arith, on.goes_on.count, length-append on.entries (entry ∷ []));
+        state = join.state j.guid on.entries entry s r new.valid on.state new.reads new.fits;
+      },
+      record {
+        before = on.entries;
+        last = entry;
+        stands = after;
+        added = join.lines j.guid on.entries entry s r new.valid on.state new.reads new.fits;
+      },
+    ))
     stands
 
 -- at each moment while it is written

@@ -71,7 +71,8 @@ pub record IsOn (d : View) (j : JournalState) (s : State) : Type 0 where
   pub goes_on : GoesOn d j entries
   pub state : state_in j.guid entries ≡ Some (durable s)
 
--- An image opens to a state, or to the state that a record leaves, by one record more.
+-- An image opens to a state, or to the state that a record leaves, by one record more, which is the last then, with its lines.
 abbrev pub Opens : JournalState → State → Option Record → List ℕ → Type 0
 Opens j s None image = OpensTo j.guid j.count (durable s) image
-Opens j s (Some r) image = OpensTo j.guid j.count (durable s) image ⊎ OpensTo j.guid (j.count + 1) (durable (apply s r)) image
+Opens j s (Some r) image = OpensTo j.guid j.count (durable s) image
+    ⊎ (OpensTo j.guid (j.count + 1) (durable (apply s r)) image × HasLastLines j.guid (lines_of s r) image)

@@ -1,7 +1,7 @@
 -- What is known of the images of a store, and how a state that a disk stands for is carried from call to call.
 use Rattle.std.specs.Prelude.{[], ◌++◌, ◌∷◌, ◌≡◌, List, Some, length, option_and_then, option_map, true, ℕ}
 use Rattle.mqb_base.specs.declared.ids.Guid.{Guid}
-use Rattle.mqb_model.specs.records.Applying.{apply, fits}
+use Rattle.mqb_model.specs.records.Applying.{apply, fits, lines_of}
 use Rattle.mqb_model.specs.records.Folding.{applied}
 use Rattle.mqb_model.specs.records.Reading.{record_of}
 use Rattle.mqb_model.specs.records.Record.{Record}
@@ -9,7 +9,7 @@ use Rattle.mqb_model.specs.state.Durable.{durable}
 use Rattle.mqb_model.specs.state.State.{State, empty}
 use Rattle.mqb_model.specs.state.Valid.{IsValidState}
 use Rattle.mqb_store_laws.specs.Faults.{IsBadStore}
-use Rattle.mqb_store_laws.specs.Images.{OpensTo, identity_in, state_from, state_in, with_guid}
+use Rattle.mqb_store_laws.specs.Images.{OpensTo, identity_in, lines_added, state_from, state_in, with_guid}
 
 -- The first entry stands for a manager that has nothing but its identity, where it is an identity; in a store, where that has the store's GUID.
 pub record EntriesBegin : Type 0 where
@@ -24,11 +24,14 @@ pub record EntriesGoOn : Type 0 where
   pub in_store : (guid : Guid) (entries : List (List ℕ)) (more : List ℕ) (s : State) → state_in guid entries ≡ Some s
       → state_in guid (entries ++ more ∷ []) ≡ option_and_then (applied s) (record_of more)
 
--- A record that fits a valid state joins the entries that stand for what a store has of it.
-abbrev pub RecordsJoin : Type 0
-RecordsJoin = (guid : Guid) (entries : List (List ℕ)) (more : List ℕ) (s : State) (r : Record) → IsValidState s
-    → state_in guid entries ≡ Some (durable s) → record_of more ≡ Some r → fits s r ≡ true
-    → state_in guid (entries ++ more ∷ []) ≡ Some (durable (apply s r))
+-- A record that fits a valid state joins the entries that stand for what a store has of it, and adds to them the lines that it has there.
+pub record RecordsJoin : Type 0 where
+  pub state : (guid : Guid) (entries : List (List ℕ)) (more : List ℕ) (s : State) (r : Record) → IsValidState s
+      → state_in guid entries ≡ Some (durable s) → record_of more ≡ Some r → fits s r ≡ true
+      → state_in guid (entries ++ more ∷ []) ≡ Some (durable (apply s r))
+  pub lines : (guid : Guid) (entries : List (List ℕ)) (more : List ℕ) (s : State) (r : Record) → IsValidState s
+      → state_in guid entries ≡ Some (durable s) → record_of more ≡ Some r → fits s r ≡ true
+      → lines_of s r ≡ lines_added guid entries more
 
 -- An image opens to one state at most, by one count of records.
 abbrev pub ImagesOpenToOne : Type 0

@@ -13,7 +13,7 @@ pub fn entries_go_on()
     ensures { EntriesGoOn }
 {}
 
-/// A record that fits a valid state joins the entries that stand for what a store has of it.
+/// A record that fits a valid state joins the entries that stand for what a store has of it, and adds the lines that it has there.
 pub fn records_join()
     ensures { RecordsJoin }
 {
