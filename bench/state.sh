@@ -15,11 +15,11 @@ for name in $(sed -n "s/^mqb_state_cases: //p" "$top/crates.txt"); do # what rt 
 done
 crate=$work/crates/mqb_depths
 mkdir -p "$crate/src"
-sed "s/100_000/${MESSAGES:-100_000}/" "$top/bench/state/main.txt" > "$crate/src/main.rt"
+sed "s/^const MESSAGES: u32 = .*/const MESSAGES: u32 = ${MESSAGES:-100_000};/" "$top/bench/state/main.txt" > "$crate/src/main.rt"
 cp "$top/bench/state/calls.txt" "$crate/src/calls.rt"
 for name in records samples spelling; do # how the tests of the state spell their records
   cp "$top/crates/mqb_state_cases/src/$name.rt" "$crate/src/"
 done
 sed -n 's/^mqb_state_cases: \(.*\)/mqb_depths: \1/p' "$top/crates.txt" >> "$work/crates.txt"
 cd "$crate"
-rt "${HOW:-run}"
+rt ${HOW:-run}
