@@ -1,8 +1,10 @@
-//! Tests alone: the state of a manager, as tables of records. Each call of it that takes memory is called here with ample memory, but `prepare_beside`.
+//! Tests alone: the state of a manager, as tables of records. Each call of it is called here with ample memory.
 #![tactic(auto)]
 
 #[cfg(test)]
 mod arrivals;
+#[cfg(test)]
+mod keys;
 #[cfg(test)]
 mod pictures;
 #[cfg(test)]

@@ -7,7 +7,7 @@ use mqb_transcript::Printer;
 use std::alloc::Global;
 
 /// The managers that are printed as their hosts.
-fn hosts(alloc: Global, state: &State) -> Result<Vec<Identity>, Memory> {
+pub(crate) fn hosts(alloc: Global, state: &State) -> Result<Vec<Identity>, Memory> {
     let mut hosts = Vec::new(alloc);
     hosts.push(state.identity().clone()?)?;
     for peer in state.peers() {

@@ -2,7 +2,7 @@
 use crate::records::{ORDERS, Op, PUBLIC, Plan, Step};
 use crate::samples::{ALPHA, COPIED, GAMMA, HASTY, HEARD, LETTER, NOTE, ORDER, Sample, To};
 use crate::states::{expect_none, failing};
-use crate::tables::{ACKED, NOTED, OFFERED, PEER, Story};
+use crate::tables::{ACKED, NOTED, OFFERED, ONE_EACH, PEER, Story};
 use std::test::Fail;
 
 const JOURNALLED: Plan = (2, b"notes", None, false, 9, true);
@@ -36,7 +36,22 @@ const FINAL: Sample = Sample {
     ..HEARD
 };
 
-static SENDS: [Story; 3] = [
+static SENDS: [Story; 5] = [
+    // a peer alone
+    (
+        &[PEER],
+        b"",
+        b"alpha dead\nalpha deadxact\nalpha journal\nnumbers 1 1 65535\nfor beta\n",
+    ),
+    // an order that is acknowledged, and one that comes
+    (
+        ONE_EACH,
+        b" [committed 1 1 alpha.1] [put 1 1 beta.1]",
+        b"alpha queue orders beta.1\nalpha dead\nalpha deadxact\nalpha journal\n\
+alpha out 1 DIRECT=OS:beta\\PRIVATE$\\orders 1 1 1\n\
+alpha in beta DIRECT=OS:alpha\\PRIVATE$\\orders 1 1\n\
+numbers 2 2 65535\nfor beta\nkept 1\n",
+    ),
     // the take comes before the send that stands in front of it; a sequence is full with two
     (
         &[

@@ -3,9 +3,9 @@ use crate::pictures::{picture, put_ledger, spelled};
 use crate::records::{Step, record};
 use crate::samples::ALPHA;
 use crate::tables::{Moment, Story};
-use mqb_base::{Guid, Identity, Name};
+use mqb_base::{Guid, Identity, Name, SessionHead};
 use mqb_entries::{Entry, entry_view};
-use mqb_state::{PrepareFault, State};
+use mqb_state::{ExpressWork, Origin, PrepareFault, State};
 use std::alloc::Global;
 use std::process::Abort;
 use std::test::Fail;
@@ -20,16 +20,18 @@ pub(crate) fn alpha(alloc: Global) -> Result<State, Fail> {
     Ok(State::empty(alloc, &identity)?)
 }
 
-/// Prepares what a record does and installs it, and adds its lines as a transcript has them.
+/// Prepares what a record does and installs it, and adds its lines as a transcript has them. It was prepared before, and lost.
 fn install(
     state: &mut State,
     alloc: Global,
     entry: &Entry<'_>,
     ledger: &mut Vec<u8>,
 ) -> Result<(), PrepareFault> {
-    let prepared = state.prepare(entry)?;
-    put_ledger(ledger, alloc, state, prepared.lines())?;
+    state.prepare(entry)?;
+    let mut prepared = state.prepare(entry)?;
+    let lines = prepared.take_lines(alloc);
     state.install(prepared);
+    put_ledger(ledger, alloc, state, lines.as_slice())?;
     Ok(())
 }
 
@@ -129,9 +131,37 @@ fn holds_of(a: &mut State, b: &mut State, alloc: Global, story: &Story) -> Resul
     is_left(alloc, a, story)
 }
 
+/// A session header of a packet that gives no number.
+const NO_HEAD: SessionHead = SessionHead {
+    ack: 0,
+    stored: 0,
+    stored_flags: 0,
+    user: 0,
+    recoverable: 0,
+    window: 0,
+};
+
+/// Nothing is prepared and installed, an acknowledgement is sent, which takes an express number, and a connection ends.
+fn connect(state: &mut State) -> Result<(), PrepareFault> {
+    state.is_valid();
+    let prepared = state.prepare_beside(None, ExpressWork::Nothing)?;
+    state.install(prepared);
+    state.note_sent(0, Origin::Owed { row: 0 }, &NO_HEAD);
+    state.unmark();
+    Ok(())
+}
+
+/// Whether what a connection does leaves what a store stands for.
+fn is_left_by_connection(state: &mut State, alloc: Global) -> Result<bool, Fail> {
+    let bytes = spelled(alloc, state)?;
+    let express = state.contents().next_express();
+    connect(state)?;
+    Ok(state.contents().next_express() > express && spelled(alloc, state)? == bytes)
+}
+
 fn holds_behind(a: &mut State, alloc: Global, story: &Story) -> Result<bool, Fail> {
     let mut b = alpha(alloc)?;
-    holds_of(a, &mut b, alloc, story)
+    Ok(holds_of(a, &mut b, alloc, story)? && is_left_by_connection(a, alloc)?)
 }
 
 /// Whether a story holds of new states.

@@ -1,6 +1,6 @@
 //! Records, and stories of them.
-use crate::records::Step;
-use crate::samples::{BETA, HEARD, NOTE};
+use crate::records::{ORDERS, Op, Step};
+use crate::samples::{BETA, HEARD, NOTE, ORDER};
 
 /// A moment, and what is recorded at it.
 pub(crate) type Moment = (u32, Step);
@@ -18,3 +18,13 @@ pub(crate) const ACKED: Moment = (1016, Step::Acknowledged(1, 1));
 pub(crate) const FIRST: Moment = (1001, Step::Decided(HEARD, (1, 1, 0)));
 
 pub(crate) const NOTED: Moment = (1000, Step::Plain(1, NOTE));
+
+/// One order goes to beta and is acknowledged, and one comes from beta.
+pub(crate) const ONE_EACH: &[Moment] = &[
+    PEER,
+    (1000, Step::Queue(ORDERS)),
+    (1000, Step::Commit(&[Op::Send(1, ORDER)])),
+    OFFERED,
+    ACKED,
+    FIRST,
+];
