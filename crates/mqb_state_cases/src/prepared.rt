@@ -35,14 +35,24 @@ const TAKES_500: Moment = (1001, Step::Commit(&[Op::Take(1, ALPHA, 500)]));
 /// What is prepared over a thousand messages, how many there are then, and how many once the record is made.
 type Prepared = ((u64, usize), Option<u32>, Option<u32>);
 
-fn over_a_thousand(state: &mut State, alloc: Global) -> Result<Prepared, Fail> {
-    pass(state, alloc, &[(1000, Step::Queue(WIDE))])?;
-    fill(state, alloc)?;
+/// How many messages and lines are prepared for a take.
+fn lost_take(state: &mut State, alloc: Global) -> Result<(u64, usize), Fail> {
     let bytes = record(alloc, TAKES_500.0, &TAKES_500.1)?;
-    let prepared = lost(state, &entry_view(bytes.as_slice())?)?;
+    Ok(lost(state, &entry_view(bytes.as_slice())?)?)
+}
+
+/// The same where there are a thousand messages, which are counted before and after the take.
+fn taken(state: &mut State, alloc: Global) -> Result<Prepared, Fail> {
+    let prepared = lost_take(state, alloc)?;
     let before = len(state);
     pass(state, alloc, &[TAKES_500])?;
     Ok((prepared, before, len(state)))
+}
+
+fn over_a_thousand(state: &mut State, alloc: Global) -> Result<Prepared, Fail> {
+    pass(state, alloc, &[(1000, Step::Queue(WIDE))])?;
+    fill(state, alloc)?;
+    taken(state, alloc)
 }
 
 fn over_a_thousand_behind(alloc: Global) -> Result<Prepared, Fail> {
