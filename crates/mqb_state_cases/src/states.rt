@@ -47,6 +47,24 @@ fn apply(
     Ok(())
 }
 
+/// The state that the bytes of a state are read back as.
+fn again(alloc: Global, state: &State) -> Result<State, Fail> {
+    let bytes = spelled(alloc, state)?;
+    Ok(State::read_back(alloc, bytes.as_slice())?)
+}
+
+/// Makes at once what a record does, and goes on with what the bytes of the state are read back as.
+fn make_at_once(
+    state: &mut State,
+    alloc: Global,
+    entry: &Entry<'_>,
+    ledger: &mut Vec<u8>,
+) -> Result<(), Fail> {
+    apply(state, alloc, entry, ledger)?;
+    *state = again(alloc, state)?;
+    Ok(())
+}
+
 /// Makes what a record does, at once or prepared and installed, and adds its lines.
 fn make(
     state: &mut State,
@@ -58,7 +76,7 @@ fn make(
     let bytes = record(alloc, moment.0, &moment.1)?;
     let entry = entry_view(bytes.as_slice())?;
     if at_once {
-        apply(state, alloc, &entry, ledger)?;
+        make_at_once(state, alloc, &entry, ledger)?;
     } else {
         install(state, alloc, &entry, ledger)?;
     }
@@ -93,31 +111,14 @@ fn are_same(alloc: Global, a: &State, b: &State) -> Result<bool, Fail> {
     Ok(spelled(alloc, a)? == spelled(alloc, b)?)
 }
 
-/// Whether bytes are read back as a state that has the same as this one, and that is spelled alike.
-fn are_read_as(alloc: Global, state: &State, bytes: &[u8]) -> Result<bool, Fail> {
-    match State::read_back(alloc, bytes) {
-        Ok(again) => are_same(alloc, state, &again),
-        Err(_) => Ok(false),
-    }
-}
-
-/// Whether a state's bytes are.
-fn is_read_back(alloc: Global, state: &State) -> Result<bool, Fail> {
-    let bytes = spelled(alloc, state)?;
-    are_read_as(alloc, state, bytes.as_slice())
-}
-
 /// Whether the records of a story have its lines.
 fn tells(state: &mut State, alloc: Global, story: &Story, at_once: bool) -> Result<bool, Fail> {
     Ok(run(state, alloc, story.0, at_once)?.as_slice() == story.1)
 }
 
-/// Whether a state has what the picture of a story shows, and its bytes are read back.
+/// Whether a state has what the picture of a story shows.
 fn is_left(alloc: Global, state: &State, story: &Story) -> Result<bool, Fail> {
-    if picture(alloc, state)?.as_slice() != story.2 {
-        return Ok(false);
-    }
-    is_read_back(alloc, state)
+    Ok(picture(alloc, state)?.as_slice() == story.2)
 }
 
 /// Whether a story holds of one state where records are installed, and of another where they are made at once.
