@@ -1,0 +1,4 @@
+pub mod Bodies
+pub mod Telling
+pub mod Tellings
+pub mod SomeOps

@@ -1,0 +1,5 @@
+pub mod Told
+pub mod Texts
+pub mod Lines
+pub mod Outcomes
+pub mod Calls

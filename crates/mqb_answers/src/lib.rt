@@ -1,0 +1,13 @@
+//! What a manager answers to a call of a store command, as the text that is printed.
+//!
+//! Of the definitions, `Outcomes` has what a call comes to, `Told` what is told of it, and `Texts` its text.
+#![tactic(auto)]
+
+mod answering;
+mod calls;
+mod lines;
+mod texts;
+mod told;
+
+pub use answering::answer;
+pub use told::{CallEnd, Said, Taken, Told};
