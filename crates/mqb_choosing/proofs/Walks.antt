@@ -1,9 +1,10 @@
 -- Loops over what was chosen.
-use Rattle.std.proofs.Common.{◌≡◌, ℕ, zero, suc, ◌+◌, ◌<◌, ◌≤◌, List, [], ◌∷◌, ◌++◌, length, take, drop, map, get_or, Option, Some, None, refl, sym, ap, ◌∙◌, arith, append_assoc}
+use Rattle.std.proofs.Common.{◌≡◌, ℕ, zero, suc, ◌+◌, ◌<◌, ◌≤◌, List, [], ◌∷◌, ◌++◌, length, take, drop, map, get_or, Option, Some, None, refl, sym, ap, subst, ◌∙◌, arith, append_assoc}
 use Rattle.std.proofs.lemmas.List.{length-append, take-append-le}
+use Rattle.std.proofs.lemmas.List.Elements.{All-cons}
 use Rattle.std.proofs.lemmas.Option.{none-some, same_Some}
 use Rattle.std.specs.List.{AllByRecursion, cons_option, enumerate_from, flat_map}
-use Rattle.std.specs.Prelude.{IsSomeAnd, filter_map, fold, max, option_map, slice_get}
+use Rattle.std.specs.Prelude.{All, IsSomeAnd, filter_map, fold, max, option_map, slice_get}
 use Rattle.mqb_base.specs.declared.heads.SessionHead.{SessionHead}
 use Rattle.mqb_base.specs.declared.message.Message.{Message}
 use Rattle.mqb_entries.specs.declared.members.Mark.{Mark}
@@ -96,6 +97,15 @@ text_more s spell choices i x now new total front added left =
     at : (o : Option (Candidate × SessionHead)) → IsSomeAnd o (λ given. new ≡ now ++ spell given) → new ++ flat_map spell behind ≡ now ++ flat_map spell (cons_option o behind)
     at None added = absurd added
     at (Some given) added = ap (λ (t : List ℕ). t ++ flat_map spell behind) added ∙ append_assoc now (spell given) (flat_map spell behind)
+
+-- What holds of one more, and of those behind it, holds of all that are left.
+pub all_more : (s : State) (P : Candidate × SessionHead → Type 0) (choices : List Choice) (i : ℕ) (x : Choice) → drop i choices ≡ x ∷ drop (i + 1) choices
+    → IsSomeAnd (shown s x) P → All P (shown_in s (drop (i + 1) choices)) → All P (shown_in s (drop i choices))
+all_more s P choices i x front here behind = subst (λ (cs : List Choice). All P (shown_in s cs)) (sym front) (at (shown s x) here)
+  where
+    at : (o : Option (Candidate × SessionHead)) → IsSomeAnd o P → All P (cons_option o (shown_in s (drop (i + 1) choices)))
+    at None here = absurd here
+    at (Some given) here = All-cons P given (shown_in s (drop (i + 1) choices)) here behind
 
 pub longer : (s : State) (spell : Candidate × SessionHead → List ℕ) (x : Choice) (start : ℕ) (now new : List ℕ) → start ≤ length now
     → IsSomeAnd (shown s x) (λ given. new ≡ now ++ spell given) → (start ≤ length new) × (take start new ≡ take start now)

@@ -12,6 +12,7 @@ mod laws;
 mod marks;
 mod settling;
 mod spelling;
+mod values;
 
 pub use choice::{Choice, Origin};
 pub use choosing::{Choices, choose};

@@ -1,10 +1,12 @@
 ghost use Rattle.std.specs.Prelude.{◌≡◌, ◌≤◌, ◌++◌, All, IsSome, IsSomeAnd, OnErr, OnOk, flat_map, length, take};
 ghost use Rattle.mqb_packet.specs.Plain.{plain_spelling};
+ghost use Rattle.mqb_packet.specs.Values.{IsPacket};
 ghost use Rattle.mqb_model.specs.calls.pump.Pump.{carriage_for, packet_for};
 ghost use Rattle.mqb_choosing.specs.Choices.{IsThere, coming_from, shown, shown_in, tx_for};
 
 use crate::choice::{Choice, Origin};
 use crate::choosing::Choices;
+use crate::values::packet_fits;
 use mqb_base::{Guid, Memory, Message, TxHead, remaining};
 use mqb_contents::Contents;
 use mqb_packet::{Carriage, PutFault, put_message};
@@ -42,10 +44,13 @@ fn put_choice(
     requires { IsThere contents.now.lists choice.now }
     ensures put { OnOk result (IsSomeAnd (shown contents.now.lists choice.now) (λ given.
         out.new.items ≡ out.old.items ++ plain_spelling (packet_for to now given))) }
+    ensures fits { OnOk result (IsSomeAnd (shown contents.now.lists choice.now)
+        (λ given. IsPacket (packet_for to now given))) }
     ensures stays { OnErr result (out.new.items ≡ out.old.items) }
 {
     let message = choice.origin.message(contents);
     let carriage = carriage_for(choice, message, to, now);
+    packet_fits(message, &carriage);
     match put_message(message, &carriage, out) {
         Ok(()) => Ok(()),
         Err(PutFault::Memory) => Err(Memory),
@@ -64,6 +69,9 @@ pub fn put_choices(
     requires { All (IsThere contents.now.lists) choices.now.choices }
     ensures put { OnOk result (out.new.items ≡ out.old.items ++
         flat_map (λ given. plain_spelling (packet_for to now given))
+        (shown_in contents.now.lists choices.now.choices)) }
+    // Their numbers fit their types, so that they can be read back.
+    ensures fits { OnOk result (All (λ given. IsPacket (packet_for to now given))
         (shown_in contents.now.lists choices.now.choices)) }
     ensures stays { OnErr result (out.new.items ≡ out.old.items) }
 {

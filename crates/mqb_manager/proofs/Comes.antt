@@ -139,12 +139,13 @@ owed_is m now session part p behind up linked owed is left = comes_owed (manager
     ∙ ap (λ (p : Packet). sending_one (manager_of m) p (after_owed now session)) (sym is)
     ∙ ap (sending_one (manager_of m) p) (sym left)
 
-pub ack_is : (m : Manager) (session : one_end.State) (head : SessionHead) (behind : one_end.State) → session.owes ≡ true
-    → head ≡ (stamped kind.Ack session).0 → behind ≡ (stamped kind.Ack session).1
-    → sending_ack m session ≡ sending_one m (packet.Ack head) behind
-ack_is m session head behind owes is left = ack_goes m session owes
+pub ack_is : (m : Manager) (session : one_end.State) (head : SessionHead) (p : Packet) (behind : one_end.State) → session.owes ≡ true
+    → head ≡ (stamped kind.Ack session).0 → p ≡ packet.Ack head → behind ≡ (stamped kind.Ack session).1
+    → sending_ack m session ≡ sending_one m p behind
+ack_is m session head p behind owes is spelled left = ack_goes m session owes
     ∙ ap (λ (h : SessionHead). sending_one m (packet.Ack h) (stamped kind.Ack session).1) (sym is)
-    ∙ ap (sending_one m (packet.Ack head)) (sym left)
+    ∙ ap (λ (p : Packet). sending_one m p (stamped kind.Ack session).1) (sym spelled)
+    ∙ ap (sending_one m p) (sym left)
 
 abbrev answer_of : PumpOutcome → Result ℕ PumpFault
 answer_of o = o.answer

@@ -1,15 +1,17 @@
 -- Packets go once their marks were recorded.
 use Rattle.std.proofs.Common.{arith, refl, sym, ap, subst, ◌∙◌, ◌<◌}
 use Rattle.std.proofs.lemmas.Bool.Decides.{nat_tests}
+use Rattle.std.proofs.lemmas.List.Elements.{All-map}
 use Rattle.std.proofs.lemmas.Option.{slice_get_within}
 use Rattle.std.proofs.Math.Seq.{take-append_seam}
-use Rattle.std.specs.Prelude.{◌++◌, ◌==◌, ◌≡◌, ◌≤◌, Bool, Err, IfSome, IsSomeAnd, List, None, Ok, Option, Result, Some, false, flat_map, fold, if◌then◌else◌, length, map, slice_get, take, true, ℕ}
+use Rattle.std.specs.Prelude.{◌++◌, ◌==◌, ◌≡◌, ◌≤◌, All, Bool, Err, IfSome, IsSomeAnd, List, None, Ok, Option, Result, Some, false, flat_map, fold, if◌then◌else◌, length, map, slice_get, take, true, ℕ}
 use Rattle.mqb_base.specs.declared.heads.SessionHead.{SessionHead}
 use Rattle.mqb_base.specs.declared.ids.Identity.{Identity}
 use Rattle.mqb_devices.specs.Disk.{Counted, View}
 use Rattle.mqb_entries.specs.declared.entry.Entry.TheVariants as form
 use Rattle.mqb_entries.specs.declared.members.Mark.{Mark}
 use Rattle.mqb_packet.specs.Plain.{plain_spelling}
+use Rattle.mqb_packet.specs.Values.{IsPacket}
 use Rattle.mqb_plain.specs.Plain.{PlainLists}
 use Rattle.mqb_session.specs.State as one_end
 use Rattle.mqb_choosing.specs.Choices.{shown_in}
@@ -234,6 +236,11 @@ module _ (m : ManagerState) (session : one_end.State) (now k : ℕ) (g : Going) 
         → after ≡ before ++ flat_map (λ given. plain_spelling (packet_for x.to.guid now given)) (shown_in m.store.state g.choices)
     to_target before after put = subst (λ (o : Option Identity). IsSomeAnd o (λ to. after ≡ before ++ flat_map (λ given. plain_spelling (packet_for to.guid now given)) (shown_in m.store.state g.choices))) x.here put
 
+    -- and what they say fits
+    fit_target : IsSomeAnd (slice_get m.store.state.peers k) (λ to. All (λ given. IsPacket (packet_for to.guid now given)) (shown_in m.store.state g.choices))
+        → All (λ given. IsPacket (packet_for x.to.guid now given)) (shown_in m.store.state g.choices)
+    fit_target fits = subst (λ (o : Option Identity). IsSomeAnd o (λ to. All (λ given. IsPacket (packet_for to.guid now given)) (shown_in m.store.state g.choices))) x.here fits
+
     -- they are taken back
     pub taken_back : (before after : List ℕ) (n : ℕ) → n ≡ length before
         → IsSomeAnd (slice_get m.store.state.peers k) (λ to. after ≡ before ++ flat_map (λ given. plain_spelling (packet_for to.guid now given)) (shown_in m.store.state g.choices))
@@ -244,9 +251,10 @@ module _ (m : ManagerState) (session : one_end.State) (now k : ℕ) (g : Going) 
     pub sent_pumped : (kept : Type 0) (N : ManagerState) (before after : List ℕ) (count : ℕ) → Written (Ok tt) → model_laws.CallsLeaveStore
         → N ≡ with_sent n k g cursors owes → count ≡ length g.choices
         → IsSomeAnd (slice_get m.store.state.peers k) (λ to. after ≡ before ++ flat_map (λ given. plain_spelling (packet_for to.guid now given)) (shown_in m.store.state g.choices))
+        → IsSomeAnd (slice_get m.store.state.peers k) (λ to. All (λ given. IsPacket (packet_for to.guid now given)) (shown_in m.store.state g.choices))
         → (offered_form marks ≡ None → kept) → IfSome (offered_form marks) (λ _. Counted 4 d.calls e.calls)
         → IsPumped d e kept m N (pump M now) before after (Ok count)
-    sent_pumped kept N before after count call leave is counted put untouched calls =
+    sent_pumped kept N before after count call leave is counted put fits untouched calls =
         subst (λ (p : PumpOutcome). IsPumped d e kept m N p before after (Ok count)) (sym x.comes) (record {
           call = subst (λ (N : ManagerState). IsCall fault.Memory fault.DiskFault d e m N o (Ok count)) (sym is)
               (subst (λ (c : ℕ). IsCall fault.Memory fault.DiskFault d e m (with_sent n k g cursors owes) o (Ok c)) (sym (counted ∙ planned.count))
@@ -254,6 +262,8 @@ module _ (m : ManagerState) (session : one_end.State) (now k : ℕ) (g : Going) 
               (subst (model_laws.LeavesStore M) x.comes ((leave M valid).pumps now))));
           sent = to_target before after put ∙ ap (λ (given : List (Candidate × SessionHead)). before ++ flat_map (λ given. plain_spelling (packet_for x.to.guid now given)) given) planned.packets
               ∙ ap (λ (bytes : List ℕ). before ++ bytes) (spelled_all x.to.guid now (with_heads session cs));
+          fits = All-map IsPacket (packet_for x.to.guid now) (with_heads session cs)
+              (subst (λ (given : List (Candidate × SessionHead)). All (λ given. IsPacket (packet_for x.to.guid now given)) given) planned.packets (fit_target fits));
           refused = tt;
           untouched = λ none. untouched (no_form marks (sym entry_is ∙ ap (λ (o : PumpOutcome). o.entry) x.comes ∙ none));
           memory = λ wanting. absurd (let no : ⊥ = cc in no);
@@ -268,6 +278,7 @@ module _ (m : ManagerState) (session : one_end.State) (now k : ℕ) (g : Going) 
       call = subst (λ (f : PumpFault). IsCall fault.Memory fault.DiskFault d e m n (pump M now) (Err f)) (sym is)
           (unsent_call d e m n (offered_form marks) (pump M now) w (change ∙ sym entry_is) call);
       sent = tt;
+      fits = tt;
       refused = back;
       untouched = λ none. untouched (no_form marks (sym entry_is ∙ none));
       memory = memory_fault kept w why is stayed;

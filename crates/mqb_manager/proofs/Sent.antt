@@ -1,10 +1,13 @@
 -- Each way in which a pump ends.
 use Rattle.std.proofs.Common.{◌∷◌, zero, suc, arith, refl, sym, ap, subst, ◌∙◌}
 use Rattle.std.proofs.lemmas.List.{append-nil}
-use Rattle.std.specs.Prelude.{[], ◌&&◌, ◌++◌, ◌<◌, ◌==◌, ◌≡◌, Err, IfSome, IsSomeAnd, List, None, Ok, OnErr, OnOk, Option, Result, Some, false, flat_map, length, not, slice_get, true, ℕ}
+use Rattle.std.proofs.lemmas.List.Elements.{All-cons, All-nil}
+use Rattle.std.specs.Prelude.{[], ◌&&◌, ◌++◌, ◌<◌, ◌==◌, ◌≡◌, All, Err, IfSome, IsSomeAnd, List, None, Ok, OnErr, OnOk, Option, Result, Some, false, flat_map, length, not, slice_get, true, ℕ}
 use Rattle.mqb_base.specs.declared.ids.Identity.{Identity}
 use Rattle.mqb_devices.specs.Disk.{Counted, Lawful, View}
 use Rattle.mqb_packet.specs.Plain.{plain_spelling}
+use Rattle.mqb_packet.specs.Values.{IsPacket}
+use Rattle.mqb_packet.specs.declared.packet.Packet.{Packet}
 use Rattle.mqb_plain.specs.Plain.{PlainLists}
 use Rattle.mqb_session.specs.Sending.{is_spent}
 use Rattle.mqb_session.specs.State as one_end
@@ -34,14 +37,20 @@ no_record : {V E : Type 0} (P : Record → Type 0) (r : Result V E) (o : Option 
 no_record P (Ok v) o none = subst (λ (o : Option Record). IfSome o P) (sym none) tt
 no_record P (Err e) o none = tt
 
+-- one packet fits
+pub one_fits : (r : Result ℕ PumpFault) (p : Packet) → IsPacket p → OnOk r (All IsPacket (p ∷ []))
+one_fits (Ok count) p fits = All-cons IsPacket p [] fits (All-nil IsPacket)
+one_fits (Err why) p fits = tt
+
 module _ (d : View) (kept : Type 0) (m : ManagerState) (law : Lawful d) (same : kept) where
   -- without a call of the disk
   pub quiet_pumped : (n : ManagerState) (o p : PumpOutcome) (before after : List ℕ) (r : Result ℕ PumpFault) → o ≡ p → (p.answer ≡ Err fault.DiskFault → ⊥)
-      → IsQuiet fault.Memory m n p r → OnOk r (after ≡ before ++ flat_map plain_spelling p.packets) → OnErr r (after ≡ before)
+      → IsQuiet fault.Memory m n p r → OnOk r (after ≡ before ++ flat_map plain_spelling p.packets) → OnOk r (All IsPacket p.packets) → OnErr r (after ≡ before)
       → IsPumped d d kept m n o before after r
-  quiet_pumped n o p before after r is fine quiet sent refused = subst (λ (q : PumpOutcome). IsPumped d d kept m n q before after r) (sym is) (record {
+  quiet_pumped n o p before after r is fine quiet sent fits refused = subst (λ (q : PumpOutcome). IsPumped d d kept m n q before after r) (sym is) (record {
     call = quiet_call fault.Memory fault.DiskFault d m n p r law apart fine quiet;
     sent = sent;
+    fits = fits;
     refused = refused;
     untouched = λ none. same;
     memory = λ wanting. same;
@@ -52,6 +61,10 @@ module _ (d : View) (kept : Type 0) (m : ManagerState) (law : Lawful d) (same : 
   none_sent before (Ok count) = sym (append-nil before)
   none_sent before (Err why) = tt
 
+  none_fit : (r : Result ℕ PumpFault) → OnOk r (All IsPacket [])
+  none_fit (Ok count) = All-nil IsPacket
+  none_fit (Err why) = tt
+
   none_refused : (before : List ℕ) (r : Result ℕ PumpFault) → OnErr r (before ≡ before)
   none_refused before (Ok count) = tt
   none_refused before (Err why) = refl
@@ -60,13 +73,14 @@ module _ (d : View) (kept : Type 0) (m : ManagerState) (law : Lawful d) (same : 
   pub answer_pumped : (o : PumpOutcome) (answer : Result ℕ PumpFault) (before : List ℕ) → IsValidManager (manager_of m) → o ≡ answering (manager_of m) answer
       → (answer ≡ Err fault.DiskFault → ⊥) → IsPumped d d kept m m o before before answer
   answer_pumped o answer before valid is fine = quiet_pumped m o (answering (manager_of m) answer) before before answer is fine
-      (quiet_answer fault.Memory m answer valid) (none_sent before answer) (none_refused before answer)
+      (quiet_answer fault.Memory m answer valid) (none_sent before answer) (none_fit answer) (none_refused before answer)
 
   -- memory is wanting
   pub memory_pumped : (o : PumpOutcome) (before after : List ℕ) → after ≡ before → IsPumped d d kept m m o before after (Err fault.Memory)
   memory_pumped o before after stays = record {
     call = unmade_call fault.Memory fault.DiskFault d m o law apart;
     sent = tt;
+    fits = tt;
     refused = stays;
     untouched = λ none. same;
     memory = λ wanting. same;

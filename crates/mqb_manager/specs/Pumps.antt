@@ -1,8 +1,9 @@
 -- How a pump goes, step by step.
-use Rattle.std.specs.Prelude.{[], ◌++◌, ◌∷◌, ◌≡◌, Bool, Err, IfSome, IsSomeAnd, List, None, OnErr, OnOk, Result, Some, flat_map, fold, map, slice_get, ℕ}
+use Rattle.std.specs.Prelude.{[], ◌++◌, ◌∷◌, ◌≡◌, All, Bool, Err, IfSome, IsSomeAnd, List, None, OnErr, OnOk, Result, Some, flat_map, fold, map, slice_get, ℕ}
 use Rattle.mqb_base.specs.declared.heads.SessionHead.{SessionHead}
 use Rattle.mqb_devices.specs.Disk.{Counted, View}
 use Rattle.mqb_packet.specs.Plain.{plain_spelling}
+use Rattle.mqb_packet.specs.Values.{IsPacket}
 use Rattle.mqb_session.specs.State as one_end
 use Rattle.mqb_choosing.specs.Choices.{origin_of}
 use Rattle.mqb_choosing.specs.Going.{Going, candidates_to, chosen_to, known}
@@ -66,6 +67,8 @@ ComesToSend m session now k = IsSomeAnd (slice_get m.store.state.peers k)
 pub record IsPumped (d e : View) (kept : Type 0) (m n : ManagerState) (o : PumpOutcome) (before after : List ℕ) (r : Result ℕ PumpFault) : Type 0 where
   pub call : IsCall fault.Memory fault.DiskFault d e m n o r
   pub sent : OnOk r (after ≡ before ++ flat_map plain_spelling o.packets)
+  -- what went can be read back: its numbers fit their types
+  pub fits : OnOk r (All IsPacket o.packets)
   pub refused : OnErr r (after ≡ before)
   pub untouched : o.entry ≡ None → kept
   pub memory : r ≡ Err fault.Memory → kept

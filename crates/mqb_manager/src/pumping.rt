@@ -2,7 +2,7 @@
 //!
 //! Their bytes are made before the disk is called, since that takes memory. Where a mark rises it is recorded, and only then do the packets go: where it was
 //! not, they are taken back. What is noted behind the record takes no memory.
-ghost use Rattle.std.specs.Prelude.{[], ◌∷◌, ◌++◌, ◌<◌, ◌≡◌, ◌≤◌, ◌==◌, Err, IfSome, None, OnErr, OnOk, Some, flat_map, length, nat_lt, not};
+ghost use Rattle.std.specs.Prelude.{[], ◌∷◌, ◌++◌, ◌<◌, ◌≡◌, ◌≤◌, ◌==◌, All, Err, IfSome, None, OnErr, OnOk, Some, flat_map, length, nat_lt, not};
 ghost use Rattle.mqb_choosing.specs.Going.{any_waits};
 ghost use Rattle.mqb_devices.specs.Disk.{Counted};
 ghost use Rattle.mqb_heads.specs.declared.base.TheConstants.{MAX_PACKET};
@@ -17,6 +17,7 @@ ghost use Rattle.mqb_model.specs.managers.Beside.{noted};
 ghost use Rattle.mqb_model.specs.managers.Outcomes.{succeeded};
 ghost use Rattle.mqb_model.specs.managers.Valid.{IsValidManager};
 ghost use Rattle.mqb_packet.specs.Plain.{IsWellFormedPacket, packet_size, plain_spelling};
+ghost use Rattle.mqb_packet.specs.Values.{IsPacket};
 ghost use Rattle.mqb_session.specs.Sending.{is_ready};
 
 use crate::manager::Manager;
@@ -28,6 +29,7 @@ use mqb_devices::Disk;
 use mqb_model::{PumpFault, applied_is_valid};
 use mqb_packet::{Packet, PutFault, put_packet};
 use mqb_session::{Kind, Phase, Session};
+use mqb_setup::Internal;
 use mqb_steps::{Sending, set_up_packet};
 
 fn is_ready(session: &Session) -> bool
@@ -95,12 +97,14 @@ impl Manager {
             (sending_ack (manager_of self.old) session) result }
         ensures sent { OnOk result (out.new.items ≡ out.old.items ++ flat_map plain_spelling
             (sending_ack (manager_of self.old) session).packets) }
+        ensures fits { OnOk result (All IsPacket
+            (sending_ack (manager_of self.old) session).packets) }
         ensures refused { OnErr result (out.new.items ≡ out.old.items) }
     {
         self.is_valid();
         if session.owes_ack() {
             let mut behind = session;
-            let packet = Packet::Ack(behind.stamp(Kind::Ack));
+            let packet = set_up_packet(Internal::Ack(behind.stamp(Kind::Ack)));
             self.send_one(&packet, behind, out)
         } else {
             Ok(0)
@@ -301,6 +305,8 @@ impl Manager {
         // The packets' plain spelling, in turn.
         ensures sent { OnOk result (out.new.items ≡ out.old.items ++ flat_map plain_spelling
             (pump (manager_of self.old) now).packets) }
+        // Their numbers fit their types, so that they can be read back.
+        ensures fits { OnOk result (All IsPacket (pump (manager_of self.old) now).packets) }
         ensures refused { OnErr result (out.new.items ≡ out.old.items) }
         ensures untouched { (pump (manager_of self.old) now).entry ≡ None
             → disk.new ≡ disk.old }

@@ -14,6 +14,7 @@ ghost use Rattle.mqb_model.specs.managers.Beside as beside;
 ghost use Rattle.mqb_model.specs.managers.Beside.{noted};
 ghost use Rattle.mqb_model.specs.managers.Valid.{IsValidManager};
 ghost use Rattle.mqb_packet.specs.Plain.{plain_spelling};
+ghost use Rattle.mqb_packet.specs.Values.{IsPacket};
 ghost use Rattle.mqb_steps.specs.Plans.{offered_form};
 
 use crate::manager::Manager;
@@ -107,6 +108,9 @@ impl Manager {
         ensures put { OnOk result (IsSomeAnd (slice_get self.now.store.state.peers sending.now.peer)
             (λ to. out.new.items ≡ out.old.items ++
             flat_map (λ given. plain_spelling (packet_for to.guid now given))
+            (shown_in self.now.store.state sending.now.choices.choices))) }
+        ensures fits { OnOk result (IsSomeAnd (slice_get self.now.store.state.peers sending.now.peer)
+            (λ to. All (λ given. IsPacket (packet_for to.guid now given))
             (shown_in self.now.store.state sending.now.choices.choices))) }
         ensures stays { OnErr result (out.new.items ≡ out.old.items) }
     {

@@ -7,6 +7,7 @@
 mod drafts;
 mod rows;
 mod sending;
+mod values;
 
 pub use drafts::ops_fit;
 pub use rows::{make_room, mark, rewind};

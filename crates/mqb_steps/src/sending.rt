@@ -9,9 +9,11 @@ ghost use Rattle.mqb_model.specs.declared.limits.TheConstants.{MAX_PACKETS};
 ghost use Rattle.mqb_model.specs.managers.Valid.{IsExpressValid};
 ghost use Rattle.mqb_model.specs.state.Valid.{IsValidState};
 ghost use Rattle.mqb_packet.specs.Plain.{IsWellFormedPacket, packet_size, plain_spelling};
+ghost use Rattle.mqb_packet.specs.Values.{IsPacket};
 ghost use Rattle.mqb_session.specs.Sending.{is_spent};
 ghost use Rattle.mqb_steps.specs.Plans.{IsPlanned, offered_form};
 
+use crate::values::part_fits;
 use mqb_base::{Guid, Memory};
 use mqb_choosing::{Choices, choose, marks_for, put_choices, settle};
 use mqb_contents::Contents;
@@ -63,8 +65,10 @@ pub fn offered_entry(marks: &[Mark]) -> Option<Entry<'_>>
 pub fn set_up_packet(part: Internal) -> Packet
     ensures packet { result ≡ set_up_packet part }
     ensures well_formed { IsWellFormedPacket result }
+    ensures fits { IsPacket result }
     ensures size { packet_size result ≤ MAX_PACKET }
 {
+    part_fits(&part);
     match part {
         Internal::Establish(establish) => Packet::Establish(establish),
         Internal::Parameters(parameters) => Packet::Parameters(parameters),
@@ -148,6 +152,9 @@ pub fn put_sending(
     ensures put { OnOk result (IsSomeAnd (slice_get contents.now.lists.peers sending.now.peer)
         (λ to. out.new.items ≡ out.old.items ++
         flat_map (λ given. plain_spelling (packet_for to.guid now given))
+        (shown_in contents.now.lists sending.now.choices.choices))) }
+    ensures fits { OnOk result (IsSomeAnd (slice_get contents.now.lists.peers sending.now.peer)
+        (λ to. All (λ given. IsPacket (packet_for to.guid now given))
         (shown_in contents.now.lists sending.now.choices.choices))) }
     ensures stays { OnErr result (out.new.items ≡ out.old.items) }
 {

@@ -1,13 +1,15 @@
-use Rattle.std.proofs.Common.{◌≡◌, ◌++◌, ◌<◌, ◌∙◌, ◌≤◌, ℕ, List, length, take, get_or, ap, sym, arith}
+use Rattle.std.proofs.Common.{◌≡◌, ◌++◌, ◌<◌, ◌∙◌, ◌≤◌, ℕ, List, length, take, get_or, ap, subst, sym, arith}
 use Rattle.std.proofs.lemmas.List.{append-nil, drop_all}
-use Rattle.std.specs.List.{flat_map}
+use Rattle.std.proofs.lemmas.List.Elements.{All-nil}
+use Rattle.std.specs.List.{All, flat_map}
 use Rattle.mqb_base.specs.declared.heads.SessionHead.{SessionHead}
 use Rattle.mqb_model.specs.calls.pump.Candidates.{Candidate}
 use Rattle.mqb_packet.specs.Plain.{plain_spelling}
+use Rattle.mqb_packet.specs.Values.{IsPacket}
 use Rattle.mqb_model.specs.calls.pump.Pump.{packet_for}
 use Rattle.mqb_choosing.specs.declared.choice.Choice.{Choice}
 use Rattle.mqb_choosing.specs.Choices.{shown_in}
-use Rattle.mqb_choosing.proofs.Walks.{front_read, longer, text_more}
+use Rattle.mqb_choosing.proofs.Walks.{all_more, front_read, longer, text_more}
 use Rattle.mqb_choosing.proofs.spelling.put_choices.Goals as goal
 
 pub returns-in-Err-clause-stays : goal.returns-in-Err-clause-stays
@@ -27,6 +29,8 @@ loop-choice-preserved c =
       front = more.1 ∙ c.loop-choice.invariant.front;
       text = text_more s spell choices c.loop-choice.choice-index x c.loop-choice.out.items c.put_choice.new.out.items
           (c.args.out.now.items ++ flat_map spell (shown_in s choices)) (front_read choices c.loop-choice.choice-index x within is) c.in_default.ensures.put c.loop-choice.invariant.text;
+      fits = λ behind. c.loop-choice.invariant.fits (all_more s (λ given. IsPacket (packet_for c.args.to c.args.now given)) choices c.loop-choice.choice-index x
+          (front_read choices c.loop-choice.choice-index x within is) c.in_default.ensures.fits behind);
     }
 
 pub returns-clause-put : goal.returns-clause-put
@@ -38,3 +42,11 @@ returns-clause-put c =
     sym (append-nil c.loop-choice.out.items)
     ∙ sym (ap (λ (cs : List Choice). c.loop-choice.out.items ++ flat_map spell (shown_in s cs)) (drop_all c.loop-choice.choice-index choices past))
     ∙ c.loop-choice.invariant.text
+
+pub returns-clause-fits : goal.returns-clause-fits
+returns-clause-fits c =
+    let s = c.args.contents.now.lists in
+    let choices : List Choice = c.args.choices.now.choices in
+    let past : length choices ≤ c.loop-choice.choice-index = omega (arith, c.loop-choice-test.false, ap length c.as_slice-choice-items.ensures) in
+    c.loop-choice.invariant.fits (subst (λ (cs : List Choice). All (λ given. IsPacket (packet_for c.args.to c.args.now given)) (shown_in s cs))
+    (sym (drop_all c.loop-choice.choice-index choices past)) (All-nil (λ given. IsPacket (packet_for c.args.to c.args.now given))))

@@ -12,10 +12,10 @@ pub returns-then-is_down : goal.returns-then-is_down
 returns-then-is_down g c = let m = c.args.self.now in
     let h = answer_pumped (g.D.Disk.view c.args.disk.now) (c.args.disk.now ≡ c.args.disk.now) m (g.met.D.Disk.lawful c.args.disk.now) refl (pump (manager_of m) c.args.now) (Err fault.Down) c.args.out.now.items
     c.is_valid.ensures (comes_down (manager_of m) c.args.now (sym c.is_down.ensures ∙ c.if-is_down.true)) (λ same. let none : ⊥ = cc in none) in
-    record { call = h.call; sent = h.sent; refused = h.refused; untouched = h.untouched; memory = h.memory; calls = h.calls }
+    record { call = h.call; sent = h.sent; fits = h.fits; refused = h.refused; untouched = h.untouched; memory = h.memory; calls = h.calls }
 
 pub pump_up-requires : goal.pump_up-requires
 pump_up-requires g c = let up = up_from c.args.self.now (sym c.is_down.ensures ∙ c.if-is_down.false) in record { up = up; on = c.requires up }
 
 pub returns : goal.returns
-returns g c = let h = c.pump_up.ensures in record { call = h.call; sent = h.sent; refused = h.refused; untouched = h.untouched; memory = h.memory; calls = h.calls }
+returns g c = let h = c.pump_up.ensures in record { call = h.call; sent = h.sent; fits = h.fits; refused = h.refused; untouched = h.untouched; memory = h.memory; calls = h.calls }

@@ -1,6 +1,7 @@
 use Rattle.std.proofs.Common.{◌≡◌, ◌<◌, All, length, map, ap, subst, sym, ◌∙◌}
 use Rattle.std.specs.Prelude.{◌++◌, IfOk, IsSomeAnd, OnOk, flat_map, slice_get}
 use Rattle.mqb_packet.specs.Plain.{plain_spelling}
+use Rattle.mqb_packet.specs.Values.{IsPacket}
 use Rattle.mqb_choosing.specs.Choices.{IsThere, shown_in}
 use Rattle.mqb_model.specs.calls.pump.Pump.{marks_for, packet_for}
 use Rattle.mqb_model.specs.state.State.{State}
@@ -31,3 +32,10 @@ returns-clause-put c =
     ap (λ w. w.lists) c.contents-contents.ensures ∙ c.state.ensures.state ∙ ap (λ (x : ManagerState). x.store.state) c.self.view_is in
     subst (λ (s : State). OnOk c.put_sending.result (IsSomeAnd (slice_get s.peers c.args.sending.now.peer) (λ to. c.put_sending.new.out.items ≡ c.args.out.now.items
     ++ flat_map (λ given. plain_spelling (packet_for to.guid c.args.now given)) (shown_in s c.args.sending.now.choices.choices)))) is c.put_sending.ensures.put
+
+pub returns-clause-fits : goal.returns-clause-fits
+returns-clause-fits c =
+    let is : c.contents-contents.result.now.lists ≡ c.args.self.now.store.state =
+    ap (λ w. w.lists) c.contents-contents.ensures ∙ c.state.ensures.state ∙ ap (λ (x : ManagerState). x.store.state) c.self.view_is in
+    subst (λ (s : State). OnOk c.put_sending.result (IsSomeAnd (slice_get s.peers c.args.sending.now.peer)
+    (λ to. All (λ given. IsPacket (packet_for to.guid c.args.now given)) (shown_in s c.args.sending.now.choices.choices)))) is c.put_sending.ensures.fits

@@ -50,7 +50,7 @@ returns-in-Ok-write_marks g c = let m = c.args.self.now in let s = c.args.sendin
     sent_pumped m c.args.session c.args.now k s.choices s.cursors.items s.owes.items c.deref.result.now c.requires.planned c.requires.linked.session c.is_valid.ensures c.requires.linked.up
     (target m c.args.session c.args.now k c.requires.comes) (c.deref.ensures.value ∙ c.in-Ok.ensures.marks) (g.D.Disk.view c.args.disk.now) (g.D.Disk.view c.write_marks.new.disk) c.write_marks.new.self
     (c.write_marks.new.disk ≡ c.args.disk.now) c.note_chosen.new.self c.args.out.now.items c.put_chosen.new.out.items (length c.as_slice.result.now)
-    c.in-Ok-write_marks.ensures.call c.calls_can_be_written.ensures.stored c.note_chosen.ensures (ap length c.as_slice.ensures) c.in-Ok.ensures.put
+    c.in-Ok-write_marks.ensures.call c.calls_can_be_written.ensures.stored c.note_chosen.ensures (ap length c.as_slice.ensures) c.in-Ok.ensures.put c.in-Ok.ensures.fits
     c.in-Ok-write_marks.ensures.untouched c.in-Ok-write_marks.ensures.calls
 
 pub returns-in-Err-write_marks : goal.returns-in-Err-write_marks

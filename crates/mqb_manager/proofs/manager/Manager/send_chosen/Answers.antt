@@ -34,7 +34,7 @@ returns-then-is_idle g c = let m = c.args.self.now in let k = c.args.sending.pee
     (idle_is m c.args.session c.args.now k c.requires.linked.session (peer_there (manager_of m) k c.is_valid.ensures c.requires.peer) c.requires.comes
     (sym (ap (λ (b : Bool). is_spent c.args.session && b) c.requires.any) ∙ sym c.is_stuck.ensures ∙ c.if-is_stuck.false)
     (none_there (length c.args.sending.choices.choices) _ (sym c.is_idle.ensures ∙ c.if-is_idle.true) c.requires.planned.count))
-    (ack_answers (manager_of m) c.args.session) c.send_ack.ensures.quiet c.send_ack.ensures.sent c.send_ack.ensures.refused
+    (ack_answers (manager_of m) c.args.session) c.send_ack.ensures.quiet c.send_ack.ensures.sent c.send_ack.ensures.fits c.send_ack.ensures.refused
 
 pub send_all-requires : goal.send_all-requires
 send_all-requires g c = let m = c.args.self.now in let k = c.args.sending.peer in record {
