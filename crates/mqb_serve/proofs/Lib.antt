@@ -1,0 +1,5 @@
+pub mod Calls
+pub mod Keeps
+pub mod Stopped
+pub mod Moves
+pub mod Closing

@@ -1,0 +1,26 @@
+use Rattle.std.proofs.Common.{◌-◌, ◌<◌, ◌≡◌, Ok, length, true, ℕ}
+use Rattle.mqb_manager.specs.States.{manager_of}
+use Rattle.mqb_stream.specs.Framing.{next, wants_more}
+use Rattle.mqb_serving.specs.Conversations.{Conversation}
+use Rattle.mqb_serving.specs.declared.limits.TheConstants.{MAX_READ}
+use Rattle.mqb_serve_laws.specs.Steps.{Stands}
+use Rattle.mqb_serve_laws.proofs.Taken.{Reads}
+use Rattle.mqb_serve.specs.Talking.{Keeps}
+use Rattle.mqb_serve.proofs.talk.Talk.listen.Given as goal
+
+abbrev pub invariant-pieces : goal.invariant-pieces
+invariant-pieces g l = record {
+  reads : (c : Conversation) → Stands c l.fn.self.role l.fn.self.moment (manager_of l.fn.manager) l.fn.self.framer
+      → Reads c (g.C.Source.held l.fn.conn) (g.C.Source.held l.conn) (g.C.Sink.taken l.fn.conn) (g.C.Sink.taken l.conn) l.self.role l.self.moment (manager_of l.manager) l.self.framer;
+  keeps : Keeps {T = ℕ} (g.D.Disk.view l.fn.disk) (g.D.Disk.view l.disk) l.fn.manager l.manager (Ok 0);
+  wants : wants_more (next l.self.framer) ≡ true;
+  less : l.self.came < MAX_READ;
+  room : 0 < length l.buffer;
+  write_faults : g.C.Sink.write_faults l.conn ≡ g.C.Sink.write_faults l.fn.conn;
+  read_faults : g.C.Source.read_faults l.conn ≡ g.C.Source.read_faults l.fn.conn;
+  given : g.C.Conn.given l.conn ≡ g.C.Conn.given l.fn.conn;
+  address : g.C.Conn.address l.conn ≡ g.C.Conn.address l.fn.conn;
+}
+
+abbrev pub decreases-pieces : goal.decreases-pieces
+decreases-pieces g l = MAX_READ - l.self.came
