@@ -1,0 +1,2 @@
+mod Downs
+mod Never

@@ -1,0 +1,7 @@
+pub mod Seats
+pub mod Moves
+pub mod Never
+pub mod Downs
+pub mod Calling
+pub mod Restarting
+pub mod Holding
