@@ -1,7 +1,1 @@
-pub mod Taking
-pub mod Playing
-pub mod Turning
-pub mod Replaying
-pub mod Causes
-pub mod Growing
-pub mod Completing
+pub mod Quiet

@@ -1,7 +1,2 @@
-pub mod Words
-pub mod Outputs
-pub mod Faults
-pub mod Plays
-pub mod Exits
+pub mod Disks
 pub mod Runs
-pub mod Completeness

@@ -1,137 +1,68 @@
-use Rattle.std.specs.Prelude.{◌≡◌, ℕ, ◌<◌, ◌≤◌, ◌⊎◌, List, [], ◌++◌, length, codes, Option, Some, None, Ok, Err, IfSome}
+-- What the program does, by what the words of its command line ask for.
+use Rattle.std.specs.Prelude.{◌≡◌, ◌⊎◌, List, None, Option, Some, codes, ℕ}
+use Rattle.mqb_calls.specs.Calls.{CallsAt}
+use Rattle.mqb_commands.specs.Helps.{help_text, version_text}
+use Rattle.mqb_commands.specs.Said.{Inits, Lists, Makes}
+use Rattle.mqb_devices.specs.Disk.{View}
 use Rattle.mqb_outside.specs.Faults.{Rose}
-use Rattle.mqb_outside.specs.Told.{Gave, Took}
-use Rattle.mqb_sketch_script.specs.declared.events.Event.{Event}
-use Rattle.mqb_sketch_script.specs.declared.reading.LineKind.{LineKind}
-use Rattle.mqb_sketch_script.specs.Grammar.{script_of}
-use Rattle.mqb_sketch_script.specs.Reading.{LONGEST, MOST_LINES, line_count}
-use Rattle.mqb_base.specs.declared.queue_names.QueueName.{QueueName}
-use Rattle.mqb_sketch_script.specs.declared.events.Which.{Which}
-use Rattle.mqb_sketch_machine.specs.Runs.{machine_after}
-use Rattle.mqb_sketch_history.specs.Laws.{IsExactlyOnce}
-use Rattle.mqb_sketch_world.specs.Standing.{strings_of}
-use Rattle.mqb_sketch_world.specs.Transcripts.{transcript_of, replies_of}
-use Rattle.mqb.specs.declared.play.PlayFault.{PlayFault}
-use Rattle.mqb.specs.declared.play.PlayFault.TheVariants as fault
-use Rattle.mqb.specs.declared.status.Status.{Status}
-use Rattle.mqb.specs.declared.status.Status.TheVariants as status
-use Rattle.mqb.specs.declared.words.Command.{Command}
-use Rattle.mqb.specs.declared.words.Command.TheVariants.{Replay, Help, Version}
-use Rattle.mqb.specs.Outputs.{TookFront, usage_text, too_long_text, too_many_lines_text, read_fault_text, net_full_text, script_fault_text, output_of}
-use Rattle.mqb.specs.Plays.{IsFull}
+use Rattle.mqb_replay.specs.Runs.{Replays}
+use Rattle.mqb_show.specs.Shown.{Shows}
+use Rattle.mqb_status.specs.Outputs.{Says, Tells}
+use Rattle.mqb_status.specs.declared.status.Status.{Status}
+use Rattle.mqb_status.specs.declared.status.Status.TheVariants as status
+use Rattle.mqb_words.specs.declared.commands.Command.{Command}
+use Rattle.mqb_words.specs.declared.commands.Command.TheVariants as command
 
-abbrev pub help_text : List ℕ
-help_text = codes "mqb replay      replays the script from the input\nmqb --help      says which words there are\nmqb --version   says which version this is\n"
+-- what is told of everything outside, before and after: what the input holds, what the output took, the disk, the strings of the medium, and the one
+-- moment of a steady clock
+pub record Outside : Type 1 where
+  pub held : Option (List ℕ)
+  pub held_now : Option (List ℕ)
+  pub taken : Option (List ℕ)
+  pub taken_now : Option (List ℕ)
+  pub disk : View
+  pub disk_now : View
+  pub strings : List (List ℕ)
+  pub moment : Option ℕ
 
-abbrev pub version_text : List ℕ
-version_text = codes "mqb 0.1.0\n"
+-- memory ran out before the words were read
+abbrev pub IsUnread : Outside → Status → Type 0
+IsUnread o r = (r ≡ status.Memory) × (o.taken_now ≡ o.taken)
 
--- The text was written and the program ended so, or a front of it was, and the output failed.
-abbrev pub Tells : List ℕ → Status → Option (List ℕ) → Option (List ℕ) → Status → Type 0
-Tells text end before after r = ((r ≡ end) × Took before after text) ⊎ ((r ≡ status.WriteFault) × TookFront before after text)
+-- What each command does. What is served over connections is said by the command itself alone.
+abbrev pub Does : Command → Outside → Status → Type 0
+Does command.Replay o r = Replays o.held o.held_now o.taken o.taken_now o.strings r
+Does (command.Make orders) o r = Says (Makes orders) o.taken o.taken_now r
+Does command.Show o r = Shows o.held o.held_now o.taken o.taken_now r
+Does (command.Init identity) o r = Says (Inits identity o.disk o.disk_now) o.taken o.taken_now r
+Does (command.Call asked) o r = Says (CallsAt asked o.moment o.disk o.disk_now) o.taken o.taken_now r
+Does command.List o r = Says (Lists o.disk o.disk_now) o.taken o.taken_now r
+Does command.Probe o r = Unit {0}
+Does (command.Serve count) o r = Unit {0}
+Does (command.Push host) o r = Unit {0}
+Does command.Help o r = Tells help_text status.Done o.taken o.taken_now r
+Does command.Version o r = Tells version_text status.Done o.taken o.taken_now r
 
--- The fault line of a script was written, or memory ran out before.
-abbrev pub TellsLine : ℕ → LineKind → Option (List ℕ) → Option (List ℕ) → Status → Type 0
-TellsLine line kind before after r = Tells (script_fault_text line) (status.Script line kind) before after r ⊎ ((r ≡ status.Memory) × (after ≡ before))
+-- words that are no command are told so
+abbrev pub Runs : Option Command → Outside → Status → Type 0
+Runs None o r = Tells (codes "fault: usage\n") status.Usage o.taken o.taken_now r
+Runs (Some asked) o r = Does asked o r
 
--- where it is told what is left of the input, nothing is
-abbrev pub IsAtEnd : Option (List ℕ) → Type 0
-IsAtEnd rest = IfSome rest (λ left. left ≡ [])
-
--- a text within the limits of a script
-pub record IsWithinLimits (text : List ℕ) : Type 0 where
-  pub short : length text ≤ LONGEST
-  pub few_lines : line_count text ≤ MOST_LINES
-
--- At each point of the run over these events every stream is exactly once.
-abbrev pub IsAlwaysOnce : List (ℕ × Event) → Type 0
-IsAlwaysOnce events = (first rest : List (ℕ × Event)) → events ≡ first ++ rest
-    → (which : Which) (destination : QueueName) → IsExactlyOnce (machine_after first) which destination
-
--- A script was replayed: the whole transcript of its run was written, string k of the medium is the spelling of the k-th packet of the run, and every
--- stream is exactly once.
-pub record IsDone (text : List ℕ) (rest before after : Option (List ℕ)) (strings : List (List ℕ)) : Type 0 where
-  pub events : List (ℕ × Event)
-  pub within : IsWithinLimits text
-  pub script : script_of text ≡ Ok events
-  pub ended : IsAtEnd rest
-  pub written : Took before after (transcript_of events)
-  pub sent : strings ≡ strings_of (machine_after events).posted
-  pub exactly_once : IsAlwaysOnce events
-
--- the input is no script, and the fault line names its first line that is none
-pub record IsNoScript (text : List ℕ) (rest before after : Option (List ℕ)) (line : ℕ) : Type 0 where
-  pub within : IsWithinLimits text
-  pub script : script_of text ≡ Err line
-  pub ended : IsAtEnd rest
-  pub written : Took before after (script_fault_text line)
-
--- A packet did not fit the medium: the replies before its event were written, and the fault line.
-pub record IsNetFull (text : List ℕ) (rest before after : Option (List ℕ)) (strings : List (List ℕ)) : Type 0 where
-  pub events : List (ℕ × Event)
-  pub within : IsWithinLimits text
-  pub script : script_of text ≡ Ok events
-  pub ended : IsAtEnd rest
-  pub full : IsFull events strings
-  pub written : Took before after (replies_of full.first ++ net_full_text)
-  pub exactly_once : IsAlwaysOnce full.first
-
--- The same, but the output failed in the fault line.
-pub record IsCutAtNetFull (text : List ℕ) (before after : Option (List ℕ)) (strings : List (List ℕ)) : Type 0 where
-  pub events : List (ℕ × Event)
-  pub script : script_of text ≡ Ok events
-  pub full : IsFull events strings
-  pub written : TookFront before after (replies_of full.first ++ net_full_text)
-
--- What each end of a replay says of the text that was taken from the input, what is left of that, what the output took, and the medium.
-abbrev pub Ends : List ℕ → Option (List ℕ) → Option (List ℕ) → Option (List ℕ) → List (List ℕ) → Status → Type 0
-Ends text rest before after strings status.Done = IsDone text rest before after strings
-Ends text rest before after strings status.Usage = ⊥
-Ends text rest before after strings (status.Script line kind) = IsNoScript text rest before after line
-Ends text rest before after strings status.TooLong = (LONGEST < length text) × Took before after too_long_text
-Ends text rest before after strings status.TooManyLines =
-    (length text ≤ LONGEST) × (MOST_LINES < line_count text) × IsAtEnd rest × Took before after too_many_lines_text
-Ends text rest before after strings status.ReadFault = Took before after read_fault_text
-Ends text rest before after strings status.WriteFault =
-    TookFront before after (output_of text) ⊎ TookFront before after read_fault_text ⊎ IsCutAtNetFull text before after strings
-Ends text rest before after strings status.NetFull = IsNetFull text rest before after strings
-Ends text rest before after strings status.Memory = TookFront before after (output_of text)
-
--- A replay, from what the input held and the output had taken before.
-pub record Replays (held rest before after : Option (List ℕ)) (strings : List (List ℕ)) (r : Status) : Type 0 where
-  pub text : List ℕ
-  pub gave : Gave held rest text
-  pub ends : Ends text rest before after strings r
-
--- What each command does.
-abbrev pub Runs : Option Command → (held rest before after : Option (List ℕ)) → List (List ℕ) → Status → Type 0
-Runs None held rest before after strings r = Tells usage_text status.Usage before after r
-Runs (Some Help) held rest before after strings r = Tells help_text status.Done before after r
-Runs (Some Version) held rest before after strings r = Tells version_text status.Done before after r
-Runs (Some Replay) held rest before after strings r = Replays held rest before after strings r
-
--- the program ends with a read fault only where the input's count of faults rose
-abbrev pub ReadFaultHasCause : ℕ → ℕ → Status → Type 0
-ReadFaultHasCause before after status.ReadFault = Rose before after
-ReadFaultHasCause before after _ = Unit {0}
-
--- and with a write fault only where the output's did
-abbrev pub WriteFaultHasCause : ℕ → ℕ → Status → Type 0
-WriteFaultHasCause before after status.WriteFault = Rose before after
-WriteFaultHasCause before after _ = Unit {0}
-
--- an end that is no write fault
-abbrev pub IsPlain : Status → Type 0
-IsPlain status.WriteFault = ⊥
-IsPlain _ = Unit {0}
-
--- and with a usage fault only where the words are no command
+-- the program ends with a usage fault only where the words are no command
 abbrev pub UsageHasCause : Option Command → Status → Type 0
-UsageHasCause command status.Usage = command ≡ None
-UsageHasCause command _ = Unit {0}
+UsageHasCause asked status.Usage = asked ≡ None
+UsageHasCause asked _ = Unit {0}
 
--- How a play that was stopped ends: a full medium is told, and nothing is after want of memory or a fault of the output.
-abbrev pub Stopped : PlayFault → (before after : Option (List ℕ)) → (faults faults_now : ℕ) → Status → Type 0
-Stopped fault.NetFull before after faults faults_now r = Tells net_full_text status.NetFull before after r × WriteFaultHasCause faults faults_now r
-Stopped fault.Memory before after faults faults_now r = (r ≡ status.Memory) × (after ≡ before) × (faults_now ≡ faults)
-Stopped fault.Write before after faults faults_now r = (r ≡ status.WriteFault) × (after ≡ before) × (faults_now ≡ faults)
+-- The net's counts by which a command may end with a net fault: those of calls that gave no connection, and of connections that were lost. Others use no net.
+abbrev pub NetCause : Option Command → (faults faults_now lost lost_now : ℕ) → Type 0
+NetCause (Some (command.Serve count)) faults faults_now lost lost_now = Rose faults faults_now
+NetCause (Some (command.Push host)) faults faults_now lost lost_now = Rose faults faults_now ⊎ Rose lost lost_now
+NetCause _ faults faults_now lost lost_now = ⊥
+
+-- an end of a command that makes one answer: it comes of no fault of the input, of the output, of the net or of the words
+abbrev pub IsQuiet : Status → Type 0
+IsQuiet status.Usage = ⊥
+IsQuiet status.ReadFault = ⊥
+IsQuiet status.WriteFault = ⊥
+IsQuiet status.NetFault = ⊥
+IsQuiet _ = Unit {0}

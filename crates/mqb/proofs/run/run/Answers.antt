@@ -1,9 +1,19 @@
-use Rattle.mqb.proofs.Completing.{replay_completes}
+use Rattle.std.proofs.Common.{ap, sym, subst, ◌∙◌}
+use Rattle.std.specs.Prelude.{Option, Some}
+use Rattle.mqb.specs.Runs.{NetCause}
 use Rattle.mqb.proofs.run.run.Goals as goal
+use Rattle.mqb_connections.specs.Causes.{NetFaultHasCause}
+use Rattle.mqb_words.specs.declared.commands.Command.{Command}
 
-pub returns-in-Some-Replay-clause-complete : goal.returns-in-Some-Replay-clause-complete
-returns-in-Some-Replay-clause-complete g c =
-    let reads = g.S.Source.read_faults in
-    let writes = g.K.Sink.write_faults in
-    replay_completes (reads c.args.input.now) (reads c.replay.new.input) (writes c.args.out.now) (writes c.replay.new.out) c.replay.result
-    c.replay.ensures.replayed c.replay.ensures.read c.replay.ensures.write
+pub returns-in-Ok-clause-read_fault : goal.returns-in-Ok-clause-read_fault
+returns-in-Ok-clause-read_fault g c = λ other. c.run_command.ensures.read_fault
+    (λ is. other (c.in-Ok.ensures.words ∙ ap (λ (asked : Command). Some asked) is))
+
+pub returns-in-Ok-clause-write_fault : goal.returns-in-Ok-clause-write_fault
+returns-in-Ok-clause-write_fault g c = λ other. c.run_command.ensures.write_fault
+    (λ is. other (c.in-Ok.ensures.words ∙ ap (λ (asked : Command). Some asked) is))
+
+pub returns-in-Ok-clause-net_fault : goal.returns-in-Ok-clause-net_fault
+returns-in-Ok-clause-net_fault g c =
+    subst (λ (asked : Option Command). NetFaultHasCause (NetCause asked (g.N.Net.faults c.args.net.now) (g.N.Net.faults c.run_command.new.net)
+    (g.N.Net.lost c.args.net.now) (g.N.Net.lost c.run_command.new.net)) c.run_command.result) (sym c.in-Ok.ensures.words) c.run_command.ensures.net_fault

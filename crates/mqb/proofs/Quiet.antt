@@ -1,0 +1,308 @@
+-- The ends of commands that make one answer, and what they are not.
+use Rattle.std.proofs.Common.{inl, inr, ℕ, List, Option, sym, subst}
+use Rattle.mqb_base.specs.declared.ids.Identity.{Identity}
+use Rattle.mqb_answers.specs.declared.told.CallEnd.{CallEnd}
+use Rattle.mqb_answers.specs.declared.told.CallEnd.TheVariants as call
+use Rattle.mqb_calls.specs.Calls.{Calls, status_of}
+use Rattle.mqb_commands.specs.Causes.{DiskFaultHasCause}
+use Rattle.mqb_commands.specs.Opened.{IsNotOpened}
+use Rattle.mqb_commands.specs.Said.{Inits, Lists, Makes}
+use Rattle.mqb_connections.specs.Causes.{IsProbeEnd, NetFaultHasCause}
+use Rattle.mqb_devices.specs.Disk.{View}
+use Rattle.mqb_replay.specs.Runs.{Replays}
+use Rattle.mqb_replay.specs.Runs as replay
+use Rattle.mqb_show.specs.Shown.{Shows}
+use Rattle.mqb_status.specs.Outputs.{IsFaultLine, IsPlain, Tells}
+use Rattle.mqb_status.specs.declared.status.Status.{Status}
+use Rattle.mqb_status.specs.declared.status.Status.TheVariants as status
+use Rattle.mqb_words.specs.declared.commands.Command.{Command}
+use Rattle.mqb_words.specs.declared.commands.Call as words
+use Rattle.mqb.specs.Runs.{IsQuiet, UsageHasCause}
+
+pub quiet_plain : (end : Status) → IsQuiet end → IsPlain end
+quiet_plain status.Done quiet = tt
+quiet_plain status.Usage quiet = absurd quiet
+quiet_plain (status.Script line kind) quiet = tt
+quiet_plain status.TooLong quiet = tt
+quiet_plain status.TooManyLines quiet = tt
+quiet_plain status.ReadFault quiet = absurd quiet
+quiet_plain status.WriteFault quiet = absurd quiet
+quiet_plain status.DiskFault quiet = tt
+quiet_plain status.NetFault quiet = absurd quiet
+quiet_plain (status.BadStore at) quiet = tt
+quiet_plain status.NotEmpty quiet = tt
+quiet_plain (status.Peer why) quiet = tt
+quiet_plain status.NetFull quiet = tt
+quiet_plain status.Memory quiet = tt
+quiet_plain status.Refused quiet = tt
+
+pub quiet_read : (before after : ℕ) (end : Status) → IsQuiet end → replay.ReadFaultHasCause before after end
+quiet_read before after status.Done quiet = tt
+quiet_read before after status.Usage quiet = absurd quiet
+quiet_read before after (status.Script line kind) quiet = tt
+quiet_read before after status.TooLong quiet = tt
+quiet_read before after status.TooManyLines quiet = tt
+quiet_read before after status.ReadFault quiet = absurd quiet
+quiet_read before after status.WriteFault quiet = absurd quiet
+quiet_read before after status.DiskFault quiet = tt
+quiet_read before after status.NetFault quiet = absurd quiet
+quiet_read before after (status.BadStore at) quiet = tt
+quiet_read before after status.NotEmpty quiet = tt
+quiet_read before after (status.Peer why) quiet = tt
+quiet_read before after status.NetFull quiet = tt
+quiet_read before after status.Memory quiet = tt
+quiet_read before after status.Refused quiet = tt
+
+pub quiet_usage : (asked : Option Command) (end : Status) → IsQuiet end → UsageHasCause asked end
+quiet_usage asked status.Done quiet = tt
+quiet_usage asked status.Usage quiet = absurd quiet
+quiet_usage asked (status.Script line kind) quiet = tt
+quiet_usage asked status.TooLong quiet = tt
+quiet_usage asked status.TooManyLines quiet = tt
+quiet_usage asked status.ReadFault quiet = absurd quiet
+quiet_usage asked status.WriteFault quiet = absurd quiet
+quiet_usage asked status.DiskFault quiet = tt
+quiet_usage asked status.NetFault quiet = absurd quiet
+quiet_usage asked (status.BadStore at) quiet = tt
+quiet_usage asked status.NotEmpty quiet = tt
+quiet_usage asked (status.Peer why) quiet = tt
+quiet_usage asked status.NetFull quiet = tt
+quiet_usage asked status.Memory quiet = tt
+quiet_usage asked status.Refused quiet = tt
+
+-- what holds of the end that is told, and of a write fault, holds of the end of the program
+pub told_is : (P : Status → Type 0) (text : List ℕ) (end : Status) (before after : Option (List ℕ)) (r : Status) → Tells text end before after r
+    → P end → P status.WriteFault → P r
+told_is P text end before after r (inl told) well cut = subst P (sym told.0) well
+told_is P text end before after r (inr told) well cut = subst P (sym told.0) cut
+
+-- Each command that makes one answer.
+
+pub makes_quiet : (orders : ℕ) (text : List ℕ) (end : Status) → Makes orders text end → IsQuiet end
+makes_quiet orders text status.Done made = tt
+makes_quiet orders text status.Usage made = absurd made
+makes_quiet orders text (status.Script line kind) made = tt
+makes_quiet orders text status.TooLong made = tt
+makes_quiet orders text status.TooManyLines made = tt
+makes_quiet orders text status.ReadFault made = absurd made
+makes_quiet orders text status.WriteFault made = absurd made
+makes_quiet orders text status.DiskFault made = tt
+makes_quiet orders text status.NetFault made = absurd made
+makes_quiet orders text (status.BadStore at) made = tt
+makes_quiet orders text status.NotEmpty made = tt
+makes_quiet orders text (status.Peer why) made = tt
+makes_quiet orders text status.NetFull made = tt
+makes_quiet orders text status.Memory made = tt
+makes_quiet orders text status.Refused made = tt
+
+pub inits_quiet : (identity : Identity) (d e : View) (text : List ℕ) (end : Status) → Inits identity d e text end → IsQuiet end
+inits_quiet identity d e text status.Done made = tt
+inits_quiet identity d e text status.Usage made = absurd made
+inits_quiet identity d e text (status.Script line kind) made = tt
+inits_quiet identity d e text status.TooLong made = tt
+inits_quiet identity d e text status.TooManyLines made = tt
+inits_quiet identity d e text status.ReadFault made = absurd made
+inits_quiet identity d e text status.WriteFault made = absurd made
+inits_quiet identity d e text status.DiskFault made = tt
+inits_quiet identity d e text status.NetFault made = absurd made
+inits_quiet identity d e text (status.BadStore at) made = tt
+inits_quiet identity d e text status.NotEmpty made = tt
+inits_quiet identity d e text (status.Peer why) made = tt
+inits_quiet identity d e text status.NetFull made = tt
+inits_quiet identity d e text status.Memory made = tt
+inits_quiet identity d e text status.Refused made = tt
+
+not_opened_quiet : (d e : View) (end : Status) → IsNotOpened d e end → IsQuiet end
+not_opened_quiet d e status.Done failed = tt
+not_opened_quiet d e status.Usage failed = absurd failed
+not_opened_quiet d e (status.Script line kind) failed = tt
+not_opened_quiet d e status.TooLong failed = tt
+not_opened_quiet d e status.TooManyLines failed = tt
+not_opened_quiet d e status.ReadFault failed = absurd failed
+not_opened_quiet d e status.WriteFault failed = absurd failed
+not_opened_quiet d e status.DiskFault failed = tt
+not_opened_quiet d e status.NetFault failed = absurd failed
+not_opened_quiet d e (status.BadStore at) failed = tt
+not_opened_quiet d e status.NotEmpty failed = tt
+not_opened_quiet d e (status.Peer why) failed = tt
+not_opened_quiet d e status.NetFull failed = tt
+not_opened_quiet d e status.Memory failed = tt
+not_opened_quiet d e status.Refused failed = tt
+
+pub lists_quiet : (d e : View) (text : List ℕ) (end : Status) → Lists d e text end → IsQuiet end
+lists_quiet d e text end (inl listed) = subst IsQuiet (sym listed.0) tt
+lists_quiet d e text end (inr failed) = not_opened_quiet d e end failed.0
+
+ended_quiet : (end : CallEnd) → IsQuiet (status_of end)
+ended_quiet call.Done = tt
+ended_quiet call.Refused = tt
+
+fault_quiet : (text : List ℕ) (end : Status) → IsFaultLine status.DiskFault text end → IsQuiet end
+fault_quiet text end (inl told) = subst IsQuiet (sym told.0) tt
+fault_quiet text end (inr none) = subst IsQuiet (sym none.0) tt
+
+pub calls_quiet : (asked : words.Call) (now : ℕ) (d e : View) (text : List ℕ) (end : Status) → Calls asked now d e text end → IsQuiet end
+calls_quiet asked now d e text end (inl answered) = subst IsQuiet (sym answered.1) (ended_quiet answered.0)
+calls_quiet asked now d e text end (inr (inl broken)) = fault_quiet text end broken.0
+calls_quiet asked now d e text end (inr (inr (inl none))) = subst IsQuiet (sym none.0) tt
+calls_quiet asked now d e text end (inr (inr (inr failed))) = not_opened_quiet d e end failed.0
+
+-- The commands that read the input.
+
+pub shows_usage : (asked : Option Command) (held left before after : Option (List ℕ)) (r : Status) → Shows held left before after r → UsageHasCause asked r
+shows_usage asked held left before after status.Done shown = tt
+shows_usage asked held left before after status.Usage shown = absurd shown.wrote.0
+shows_usage asked held left before after (status.Script line kind) shown = tt
+shows_usage asked held left before after status.TooLong shown = tt
+shows_usage asked held left before after status.TooManyLines shown = tt
+shows_usage asked held left before after status.ReadFault shown = tt
+shows_usage asked held left before after status.WriteFault shown = tt
+shows_usage asked held left before after status.DiskFault shown = tt
+shows_usage asked held left before after status.NetFault shown = tt
+shows_usage asked held left before after (status.BadStore at) shown = tt
+shows_usage asked held left before after status.NotEmpty shown = tt
+shows_usage asked held left before after (status.Peer why) shown = tt
+shows_usage asked held left before after status.NetFull shown = tt
+shows_usage asked held left before after status.Memory shown = tt
+shows_usage asked held left before after status.Refused shown = tt
+
+pub replays_usage : (asked : Option Command) (held rest before after : Option (List ℕ)) (strings : List (List ℕ)) (r : Status)
+    → Replays held rest before after strings r → UsageHasCause asked r
+replays_usage asked held rest before after strings status.Done replayed = tt
+replays_usage asked held rest before after strings status.Usage replayed = absurd replayed.ends
+replays_usage asked held rest before after strings (status.Script line kind) replayed = tt
+replays_usage asked held rest before after strings status.TooLong replayed = tt
+replays_usage asked held rest before after strings status.TooManyLines replayed = tt
+replays_usage asked held rest before after strings status.ReadFault replayed = tt
+replays_usage asked held rest before after strings status.WriteFault replayed = tt
+replays_usage asked held rest before after strings status.DiskFault replayed = tt
+replays_usage asked held rest before after strings status.NetFault replayed = tt
+replays_usage asked held rest before after strings (status.BadStore at) replayed = tt
+replays_usage asked held rest before after strings status.NotEmpty replayed = tt
+replays_usage asked held rest before after strings (status.Peer why) replayed = tt
+replays_usage asked held rest before after strings status.NetFull replayed = tt
+replays_usage asked held rest before after strings status.Memory replayed = tt
+replays_usage asked held rest before after strings status.Refused replayed = tt
+
+-- No net and no disk is used by these.
+
+pub quiet_net : (cause : Type 0) (end : Status) → IsQuiet end → NetFaultHasCause cause end
+quiet_net cause status.Done quiet = tt
+quiet_net cause status.Usage quiet = absurd quiet
+quiet_net cause (status.Script line kind) quiet = tt
+quiet_net cause status.TooLong quiet = tt
+quiet_net cause status.TooManyLines quiet = tt
+quiet_net cause status.ReadFault quiet = absurd quiet
+quiet_net cause status.WriteFault quiet = absurd quiet
+quiet_net cause status.DiskFault quiet = tt
+quiet_net cause status.NetFault quiet = absurd quiet
+quiet_net cause (status.BadStore at) quiet = tt
+quiet_net cause status.NotEmpty quiet = tt
+quiet_net cause (status.Peer why) quiet = tt
+quiet_net cause status.NetFull quiet = tt
+quiet_net cause status.Memory quiet = tt
+quiet_net cause status.Refused quiet = tt
+
+pub makes_disk : (before after : ℕ) (orders : ℕ) (text : List ℕ) (end : Status) → Makes orders text end → DiskFaultHasCause before after end
+makes_disk before after orders text status.Done made = tt
+makes_disk before after orders text status.Usage made = tt
+makes_disk before after orders text (status.Script line kind) made = tt
+makes_disk before after orders text status.TooLong made = tt
+makes_disk before after orders text status.TooManyLines made = tt
+makes_disk before after orders text status.ReadFault made = tt
+makes_disk before after orders text status.WriteFault made = tt
+makes_disk before after orders text status.DiskFault made = absurd made
+makes_disk before after orders text status.NetFault made = tt
+makes_disk before after orders text (status.BadStore at) made = tt
+makes_disk before after orders text status.NotEmpty made = tt
+makes_disk before after orders text (status.Peer why) made = tt
+makes_disk before after orders text status.NetFull made = tt
+makes_disk before after orders text status.Memory made = tt
+makes_disk before after orders text status.Refused made = tt
+
+pub shows_net : (cause : Type 0) (held left before after : Option (List ℕ)) (r : Status) → Shows held left before after r → NetFaultHasCause cause r
+shows_net cause held left before after status.Done shown = tt
+shows_net cause held left before after status.Usage shown = tt
+shows_net cause held left before after (status.Script line kind) shown = tt
+shows_net cause held left before after status.TooLong shown = tt
+shows_net cause held left before after status.TooManyLines shown = tt
+shows_net cause held left before after status.ReadFault shown = tt
+shows_net cause held left before after status.WriteFault shown = tt
+shows_net cause held left before after status.DiskFault shown = tt
+shows_net cause held left before after status.NetFault shown = absurd shown.wrote.0
+shows_net cause held left before after (status.BadStore at) shown = tt
+shows_net cause held left before after status.NotEmpty shown = tt
+shows_net cause held left before after (status.Peer why) shown = tt
+shows_net cause held left before after status.NetFull shown = tt
+shows_net cause held left before after status.Memory shown = tt
+shows_net cause held left before after status.Refused shown = tt
+
+pub shows_disk : (n m : ℕ) (held left before after : Option (List ℕ)) (r : Status) → Shows held left before after r → DiskFaultHasCause n m r
+shows_disk n m held left before after status.Done shown = tt
+shows_disk n m held left before after status.Usage shown = tt
+shows_disk n m held left before after (status.Script line kind) shown = tt
+shows_disk n m held left before after status.TooLong shown = tt
+shows_disk n m held left before after status.TooManyLines shown = tt
+shows_disk n m held left before after status.ReadFault shown = tt
+shows_disk n m held left before after status.WriteFault shown = tt
+shows_disk n m held left before after status.DiskFault shown = absurd shown.wrote.0
+shows_disk n m held left before after status.NetFault shown = tt
+shows_disk n m held left before after (status.BadStore at) shown = tt
+shows_disk n m held left before after status.NotEmpty shown = tt
+shows_disk n m held left before after (status.Peer why) shown = tt
+shows_disk n m held left before after status.NetFull shown = tt
+shows_disk n m held left before after status.Memory shown = tt
+shows_disk n m held left before after status.Refused shown = tt
+
+pub replays_net : (cause : Type 0) (held rest before after : Option (List ℕ)) (strings : List (List ℕ)) (r : Status)
+    → Replays held rest before after strings r → NetFaultHasCause cause r
+replays_net cause held rest before after strings status.Done replayed = tt
+replays_net cause held rest before after strings status.Usage replayed = tt
+replays_net cause held rest before after strings (status.Script line kind) replayed = tt
+replays_net cause held rest before after strings status.TooLong replayed = tt
+replays_net cause held rest before after strings status.TooManyLines replayed = tt
+replays_net cause held rest before after strings status.ReadFault replayed = tt
+replays_net cause held rest before after strings status.WriteFault replayed = tt
+replays_net cause held rest before after strings status.DiskFault replayed = tt
+replays_net cause held rest before after strings status.NetFault replayed = absurd replayed.ends
+replays_net cause held rest before after strings (status.BadStore at) replayed = tt
+replays_net cause held rest before after strings status.NotEmpty replayed = tt
+replays_net cause held rest before after strings (status.Peer why) replayed = tt
+replays_net cause held rest before after strings status.NetFull replayed = tt
+replays_net cause held rest before after strings status.Memory replayed = tt
+replays_net cause held rest before after strings status.Refused replayed = tt
+
+pub replays_disk : (n m : ℕ) (held rest before after : Option (List ℕ)) (strings : List (List ℕ)) (r : Status)
+    → Replays held rest before after strings r → DiskFaultHasCause n m r
+replays_disk n m held rest before after strings status.Done replayed = tt
+replays_disk n m held rest before after strings status.Usage replayed = tt
+replays_disk n m held rest before after strings (status.Script line kind) replayed = tt
+replays_disk n m held rest before after strings status.TooLong replayed = tt
+replays_disk n m held rest before after strings status.TooManyLines replayed = tt
+replays_disk n m held rest before after strings status.ReadFault replayed = tt
+replays_disk n m held rest before after strings status.WriteFault replayed = tt
+replays_disk n m held rest before after strings status.DiskFault replayed = absurd replayed.ends
+replays_disk n m held rest before after strings status.NetFault replayed = tt
+replays_disk n m held rest before after strings (status.BadStore at) replayed = tt
+replays_disk n m held rest before after strings status.NotEmpty replayed = tt
+replays_disk n m held rest before after strings (status.Peer why) replayed = tt
+replays_disk n m held rest before after strings status.NetFull replayed = tt
+replays_disk n m held rest before after strings status.Memory replayed = tt
+replays_disk n m held rest before after strings status.Refused replayed = tt
+
+pub probe_net : (cause : Type 0) (r : Status) → IsProbeEnd r → NetFaultHasCause cause r
+probe_net cause status.Done ends = tt
+probe_net cause status.Usage ends = absurd ends
+probe_net cause (status.Script line kind) ends = absurd ends
+probe_net cause status.TooLong ends = absurd ends
+probe_net cause status.TooManyLines ends = absurd ends
+probe_net cause status.ReadFault ends = tt
+probe_net cause status.WriteFault ends = tt
+probe_net cause status.DiskFault ends = tt
+probe_net cause status.NetFault ends = absurd ends
+probe_net cause (status.BadStore at) ends = tt
+probe_net cause status.NotEmpty ends = tt
+probe_net cause (status.Peer why) ends = tt
+probe_net cause status.NetFull ends = absurd ends
+probe_net cause status.Memory ends = tt
+probe_net cause status.Refused ends = tt

@@ -1,0 +1,4 @@
+pub mod Causes
+pub mod Opened
+pub mod Helps
+pub mod Said

@@ -1,0 +1,102 @@
+-- How the commands end that serve connections.
+use Rattle.std.proofs.Common.{◌≡◌, ◌⊎◌, inl, inr, ℕ, List, Option, sym, subst}
+use Rattle.std.specs.Prelude.{Err, IfErr, Ok, Result}
+use Rattle.mqb_commands.specs.Opened.{IsNotOpened}
+use Rattle.mqb_devices.specs.Disk.{View}
+use Rattle.mqb_serve_laws.specs.Serving.{Answer}
+use Rattle.mqb_serving.specs.declared.faults.ConnFault.TheVariants as fault
+use Rattle.mqb_status.specs.Outputs.{Tells}
+use Rattle.mqb_status.specs.declared.status.Status.{Status}
+use Rattle.mqb_status.specs.declared.status.Status.TheVariants as status
+use Rattle.mqb_connections.specs.Causes.{IsNetEnd, IsProbeEnd}
+use Rattle.mqb_connections.specs.Statuses.{probe_status, push_status}
+use Rattle.mqb_connections.specs.Told.{TellsEnd, TellsNetFault}
+
+pub not_opened_net : (d e : View) (end : Status) → IsNotOpened d e end → IsNetEnd end
+not_opened_net d e status.Done failed = tt
+not_opened_net d e status.Usage failed = absurd failed
+not_opened_net d e (status.Script line kind) failed = absurd failed
+not_opened_net d e status.TooLong failed = absurd failed
+not_opened_net d e status.TooManyLines failed = absurd failed
+not_opened_net d e status.ReadFault failed = absurd failed
+not_opened_net d e status.WriteFault failed = tt
+not_opened_net d e status.DiskFault failed = tt
+not_opened_net d e status.NetFault failed = tt
+not_opened_net d e (status.BadStore at) failed = tt
+not_opened_net d e status.NotEmpty failed = tt
+not_opened_net d e (status.Peer why) failed = tt
+not_opened_net d e status.NetFull failed = absurd failed
+not_opened_net d e status.Memory failed = tt
+not_opened_net d e status.Refused failed = tt
+
+pub not_opened_probe : (d e : View) (end : Status) → IsNotOpened d e end → IsProbeEnd end
+not_opened_probe d e status.Done failed = tt
+not_opened_probe d e status.Usage failed = absurd failed
+not_opened_probe d e (status.Script line kind) failed = absurd failed
+not_opened_probe d e status.TooLong failed = absurd failed
+not_opened_probe d e status.TooManyLines failed = absurd failed
+not_opened_probe d e status.ReadFault failed = tt
+not_opened_probe d e status.WriteFault failed = tt
+not_opened_probe d e status.DiskFault failed = tt
+not_opened_probe d e status.NetFault failed = absurd failed
+not_opened_probe d e (status.BadStore at) failed = tt
+not_opened_probe d e status.NotEmpty failed = tt
+not_opened_probe d e (status.Peer why) failed = tt
+not_opened_probe d e status.NetFull failed = absurd failed
+not_opened_probe d e status.Memory failed = tt
+not_opened_probe d e status.Refused failed = tt
+
+pub told_end : (number : ℕ) (end : Answer) (before after : Option (List ℕ)) (r : Result (Unit {0}) Status) → TellsEnd number end before after r → IfErr r IsNetEnd
+told_end number end before after (Ok done) told = tt
+told_end number end before after (Err status.Done) told = tt
+told_end number end before after (Err status.Usage) told = absurd told
+told_end number end before after (Err (status.Script line kind)) told = absurd told
+told_end number end before after (Err status.TooLong) told = absurd told
+told_end number end before after (Err status.TooManyLines) told = absurd told
+told_end number end before after (Err status.ReadFault) told = absurd told
+told_end number end before after (Err status.WriteFault) told = tt
+told_end number end before after (Err status.DiskFault) told = tt
+told_end number end before after (Err status.NetFault) told = tt
+told_end number end before after (Err (status.BadStore at)) told = tt
+told_end number end before after (Err status.NotEmpty) told = tt
+told_end number end before after (Err (status.Peer why)) told = tt
+told_end number end before after (Err status.NetFull) told = absurd told
+told_end number end before after (Err status.Memory) told = tt
+told_end number end before after (Err status.Refused) told = tt
+
+pub told_net : (before after : Option (List ℕ)) (r : Status) → TellsNetFault before after r → IsNetEnd r
+told_net before after status.Done told = tt
+told_net before after status.Usage told = absurd told
+told_net before after (status.Script line kind) told = absurd told
+told_net before after status.TooLong told = absurd told
+told_net before after status.TooManyLines told = absurd told
+told_net before after status.ReadFault told = absurd told
+told_net before after status.WriteFault told = tt
+told_net before after status.DiskFault told = tt
+told_net before after status.NetFault told = tt
+told_net before after (status.BadStore at) told = tt
+told_net before after status.NotEmpty told = tt
+told_net before after (status.Peer why) told = tt
+told_net before after status.NetFull told = absurd told
+told_net before after status.Memory told = tt
+told_net before after status.Refused told = tt
+
+pub push_ends : (end : Answer) → IsNetEnd (push_status end)
+push_ends (Ok done) = tt
+push_ends (Err (fault.Peer why)) = tt
+push_ends (Err fault.ReadFault) = tt
+push_ends (Err fault.WriteFault) = tt
+push_ends (Err fault.DiskFault) = tt
+push_ends (Err fault.Memory) = tt
+
+pub probe_ends : (end : Answer) → IsProbeEnd (probe_status end)
+probe_ends (Ok done) = tt
+probe_ends (Err (fault.Peer why)) = tt
+probe_ends (Err fault.ReadFault) = tt
+probe_ends (Err fault.WriteFault) = tt
+probe_ends (Err fault.DiskFault) = tt
+probe_ends (Err fault.Memory) = tt
+
+pub told_as : (text : List ℕ) (end : Status) (before after : Option (List ℕ)) (r : Status) → Tells text end before after r → IsNetEnd end → IsNetEnd r
+told_as text end before after r (inl told) ends = subst IsNetEnd (sym told.0) ends
+told_as text end before after r (inr told) ends = subst IsNetEnd (sym told.0) tt

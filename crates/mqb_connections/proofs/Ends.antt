@@ -1,0 +1,91 @@
+-- What the end of one connection says of the counts of faults.
+use Rattle.std.proofs.Common.{◌≡◌, ◌≢◌, ◌+◌, ◌<◌, ℕ, List, Option, Result, Ok, Err, Some, None, sym, subst, arith}
+use Rattle.std.specs.Prelude.{IfSome, MatchResult, OnOk}
+use Rattle.std.specs.Option.{option_map}
+use Rattle.mqb_commands.specs.Causes.{DiskFaultHasCause}
+use Rattle.mqb_journal.specs.Causes.{FaultsAsSaid}
+use Rattle.mqb_outside.specs.Faults.{Rose}
+use Rattle.mqb_serve_laws.specs.Serving.{Answer, is_disk_fault, is_read_fault, is_write_fault}
+use Rattle.mqb_serving.specs.declared.faults.ConnFault.TheVariants as fault
+use Rattle.mqb_status.specs.declared.status.Status.{Status}
+use Rattle.mqb_status.specs.declared.status.Status.TheVariants as status
+use Rattle.mqb_connections.specs.Causes.{is_lost}
+use Rattle.mqb_connections.specs.Statuses.{probe_status}
+use Rattle.mqb_connections.specs.Told.{GoesOn, TellsEnd}
+
+-- A net that gave a connection may take it back.
+pub given_back : (before now : Option ℕ) → now ≡ option_map (λ n. n + 1) before → IfSome now (λ n. 0 < n)
+given_back None now is = subst (λ (o : Option ℕ). IfSome o (λ n. 0 < n)) (sym is) tt
+given_back (Some n) now is =
+    let more : 0 < n + 1 = omega arith in
+    subst (λ (o : Option ℕ). IfSome o (λ k. 0 < k)) (sym is) more
+
+-- A line that was written is one behind which the program goes on.
+
+goes_on : (end : Answer) → GoesOn end → end ≢ Err fault.DiskFault
+goes_on (Ok done) goes is = let none : ⊥ = cc in none
+goes_on (Err (fault.Peer why)) goes is = let none : ⊥ = cc in none
+goes_on (Err fault.ReadFault) goes is = let none : ⊥ = cc in none
+goes_on (Err fault.WriteFault) goes is = let none : ⊥ = cc in none
+goes_on (Err fault.DiskFault) goes is = absurd goes
+goes_on (Err fault.Memory) goes is = absurd goes
+
+pub up_behind : {P : Type 0} (number : ℕ) (end : Answer) (before after : Option (List ℕ)) (r : Result (Unit {0}) Status)
+    → TellsEnd number end before after r → (end ≢ Err fault.DiskFault → P) → OnOk r P
+up_behind number end before after (Ok done) told up = up (goes_on end told.0)
+up_behind number end before after (Err why) told up = tt
+
+-- Counts of faults.
+
+same_faults : (a b : ℕ) (end : Answer) → GoesOn end → FaultsAsSaid is_disk_fault a b end → b ≡ a
+same_faults a b (Ok done) goes said = said
+same_faults a b (Err (fault.Peer why)) goes said = said
+same_faults a b (Err fault.ReadFault) goes said = said
+same_faults a b (Err fault.WriteFault) goes said = said
+same_faults a b (Err fault.DiskFault) goes said = absurd goes
+same_faults a b (Err fault.Memory) goes said = absurd goes
+
+pub disk_behind : (number a b : ℕ) (end : Answer) (before after : Option (List ℕ)) (r : Result (Unit {0}) Status)
+    → TellsEnd number end before after r → FaultsAsSaid is_disk_fault a b end → MatchResult r (λ _. b ≡ a) (DiskFaultHasCause a b)
+disk_behind number a b end before after (Ok done) told said = same_faults a b end told.0 said
+disk_behind number a b end before after (Err status.DiskFault) told said = subst (FaultsAsSaid is_disk_fault a b) told.0 said
+disk_behind number a b end before after (Err status.Memory) told said = tt
+disk_behind number a b end before after (Err status.WriteFault) told said = tt
+disk_behind number a b end before after (Err status.Done) told said = absurd told
+disk_behind number a b end before after (Err status.Usage) told said = absurd told
+disk_behind number a b end before after (Err (status.Script line kind)) told said = absurd told
+disk_behind number a b end before after (Err status.TooLong) told said = absurd told
+disk_behind number a b end before after (Err status.TooManyLines) told said = absurd told
+disk_behind number a b end before after (Err status.ReadFault) told said = absurd told
+disk_behind number a b end before after (Err status.NetFault) told said = absurd told
+disk_behind number a b end before after (Err (status.BadStore at)) told said = absurd told
+disk_behind number a b end before after (Err status.NotEmpty) told said = absurd told
+disk_behind number a b end before after (Err (status.Peer why)) told said = absurd told
+disk_behind number a b end before after (Err status.NetFull) told said = absurd told
+disk_behind number a b end before after (Err status.Refused) told said = absurd told
+
+-- A connection that is taken back is lost where a half of it failed.
+pub lost_as_said : (r w l m : ℕ) (end : Answer) → FaultsAsSaid is_read_fault 0 r end → FaultsAsSaid is_write_fault 0 w end
+    → (0 < r + w → Rose l m) → (r + w ≡ 0 → m ≡ l) → FaultsAsSaid is_lost l m end
+lost_as_said r w l m (Ok done) reads writes lost kept = kept (omega (arith, reads, writes))
+lost_as_said r w l m (Err (fault.Peer why)) reads writes lost kept = kept (omega (arith, reads, writes))
+lost_as_said r w l m (Err fault.ReadFault) reads writes lost kept = lost (omega (arith, reads, writes))
+lost_as_said r w l m (Err fault.WriteFault) reads writes lost kept = lost (omega (arith, reads, writes))
+lost_as_said r w l m (Err fault.DiskFault) reads writes lost kept = kept (omega (arith, reads, writes))
+lost_as_said r w l m (Err fault.Memory) reads writes lost kept = kept (omega (arith, reads, writes))
+
+pub lost_over : (r0 r w0 w l0 l m : ℕ) (end : Answer) → r0 ≡ 0 → w0 ≡ 0 → l ≡ l0 → FaultsAsSaid is_read_fault r0 r end
+    → FaultsAsSaid is_write_fault w0 w end → (0 < r + w → Rose l m) → (r + w ≡ 0 → m ≡ l) → FaultsAsSaid is_lost l0 m end
+lost_over r0 r w0 w l0 l m end no_read no_write same reads writes lost kept =
+    subst (λ (k : ℕ). FaultsAsSaid is_lost k m end) same (lost_as_said r w l m end
+    (subst (λ (k : ℕ). FaultsAsSaid is_read_fault k r end) no_read reads) (subst (λ (k : ℕ). FaultsAsSaid is_write_fault k w end) no_write writes) lost kept)
+
+-- The end of a probe.
+
+pub probe_disk : (a0 a b : ℕ) (end : Answer) (s : Status) → a ≡ a0 → s ≡ probe_status end → FaultsAsSaid is_disk_fault a b end → DiskFaultHasCause a0 b s
+probe_disk a0 a b (Ok done) s same is said = subst (DiskFaultHasCause a0 b) (sym is) tt
+probe_disk a0 a b (Err (fault.Peer why)) s same is said = subst (DiskFaultHasCause a0 b) (sym is) tt
+probe_disk a0 a b (Err fault.ReadFault) s same is said = subst (DiskFaultHasCause a0 b) (sym is) tt
+probe_disk a0 a b (Err fault.WriteFault) s same is said = subst (DiskFaultHasCause a0 b) (sym is) tt
+probe_disk a0 a b (Err fault.DiskFault) s same is said = subst (DiskFaultHasCause a0 b) (sym is) (subst (λ (k : ℕ). Rose k b) same said)
+probe_disk a0 a b (Err fault.Memory) s same is said = subst (DiskFaultHasCause a0 b) (sym is) tt

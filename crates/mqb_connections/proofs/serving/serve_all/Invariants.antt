@@ -1,0 +1,16 @@
+use Rattle.std.proofs.Common.{◌≡◌}
+use Rattle.std.specs.Prelude.{None}
+use Rattle.mqb_manager.specs.Keeping.{KeepsDisk}
+use Rattle.mqb_manager.specs.States.{IsUp}
+use Rattle.mqb_connections.proofs.serving.serve_all.Given as goal
+
+abbrev pub invariant-loop-index : goal.invariant-loop-index
+invariant-loop-index g l = record {
+  up : IsUp l.manager;
+  unlinked : l.manager.session ≡ None;
+  disk : KeepsDisk (g.D.Disk.view l.fn.disk) (g.D.Disk.view l.disk) l.fn.manager l.manager;
+  write_faults : g.K.Sink.write_faults l.out ≡ g.K.Sink.write_faults l.fn.out;
+  disk_faults : (g.D.Disk.view l.disk).faults ≡ (g.D.Disk.view l.fn.disk).faults;
+  net_faults : g.N.Net.faults l.net ≡ g.N.Net.faults l.fn.net;
+  clock : g.C.Clock.steady l.clock ≡ g.C.Clock.steady l.fn.clock;
+}

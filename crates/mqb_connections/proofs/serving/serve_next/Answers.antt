@@ -1,0 +1,41 @@
+use Rattle.std.proofs.Common.{◌≡◌, List, [], ◌∷◌, ◌++◌, Option, refl, subst, ◌∙◌}
+use Rattle.std.specs.Option.{option_map}
+use Rattle.mqb_devices.specs.Net.{Ended}
+use Rattle.mqb_model.specs.declared.answers.Role.TheVariants as role
+use Rattle.mqb_connections.specs.Visits.{Visit}
+use Rattle.mqb_connections.proofs.Ends.{given_back}
+use Rattle.mqb_connections.proofs.Visiting.{is_visit}
+use Rattle.mqb_connections.proofs.serving.serve_next.Goals as goal
+
+pub finish-requires : goal.finish-requires
+finish-requires g c = given_back (g.N.Net.unfinished c.args.net.now) (g.N.Net.unfinished c.accept.new.self) c.in_ok-conn.ensures.opened
+
+pub returns-clause-next : goal.returns-clause-next
+returns-clause-next g c =
+    let conn = c.in_ok-conn.conn in
+    let served = c.serve_one-end.new.conn in
+    let visit : Visit = record {
+      now = c.now-now.result;
+      ended = record {
+        address = g.N.C.Conn.address served;
+        read_faults = g.N.C.Source.read_faults served;
+        write_faults = g.N.C.Sink.write_faults served;
+        given = g.N.C.Conn.given served;
+        held = g.N.C.Source.held served;
+        taken = g.N.C.Sink.taken served;
+      };
+      end = c.serve_one-end.result;
+      after = c.serve_one-end.new.manager;
+    } in
+    record {
+      visit = visit;
+      is = is_visit role.Acceptor (g.C.Clock.steady c.args.clock.now) c.args.manager.now visit (g.N.C.Source.held conn) (g.N.C.Sink.taken conn)
+          (g.N.C.Source.read_faults conn) (g.N.C.Sink.write_faults conn)
+          c.now-now.ensures.moment c.in_ok-conn.ensures.taken (c.serve_one-end.ensures.given ∙ c.in_ok-conn.ensures.given)
+          c.in_ok-conn.ensures.faultless.0 c.in_ok-conn.ensures.faultless.1
+          c.serve_one-end.ensures.served c.serve_one-end.ensures.whole c.serve_one-end.ensures.read_faults c.serve_one-end.ensures.write_faults;
+      left = refl;
+      ended = refl;
+      finished = subst (λ (before : Option (List Ended)). g.N.Net.finished c.finish.new.self ≡ option_map (λ ended. ended ++ visit.ended ∷ []) before)
+          c.accept.ensures.finished c.finish.ensures.finished;
+    }

@@ -1,0 +1,5 @@
+pub mod Causes
+pub mod Statuses
+pub mod Visits
+pub mod Told
+pub mod Served

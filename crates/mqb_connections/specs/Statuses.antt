@@ -1,0 +1,22 @@
+-- How the program ends by the end of its one connection.
+use Rattle.std.specs.Prelude.{Err, Ok}
+use Rattle.mqb_serve_laws.specs.Serving.{Answer}
+use Rattle.mqb_serving.specs.declared.faults.ConnFault.TheVariants as fault
+use Rattle.mqb_status.specs.declared.status.Status.{Status}
+use Rattle.mqb_status.specs.declared.status.Status.TheVariants as status
+
+abbrev pub push_status : Answer → Status
+push_status (Ok done) = status.Done
+push_status (Err (fault.Peer why)) = status.Peer why
+push_status (Err fault.ReadFault) = status.NetFault
+push_status (Err fault.WriteFault) = status.NetFault
+push_status (Err fault.DiskFault) = status.DiskFault
+push_status (Err fault.Memory) = status.Memory
+
+abbrev pub probe_status : Answer → Status
+probe_status (Ok done) = status.Done
+probe_status (Err (fault.Peer why)) = status.Peer why
+probe_status (Err fault.ReadFault) = status.ReadFault
+probe_status (Err fault.WriteFault) = status.WriteFault
+probe_status (Err fault.DiskFault) = status.DiskFault
+probe_status (Err fault.Memory) = status.Memory

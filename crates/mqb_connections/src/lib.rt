@@ -1,0 +1,14 @@
+//! The commands that serve connections: what is served over each, the line that is said of its end, and how the program ends.
+//!
+//! Of the definitions, `Visits` has what is served over connections one after another, and `Served` how each command ends.
+#![tactic(auto)]
+
+mod lines;
+mod piped;
+mod probing;
+mod pushing;
+mod serving;
+
+pub use probing::probe;
+pub use pushing::push;
+pub use serving::serve;

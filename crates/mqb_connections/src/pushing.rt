@@ -1,0 +1,133 @@
+//! `push`: one connection to a peer.
+ghost use Rattle.std.specs.Prelude.{◌<◌, ◌≡◌, ◌⊎◌, IfOk, IfSome, None, OnErr, length};
+ghost use Rattle.mqb_commands.specs.Causes.{DiskFaultHasCause};
+ghost use Rattle.mqb_connections.specs.Causes.{IsNetEnd, NetFaultHasCause, is_lost};
+ghost use Rattle.mqb_connections.specs.Statuses.{push_status};
+ghost use Rattle.mqb_journal.specs.Causes.{FaultsAsSaid};
+ghost use Rattle.mqb_manager.specs.States.{IsOnDisk, IsUp};
+ghost use Rattle.mqb_outside.specs.Faults.{HasCause, Rose};
+ghost use Rattle.mqb_serve_laws.specs.Serving.{is_disk_fault};
+ghost use Rattle.mqb_status.specs.Outputs.{WriteFaultHasCause};
+
+use crate::serving::tell_end;
+use mqb_base::{Failed, Identity, Name};
+use mqb_commands::open;
+use mqb_devices::{Clock, Disk, Net};
+use mqb_manager::Manager;
+use mqb_outside::Sink;
+use mqb_serve::push_one;
+use mqb_serving::ConnFault;
+use mqb_status::{Status, tell};
+use std::alloc::Global;
+
+/// The index of the peer of a host, ignoring ASCII case.
+fn index_of_host(peers: &[Identity], host: &Name) -> Option<usize>
+    ensures within { IfSome result (λ peer. peer < length peers.now) }
+{
+    peers
+        .iter()
+        .position(|peer| peer.host.eq_ignore_ascii_case(host))
+}
+
+/// How the program ends by the end of the connection of a push.
+fn push_status(end: Result<(), ConnFault>) -> Status
+    ensures { result ≡ push_status end }
+{
+    match end {
+        Ok(()) => Status::Done,
+        Err(ConnFault::Peer(fault)) => Status::Peer(fault),
+        Err(ConnFault::ReadFault | ConnFault::WriteFault) => Status::NetFault,
+        Err(ConnFault::DiskFault) => Status::DiskFault,
+        Err(ConnFault::Memory) => Status::Memory,
+    }
+}
+
+/// Pushes to the peer at an index over a connection to it, and says how it ended.
+fn push_over<D: Disk, N: Net, C: Clock>(
+    alloc: Global,
+    peer: usize,
+    manager: &mut Manager,
+    disk: &mut D,
+    net: &mut N,
+    clock: &mut C,
+) -> Result<Result<(), ConnFault>, Failed>
+    requires up { IsUp manager.old }
+    requires on { IsOnDisk (D.view disk.old) manager.old }
+    requires unlinked { manager.old.session ≡ None }
+    requires peer { peer < length manager.old.store.state.peers }
+    ensures disk_faults { IfOk result (FaultsAsSaid is_disk_fault (D.view disk.old).faults
+        (D.view disk.new).faults) }
+    ensures unchanged { OnErr result ((disk.new ≡ disk.old) × (manager.new ≡ manager.old)) }
+    ensures net_faults { HasCause (N.faults net.old) (N.faults net.new) result }
+    ensures lost { IfOk result (FaultsAsSaid is_lost (N.lost net.old) (N.lost net.new)) }
+    ensures clock { C.steady clock.new ≡ C.steady clock.old }
+{
+    let address = manager.state().contents().peers()[peer].address;
+    let mut conn = net.connect(address)?;
+    let now = clock.now();
+    let end = push_one(alloc, disk, manager, peer as u32, &mut conn, now);
+    net.finish(conn);
+    Ok(end)
+}
+
+/// Pushes to the peer at an index, and says how the connection ended.
+#[tactic(auto, using(crate::proofs::Ending::push_ends, crate::proofs::Ending::told_as))]
+fn push_to<K: Sink, D: Disk, N: Net, C: Clock>(
+    alloc: Global,
+    peer: usize,
+    manager: &mut Manager,
+    out: &mut K,
+    disk: &mut D,
+    net: &mut N,
+    clock: &mut C,
+) -> Status
+    requires up { IsUp manager.old }
+    requires on { IsOnDisk (D.view disk.old) manager.old }
+    requires unlinked { manager.old.session ≡ None }
+    requires peer { peer < length manager.old.store.state.peers }
+    ensures write_faults { WriteFaultHasCause (K.write_faults out.old) (K.write_faults out.new)
+        result }
+    ensures disk_faults { DiskFaultHasCause (D.view disk.old).faults (D.view disk.new).faults
+        result }
+    ensures net_faults { NetFaultHasCause (Rose (N.faults net.old) (N.faults net.new)
+        ⊎ Rose (N.lost net.old) (N.lost net.new)) result }
+    ensures clock { C.steady clock.new ≡ C.steady clock.old }
+    ensures ends { IsNetEnd result }
+{
+    let Ok(end) = push_over(alloc, peer, manager, disk, net, clock) else {
+        return tell(out, b"connection 1: netfault\n", Status::NetFault);
+    };
+    match tell_end(alloc, 1, end, out) {
+        Ok(()) => push_status(end),
+        Err(status) => status,
+    }
+}
+
+/// Pushes to the peer of a host what waits for it, and says how the connection ended.
+#[tactic(auto, using(crate::proofs::Ending::not_opened_net, crate::proofs::Ending::told_as))]
+pub fn push<K: Sink, D: Disk, N: Net, C: Clock>(
+    alloc: Global,
+    host: &Name,
+    out: &mut K,
+    disk: &mut D,
+    net: &mut N,
+    clock: &mut C,
+) -> Status
+    ensures write_faults { WriteFaultHasCause (K.write_faults out.old) (K.write_faults out.new)
+        result }
+    ensures disk_faults { DiskFaultHasCause (D.view disk.old).faults (D.view disk.new).faults
+        result }
+    ensures net_faults { NetFaultHasCause (Rose (N.faults net.old) (N.faults net.new)
+        ⊎ Rose (N.lost net.old) (N.lost net.new)) result }
+    ensures clock { C.steady clock.new ≡ C.steady clock.old }
+    ensures ends { IsNetEnd result }
+{
+    let mut manager = match open(alloc, disk) {
+        Ok(manager) => manager,
+        Err(status) => return status,
+    };
+    match index_of_host(manager.state().contents().peers(), host) {
+        Some(peer) => push_to(alloc, peer, &mut manager, out, disk, net, clock),
+        None => tell(out, b"nopeer\n", Status::Refused),
+    }
+}

@@ -1,0 +1,188 @@
+//! `serve`: connections that peers make, one after another.
+ghost use Rattle.std.specs.Prelude.{◌≡◌, ◌≢◌, Err, IfErr, IfOk, MatchResult, None, OnErr, OnOk};
+ghost use Rattle.mqb_commands.specs.Causes.{DiskFaultHasCause};
+ghost use Rattle.mqb_connections.specs.Causes.{IsNetEnd, NetFaultHasCause};
+ghost use Rattle.mqb_connections.specs.Told.{TellsEnd, TellsNetFault};
+ghost use Rattle.mqb_connections.specs.Visits.{IsNext};
+ghost use Rattle.mqb_journal.specs.Causes.{FaultsAsSaid};
+ghost use Rattle.mqb_manager.specs.Keeping.{KeepsDisk};
+ghost use Rattle.mqb_manager.specs.States.{IsOnDisk, IsUp};
+ghost use Rattle.mqb_outside.specs.Faults.{HasCause, Rose};
+ghost use Rattle.mqb_serve_laws.specs.Serving.{is_disk_fault};
+ghost use Rattle.mqb_status.specs.Outputs.{WriteFaultHasCause};
+
+use crate::lines::end_line;
+use mqb_base::{Failed, Memory};
+use mqb_commands::open;
+use mqb_devices::{Clock, Disk, Net};
+use mqb_manager::Manager;
+use mqb_model::Role;
+use mqb_outside::Sink;
+use mqb_serve::serve_one;
+use mqb_serving::ConnFault;
+use mqb_status::{Answer, Status, write_all};
+use std::alloc::Global;
+
+/// Writes the line of a connection that ended, and says how the program ends, where it does.
+#[tactic(auto, using(crate::proofs::Ending::told_end))]
+pub(crate) fn tell_end<K: Sink>(
+    alloc: Global,
+    number: u32,
+    end: Result<(), ConnFault>,
+    out: &mut K,
+) -> Result<(), Status>
+    ensures told { TellsEnd number end (K.taken out.old) (K.taken out.new) result }
+    ensures write_faults { MatchResult result
+        (λ _. K.write_faults out.new ≡ K.write_faults out.old)
+        (WriteFaultHasCause (K.write_faults out.old) (K.write_faults out.new)) }
+    ensures ends { IfErr result IsNetEnd }
+{
+    match end {
+        Err(ConnFault::DiskFault) => return Err(Status::DiskFault),
+        Err(ConnFault::Memory) => return Err(Status::Memory),
+        _ => {}
+    }
+    let line = match end_line(alloc, number, end) {
+        Ok(line) => line,
+        Err(Memory) => return Err(Status::Memory),
+    };
+    match write_all(out, &line) {
+        Ok(()) => Ok(()),
+        Err(_) => Err(Status::WriteFault),
+    }
+}
+
+/// Ends where the net gave no connection.
+#[tactic(auto, using(crate::proofs::Ending::told_net))]
+fn tell_net_fault<K: Sink>(alloc: Global, out: &mut K) -> Status
+    ensures told { TellsNetFault (K.taken out.old) (K.taken out.new) result }
+    ensures write_faults { WriteFaultHasCause (K.write_faults out.old) (K.write_faults out.new)
+        result }
+    ensures ends { IsNetEnd result }
+{
+    let answer = Answer::fault(alloc, Status::NetFault);
+    answer.write(out)
+}
+
+/// Serves the next connection that a peer makes, and says how it ended.
+fn serve_next<D: Disk, N: Net, C: Clock>(
+    alloc: Global,
+    manager: &mut Manager,
+    disk: &mut D,
+    net: &mut N,
+    clock: &mut C,
+) -> Result<Result<(), ConnFault>, Failed>
+    requires up { IsUp manager.old }
+    requires on { IsOnDisk (D.view disk.old) manager.old }
+    requires unlinked { manager.old.session ≡ None }
+    ensures unlinked { manager.new.session ≡ None }
+    ensures up { IfOk result (λ end. end ≢ Err ConnFault.DiskFault → IsUp manager.new) }
+    ensures disk { KeepsDisk (D.view disk.old) (D.view disk.new) manager.old manager.new }
+    ensures disk_faults { IfOk result (FaultsAsSaid is_disk_fault (D.view disk.old).faults
+        (D.view disk.new).faults) }
+    ensures next { IfOk result (IsNext Role.Acceptor (C.steady clock.old) manager.old manager.new
+        (N.finished net.old) (N.finished net.new)) }
+    ensures unchanged { OnErr result ((disk.new ≡ disk.old) × (manager.new ≡ manager.old)
+        × (N.finished net.new ≡ N.finished net.old)) }
+    ensures net_faults { HasCause (N.faults net.old) (N.faults net.new) result }
+    ensures clock { C.steady clock.new ≡ C.steady clock.old }
+{
+    let mut conn = net.accept()?;
+    let now = clock.now();
+    let end = serve_one(alloc, disk, manager, &mut conn, now);
+    net.finish(conn);
+    Ok(end)
+}
+
+/// Serves the next connection that a peer makes, and writes its line.
+fn serve_and_tell<K: Sink, D: Disk, N: Net, C: Clock>(
+    alloc: Global,
+    number: u32,
+    manager: &mut Manager,
+    out: &mut K,
+    disk: &mut D,
+    net: &mut N,
+    clock: &mut C,
+) -> Result<(), Status>
+    requires up { IsUp manager.old }
+    requires on { IsOnDisk (D.view disk.old) manager.old }
+    requires unlinked { manager.old.session ≡ None }
+    ensures unlinked { manager.new.session ≡ None }
+    ensures up { OnOk result (IsUp manager.new) }
+    ensures disk { KeepsDisk (D.view disk.old) (D.view disk.new) manager.old manager.new }
+    ensures write_faults { MatchResult result
+        (λ _. K.write_faults out.new ≡ K.write_faults out.old)
+        (WriteFaultHasCause (K.write_faults out.old) (K.write_faults out.new)) }
+    ensures disk_faults { MatchResult result
+        (λ _. (D.view disk.new).faults ≡ (D.view disk.old).faults)
+        (DiskFaultHasCause (D.view disk.old).faults (D.view disk.new).faults) }
+    ensures net_faults { MatchResult result
+        (λ _. N.faults net.new ≡ N.faults net.old)
+        (NetFaultHasCause (Rose (N.faults net.old) (N.faults net.new))) }
+    ensures clock { C.steady clock.new ≡ C.steady clock.old }
+    ensures ends { IfErr result IsNetEnd }
+{
+    match serve_next(alloc, manager, disk, net, clock) {
+        Ok(end) => tell_end(alloc, number, end, out),
+        Err(Failed) => Err(tell_net_fault(alloc, out)),
+    }
+}
+
+/// Serves so many connections that peers make.
+fn serve_all<K: Sink, D: Disk, N: Net, C: Clock>(
+    alloc: Global,
+    count: u32,
+    manager: &mut Manager,
+    out: &mut K,
+    disk: &mut D,
+    net: &mut N,
+    clock: &mut C,
+) -> Result<(), Status>
+    requires up { IsUp manager.old }
+    requires on { IsOnDisk (D.view disk.old) manager.old }
+    requires unlinked { manager.old.session ≡ None }
+    ensures write_faults { MatchResult result
+        (λ _. K.write_faults out.new ≡ K.write_faults out.old)
+        (WriteFaultHasCause (K.write_faults out.old) (K.write_faults out.new)) }
+    ensures disk_faults { MatchResult result
+        (λ _. (D.view disk.new).faults ≡ (D.view disk.old).faults)
+        (DiskFaultHasCause (D.view disk.old).faults (D.view disk.new).faults) }
+    ensures net_faults { MatchResult result
+        (λ _. N.faults net.new ≡ N.faults net.old)
+        (NetFaultHasCause (Rose (N.faults net.old) (N.faults net.new))) }
+    ensures clock { C.steady clock.new ≡ C.steady clock.old }
+    ensures ends { IfErr result IsNetEnd }
+{
+    for index in 0..count {
+        serve_and_tell(alloc, index + 1, manager, out, disk, net, clock)?;
+    }
+    Ok(())
+}
+
+/// Serves so many connections that peers make, one after another, and says of each how it ended, as soon as it did.
+#[tactic(auto, using(crate::proofs::Ending::not_opened_net))]
+pub fn serve<K: Sink, D: Disk, N: Net, C: Clock>(
+    alloc: Global,
+    count: u32,
+    out: &mut K,
+    disk: &mut D,
+    net: &mut N,
+    clock: &mut C,
+) -> Status
+    ensures write_faults { WriteFaultHasCause (K.write_faults out.old) (K.write_faults out.new)
+        result }
+    ensures disk_faults { DiskFaultHasCause (D.view disk.old).faults (D.view disk.new).faults
+        result }
+    ensures net_faults { NetFaultHasCause (Rose (N.faults net.old) (N.faults net.new)) result }
+    ensures clock { C.steady clock.new ≡ C.steady clock.old }
+    ensures ends { IsNetEnd result }
+{
+    let mut manager = match open(alloc, disk) {
+        Ok(manager) => manager,
+        Err(status) => return status,
+    };
+    match serve_all(alloc, count, &mut manager, out, disk, net, clock) {
+        Ok(()) => Status::Done,
+        Err(status) => status,
+    }
+}

@@ -1,0 +1,5 @@
+pub mod Playing
+pub mod Turning
+pub mod Stopping
+pub mod Growing
+pub mod Completing

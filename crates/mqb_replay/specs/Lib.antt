@@ -1,0 +1,5 @@
+pub mod Outputs
+pub mod Faults
+pub mod Plays
+pub mod Runs
+pub mod Completeness

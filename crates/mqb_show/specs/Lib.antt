@@ -1,0 +1,5 @@
+pub mod Lines
+pub mod Cuts
+pub mod Viewing
+pub mod Shown
+pub mod Showing

@@ -1,0 +1,9 @@
+-- Three texts in a row.
+use Rattle.std.proofs.Common.{◌≡◌, ℕ, List, ◌++◌, Result, OnOk}
+use Rattle.mqb_transcript.specs.Printing.{Page, wrote}
+use Rattle.mqb_transcript.specs.lemmas.Wrote.{then_wrote, last_wrote}
+
+pub three_wrote : {T E : Type 0} (r : Result T E) (start first second last : Page) (a b c : List ℕ) → first ≡ wrote start a → second ≡ wrote first b
+    → OnOk r (last ≡ wrote second c) → OnOk r (last ≡ wrote start (a ++ b ++ c))
+three_wrote r start first second last a b c one two three =
+    last_wrote r start second last (a ++ b) c (then_wrote start first second a b one two) three
