@@ -1,0 +1,66 @@
+//! How a manager is dropped and started again over what a restart left on its disk.
+ghost use Rattle.std.specs.Prelude.{◌==◌, ◌≡◌, IfOk, Some, not};
+ghost use Rattle.mqb_devices.specs.Disk.{Counted};
+ghost use Rattle.mqb_moves.specs.Calling.{seat_of};
+ghost use Rattle.mqb_moves.specs.Seats.{IsHeldOn};
+ghost use Rattle.mqb_seats.specs.Opened.{IsOpened, opened_by};
+
+use crate::seat::Seat;
+use mqb_base::Memory;
+use mqb_devices::{Pick, Power};
+use mqb_journal::stands_for_one_list;
+use mqb_manager::Manager;
+use mqb_model::durable_is_applied;
+use mqb_store::OpenFault;
+use mqb_store_laws::{images_open_to_one, opened_is_not_bad};
+
+/// What a start came to.
+#[derive(Clone, Copy, Debug, PartialEq, Eq)]
+pub enum Opened {
+    /// The store has the records that there were.
+    Same,
+    /// It has the record in doubt besides.
+    Kept,
+    /// The disk failed.
+    Unread,
+}
+
+impl Seat {
+    /// The manager that was started takes the place of the one before. The count of records tells whether the one in doubt was kept.
+    fn opened(&mut self, manager: Manager) -> Opened
+        ensures seat { self.new ≡ seat_of manager }
+        ensures opened { result ≡ opened_by (not (manager.store.journal.count == self.old.manager.store.journal.count)) }
+    {
+        let kept = manager.lsn() != self.manager.lsn();
+        self.manager = manager;
+        self.unread = false;
+        if kept { Opened::Kept } else { Opened::Same }
+    }
+
+    /// Leaves on the disk what a crash may leave, and starts the manager on it. Where the disk fails, the manager is down, with the doubt that there was.
+    pub fn restart<P: Power>(&mut self, disk: &mut P, pick: Pick) -> Result<Opened, Memory>
+        requires { IsHeldOn (P.view disk.old) self.old }
+        ensures opened { IfOk result (IsOpened (P.view disk.old) (P.view disk.new) self.old self.new) }
+        ensures restarts { Counted 1 (P.view disk.old).switch.restarts
+            (P.view disk.new).switch.restarts }
+        ensures arms { (P.view disk.new).switch.arms ≡ (P.view disk.old).switch.arms }
+        ensures pick { (P.view disk.new).switch.last_pick ≡ Some pick }
+    {
+        images_open_to_one();
+        opened_is_not_bad();
+        stands_for_one_list();
+        durable_is_applied();
+        self.manager.is_valid();
+        disk.restart(pick);
+        match Manager::start(self.alloc, disk) {
+            Ok(manager) => Ok(self.opened(manager)),
+            Err(OpenFault::Memory) => Err(Memory),
+            Err(OpenFault::DiskFault) => {
+                self.unread = true;
+                Ok(Opened::Unread)
+            }
+            Err(OpenFault::NotEmpty) => unreachable!(),
+            Err(OpenFault::BadStore { at: _ }) => unreachable!(),
+        }
+    }
+}

@@ -1,0 +1,114 @@
+ghost use Rattle.std.specs.Prelude.{[], ◌==◌, ◌≡◌, IfOk, None, Some, false, if◌then◌else◌, not, option_copied, true};
+ghost use Rattle.mqb_model.specs.managers.Manager.{is_down};
+ghost use Rattle.mqb_model.specs.managers.Valid.{IsValidManager};
+ghost use Rattle.mqb_moves.specs.Calling.{seat_of};
+ghost use Rattle.mqb_moves.specs.Seats.{seated};
+
+use crate::called::Called;
+use mqb_base::{Line, Memory};
+use mqb_manager::Manager;
+use mqb_model::unread_is_valid;
+use mqb_transcript::{Listed, Reply};
+use std::alloc::Global;
+use std::marker::Model;
+
+/// A manager with its disk. Where a start of it failed, the manager in it is the one of before, which is called no more.
+#[derive(Debug, Drop)]
+pub struct Seat {
+    pub(crate) alloc: Global,
+    pub(crate) manager: Manager,
+    pub(crate) unread: bool,
+}
+
+impl Model for Seat {
+    ghost use Rattle.mqb_moves.specs.Seats.{SeatState};
+
+    ghost Value = { SeatState };
+
+    ghost view = { λ s. record { manager = s.manager; unread = s.unread } };
+}
+
+fn copy_of(line: &Line) -> Result<Line, Memory>
+    ensures { IfOk result (λ copy. copy ≡ line.now) }
+{
+    Ok(line.clone()?)
+}
+
+/// A copy of lines.
+fn listed(alloc: Global, lines: &[Line]) -> Result<Listed<Line>, Memory>
+    ensures { IfOk result (λ copy. copy ≡ lines.now) }
+{
+    let mut copy = Listed::new(alloc);
+    for line in lines {
+        copy.push(copy_of(line)?)?;
+    }
+    Ok(copy)
+}
+
+impl Seat {
+    /// A manager that was started.
+    pub fn new(alloc: Global, manager: Manager) -> Seat
+        ensures { result ≡ seat_of manager }
+    {
+        Seat {
+            alloc,
+            manager,
+            unread: false,
+        }
+    }
+
+    /// The manager that is held is valid. This says so, and does nothing.
+    pub fn is_valid(&self)
+        ensures { IsValidManager (seated self.now) }
+    {
+        unread_is_valid();
+        self.manager.is_valid();
+    }
+
+    /// Whether the manager is down.
+    pub fn is_down(&self) -> bool
+        ensures { result ≡ is_down (seated self.now) }
+    {
+        self.unread || self.manager.is_down()
+    }
+
+    /// The manager, where it is up.
+    pub fn manager(&self) -> Option<&Manager>
+        ensures up { is_down (seated self.now) ≡ false → option_copied result ≡ Some self.now.manager }
+        ensures down { is_down (seated self.now) ≡ true → option_copied result ≡ None }
+    {
+        if self.is_down() {
+            None
+        } else {
+            Some(&self.manager)
+        }
+    }
+
+    /// The lines of the last record.
+    pub fn lines(&self) -> &[Line]
+        ensures { result.now ≡ self.now.manager.store.lines }
+    {
+        self.manager.lines()
+    }
+
+    /// The lines of what was recorded since there were so many records.
+    pub(crate) fn lines_behind(&self, before: u64) -> Result<Listed<Line>, Memory>
+        ensures { IfOk result (λ lines. lines ≡
+            (if self.now.manager.store.journal.count == before then [] else self.now.manager.store.lines)) }
+    {
+        if self.manager.lsn() == before {
+            return Ok(Listed::new(self.alloc));
+        }
+        listed(self.alloc, self.manager.lines())
+    }
+
+    /// A call is told by this reply, and recorded where there is one record more than before.
+    pub(crate) fn told(&self, before: u64, reply: Reply) -> Called
+        ensures { result ≡ Called.Told reply (not (self.now.manager.store.journal.count == before)) }
+    {
+        Called::Told {
+            reply,
+            recorded: self.manager.lsn() != before,
+        }
+    }
+}

@@ -1,0 +1,5 @@
+pub mod Hosts
+pub mod Events
+pub mod Replies
+pub mod Worlds
+pub mod Standing
