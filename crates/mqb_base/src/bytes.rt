@@ -1,21 +1,24 @@
 ghost use Rattle.std.specs.Prelude.{◌≡◌, ◌==◌, ℕ, List, IfOk};
 ghost use Rattle.std.specs.Cmp.{partial_equiv_from_equiv};
 ghost use Rattle.std.specs.Cmp.Lexicographic.{pointwise, nat_list_eq_equiv};
+ghost use Rattle.std.specs.Rc.{rc_slice_items};
 
 use crate::answers::Memory;
 use std::alloc::{AllocError, Global};
 use std::marker::Model;
+use std::rc::RcSlice;
 
-/// A list of bytes, such as a body or an extension. Contracts see the list.
+/// A list of bytes, such as a body or an extension. Contracts see the list. A clone shares the bytes, so a message is
+/// copied without its body.
 #[derive(Debug, Drop)]
 pub struct Bytes {
-    items: Vec<u8>,
+    items: RcSlice<u8>,
 }
 
 impl Model for Bytes {
     ghost Value = { List ℕ };
 
-    ghost view = { λ b. b.items.items };
+    ghost view = { λ b. rc_slice_items b.items };
 }
 
 impl Bytes {
@@ -24,7 +27,7 @@ impl Bytes {
         ensures { IfOk result (λ copy. copy ≡ bytes.now) }
     {
         Ok(Bytes {
-            items: Vec::from_slice(alloc, bytes)?,
+            items: RcSlice::from_slice(alloc, bytes)?,
         })
     }
 
