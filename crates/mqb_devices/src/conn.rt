@@ -1,4 +1,5 @@
-ghost use Rattle.std.specs.Prelude.{◌≡◌, ℕ, List, Option};
+ghost use Rattle.std.specs.Borrow.{GName};
+ghost use Rattle.std.specs.Prelude.{[], ◌≡◌, ℕ, List, Option};
 ghost use Rattle.mqb_outside.specs.Told.{Reads, Writes};
 ghost use Rattle.mqb_outside.specs.Faults.{HasCause};
 
@@ -16,6 +17,9 @@ pub trait Conn: Source + Sink {
     /// The address that was asked for, where it tells one.
     ghost address: { Self → Option (List ℕ) };
 
+    /// The references that it holds: whoever lent them finds behind them what the connection left.
+    ghost lent: { Self → List GName } = { λ _. [] };
+
     /// Fills the front of `buf`, and says how much of it. For a `buf` that is not empty, 0 is the end of what comes.
     fn receive(&mut self, buf: &mut [u8]) -> Result<usize, Failed>
         ensures reads { Reads (Self.held self.old) (Self.held self.new) buf.old buf.new result }
@@ -23,7 +27,8 @@ pub trait Conn: Source + Sink {
         ensures taken { Self.taken self.new ≡ Self.taken self.old }
         ensures write_faults { Self.write_faults self.new ≡ Self.write_faults self.old }
         ensures given { given self.new ≡ given self.old }
-        ensures address { address self.new ≡ address self.old };
+        ensures address { address self.new ≡ address self.old }
+        ensures lent { lent self.new ≡ lent self.old };
 
     /// Takes a front of `bytes`, and says how much of it: at least one byte, where there is one.
     fn send(&mut self, bytes: &[u8]) -> Result<usize, Failed>
@@ -32,5 +37,6 @@ pub trait Conn: Source + Sink {
         ensures held { Self.held self.new ≡ Self.held self.old }
         ensures read_faults { Self.read_faults self.new ≡ Self.read_faults self.old }
         ensures given { given self.new ≡ given self.old }
-        ensures address { address self.new ≡ address self.old };
+        ensures address { address self.new ≡ address self.old }
+        ensures lent { lent self.new ≡ lent self.old };
 }

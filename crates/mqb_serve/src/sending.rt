@@ -15,6 +15,7 @@ pub(crate) fn send_all<C: Conn>(conn: &mut C, bytes: &[u8]) -> Result<(), Failed
     ensures read_faults { C.read_faults conn.new ≡ C.read_faults conn.old }
     ensures given { C.given conn.new ≡ C.given conn.old }
     ensures address { C.address conn.new ≡ C.address conn.old }
+    ensures lent { C.lent conn.new ≡ C.lent conn.old }
 {
     let mut rest = bytes;
     while !rest.is_empty() {

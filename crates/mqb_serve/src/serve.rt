@@ -39,6 +39,7 @@ fn converse<D: Disk, C: Conn>(
         (C.read_faults conn.new) result }
     ensures given { C.given conn.new ≡ C.given conn.old }
     ensures address { C.address conn.new ≡ C.address conn.old }
+    ensures lent { C.lent conn.new ≡ C.lent conn.old }
 {
     let mut talk = Talk::new(alloc, role, now)?;
     let Ok(mut buffer) = Vec::from_elem(alloc, 0, MAX_PIECE) else {
@@ -89,6 +90,7 @@ fn serve<D: Disk, C: Conn>(
         (C.write_faults conn.new) result }
     ensures given { C.given conn.new ≡ C.given conn.old }
     ensures address { C.address conn.new ≡ C.address conn.old }
+    ensures lent { C.lent conn.new ≡ C.lent conn.old }
 {
     let _linked = manager.link(role, WINDOW);
     match converse(alloc, disk, manager, role, conn, now) {
@@ -135,6 +137,7 @@ pub fn serve_one<D: Disk, C: Conn>(
         (C.write_faults conn.new) result }
     ensures given { C.given conn.new ≡ C.given conn.old }
     ensures address { C.address conn.new ≡ C.address conn.old }
+    ensures lent { C.lent conn.new ≡ C.lent conn.old }
 {
     serve(alloc, disk, manager, Role::Acceptor, conn, now)
 }
@@ -172,6 +175,7 @@ pub fn push_one<D: Disk, C: Conn>(
         (C.write_faults conn.new) result }
     ensures given { C.given conn.new ≡ C.given conn.old }
     ensures address { C.address conn.new ≡ C.address conn.old }
+    ensures lent { C.lent conn.new ≡ C.lent conn.old }
 {
     serve(alloc, disk, manager, Role::Initiator { peer }, conn, now)
 }

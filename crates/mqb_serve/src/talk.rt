@@ -189,6 +189,7 @@ impl Talk {
         ensures held { C.held conn.new ≡ C.held conn.old }
         ensures given { C.given conn.new ≡ C.given conn.old }
         ensures address { C.address conn.new ≡ C.address conn.old }
+        ensures lent { C.lent conn.new ≡ C.lent conn.old }
     {
         refusals_change_nothing();
         self.out.clear();
@@ -227,6 +228,7 @@ impl Talk {
         ensures held { C.held conn.new ≡ C.held conn.old }
         ensures given { C.given conn.new ≡ C.given conn.old }
         ensures address { C.address conn.new ≡ C.address conn.old }
+        ensures lent { C.lent conn.new ≡ C.lent conn.old }
     {
         for _pump in 0..MAX_PUMPS {
             let answer = self.pump_once(disk, manager, conn)?;
@@ -261,6 +263,7 @@ impl Talk {
         ensures held { C.held conn.new ≡ C.held conn.old }
         ensures given { C.given conn.new ≡ C.given conn.old }
         ensures address { C.address conn.new ≡ C.address conn.old }
+        ensures lent { C.lent conn.new ≡ C.lent conn.old }
     {
         let heard = match self.framer.next() {
             Next::More { .. } => return Ok(None),
@@ -303,6 +306,7 @@ impl Talk {
         ensures held { C.held conn.new ≡ C.held conn.old }
         ensures given { C.given conn.new ≡ C.given conn.old }
         ensures address { C.address conn.new ≡ C.address conn.old }
+        ensures lent { C.lent conn.new ≡ C.lent conn.old }
     {
         let ended = self.answer(disk, manager, conn)?;
         if let Some(end) = ended {
@@ -362,6 +366,7 @@ impl Talk {
         ensures held { C.held conn.new ≡ C.held conn.old }
         ensures given { C.given conn.new ≡ C.given conn.old }
         ensures address { C.address conn.new ≡ C.address conn.old }
+        ensures lent { C.lent conn.new ≡ C.lent conn.old }
     {
         let mut rest = piece;
         while !rest.is_empty() {
@@ -392,6 +397,7 @@ impl Talk {
         ensures write_faults { C.write_faults conn.new ≡ C.write_faults conn.old }
         ensures given { C.given conn.new ≡ C.given conn.old }
         ensures address { C.address conn.new ≡ C.address conn.old }
+        ensures lent { C.lent conn.new ≡ C.lent conn.old }
     {
         let room = (MAX_READ - self.came).min(buffer.len() as u64) as usize;
         match conn.receive(&mut buffer[..room]) {
@@ -435,6 +441,7 @@ impl Talk {
             (C.read_faults conn.new) result }
         ensures given { C.given conn.new ≡ C.given conn.old }
         ensures address { C.address conn.new ≡ C.address conn.old }
+        ensures lent { C.lent conn.new ≡ C.lent conn.old }
     {
         'pieces: loop {
             let count = self.read(conn, buffer)?;
@@ -471,6 +478,7 @@ impl Talk {
             (C.read_faults conn.new) result }
         ensures given { C.given conn.new ≡ C.given conn.old }
         ensures address { C.address conn.new ≡ C.address conn.old }
+        ensures lent { C.lent conn.new ≡ C.lent conn.old }
     {
         let ended = self.pump_to_rest(disk, manager, conn)?;
         match ended {
