@@ -252,6 +252,7 @@ impl PlainOut {
     }
 
     /// Takes out the recoverable message at a place. The later ones move down, with their marks.
+    #[tactic(auto, using(crate::proofs::Placing::message_of_place))]
     pub fn remove_recoverable(&mut self, k: u32) -> Message
         requires { k < length self.old.lists.recoverable }
         ensures removed { slice_get (messages_of self.old.lists.recoverable) k ≡ Some result }
@@ -261,6 +262,7 @@ impl PlainOut {
     }
 
     /// Takes out the express message at a place. The later ones move down, with their marks.
+    #[tactic(auto, using(crate::proofs::Placing::message_of_place))]
     pub fn remove_express(&mut self, k: u32) -> Message
         requires { k < length self.old.lists.express }
         ensures removed { slice_get (messages_of self.old.lists.express) k ≡ Some result }
