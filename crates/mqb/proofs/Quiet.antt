@@ -10,9 +10,8 @@ use Rattle.mqb_commands.specs.Said.{Inits, Lists, Makes}
 use Rattle.mqb_connections.specs.Causes.{IsProbeEnd, NetFaultHasCause}
 use Rattle.mqb_devices.specs.Disk.{View}
 use Rattle.mqb_replay.specs.Runs.{Replays}
-use Rattle.mqb_replay.specs.Runs as replay
 use Rattle.mqb_show.specs.Shown.{Shows}
-use Rattle.mqb_status.specs.Outputs.{IsFaultLine, IsPlain, Tells}
+use Rattle.mqb_status.specs.Outputs.{IsFaultLine, IsPlain, ReadFaultHasCause, Tells}
 use Rattle.mqb_status.specs.declared.status.Status.{Status}
 use Rattle.mqb_status.specs.declared.status.Status.TheVariants as status
 use Rattle.mqb_words.specs.declared.commands.Command.{Command}
@@ -36,7 +35,7 @@ quiet_plain status.NetFull quiet = tt
 quiet_plain status.Memory quiet = tt
 quiet_plain status.Refused quiet = tt
 
-pub quiet_read : (before after : ℕ) (end : Status) → IsQuiet end → replay.ReadFaultHasCause before after end
+pub quiet_read : (before after : ℕ) (end : Status) → IsQuiet end → ReadFaultHasCause before after end
 quiet_read before after status.Done quiet = tt
 quiet_read before after status.Usage quiet = absurd quiet
 quiet_read before after (status.Script line kind) quiet = tt

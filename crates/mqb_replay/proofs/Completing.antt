@@ -10,8 +10,8 @@ use Rattle.mqb_sketch_script.specs.Reading.{LONGEST, MOST_LINES, line_count}
 use Rattle.mqb_status.specs.declared.status.Status.{Status}
 use Rattle.mqb_status.specs.declared.status.Status.TheVariants as status
 use Rattle.mqb_replay.specs.Completeness.{FitMedium, Completes}
-use Rattle.mqb_replay.specs.Runs.{IsAtEnd, IsWithinLimits, IsNoScript, IsNetFull, Ends, Replays, ReadFaultHasCause}
-use Rattle.mqb_status.specs.Outputs.{WriteFaultHasCause}
+use Rattle.mqb_replay.specs.Runs.{IsAtEnd, IsWithinLimits, IsNoScript, IsNetFull, Ends, Replays}
+use Rattle.mqb_status.specs.Outputs.{ReadFaultHasCause, WriteFaultHasCause}
 use Rattle.mqb_replay.proofs.Growing.{full_is_over}
 
 -- of a text this was taken, and the rest is left

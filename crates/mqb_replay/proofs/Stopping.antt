@@ -17,8 +17,8 @@ use Rattle.mqb_replay.specs.Outputs.{net_full_text, output_of}
 use Rattle.mqb_status.specs.Outputs.{TookFront}
 use Rattle.mqb_sketch_script.specs.Grammar.{script_of}
 use Rattle.mqb_replay.specs.Plays.{Played, PlayCause, IsFull}
-use Rattle.mqb_replay.specs.Runs.{Replays, IsAlwaysOnce, Stopped, ReadFaultHasCause}
-use Rattle.mqb_status.specs.Outputs.{Tells, WriteFaultHasCause}
+use Rattle.mqb_replay.specs.Runs.{Replays, IsAlwaysOnce, Stopped}
+use Rattle.mqb_status.specs.Outputs.{ReadFaultHasCause, Tells, WriteFaultHasCause}
 use Rattle.mqb_status.specs.lemmas.Taking.{took_then, front_then}
 
 pub always_once : (events : List (ℕ × Event)) → IsAlwaysOnce events

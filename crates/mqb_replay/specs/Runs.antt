@@ -1,6 +1,5 @@
 -- What becomes of the input of a replay.
 use Rattle.std.specs.Prelude.{◌≡◌, ℕ, ◌<◌, ◌≤◌, ◌⊎◌, List, [], ◌++◌, length, Option, Ok, Err, IfSome}
-use Rattle.mqb_outside.specs.Faults.{Rose}
 use Rattle.mqb_outside.specs.Told.{Gave, Took}
 use Rattle.mqb_sketch_script.specs.declared.events.Event.{Event}
 use Rattle.mqb_sketch_script.specs.declared.reading.LineKind.{LineKind}
@@ -93,11 +92,6 @@ pub record Replays (held rest before after : Option (List ℕ)) (strings : List 
   pub text : List ℕ
   pub gave : Gave held rest text
   pub ends : Ends text rest before after strings r
-
--- the program ends with a read fault only where the input's count of faults rose
-abbrev pub ReadFaultHasCause : ℕ → ℕ → Status → Type 0
-ReadFaultHasCause before after status.ReadFault = Rose before after
-ReadFaultHasCause before after _ = Unit {0}
 
 -- How a play that was stopped ends: a full medium is told, and nothing is after want of memory or a fault of the output.
 abbrev pub Stopped : PlayFault → (before after : Option (List ℕ)) → (faults faults_now : ℕ) → Status → Type 0

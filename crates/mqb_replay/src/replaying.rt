@@ -1,7 +1,7 @@
 ghost use Rattle.std.specs.Prelude.{◌≡◌, [], IfOk};
 ghost use Rattle.mqb_replay.specs.Completeness.{Completes};
-ghost use Rattle.mqb_replay.specs.Runs.{ReadFaultHasCause, Replays, Stopped, TellsLine};
-ghost use Rattle.mqb_status.specs.Outputs.{WriteFaultHasCause};
+ghost use Rattle.mqb_replay.specs.Runs.{Replays, Stopped, TellsLine};
+ghost use Rattle.mqb_status.specs.Outputs.{ReadFaultHasCause, WriteFaultHasCause};
 ghost use Rattle.mqb_status.specs.Texts.{script_fault_text};
 
 use crate::play::{PlayFault, play};

@@ -1,6 +1,5 @@
 -- What is shown of an input, and how that ends.
 use Rattle.std.specs.Prelude.{[], ◌+◌, ◌++◌, ◌<◌, ◌≡◌, ◌⊎◌, IfSome, List, Option, length, ℕ}
-use Rattle.mqb_outside.specs.Faults.{Rose}
 use Rattle.mqb_outside.specs.Told.{Gave, Took}
 use Rattle.mqb_serving.specs.declared.faults.PeerFault.TheVariants as peer
 use Rattle.mqb_serving.specs.declared.limits.TheConstants.{MAX_READ}
@@ -40,8 +39,3 @@ pub record Shows (held left before after : Option (List ℕ)) (r : Status) : Typ
   pub gave : Gave held left bytes
   pub cut : IsCut bytes packets rest
   pub wrote : Writes (lines_from 0 packets) (EndsBehind (length (joined packets)) rest left) before after r
-
--- the program ends with a read fault only where the input's count of faults rose
-abbrev pub ReadFaultHasCause : ℕ → ℕ → Status → Type 0
-ReadFaultHasCause before after status.ReadFault = Rose before after
-ReadFaultHasCause before after _ = Unit {0}

@@ -1,8 +1,8 @@
 ghost use Rattle.std.specs.Prelude.{◌≡◌, ◌≢◌, ◌<◌, ◌≤◌, [], IfOk, IfSome, OnErr, length, take};
 ghost use Rattle.mqb_outside.specs.Faults.{HasCause};
 ghost use Rattle.mqb_outside.specs.Told.{Gave};
-ghost use Rattle.mqb_status.specs.Outputs.{WriteFaultHasCause};
-ghost use Rattle.mqb_show.specs.Shown.{ReadFaultHasCause, Shows};
+ghost use Rattle.mqb_status.specs.Outputs.{ReadFaultHasCause, WriteFaultHasCause};
+ghost use Rattle.mqb_show.specs.Shown.{Shows};
 ghost use Rattle.mqb_show.specs.Showing.{ShowCauses, ShowsAll, Stopped, status_of};
 
 use crate::faults::ShowFault;

@@ -28,6 +28,11 @@ pub record Says (meant : List ℕ → Status → Type 0) (before after : Option 
 abbrev pub IsFaultLine : Status → List ℕ → Status → Type 0
 IsFaultLine fault text end = ((end ≡ fault) × (text ≡ fault_text fault)) ⊎ ((end ≡ status.Memory) × (text ≡ []))
 
+-- the program ends with a read fault only where the input's count of faults rose
+abbrev pub ReadFaultHasCause : ℕ → ℕ → Status → Type 0
+ReadFaultHasCause before after status.ReadFault = Rose before after
+ReadFaultHasCause before after _ = Unit {0}
+
 -- the program ends with a write fault only where the output's count of faults rose
 abbrev pub WriteFaultHasCause : ℕ → ℕ → Status → Type 0
 WriteFaultHasCause before after status.WriteFault = Rose before after
