@@ -1,6 +1,6 @@
 -- What the end of one connection says of the counts of faults.
-use Rattle.std.proofs.Common.{◌≡◌, ◌≢◌, ◌+◌, ◌<◌, ℕ, List, Option, Result, Ok, Err, Some, None, sym, subst, arith}
-use Rattle.std.specs.Prelude.{IfSome, MatchResult, OnOk}
+use Rattle.std.proofs.Common.{◌≡◌, ◌+◌, ◌-◌, ◌<◌, ℕ, List, Option, Result, Ok, Err, Some, None, sym, ap, subst, ◌∙◌, arith}
+use Rattle.std.specs.Prelude.{IfSome, MatchResult}
 use Rattle.std.specs.Option.{option_map}
 use Rattle.mqb_commands.specs.Causes.{DiskFaultHasCause}
 use Rattle.mqb_journal.specs.Causes.{FaultsAsSaid}
@@ -20,22 +20,14 @@ given_back (Some n) now is =
     let more : 0 < n + 1 = omega arith in
     subst (λ (o : Option ℕ). IfSome o (λ k. 0 < k)) (sym is) more
 
--- A line that was written is one behind which the program goes on.
+-- and then none is unfinished that was not before
+pub taken_back : (before given now : Option ℕ) → given ≡ option_map (λ n. n + 1) before → now ≡ option_map (λ n. n - 1) given → now ≡ before
+taken_back None given now opened closed = closed ∙ ap (λ (o : Option ℕ). option_map (λ n. n - 1) o) opened
+taken_back (Some n) given now opened closed =
+    let same : n + 1 - 1 ≡ n = omega arith in
+    closed ∙ ap (λ (o : Option ℕ). option_map (λ n. n - 1) o) opened ∙ ap (λ (k : ℕ). Some k) same
 
-goes_on : (end : Answer) → GoesOn end → end ≢ Err fault.DiskFault
-goes_on (Ok done) goes is = let none : ⊥ = cc in none
-goes_on (Err (fault.Peer why)) goes is = let none : ⊥ = cc in none
-goes_on (Err fault.ReadFault) goes is = let none : ⊥ = cc in none
-goes_on (Err fault.WriteFault) goes is = let none : ⊥ = cc in none
-goes_on (Err fault.DiskFault) goes is = absurd goes
-goes_on (Err fault.Memory) goes is = absurd goes
-
-pub up_behind : {P : Type 0} (number : ℕ) (end : Answer) (before after : Option (List ℕ)) (r : Result (Unit {0}) Status)
-    → TellsEnd number end before after r → (end ≢ Err fault.DiskFault → P) → OnOk r P
-up_behind number end before after (Ok done) told up = up (goes_on end told.0)
-up_behind number end before after (Err why) told up = tt
-
--- Counts of faults.
+-- Counts of faults. A line that was written is one behind which the program goes on.
 
 same_faults : (a b : ℕ) (end : Answer) → GoesOn end → FaultsAsSaid is_disk_fault a b end → b ≡ a
 same_faults a b (Ok done) goes said = said

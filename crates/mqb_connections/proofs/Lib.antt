@@ -2,3 +2,8 @@ pub mod Parts
 pub mod Ends
 pub mod Ending
 pub mod Visiting
+pub mod Behind
+pub mod Peers
+pub mod Opening
+pub mod Storing
+pub mod Completing

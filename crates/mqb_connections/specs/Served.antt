@@ -1,19 +1,19 @@
 -- How the commands end that serve connections.
 use Rattle.std.specs.List.{AllByRecursion}
-use Rattle.std.specs.Prelude.{◌++◌, ◌≡◌, List, Option, length, ℕ}
+use Rattle.std.specs.Prelude.{[], ◌+◌, ◌++◌, ◌<◌, ◌∷◌, ◌≡◌, ◌≢◌, ◌⊎◌, Err, List, None, Ok, Option, Result, Some, length, ℕ}
 use Rattle.mqb_commands.specs.Opened.{IsNotOpened, OpensAs}
 use Rattle.mqb_devices.specs.Disk.{View}
+use Rattle.mqb_devices.specs.Images.{Each}
 use Rattle.mqb_devices.specs.Net.{Ended}
 use Rattle.mqb_manager.specs.Keeping.{KeepsDisk}
-use Rattle.mqb_manager.specs.States.{ManagerState}
+use Rattle.mqb_manager.specs.States.{IsUp, ManagerState}
 use Rattle.mqb_model.specs.declared.answers.Role.TheVariants as role
 use Rattle.mqb_outside.specs.Faults.{Rose}
 use Rattle.mqb_outside.specs.Told.{Took}
-use Rattle.mqb_status.specs.Outputs.{TookFront}
-use Rattle.mqb_status.specs.Texts.{fault_text}
+use Rattle.mqb_store_laws.specs.Faults.{IsBadStore}
 use Rattle.mqb_status.specs.declared.status.Status.{Status}
 use Rattle.mqb_status.specs.declared.status.Status.TheVariants as status
-use Rattle.mqb_connections.specs.Told.{GoesOn}
+use Rattle.mqb_connections.specs.Told.{GoesOn, TellsEnd, TellsNetFault}
 use Rattle.mqb_connections.specs.Visits.{AreFinished, Visit, Visits, lines_from}
 
 -- what a net tells, before and after a command
@@ -25,25 +25,54 @@ pub record Nets : Type 0 where
   pub lost : ℕ
   pub lost_now : ℕ
 
--- why no more is served behind connections, and what was written
-abbrev pub EndsServing : ℕ → List Visit → Nets → (before after : Option (List ℕ)) → Status → Type 0
-EndsServing count visits net before after status.Done = (length visits ≡ count) × AllByRecursion (λ v. GoesOn v.end) visits × Took before after (lines_from 1 visits)
-EndsServing count visits net before after status.NetFault = Rose net.faults net.faults_now × Took before after (lines_from 1 visits ++ fault_text status.NetFault)
-EndsServing count visits net before after status.DiskFault = Took before after (lines_from 1 visits)
-EndsServing count visits net before after status.Memory = TookFront before after (lines_from 1 visits)
-EndsServing count visits net before after status.WriteFault = TookFront before after (lines_from 1 visits ++ fault_text status.NetFault)
-EndsServing count visits net before after _ = ⊥
+-- the end of a program that would go on to the end of its work
+abbrev pub end_of : Result (Unit {0}) Status → Status
+end_of (Ok done) = status.Done
+end_of (Err end) = end
 
--- `serve`: the manager to which the store opens serves connections that its peers make, and the disk stands for what the last of them left
-pub record ServesStore (count : ℕ) (steady : Option ℕ) (d e : View) (net : Nets) (before after : Option (List ℕ)) (r : Status) : Type 0 where
+-- connections, and the one behind them with which the program ended, where one did
+abbrev pub with_last : List Visit → Option Visit → List Visit
+with_last visits None = visits
+with_last visits (Some v) = visits ++ v ∷ []
+
+-- Why no connection is served behind so many of count, the first of which has this number: the program ended with one more, or all were served, or the
+-- net gave no other.
+abbrev pub EndsServing : (number count served faults faults_now : ℕ) → (before after : Option (List ℕ)) → Status → Option Visit → Type 0
+EndsServing number count served faults faults_now before after r (Some v) = (served < count) × TellsEnd (number + served) v.end before after (Err r)
+EndsServing number count served faults faults_now before after r None = ((served ≡ count) × (r ≡ status.Done) × (after ≡ before))
+    ⊎ ((served < count) × Rose faults faults_now × TellsNetFault before after r)
+
+-- The managers from m to n served count connections that peers made, one after another, unless the program ended before. Of each that did not end it the
+-- line was written before the next was served.
+pub record ServesPeers (number count : ℕ) (steady : Option ℕ) (m n : ManagerState) (ended ended_now : Option (List Ended)) (faults faults_now : ℕ) (before after : Option (List ℕ)) (r : Status) : Type 0 where
+  -- those whose lines were written
+  pub told : List Visit
+  -- the one that ended the program
+  pub last : Option Visit
+  pub served : Visits role.Acceptor steady m (with_last told last) n
+  pub finished : AreFinished ended ended_now (with_last told last)
+  pub goes_on : AllByRecursion (λ v. GoesOn v.end) told
+  -- what was taken behind the lines
+  pub between : Option (List ℕ)
+  pub lines : Took before between (lines_from number told)
+  pub ends : EndsServing number count (length told) faults faults_now between after r last
+
+-- `serve`: the manager to which the store opens serves connections that its peers make, and the disk stands for what the last of them left.
+pub record ServesStore (count : ℕ) (steady : Option ℕ) (d e : View) (ended ended_now : Option (List Ended)) (faults faults_now : ℕ) (before after : Option (List ℕ)) (r : Status) : Type 0 where
   pub first : ManagerState
-  pub last : ManagerState
-  pub visits : List Visit
+  pub left : ManagerState
   pub opened : OpensAs d first
-  pub served : Visits role.Acceptor steady first visits last
-  pub disk : KeepsDisk d e first last
-  pub finished : AreFinished net.finished net.finished_now visits
-  pub ends : EndsServing count visits net before after r
+  pub serves : ServesPeers 1 count steady first left ended ended_now faults faults_now before after r
+  pub disk : KeepsDisk d e first left
+  -- so the disk is settled still, where it was, and stands for that manager
+  pub up : r ≢ status.DiskFault → IsUp left
+
+-- A sound store is served to the end, whatever the peers send and whichever connections fail, where neither the disk nor the net nor the output failed,
+-- unless memory ran out.
+abbrev pub Completes : View → View → (faults faults_now writes writes_now : ℕ) → Status → Type 0
+Completes d e faults faults_now writes writes_now r =
+    ((at : ℕ) → Each d.reads (IsBadStore at) → ⊥) → (Rose d.faults e.faults → ⊥) → (Rose faults faults_now → ⊥) → (Rose writes writes_now → ⊥)
+    → (r ≡ status.Done) ⊎ (r ≡ status.Memory)
 
 -- a store that was not opened: nothing is written
 abbrev pub IsUnopened : View → View → (before after : Option (List ℕ)) → Status → Type 0

@@ -1,7 +1,8 @@
 //! `serve`: connections that peers make, one after another.
-ghost use Rattle.std.specs.Prelude.{◌≡◌, ◌≢◌, Err, IfErr, IfOk, MatchResult, None, OnErr, OnOk};
+ghost use Rattle.std.specs.Prelude.{◌≡◌, ◌≢◌, ◌⊎◌, Err, IfErr, IfOk, MatchResult, None, OnErr};
 ghost use Rattle.mqb_commands.specs.Causes.{DiskFaultHasCause};
 ghost use Rattle.mqb_connections.specs.Causes.{IsNetEnd, NetFaultHasCause};
+ghost use Rattle.mqb_connections.specs.Served.{Completes, IsUnopened, ServesPeers, ServesStore, end_of};
 ghost use Rattle.mqb_connections.specs.Told.{TellsEnd, TellsNetFault};
 ghost use Rattle.mqb_connections.specs.Visits.{IsNext};
 ghost use Rattle.mqb_journal.specs.Causes.{FaultsAsSaid};
@@ -32,6 +33,7 @@ pub(crate) fn tell_end<K: Sink>(
     out: &mut K,
 ) -> Result<(), Status>
     ensures told { TellsEnd number end (K.taken out.old) (K.taken out.new) result }
+    ensures stops { end ≡ Err ConnFault.DiskFault → result ≡ Err Status.DiskFault }
     ensures write_faults { MatchResult result
         (λ _. K.write_faults out.new ≡ K.write_faults out.old)
         (WriteFaultHasCause (K.write_faults out.old) (K.write_faults out.new)) }
@@ -85,6 +87,7 @@ fn serve_next<D: Disk, N: Net, C: Clock>(
     ensures unchanged { OnErr result ((disk.new ≡ disk.old) × (manager.new ≡ manager.old)
         × (N.finished net.new ≡ N.finished net.old)) }
     ensures net_faults { HasCause (N.faults net.old) (N.faults net.new) result }
+    ensures unfinished { N.unfinished net.new ≡ N.unfinished net.old }
     ensures clock { C.steady clock.new ≡ C.steady clock.old }
 {
     let mut conn = net.accept()?;
@@ -107,9 +110,14 @@ fn serve_and_tell<K: Sink, D: Disk, N: Net, C: Clock>(
     requires up { IsUp manager.old }
     requires on { IsOnDisk (D.view disk.old) manager.old }
     requires unlinked { manager.old.session ≡ None }
+    ensures served { ServesPeers number 1 (C.steady clock.old) manager.old manager.new
+        (N.finished net.old) (N.finished net.new) (N.faults net.old) (N.faults net.new)
+        (K.taken out.old) (K.taken out.new) (end_of result) }
+    ensures stops { result ≢ Err Status.Done }
     ensures unlinked { manager.new.session ≡ None }
-    ensures up { OnOk result (IsUp manager.new) }
+    ensures up { end_of result ≢ Status.DiskFault → IsUp manager.new }
     ensures disk { KeepsDisk (D.view disk.old) (D.view disk.new) manager.old manager.new }
+    ensures unfinished { N.unfinished net.new ≡ N.unfinished net.old }
     ensures write_faults { MatchResult result
         (λ _. K.write_faults out.new ≡ K.write_faults out.old)
         (WriteFaultHasCause (K.write_faults out.old) (K.write_faults out.new)) }
@@ -141,6 +149,12 @@ fn serve_all<K: Sink, D: Disk, N: Net, C: Clock>(
     requires up { IsUp manager.old }
     requires on { IsOnDisk (D.view disk.old) manager.old }
     requires unlinked { manager.old.session ≡ None }
+    ensures served { ServesPeers 1 count (C.steady clock.old) manager.old manager.new
+        (N.finished net.old) (N.finished net.new) (N.faults net.old) (N.faults net.new)
+        (K.taken out.old) (K.taken out.new) (end_of result) }
+    ensures up { end_of result ≢ Status.DiskFault → IsUp manager.new }
+    ensures disk { KeepsDisk (D.view disk.old) (D.view disk.new) manager.old manager.new }
+    ensures unfinished { N.unfinished net.new ≡ N.unfinished net.old }
     ensures write_faults { MatchResult result
         (λ _. K.write_faults out.new ≡ K.write_faults out.old)
         (WriteFaultHasCause (K.write_faults out.old) (K.write_faults out.new)) }
@@ -169,6 +183,14 @@ pub fn serve<K: Sink, D: Disk, N: Net, C: Clock>(
     net: &mut N,
     clock: &mut C,
 ) -> Status
+    ensures served { (IsUnopened (D.view disk.old) (D.view disk.new) (K.taken out.old)
+        (K.taken out.new) result × (net.new ≡ net.old))
+        ⊎ ServesStore count (C.steady clock.old) (D.view disk.old) (D.view disk.new)
+        (N.finished net.old) (N.finished net.new) (N.faults net.old) (N.faults net.new)
+        (K.taken out.old) (K.taken out.new) result }
+    ensures unfinished { N.unfinished net.new ≡ N.unfinished net.old }
+    ensures complete { Completes (D.view disk.old) (D.view disk.new) (N.faults net.old)
+        (N.faults net.new) (K.write_faults out.old) (K.write_faults out.new) result }
     ensures write_faults { WriteFaultHasCause (K.write_faults out.old) (K.write_faults out.new)
         result }
     ensures disk_faults { DiskFaultHasCause (D.view disk.old).faults (D.view disk.new).faults

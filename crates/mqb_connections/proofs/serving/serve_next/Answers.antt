@@ -3,12 +3,17 @@ use Rattle.std.specs.Option.{option_map}
 use Rattle.mqb_devices.specs.Net.{Ended}
 use Rattle.mqb_model.specs.declared.answers.Role.TheVariants as role
 use Rattle.mqb_connections.specs.Visits.{Visit}
-use Rattle.mqb_connections.proofs.Ends.{given_back}
+use Rattle.mqb_connections.proofs.Ends.{given_back, taken_back}
 use Rattle.mqb_connections.proofs.Visiting.{is_visit}
 use Rattle.mqb_connections.proofs.serving.serve_next.Goals as goal
 
 pub finish-requires : goal.finish-requires
 finish-requires g c = given_back (g.N.Net.unfinished c.args.net.now) (g.N.Net.unfinished c.accept.new.self) c.in_ok-conn.ensures.opened
+
+pub returns-clause-unfinished : goal.returns-clause-unfinished
+returns-clause-unfinished g c =
+    taken_back (g.N.Net.unfinished c.args.net.now) (g.N.Net.unfinished c.accept.new.self) (g.N.Net.unfinished c.finish.new.self)
+    c.in_ok-conn.ensures.opened c.finish.ensures.closed
 
 pub returns-clause-next : goal.returns-clause-next
 returns-clause-next g c =
