@@ -33,7 +33,7 @@ finished_then None b c xs ys first second = second ∙ ap (λ (o : Option (List 
 finished_then (Some before) b c xs ys first second =
     second ∙ ap (λ (o : Option (List Ended)). option_map (λ ended. ended ++ ends_of ys) o) first
     ∙ ap (λ (ended : List Ended). Some ended)
-        (append_assoc before (ends_of xs) (ends_of ys) ∙ ap (λ (ended : List Ended). before ++ ended) (sym (map-append (λ (v : Visit). v.ended) xs ys)))
+    (append_assoc before (ends_of xs) (ends_of ys) ∙ ap (λ (ended : List Ended). before ++ ended) (sym (map-append (λ (v : Visit). v.ended) xs ys)))
 
 pub finished_none : (a b : Option (List Ended)) → b ≡ a → AreFinished a b []
 finished_none None b same = same

@@ -55,8 +55,11 @@ one_told number steady m n ended ended_now faults faults_now before after end (E
       goes_on = tt;
       between = before;
       lines = took_none before;
-      ends = (omega arith, subst (λ (k : ℕ). TellsEnd k next.visit.end before after (Err why)) here
-          (subst (λ (e : Answer). TellsEnd number e before after (Err why)) (sym next.ended) told));
+      ends = (
+        omega arith,
+        subst (λ (k : ℕ). TellsEnd k next.visit.end before after (Err why)) here
+            (subst (λ (e : Answer). TellsEnd number e before after (Err why)) (sym next.ended) told),
+      );
     }
 
 -- the net gave none
