@@ -7,3 +7,5 @@ pub mod Peers
 pub mod Opening
 pub mod Storing
 pub mod Completing
+pub mod Pushes
+pub mod Probes

@@ -1,4 +1,4 @@
-ghost use Rattle.std.specs.Prelude.{◌≡◌, None, IfOk, OnErr};
+ghost use Rattle.std.specs.Prelude.{[], ◌∷◌, ◌≡◌, None, IfOk, OnErr};
 
 use mqb_base::Failed;
 use mqb_devices::Conn;
@@ -35,6 +35,8 @@ impl<'a, S: Source, K: Sink> Conn for Piped<'a, S, K> {
     ghost given = { λ _. None };
 
     ghost address = { λ _. None };
+
+    ghost lent = { λ p. p.input.ghost_name ∷ p.out.ghost_name ∷ [] };
 
     fn receive(&mut self, buf: &mut [u8]) -> Result<usize, Failed> {
         self.input.read(buf)

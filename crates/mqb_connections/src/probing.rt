@@ -2,15 +2,19 @@
 ghost use Rattle.std.specs.Prelude.{◌≡◌, None};
 ghost use Rattle.mqb_commands.specs.Causes.{DiskFaultHasCause};
 ghost use Rattle.mqb_connections.specs.Causes.{IsProbeEnd};
+ghost use Rattle.mqb_connections.specs.Probed.{ProbesStore};
 ghost use Rattle.mqb_connections.specs.Statuses.{probe_status};
 ghost use Rattle.mqb_journal.specs.Causes.{FaultsAsSaid};
-ghost use Rattle.mqb_manager.specs.States.{IsOnDisk, IsUp};
-ghost use Rattle.mqb_serve_laws.specs.Serving.{is_disk_fault};
+ghost use Rattle.mqb_manager.specs.Keeping.{KeepsDisk};
+ghost use Rattle.mqb_manager.specs.States.{IsOnDisk, IsUp, manager_of};
+ghost use Rattle.mqb_serve_laws.specs.Serving.{Serves, ServesWhole, is_disk_fault, is_read_fault, is_write_fault};
+ghost use Rattle.mqb_status.specs.Outputs.{ReadFaultHasCause, WriteFaultHasCause};
 
 use crate::piped::Piped;
 use mqb_commands::open;
 use mqb_devices::{Clock, Disk};
 use mqb_manager::Manager;
+use mqb_model::Role;
 use mqb_outside::{Sink, Source};
 use mqb_serve::serve_one;
 use mqb_serving::ConnFault;
@@ -43,15 +47,23 @@ fn serve_piped<S: Source, K: Sink, D: Disk>(
     requires up { IsUp manager.old }
     requires on { IsOnDisk (D.view disk.old) manager.old }
     requires unlinked { manager.old.session ≡ None }
+    ensures served { Serves Role.Acceptor now (manager_of manager.old) (manager_of manager.new)
+        (S.held input.old) (S.held input.new) (K.taken out.old) (K.taken out.new) result }
+    ensures whole { ServesWhole result Role.Acceptor now (manager_of manager.old)
+        (manager_of manager.new) (S.held input.old) (K.taken out.old) (K.taken out.new) }
+    ensures disk { KeepsDisk (D.view disk.old) (D.view disk.new) manager.old manager.new }
     ensures disk_faults { FaultsAsSaid is_disk_fault (D.view disk.old).faults
         (D.view disk.new).faults result }
+    ensures read_faults { FaultsAsSaid is_read_fault (S.read_faults input.old)
+        (S.read_faults input.new) result }
+    ensures write_faults { FaultsAsSaid is_write_fault (K.write_faults out.old)
+        (K.write_faults out.new) result }
 {
     let mut piped = Piped { input, out };
     serve_one(alloc, disk, manager, &mut piped, now)
 }
 
 /// Serves one connection over the input and the output, on which nothing else is written.
-#[tactic(auto, using(crate::proofs::Ending::not_opened_probe, crate::proofs::Ending::probe_ends))]
 pub fn probe<S: Source, K: Sink, D: Disk, C: Clock>(
     alloc: Global,
     input: &mut S,
@@ -59,6 +71,12 @@ pub fn probe<S: Source, K: Sink, D: Disk, C: Clock>(
     disk: &mut D,
     clock: &mut C,
 ) -> Status
+    ensures probes { ProbesStore (C.steady clock.old) (D.view disk.old) (D.view disk.new)
+        (S.held input.old) (S.held input.new) (K.taken out.old) (K.taken out.new) result }
+    ensures read_faults { ReadFaultHasCause (S.read_faults input.old) (S.read_faults input.new)
+        result }
+    ensures write_faults { WriteFaultHasCause (K.write_faults out.old) (K.write_faults out.new)
+        result }
     ensures disk_faults { DiskFaultHasCause (D.view disk.old).faults (D.view disk.new).faults
         result }
     ensures clock { C.steady clock.new ≡ C.steady clock.old }

@@ -1,16 +1,18 @@
 //! `push`: one connection to a peer.
-ghost use Rattle.std.specs.Prelude.{◌<◌, ◌≡◌, ◌⊎◌, IfOk, IfSome, None, OnErr, length};
+ghost use Rattle.std.specs.Prelude.{◌<◌, ◌≡◌, ◌⊎◌, IfOk, IfSome, None, OnErr, Some, length};
 ghost use Rattle.mqb_commands.specs.Causes.{DiskFaultHasCause};
 ghost use Rattle.mqb_connections.specs.Causes.{IsNetEnd, NetFaultHasCause, is_lost};
+ghost use Rattle.mqb_connections.specs.Pushed.{IsPush, PushesAt, PushesStore, TellsPush, address_at, index_of_host};
 ghost use Rattle.mqb_connections.specs.Statuses.{push_status};
 ghost use Rattle.mqb_journal.specs.Causes.{FaultsAsSaid};
+ghost use Rattle.mqb_manager.specs.Keeping.{KeepsDisk};
 ghost use Rattle.mqb_manager.specs.States.{IsOnDisk, IsUp};
 ghost use Rattle.mqb_outside.specs.Faults.{HasCause, Rose};
 ghost use Rattle.mqb_serve_laws.specs.Serving.{is_disk_fault};
 ghost use Rattle.mqb_status.specs.Outputs.{WriteFaultHasCause};
 
-use crate::serving::tell_end;
-use mqb_base::{Failed, Identity, Name};
+use crate::lines::end_line;
+use mqb_base::{Failed, Identity, Memory, Name};
 use mqb_commands::open;
 use mqb_devices::{Clock, Disk, Net};
 use mqb_manager::Manager;
@@ -20,13 +22,22 @@ use mqb_serving::ConnFault;
 use mqb_status::{Status, tell};
 use std::alloc::Global;
 
-/// The index of the peer of a host, ignoring ASCII case.
+/// The index of the first peer of a host, ignoring ASCII case.
 fn index_of_host(peers: &[Identity], host: &Name) -> Option<usize>
+    ensures index { result ≡ index_of_host peers.now host.now }
     ensures within { IfSome result (λ peer. peer < length peers.now) }
 {
     peers
         .iter()
         .position(|peer| peer.host.eq_ignore_ascii_case(host))
+}
+
+/// The address of the peer at an index.
+fn address_at(peers: &[Identity], peer: usize) -> [u8; 4]
+    requires { peer < length peers.now }
+    ensures { Some result ≡ address_at peers.now peer }
+{
+    peers[peer].address
 }
 
 /// How the program ends by the end of the connection of a push.
@@ -55,14 +66,20 @@ fn push_over<D: Disk, N: Net, C: Clock>(
     requires on { IsOnDisk (D.view disk.old) manager.old }
     requires unlinked { manager.old.session ≡ None }
     requires peer { peer < length manager.old.store.state.peers }
+    ensures push { IfOk result (IsPush peer (C.steady clock.old) manager.old manager.new
+        (N.finished net.old) (N.finished net.new)) }
+    ensures disk { KeepsDisk (D.view disk.old) (D.view disk.new) manager.old manager.new }
     ensures disk_faults { IfOk result (FaultsAsSaid is_disk_fault (D.view disk.old).faults
         (D.view disk.new).faults) }
     ensures unchanged { OnErr result ((disk.new ≡ disk.old) × (manager.new ≡ manager.old)) }
     ensures net_faults { HasCause (N.faults net.old) (N.faults net.new) result }
     ensures lost { IfOk result (FaultsAsSaid is_lost (N.lost net.old) (N.lost net.new)) }
+    ensures none_lost { OnErr result (N.lost net.new ≡ N.lost net.old) }
+    ensures none_finished { OnErr result (N.finished net.new ≡ N.finished net.old) }
+    ensures unfinished { N.unfinished net.new ≡ N.unfinished net.old }
     ensures clock { C.steady clock.new ≡ C.steady clock.old }
 {
-    let address = manager.state().contents().peers()[peer].address;
+    let address = address_at(manager.state().contents().peers(), peer);
     let mut conn = net.connect(address)?;
     let now = clock.now();
     let end = push_one(alloc, disk, manager, peer as u32, &mut conn, now);
@@ -70,8 +87,25 @@ fn push_over<D: Disk, N: Net, C: Clock>(
     Ok(end)
 }
 
+/// Writes the line of the connection, and ends as it did.
+#[tactic(auto, using(crate::proofs::Pushes::line_told, crate::proofs::Pushes::no_line, crate::proofs::Pushes::plain_push))]
+fn tell_push<K: Sink>(alloc: Global, end: Result<(), ConnFault>, out: &mut K) -> Status
+    ensures told { TellsPush end (K.taken out.old) (K.taken out.new) result }
+    ensures write_faults { WriteFaultHasCause (K.write_faults out.old) (K.write_faults out.new)
+        result }
+{
+    match end {
+        Err(ConnFault::DiskFault) => return Status::DiskFault,
+        Err(ConnFault::Memory) => return Status::Memory,
+        _ => {}
+    }
+    match end_line(alloc, 1, end) {
+        Ok(line) => tell(out, &line, push_status(end)),
+        Err(Memory) => Status::Memory,
+    }
+}
+
 /// Pushes to the peer at an index, and says how the connection ended.
-#[tactic(auto, using(crate::proofs::Ending::push_ends, crate::proofs::Ending::told_as))]
 fn push_to<K: Sink, D: Disk, N: Net, C: Clock>(
     alloc: Global,
     peer: usize,
@@ -85,26 +119,27 @@ fn push_to<K: Sink, D: Disk, N: Net, C: Clock>(
     requires on { IsOnDisk (D.view disk.old) manager.old }
     requires unlinked { manager.old.session ≡ None }
     requires peer { peer < length manager.old.store.state.peers }
+    ensures pushes { PushesAt (Some peer) (C.steady clock.old) manager.old
+        (D.view disk.old) (D.view disk.new) (record {
+          finished = N.finished net.old;
+          finished_now = N.finished net.new;
+          faults = N.faults net.old;
+          faults_now = N.faults net.new;
+          lost = N.lost net.old;
+          lost_now = N.lost net.new;
+        }) (K.taken out.old) (K.taken out.new) result }
     ensures write_faults { WriteFaultHasCause (K.write_faults out.old) (K.write_faults out.new)
         result }
-    ensures disk_faults { DiskFaultHasCause (D.view disk.old).faults (D.view disk.new).faults
-        result }
-    ensures net_faults { NetFaultHasCause (Rose (N.faults net.old) (N.faults net.new)
-        ⊎ Rose (N.lost net.old) (N.lost net.new)) result }
+    ensures unfinished { N.unfinished net.new ≡ N.unfinished net.old }
     ensures clock { C.steady clock.new ≡ C.steady clock.old }
-    ensures ends { IsNetEnd result }
 {
-    let Ok(end) = push_over(alloc, peer, manager, disk, net, clock) else {
-        return tell(out, b"connection 1: netfault\n", Status::NetFault);
-    };
-    match tell_end(alloc, 1, end, out) {
-        Ok(()) => push_status(end),
-        Err(status) => status,
+    match push_over(alloc, peer, manager, disk, net, clock) {
+        Ok(end) => tell_push(alloc, end, out),
+        Err(Failed) => tell(out, b"connection 1: netfault\n", Status::NetFault),
     }
 }
 
 /// Pushes to the peer of a host what waits for it, and says how the connection ended.
-#[tactic(auto, using(crate::proofs::Ending::not_opened_net, crate::proofs::Ending::told_as))]
 pub fn push<K: Sink, D: Disk, N: Net, C: Clock>(
     alloc: Global,
     host: &Name,
@@ -113,6 +148,16 @@ pub fn push<K: Sink, D: Disk, N: Net, C: Clock>(
     net: &mut N,
     clock: &mut C,
 ) -> Status
+    ensures pushes { PushesStore host.now (C.steady clock.old)
+        (D.view disk.old) (D.view disk.new) (record {
+          finished = N.finished net.old;
+          finished_now = N.finished net.new;
+          faults = N.faults net.old;
+          faults_now = N.faults net.new;
+          lost = N.lost net.old;
+          lost_now = N.lost net.new;
+        }) (K.taken out.old) (K.taken out.new) result }
+    ensures unfinished { N.unfinished net.new ≡ N.unfinished net.old }
     ensures write_faults { WriteFaultHasCause (K.write_faults out.old) (K.write_faults out.new)
         result }
     ensures disk_faults { DiskFaultHasCause (D.view disk.old).faults (D.view disk.new).faults

@@ -1,7 +1,16 @@
 use Rattle.mqb_connections.proofs.Ends.{probe_disk}
+use Rattle.mqb_connections.proofs.Probes.{store_probes}
 use Rattle.mqb_connections.proofs.probing.probe.Goals as goal
 
 pub returns-clause-disk_faults : goal.returns-clause-disk_faults
 returns-clause-disk_faults g c =
     probe_disk (g.D.Disk.view c.args.disk.now).faults (g.D.Disk.view c.open.new.disk).faults (g.D.Disk.view c.serve_piped-end.new.disk).faults
     c.serve_piped-end.result c.probe_status.result c.in-Ok.ensures.cause c.probe_status.ensures c.serve_piped-end.ensures.disk_faults
+
+pub returns-clause-probes : goal.returns-clause-probes
+returns-clause-probes g c =
+    store_probes (g.C.Clock.steady c.args.clock.now) (g.D.Disk.view c.args.disk.now) (g.D.Disk.view c.open.new.disk) (g.D.Disk.view c.serve_piped-end.new.disk)
+    c.in-Ok.manager c.serve_piped-end.new.manager c.now-now.result c.serve_piped-end.result
+    (g.S.Source.held c.args.input.now) (g.S.Source.held c.serve_piped-end.new.input) (g.K.Sink.taken c.args.out.now) (g.K.Sink.taken c.serve_piped-end.new.out)
+    c.probe_status.result c.in-Ok.ensures.opened c.in-Ok.ensures.reads c.in-Ok.ensures.cause c.now-now.ensures.moment
+    c.serve_piped-end.ensures.served c.serve_piped-end.ensures.whole c.serve_piped-end.ensures.disk c.serve_piped-end.ensures.disk_faults c.probe_status.ensures

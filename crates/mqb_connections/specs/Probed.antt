@@ -1,0 +1,34 @@
+-- How `probe` ends: one connection over the input and the output.
+use Rattle.std.specs.Prelude.{◌≡◌, ◌⊎◌, List, Option, ℕ}
+use Rattle.mqb_commands.specs.Opened.{IsMoment, IsNotOpened, OpensAs}
+use Rattle.mqb_devices.specs.Disk.{View}
+use Rattle.mqb_journal.specs.Causes.{FaultsAsSaid}
+use Rattle.mqb_manager.specs.Keeping.{KeepsDisk}
+use Rattle.mqb_manager.specs.States.{ManagerState, manager_of}
+use Rattle.mqb_model.specs.declared.answers.Role.TheVariants as role
+use Rattle.mqb_serve_laws.specs.Serving.{Answer, Serves, ServesWhole, is_disk_fault}
+use Rattle.mqb_status.specs.declared.status.Status.{Status}
+use Rattle.mqb_connections.specs.Statuses.{probe_status}
+
+-- The manager to which the store opens serves a connection over an input that held and an output that had taken, before and after. The disk stands for
+-- what it left, and the program ends as the connection did.
+pub record Probes (steady : Option ℕ) (d e : View) (held held_now taken taken_now : Option (List ℕ)) (r : Status) : Type 0 where
+  pub first : ManagerState
+  pub last : ManagerState
+  pub now : ℕ
+  pub end : Answer
+  pub opened : OpensAs d first
+  pub moment : IsMoment steady now
+  pub serves : Serves role.Acceptor now (manager_of first) (manager_of last) held held_now taken taken_now end
+  pub whole : ServesWhole end role.Acceptor now (manager_of first) (manager_of last) held taken taken_now
+  pub disk : KeepsDisk d e first last
+  pub disk_faults : FaultsAsSaid is_disk_fault d.faults e.faults end
+  pub ends : r ≡ probe_status end
+
+-- a store that was not opened: nothing is read and nothing is written
+abbrev pub IsUnprobed : (d e : View) → (held held_now taken taken_now : Option (List ℕ)) → Status → Type 0
+IsUnprobed d e held held_now taken taken_now r = IsNotOpened d e r × (held_now ≡ held) × (taken_now ≡ taken)
+
+-- `probe`
+abbrev pub ProbesStore : (steady : Option ℕ) → (d e : View) → (held held_now taken taken_now : Option (List ℕ)) → Status → Type 0
+ProbesStore steady d e held held_now taken taken_now r = Probes steady d e held held_now taken taken_now r ⊎ IsUnprobed d e held held_now taken taken_now r

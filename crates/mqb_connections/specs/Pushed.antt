@@ -1,0 +1,89 @@
+-- How `push` ends: one connection to the peer of a host.
+use Rattle.std.specs.Prelude.{◌≡◌, ◌⊎◌, Err, IsSome, List, None, Option, Some, codes, option_map, position, slice_get, ℕ}
+use Rattle.mqb_base.specs.declared.ids.Identity.{Identity}
+use Rattle.mqb_base.specs.Same.{same_ignoring_case}
+use Rattle.mqb_commands.specs.Opened.{OpensAs}
+use Rattle.mqb_devices.specs.Disk.{OnlyReads, View}
+use Rattle.mqb_devices.specs.Net.{Ended}
+use Rattle.mqb_journal.specs.Causes.{FaultsAsSaid}
+use Rattle.mqb_manager.specs.Keeping.{KeepsDisk}
+use Rattle.mqb_manager.specs.States.{ManagerState}
+use Rattle.mqb_model.specs.declared.answers.Role.TheVariants as role
+use Rattle.mqb_outside.specs.Faults.{Rose}
+use Rattle.mqb_serve_laws.specs.Serving.{Answer, is_disk_fault}
+use Rattle.mqb_serving.specs.declared.faults.ConnFault.TheVariants as fault
+use Rattle.mqb_status.specs.Outputs.{Tells}
+use Rattle.mqb_status.specs.declared.status.Status.{Status}
+use Rattle.mqb_status.specs.declared.status.Status.TheVariants as status
+use Rattle.mqb_connections.specs.Causes.{is_lost}
+use Rattle.mqb_connections.specs.Served.{IsUnopened, Nets}
+use Rattle.mqb_connections.specs.Statuses.{push_status}
+use Rattle.mqb_connections.specs.Visits.{IsNext, end_line}
+
+-- the index of the first peer with a host, the case of letters left aside
+abbrev pub index_of_host : List Identity → List ℕ → Option ℕ
+index_of_host peers host = position (λ p. same_ignoring_case p.host host) peers
+
+-- the address of the peer at an index
+abbrev pub address_at : List Identity → ℕ → Option (List ℕ)
+address_at peers peer = option_map (λ p. p.address) (slice_get peers peer)
+
+-- nothing that a net tells has changed
+pub record IsUntouched (net : Nets) : Type 0 where
+  pub finished : net.finished_now ≡ net.finished
+  pub faults : net.faults_now ≡ net.faults
+  pub lost : net.lost_now ≡ net.lost
+
+-- The peer at an index was asked for a session over a connection to its address, which was served from m to n, and ended so; and the net tells it as
+-- finished.
+pub record IsPush (peer : ℕ) (steady : Option ℕ) (m n : ManagerState) (before after : Option (List Ended)) (end : Answer) : Type 0 where
+  pub next : IsNext (role.Initiator peer) steady m n before after end
+  pub address : IsSome before → next.visit.ended.address ≡ address_at m.store.state.peers peer
+
+-- What is written of the one connection, and how the program ends. Nothing is written where the disk failed or memory ran out.
+abbrev pub TellsPush : Answer → (before after : Option (List ℕ)) → Status → Type 0
+TellsPush (Err fault.DiskFault) before after r = (r ≡ status.DiskFault) × (after ≡ before)
+TellsPush (Err fault.Memory) before after r = (r ≡ status.Memory) × (after ≡ before)
+TellsPush end before after r = Tells (end_line 1 end) (push_status end) before after r ⊎ ((r ≡ status.Memory) × (after ≡ before))
+
+-- A connection was served, and the disk stands for what it left.
+pub record PushesOver (peer : ℕ) (steady : Option ℕ) (first : ManagerState) (d e : View) (net : Nets) (before after : Option (List ℕ)) (r : Status) : Type 0 where
+  pub last : ManagerState
+  pub end : Answer
+  pub push : IsPush peer steady first last net.finished net.finished_now end
+  pub disk : KeepsDisk d e first last
+  pub disk_faults : FaultsAsSaid is_disk_fault d.faults e.faults end
+  pub faults : net.faults_now ≡ net.faults
+  pub lost : FaultsAsSaid is_lost net.lost net.lost_now end
+  pub told : TellsPush end before after r
+
+-- The net gave no connection.
+pub record IsUnconnected (d e : View) (net : Nets) (before after : Option (List ℕ)) (r : Status) : Type 0 where
+  pub disk : OnlyReads d e
+  pub disk_faults : e.faults ≡ d.faults
+  pub finished : net.finished_now ≡ net.finished
+  pub faults : Rose net.faults net.faults_now
+  pub lost : net.lost_now ≡ net.lost
+  pub told : Tells (codes "connection 1: netfault\n") status.NetFault before after r
+
+-- No peer has the host.
+pub record HasNoPeer (d e : View) (net : Nets) (before after : Option (List ℕ)) (r : Status) : Type 0 where
+  pub disk : OnlyReads d e
+  pub disk_faults : e.faults ≡ d.faults
+  pub untouched : IsUntouched net
+  pub told : Tells (codes "nopeer\n") status.Refused before after r
+
+-- A manager pushes to the peer at an index, where there is one.
+abbrev pub PushesAt : Option ℕ → Option ℕ → ManagerState → (d e : View) → Nets → (before after : Option (List ℕ)) → Status → Type 0
+PushesAt None steady first d e net before after r = HasNoPeer d e net before after r
+PushesAt (Some peer) steady first d e net before after r = IsUnconnected d e net before after r ⊎ PushesOver peer steady first d e net before after r
+
+-- The manager to which the store opens pushes to the peer of a host.
+pub record Pushes (host : List ℕ) (steady : Option ℕ) (d e : View) (net : Nets) (before after : Option (List ℕ)) (r : Status) : Type 0 where
+  pub first : ManagerState
+  pub opened : OpensAs d first
+  pub pushes : PushesAt (index_of_host first.store.state.peers host) steady first d e net before after r
+
+-- `push`: the store is opened and pushed from, or it is not opened, and the net is left as it was
+abbrev pub PushesStore : (host : List ℕ) → (steady : Option ℕ) → (d e : View) → Nets → (before after : Option (List ℕ)) → Status → Type 0
+PushesStore host steady d e net before after r = Pushes host steady d e net before after r ⊎ (IsUnopened d e before after r × IsUntouched net)
