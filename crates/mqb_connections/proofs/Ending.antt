@@ -1,5 +1,5 @@
 -- How the commands end that serve connections.
-use Rattle.std.proofs.Common.{◌≡◌, ◌⊎◌, inl, inr, ℕ, List, Option, sym, subst}
+use Rattle.std.proofs.Common.{inl, inr, ℕ, List, Option, sym, subst}
 use Rattle.std.specs.Prelude.{Err, IfErr, Ok, Result}
 use Rattle.mqb_commands.specs.Opened.{IsNotOpened}
 use Rattle.mqb_devices.specs.Disk.{View}
