@@ -1,16 +1,18 @@
 -- How a probe ends, from the disk before its store was opened.
-use Rattle.std.proofs.Common.{◌≡◌, inl, ℕ, List, Option, subst}
+use Rattle.std.proofs.Common.{◌≡◌, inl, ℕ, List, Option, Err, Ok, sym, subst}
 use Rattle.mqb_commands.specs.Opened.{IsMoment, OpensAs}
 use Rattle.mqb_devices.specs.Disk.{OnlyReads, View}
 use Rattle.mqb_journal.specs.Causes.{FaultsAsSaid}
 use Rattle.mqb_manager.specs.Keeping.{KeepsDisk}
 use Rattle.mqb_manager.specs.States.{ManagerState, manager_of}
 use Rattle.mqb_model.specs.declared.answers.Role.TheVariants as role
-use Rattle.mqb_serve_laws.specs.Serving.{Answer, Serves, ServesWhole, is_disk_fault}
+use Rattle.mqb_outside.specs.Faults.{Rose}
+use Rattle.mqb_serve_laws.specs.Serving.{Answer, Serves, ServesWhole, is_disk_fault, is_read_fault, is_write_fault}
+use Rattle.mqb_serving.specs.declared.faults.ConnFault.TheVariants as fault
 use Rattle.mqb_status.specs.declared.status.Status.{Status}
 use Rattle.mqb_connections.proofs.Pushes.{opened_keeps}
-use Rattle.mqb_connections.specs.Probed.{ProbesStore}
-use Rattle.mqb_connections.specs.Statuses.{probe_status}
+use Rattle.mqb_connections.specs.Probed.{CompletesProbe, ProbesStore}
+use Rattle.mqb_connections.specs.Statuses.{IsFaultless, probe_status}
 
 pub store_probes : (steady : Option ℕ) (d f e : View) (m n : ManagerState) (now : ℕ) (end : Answer) (held held_now taken taken_now : Option (List ℕ)) (r : Status)
     → OpensAs d m → OnlyReads d f → f.faults ≡ d.faults → IsMoment steady now
@@ -31,3 +33,19 @@ store_probes steady d f e m n now end held held_now taken taken_now r opened rea
   disk_faults = subst (λ (k : ℕ). FaultsAsSaid is_disk_fault k e.faults end) same disk;
   ends = ends;
 })
+
+ended_faultless : (a b r q w v : ℕ) (end : Answer) → FaultsAsSaid is_disk_fault a b end → FaultsAsSaid is_read_fault r q end → FaultsAsSaid is_write_fault w v end
+    → (Rose a b → ⊥) → (Rose r q → ⊥) → (Rose w v → ⊥) → IsFaultless (probe_status end)
+ended_faultless a b r q w v (Ok done) disk read wrote none heard written = tt
+ended_faultless a b r q w v (Err (fault.Peer why)) disk read wrote none heard written = tt
+ended_faultless a b r q w v (Err fault.ReadFault) disk read wrote none heard written = absurd (heard read)
+ended_faultless a b r q w v (Err fault.WriteFault) disk read wrote none heard written = absurd (written wrote)
+ended_faultless a b r q w v (Err fault.DiskFault) disk read wrote none heard written = absurd (none disk)
+ended_faultless a b r q w v (Err fault.Memory) disk read wrote none heard written = tt
+
+pub probe_completes : (d f e : View) (reads reads_now writes writes_now : ℕ) (end : Answer) (r : Status) → f.faults ≡ d.faults
+    → FaultsAsSaid is_disk_fault f.faults e.faults end → FaultsAsSaid is_read_fault reads reads_now end → FaultsAsSaid is_write_fault writes writes_now end
+    → r ≡ probe_status end → CompletesProbe d e reads reads_now writes writes_now r
+probe_completes d f e reads reads_now writes writes_now end r same disk read wrote ends sound none heard written = subst IsFaultless (sym ends)
+    (ended_faultless f.faults e.faults reads reads_now writes writes_now end disk read wrote
+    (λ rose. none (subst (λ (k : ℕ). Rose k e.faults) same rose)) heard written)

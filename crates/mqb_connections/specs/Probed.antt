@@ -2,13 +2,16 @@
 use Rattle.std.specs.Prelude.{◌≡◌, ◌⊎◌, List, Option, ℕ}
 use Rattle.mqb_commands.specs.Opened.{IsMoment, IsNotOpened, OpensAs}
 use Rattle.mqb_devices.specs.Disk.{View}
+use Rattle.mqb_devices.specs.Images.{Each}
 use Rattle.mqb_journal.specs.Causes.{FaultsAsSaid}
 use Rattle.mqb_manager.specs.Keeping.{KeepsDisk}
 use Rattle.mqb_manager.specs.States.{ManagerState, manager_of}
 use Rattle.mqb_model.specs.declared.answers.Role.TheVariants as role
+use Rattle.mqb_outside.specs.Faults.{Rose}
 use Rattle.mqb_serve_laws.specs.Serving.{Answer, Serves, ServesWhole, is_disk_fault}
 use Rattle.mqb_status.specs.declared.status.Status.{Status}
-use Rattle.mqb_connections.specs.Statuses.{probe_status}
+use Rattle.mqb_store_laws.specs.Faults.{IsBadStore}
+use Rattle.mqb_connections.specs.Statuses.{IsFaultless, probe_status}
 
 -- The manager to which the store opens serves a connection over an input that held and an output that had taken, before and after. The disk stands for
 -- what it left, and the program ends as the connection did.
@@ -32,3 +35,8 @@ IsUnprobed d e held held_now taken taken_now r = IsNotOpened d e r × (held_now 
 -- `probe`
 abbrev pub ProbesStore : (steady : Option ℕ) → (d e : View) → (held held_now taken taken_now : Option (List ℕ)) → Status → Type 0
 ProbesStore steady d e held held_now taken taken_now r = Probes steady d e held held_now taken taken_now r ⊎ IsUnprobed d e held held_now taken taken_now r
+
+-- A sound store is probed to the end, where neither the disk nor the input nor the output failed.
+abbrev pub CompletesProbe : (d e : View) → (reads reads_now writes writes_now : ℕ) → Status → Type 0
+CompletesProbe d e reads reads_now writes writes_now r =
+    ((at : ℕ) → Each d.reads (IsBadStore at) → ⊥) → (Rose d.faults e.faults → ⊥) → (Rose reads reads_now → ⊥) → (Rose writes writes_now → ⊥) → IsFaultless r

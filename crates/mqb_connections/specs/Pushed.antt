@@ -4,6 +4,7 @@ use Rattle.mqb_base.specs.declared.ids.Identity.{Identity}
 use Rattle.mqb_base.specs.Same.{same_ignoring_case}
 use Rattle.mqb_commands.specs.Opened.{OpensAs}
 use Rattle.mqb_devices.specs.Disk.{OnlyReads, View}
+use Rattle.mqb_devices.specs.Images.{Each}
 use Rattle.mqb_devices.specs.Net.{Ended}
 use Rattle.mqb_journal.specs.Causes.{FaultsAsSaid}
 use Rattle.mqb_manager.specs.Keeping.{KeepsDisk}
@@ -15,9 +16,10 @@ use Rattle.mqb_serving.specs.declared.faults.ConnFault.TheVariants as fault
 use Rattle.mqb_status.specs.Outputs.{Tells}
 use Rattle.mqb_status.specs.declared.status.Status.{Status}
 use Rattle.mqb_status.specs.declared.status.Status.TheVariants as status
+use Rattle.mqb_store_laws.specs.Faults.{IsBadStore}
 use Rattle.mqb_connections.specs.Causes.{is_lost}
 use Rattle.mqb_connections.specs.Served.{IsUnopened, Nets}
-use Rattle.mqb_connections.specs.Statuses.{push_status}
+use Rattle.mqb_connections.specs.Statuses.{IsFaultless, push_status}
 use Rattle.mqb_connections.specs.Visits.{IsNext, end_line}
 
 -- the index of the first peer with a host, the case of letters left aside
@@ -87,3 +89,9 @@ pub record Pushes (host : List ℕ) (steady : Option ℕ) (d e : View) (net : Ne
 -- `push`: the store is opened and pushed from, or it is not opened, and the net is left as it was
 abbrev pub PushesStore : (host : List ℕ) → (steady : Option ℕ) → (d e : View) → Nets → (before after : Option (List ℕ)) → Status → Type 0
 PushesStore host steady d e net before after r = Pushes host steady d e net before after r ⊎ (IsUnopened d e before after r × IsUntouched net)
+
+-- A sound store is pushed from to the end, where neither the disk nor the net nor the output failed, and no connection was lost.
+abbrev pub CompletesPush : (d e : View) → Nets → (writes writes_now : ℕ) → Status → Type 0
+CompletesPush d e net writes writes_now r =
+    ((at : ℕ) → Each d.reads (IsBadStore at) → ⊥) → (Rose d.faults e.faults → ⊥) → (Rose net.faults net.faults_now → ⊥) → (Rose net.lost net.lost_now → ⊥)
+    → (Rose writes writes_now → ⊥) → IsFaultless r

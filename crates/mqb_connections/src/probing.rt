@@ -2,7 +2,7 @@
 ghost use Rattle.std.specs.Prelude.{◌≡◌, None};
 ghost use Rattle.mqb_commands.specs.Causes.{DiskFaultHasCause};
 ghost use Rattle.mqb_connections.specs.Causes.{IsProbeEnd};
-ghost use Rattle.mqb_connections.specs.Probed.{ProbesStore};
+ghost use Rattle.mqb_connections.specs.Probed.{CompletesProbe, ProbesStore};
 ghost use Rattle.mqb_connections.specs.Statuses.{probe_status};
 ghost use Rattle.mqb_journal.specs.Causes.{FaultsAsSaid};
 ghost use Rattle.mqb_manager.specs.Keeping.{KeepsDisk};
@@ -64,6 +64,7 @@ fn serve_piped<S: Source, K: Sink, D: Disk>(
 }
 
 /// Serves one connection over the input and the output, on which nothing else is written.
+#[tactic(auto, using(crate::proofs::Pushes::unopened_faultless))]
 pub fn probe<S: Source, K: Sink, D: Disk, C: Clock>(
     alloc: Global,
     input: &mut S,
@@ -73,6 +74,8 @@ pub fn probe<S: Source, K: Sink, D: Disk, C: Clock>(
 ) -> Status
     ensures probes { ProbesStore (C.steady clock.old) (D.view disk.old) (D.view disk.new)
         (S.held input.old) (S.held input.new) (K.taken out.old) (K.taken out.new) result }
+    ensures complete { CompletesProbe (D.view disk.old) (D.view disk.new) (S.read_faults input.old)
+        (S.read_faults input.new) (K.write_faults out.old) (K.write_faults out.new) result }
     ensures read_faults { ReadFaultHasCause (S.read_faults input.old) (S.read_faults input.new)
         result }
     ensures write_faults { WriteFaultHasCause (K.write_faults out.old) (K.write_faults out.new)

@@ -2,7 +2,7 @@
 ghost use Rattle.std.specs.Prelude.{◌<◌, ◌≡◌, ◌⊎◌, IfOk, IfSome, None, OnErr, Some, length};
 ghost use Rattle.mqb_commands.specs.Causes.{DiskFaultHasCause};
 ghost use Rattle.mqb_connections.specs.Causes.{IsNetEnd, NetFaultHasCause, is_lost};
-ghost use Rattle.mqb_connections.specs.Pushed.{IsPush, PushesAt, PushesStore, TellsPush, address_at, index_of_host};
+ghost use Rattle.mqb_connections.specs.Pushed.{CompletesPush, IsPush, PushesAt, PushesStore, TellsPush, address_at, index_of_host};
 ghost use Rattle.mqb_connections.specs.Statuses.{push_status};
 ghost use Rattle.mqb_journal.specs.Causes.{FaultsAsSaid};
 ghost use Rattle.mqb_manager.specs.Keeping.{KeepsDisk};
@@ -140,6 +140,7 @@ fn push_to<K: Sink, D: Disk, N: Net, C: Clock>(
 }
 
 /// Pushes to the peer of a host what waits for it, and says how the connection ended.
+#[tactic(auto, using(crate::proofs::Pushes::unopened_faultless))]
 pub fn push<K: Sink, D: Disk, N: Net, C: Clock>(
     alloc: Global,
     host: &Name,
@@ -158,6 +159,14 @@ pub fn push<K: Sink, D: Disk, N: Net, C: Clock>(
           lost_now = N.lost net.new;
         }) (K.taken out.old) (K.taken out.new) result }
     ensures unfinished { N.unfinished net.new ≡ N.unfinished net.old }
+    ensures complete { CompletesPush (D.view disk.old) (D.view disk.new) (record {
+          finished = N.finished net.old;
+          finished_now = N.finished net.new;
+          faults = N.faults net.old;
+          faults_now = N.faults net.new;
+          lost = N.lost net.old;
+          lost_now = N.lost net.new;
+        }) (K.write_faults out.old) (K.write_faults out.new) result }
     ensures write_faults { WriteFaultHasCause (K.write_faults out.old) (K.write_faults out.new)
         result }
     ensures disk_faults { DiskFaultHasCause (D.view disk.old).faults (D.view disk.new).faults

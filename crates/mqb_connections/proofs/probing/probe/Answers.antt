@@ -1,5 +1,5 @@
 use Rattle.mqb_connections.proofs.Ends.{probe_disk}
-use Rattle.mqb_connections.proofs.Probes.{store_probes}
+use Rattle.mqb_connections.proofs.Probes.{probe_completes, store_probes}
 use Rattle.mqb_connections.proofs.probing.probe.Goals as goal
 
 pub returns-clause-disk_faults : goal.returns-clause-disk_faults
@@ -14,3 +14,11 @@ returns-clause-probes g c =
     (g.S.Source.held c.args.input.now) (g.S.Source.held c.serve_piped-end.new.input) (g.K.Sink.taken c.args.out.now) (g.K.Sink.taken c.serve_piped-end.new.out)
     c.probe_status.result c.in-Ok.ensures.opened c.in-Ok.ensures.reads c.in-Ok.ensures.cause c.now-now.ensures.moment
     c.serve_piped-end.ensures.served c.serve_piped-end.ensures.whole c.serve_piped-end.ensures.disk c.serve_piped-end.ensures.disk_faults c.probe_status.ensures
+
+pub returns-clause-complete : goal.returns-clause-complete
+returns-clause-complete g c =
+    probe_completes (g.D.Disk.view c.args.disk.now) (g.D.Disk.view c.open.new.disk) (g.D.Disk.view c.serve_piped-end.new.disk)
+    (g.S.Source.read_faults c.args.input.now) (g.S.Source.read_faults c.serve_piped-end.new.input)
+    (g.K.Sink.write_faults c.args.out.now) (g.K.Sink.write_faults c.serve_piped-end.new.out)
+    c.serve_piped-end.result c.probe_status.result c.in-Ok.ensures.cause c.serve_piped-end.ensures.disk_faults
+    c.serve_piped-end.ensures.read_faults c.serve_piped-end.ensures.write_faults c.probe_status.ensures

@@ -1,5 +1,5 @@
 use Rattle.std.proofs.Common.{Some, rules}
-use Rattle.mqb_connections.proofs.Pushes.{store_pushes}
+use Rattle.mqb_connections.proofs.Pushes.{push_completes, store_pushes}
 use Rattle.mqb_connections.proofs.pushing.push.Goals as goal
 
 pub returns-in-Some-clause-pushes : goal.returns-in-Some-clause-pushes
@@ -14,3 +14,15 @@ returns-in-Some-clause-pushes g c =
       lost_now = g.N.Net.lost c.push_to.new.net;
     }) (g.K.Sink.taken c.args.out.now) (g.K.Sink.taken c.push_to.new.out) c.push_to.result
     c.in-Ok.ensures.opened c.in-Ok.ensures.reads c.in-Ok.ensures.cause (search rules) c.in-Some.ensures.index c.push_to.ensures.pushes
+
+pub returns-in-Some-clause-complete : goal.returns-in-Some-clause-complete
+returns-in-Some-clause-complete g c =
+    push_completes c.args.host.now (g.C.Clock.steady c.args.clock.now) (g.D.Disk.view c.args.disk.now) (g.D.Disk.view c.push_to.new.disk) (record {
+      finished = g.N.Net.finished c.args.net.now;
+      finished_now = g.N.Net.finished c.push_to.new.net;
+      faults = g.N.Net.faults c.args.net.now;
+      faults_now = g.N.Net.faults c.push_to.new.net;
+      lost = g.N.Net.lost c.args.net.now;
+      lost_now = g.N.Net.lost c.push_to.new.net;
+    }) (g.K.Sink.taken c.args.out.now) (g.K.Sink.taken c.push_to.new.out) (g.K.Sink.write_faults c.args.out.now) (g.K.Sink.write_faults c.push_to.new.out)
+    c.push_to.result (returns-in-Some-clause-pushes g c) c.push_to.ensures.write_faults
