@@ -8,7 +8,6 @@ use Rattle.mqb_devices.specs.Disk.{OnlyReads, View}
 use Rattle.mqb_devices.specs.Images.{Each}
 use Rattle.mqb_devices.specs.Runs.{reads_then}
 use Rattle.mqb_journal.specs.Causes.{FaultsAsSaid}
-use Rattle.mqb_manager.specs.Keeping.{KeepsDisk, keeping_goes_on}
 use Rattle.mqb_manager.specs.States.{ManagerState}
 use Rattle.mqb_outside.specs.Faults.{Rose}
 use Rattle.mqb_serve_laws.specs.Serving.{Answer, is_disk_fault}
@@ -16,8 +15,8 @@ use Rattle.mqb_serving.specs.declared.faults.ConnFault.TheVariants as fault
 use Rattle.mqb_status.specs.Outputs.{IsPlain, Tells, WriteFaultHasCause}
 use Rattle.mqb_status.specs.declared.status.Status.{Status}
 use Rattle.mqb_status.specs.declared.status.Status.TheVariants as status
-use Rattle.mqb_store_laws.specs.Carrying.{on_read}
 use Rattle.mqb_store_laws.specs.Faults.{IsBadStore}
+use Rattle.mqb_connections.proofs.Opening.{kept_from}
 use Rattle.mqb_connections.specs.Causes.{is_lost}
 use Rattle.mqb_connections.specs.Pushed.{CompletesPush, PushesAt, PushesStore, TellsPush, index_of_host}
 use Rattle.mqb_connections.specs.Served.{Nets}
@@ -59,15 +58,6 @@ no_line (Err fault.Memory) before after goes same = absurd goes
 
 -- Opening only reads: what is pushed from the disk behind it is pushed from the disk before.
 
-pub opened_keeps : (d f e : View) (m n : ManagerState) → OnlyReads d f → OpensAs d m → KeepsDisk f e m n → KeepsDisk d e m n
-opened_keeps d f e m n reads opened kept = keeping_goes_on d f e m m n (record {
-  up = λ up. up;
-  on = λ on up. on_read d f m.store.journal m.store.state (on up) reads;
-  settled = λ on settled up c left. reads.unchanged.reads.none_lost c (settled c (reads.unchanged.leaves.none_new c left));
-  doubt = λ up on settled down. absurd (down up);
-  switch = reads.switch;
-}) opened.up kept
-
 from_disk : (o steady : Option ℕ) (m : ManagerState) (d f e : View) (net : Nets) (before after : Option (List ℕ)) (r : Status) → OpensAs d m → OnlyReads d f
     → f.faults ≡ d.faults → PushesAt o steady m f e net before after r → PushesAt o steady m d e net before after r
 from_disk None steady m d f e net before after r opened reads same none = record {
@@ -88,8 +78,9 @@ from_disk (Some peer) steady m d f e net before after r opened reads same (inr o
   last = over.last;
   end = over.end;
   push = over.push;
-  disk = opened_keeps d f e m over.last reads opened over.disk;
+  disk = kept_from d f e m over.last reads opened over.disk;
   disk_faults = subst (λ (k : ℕ). FaultsAsSaid is_disk_fault k e.faults over.end) same over.disk_faults;
+  up = over.up;
   faults = over.faults;
   lost = over.lost;
   told = over.told;

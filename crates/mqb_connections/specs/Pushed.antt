@@ -1,5 +1,5 @@
 -- How `push` ends: one connection to the peer of a host.
-use Rattle.std.specs.Prelude.{◌≡◌, ◌⊎◌, Err, IsSome, List, None, Option, Some, codes, option_map, position, slice_get, ℕ}
+use Rattle.std.specs.Prelude.{◌≡◌, ◌≢◌, ◌⊎◌, Err, IsSome, List, None, Option, Some, codes, option_map, position, slice_get, ℕ}
 use Rattle.mqb_base.specs.declared.ids.Identity.{Identity}
 use Rattle.mqb_base.specs.Same.{same_ignoring_case}
 use Rattle.mqb_commands.specs.Opened.{OpensAs}
@@ -8,7 +8,7 @@ use Rattle.mqb_devices.specs.Images.{Each}
 use Rattle.mqb_devices.specs.Net.{Ended}
 use Rattle.mqb_journal.specs.Causes.{FaultsAsSaid}
 use Rattle.mqb_manager.specs.Keeping.{KeepsDisk}
-use Rattle.mqb_manager.specs.States.{ManagerState}
+use Rattle.mqb_manager.specs.States.{IsUp, ManagerState}
 use Rattle.mqb_model.specs.declared.answers.Role.TheVariants as role
 use Rattle.mqb_outside.specs.Faults.{Rose}
 use Rattle.mqb_serve_laws.specs.Serving.{Answer, is_disk_fault}
@@ -18,7 +18,7 @@ use Rattle.mqb_status.specs.declared.status.Status.{Status}
 use Rattle.mqb_status.specs.declared.status.Status.TheVariants as status
 use Rattle.mqb_store_laws.specs.Faults.{IsBadStore}
 use Rattle.mqb_connections.specs.Causes.{is_lost}
-use Rattle.mqb_connections.specs.Served.{IsUnopened, Nets}
+use Rattle.mqb_connections.specs.Served.{IsUnopened, IsUntouched, Nets}
 use Rattle.mqb_connections.specs.Statuses.{IsFaultless, push_status}
 use Rattle.mqb_connections.specs.Visits.{IsNext, end_line}
 
@@ -29,12 +29,6 @@ index_of_host peers host = position (λ p. same_ignoring_case p.host host) peers
 -- the address of the peer at an index
 abbrev pub address_at : List Identity → ℕ → Option (List ℕ)
 address_at peers peer = option_map (λ p. p.address) (slice_get peers peer)
-
--- nothing that a net tells has changed
-pub record IsUntouched (net : Nets) : Type 0 where
-  pub finished : net.finished_now ≡ net.finished
-  pub faults : net.faults_now ≡ net.faults
-  pub lost : net.lost_now ≡ net.lost
 
 -- The peer at an index was asked for a session over a connection to its address, which was served from m to n, and ended so; and the net tells it as
 -- finished.
@@ -55,6 +49,7 @@ pub record PushesOver (peer : ℕ) (steady : Option ℕ) (first : ManagerState) 
   pub push : IsPush peer steady first last net.finished net.finished_now end
   pub disk : KeepsDisk d e first last
   pub disk_faults : FaultsAsSaid is_disk_fault d.faults e.faults end
+  pub up : end ≢ Err fault.DiskFault → IsUp last
   pub faults : net.faults_now ≡ net.faults
   pub lost : FaultsAsSaid is_lost net.lost net.lost_now end
   pub told : TellsPush end before after r

@@ -25,6 +25,12 @@ pub record Nets : Type 0 where
   pub lost : ℕ
   pub lost_now : ℕ
 
+-- nothing that a net tells has changed
+pub record IsUntouched (net : Nets) : Type 0 where
+  pub finished : net.finished_now ≡ net.finished
+  pub faults : net.faults_now ≡ net.faults
+  pub lost : net.lost_now ≡ net.lost
+
 -- the end of a program that would go on to the end of its work
 abbrev pub end_of : Result (Unit {0}) Status → Status
 end_of (Ok done) = status.Done
@@ -57,7 +63,7 @@ pub record ServesPeers (number count : ℕ) (steady : Option ℕ) (m n : Manager
   pub lines : Took before between (lines_from number told)
   pub ends : EndsServing number count (length told) faults faults_now between after r last
 
--- `serve`: the manager to which the store opens serves connections that its peers make, and the disk stands for what the last of them left.
+-- The manager to which the store opens serves connections that its peers make, and the disk stands for what the last of them left.
 pub record ServesStore (count : ℕ) (steady : Option ℕ) (d e : View) (ended ended_now : Option (List Ended)) (faults faults_now : ℕ) (before after : Option (List ℕ)) (r : Status) : Type 0 where
   pub first : ManagerState
   pub left : ManagerState
@@ -77,3 +83,8 @@ Completes d e faults faults_now writes writes_now r =
 -- a store that was not opened: nothing is written
 abbrev pub IsUnopened : View → View → (before after : Option (List ℕ)) → Status → Type 0
 IsUnopened d e before after r = IsNotOpened d e r × (after ≡ before)
+
+-- `serve`: the store is opened and served, or it is not opened, and the net is left as it was.
+abbrev pub ServesFrom : (count : ℕ) → (steady : Option ℕ) → (d e : View) → Nets → (before after : Option (List ℕ)) → Status → Type 0
+ServesFrom count steady d e net before after r =
+    (IsUnopened d e before after r × IsUntouched net) ⊎ ServesStore count steady d e net.finished net.finished_now net.faults net.faults_now before after r

@@ -1,5 +1,5 @@
 //! `probe`: one connection over input and output.
-ghost use Rattle.std.specs.Prelude.{◌≡◌, None};
+ghost use Rattle.std.specs.Prelude.{◌≡◌, ◌≢◌, Err, None};
 ghost use Rattle.mqb_commands.specs.Causes.{DiskFaultHasCause};
 ghost use Rattle.mqb_connections.specs.Causes.{IsProbeEnd};
 ghost use Rattle.mqb_connections.specs.Probed.{CompletesProbe, ProbesStore};
@@ -54,6 +54,7 @@ fn serve_piped<S: Source, K: Sink, D: Disk>(
     ensures disk { KeepsDisk (D.view disk.old) (D.view disk.new) manager.old manager.new }
     ensures disk_faults { FaultsAsSaid is_disk_fault (D.view disk.old).faults
         (D.view disk.new).faults result }
+    ensures up { result ≢ Err ConnFault.DiskFault → IsUp manager.new }
     ensures read_faults { FaultsAsSaid is_read_fault (S.read_faults input.old)
         (S.read_faults input.new) result }
     ensures write_faults { FaultsAsSaid is_write_fault (K.write_faults out.old)

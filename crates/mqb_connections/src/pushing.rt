@@ -1,5 +1,5 @@
 //! `push`: one connection to a peer.
-ghost use Rattle.std.specs.Prelude.{◌<◌, ◌≡◌, ◌⊎◌, IfOk, IfSome, None, OnErr, Some, length};
+ghost use Rattle.std.specs.Prelude.{◌<◌, ◌≡◌, ◌≢◌, ◌⊎◌, Err, IfOk, IfSome, None, OnErr, Some, length};
 ghost use Rattle.mqb_commands.specs.Causes.{DiskFaultHasCause};
 ghost use Rattle.mqb_connections.specs.Causes.{IsNetEnd, NetFaultHasCause, is_lost};
 ghost use Rattle.mqb_connections.specs.Pushed.{CompletesPush, IsPush, PushesAt, PushesStore, TellsPush, address_at, index_of_host};
@@ -71,6 +71,7 @@ fn push_over<D: Disk, N: Net, C: Clock>(
     ensures disk { KeepsDisk (D.view disk.old) (D.view disk.new) manager.old manager.new }
     ensures disk_faults { IfOk result (FaultsAsSaid is_disk_fault (D.view disk.old).faults
         (D.view disk.new).faults) }
+    ensures up { IfOk result (λ end. end ≢ Err ConnFault.DiskFault → IsUp manager.new) }
     ensures unchanged { OnErr result ((disk.new ≡ disk.old) × (manager.new ≡ manager.old)) }
     ensures net_faults { HasCause (N.faults net.old) (N.faults net.new) result }
     ensures lost { IfOk result (FaultsAsSaid is_lost (N.lost net.old) (N.lost net.new)) }

@@ -1,8 +1,8 @@
 //! `serve`: connections that peers make, one after another.
-ghost use Rattle.std.specs.Prelude.{◌≡◌, ◌≢◌, ◌⊎◌, Err, IfErr, IfOk, MatchResult, None, OnErr};
+ghost use Rattle.std.specs.Prelude.{◌≡◌, ◌≢◌, Err, IfErr, IfOk, MatchResult, None, OnErr};
 ghost use Rattle.mqb_commands.specs.Causes.{DiskFaultHasCause};
 ghost use Rattle.mqb_connections.specs.Causes.{IsNetEnd, NetFaultHasCause};
-ghost use Rattle.mqb_connections.specs.Served.{Completes, IsUnopened, ServesPeers, ServesStore, end_of};
+ghost use Rattle.mqb_connections.specs.Served.{Completes, ServesFrom, ServesPeers, end_of};
 ghost use Rattle.mqb_connections.specs.Told.{TellsEnd, TellsNetFault};
 ghost use Rattle.mqb_connections.specs.Visits.{IsNext};
 ghost use Rattle.mqb_journal.specs.Causes.{FaultsAsSaid};
@@ -183,11 +183,15 @@ pub fn serve<K: Sink, D: Disk, N: Net, C: Clock>(
     net: &mut N,
     clock: &mut C,
 ) -> Status
-    ensures served { (IsUnopened (D.view disk.old) (D.view disk.new) (K.taken out.old)
-        (K.taken out.new) result × (net.new ≡ net.old))
-        ⊎ ServesStore count (C.steady clock.old) (D.view disk.old) (D.view disk.new)
-        (N.finished net.old) (N.finished net.new) (N.faults net.old) (N.faults net.new)
-        (K.taken out.old) (K.taken out.new) result }
+    ensures served { ServesFrom count (C.steady clock.old)
+        (D.view disk.old) (D.view disk.new) (record {
+          finished = N.finished net.old;
+          finished_now = N.finished net.new;
+          faults = N.faults net.old;
+          faults_now = N.faults net.new;
+          lost = N.lost net.old;
+          lost_now = N.lost net.new;
+        }) (K.taken out.old) (K.taken out.new) result }
     ensures unfinished { N.unfinished net.new ≡ N.unfinished net.old }
     ensures complete { Completes (D.view disk.old) (D.view disk.new) (N.faults net.old)
         (N.faults net.new) (K.write_faults out.old) (K.write_faults out.new) result }

@@ -4,7 +4,7 @@ use Rattle.mqb_connections.proofs.Storing.{store_served}
 use Rattle.mqb_connections.proofs.serving.serve.Goals as goal
 
 pub returns-in-Err-clause-served : goal.returns-in-Err-clause-served
-returns-in-Err-clause-served g c = inl ((c.in-Err.ensures.fails, refl), refl)
+returns-in-Err-clause-served g c = inl ((c.in-Err.ensures.fails, refl), record { finished = refl; faults = refl; lost = refl })
 
 pub returns-in-Ok-serve_all-clause-served : goal.returns-in-Ok-serve_all-clause-served
 returns-in-Ok-serve_all-clause-served g c =
