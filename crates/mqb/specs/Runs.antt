@@ -3,6 +3,9 @@ use Rattle.std.specs.Prelude.{◌≡◌, ◌⊎◌, List, None, Option, Some, co
 use Rattle.mqb_calls.specs.Calls.{CallsAt}
 use Rattle.mqb_commands.specs.Helps.{help_text, version_text}
 use Rattle.mqb_commands.specs.Said.{Inits, Lists, Makes}
+use Rattle.mqb_connections.specs.Probed.{ProbesStore}
+use Rattle.mqb_connections.specs.Pushed.{PushesStore}
+use Rattle.mqb_connections.specs.Served.{Nets, ServesFrom}
 use Rattle.mqb_devices.specs.Disk.{View}
 use Rattle.mqb_outside.specs.Faults.{Rose}
 use Rattle.mqb_replay.specs.Runs.{Replays}
@@ -13,8 +16,8 @@ use Rattle.mqb_status.specs.declared.status.Status.TheVariants as status
 use Rattle.mqb_words.specs.declared.commands.Command.{Command}
 use Rattle.mqb_words.specs.declared.commands.Command.TheVariants as command
 
--- what is told of everything outside, before and after: what the input holds, what the output took, the disk, the strings of the medium, and the one
--- moment of a steady clock
+-- what is told of everything outside, before and after: what the input holds, what the output took, the disk, the strings of the medium, the net, and
+-- the one moment of a steady clock
 pub record Outside : Type 1 where
   pub held : Option (List ℕ)
   pub held_now : Option (List ℕ)
@@ -23,13 +26,14 @@ pub record Outside : Type 1 where
   pub disk : View
   pub disk_now : View
   pub strings : List (List ℕ)
+  pub net : Nets
   pub moment : Option ℕ
 
 -- memory ran out before the words were read
 abbrev pub IsUnread : Outside → Status → Type 0
 IsUnread o r = (r ≡ status.Memory) × (o.taken_now ≡ o.taken)
 
--- What each command does. What is served over connections is said by the command itself alone.
+-- What each command does.
 abbrev pub Does : Command → Outside → Status → Type 0
 Does command.Replay o r = Replays o.held o.held_now o.taken o.taken_now o.strings r
 Does (command.Make orders) o r = Says (Makes orders) o.taken o.taken_now r
@@ -37,9 +41,9 @@ Does command.Show o r = Shows o.held o.held_now o.taken o.taken_now r
 Does (command.Init identity) o r = Says (Inits identity o.disk o.disk_now) o.taken o.taken_now r
 Does (command.Call asked) o r = Says (CallsAt asked o.moment o.disk o.disk_now) o.taken o.taken_now r
 Does command.List o r = Says (Lists o.disk o.disk_now) o.taken o.taken_now r
-Does command.Probe o r = Unit {0}
-Does (command.Serve count) o r = Unit {0}
-Does (command.Push host) o r = Unit {0}
+Does command.Probe o r = ProbesStore o.moment o.disk o.disk_now o.held o.held_now o.taken o.taken_now r
+Does (command.Serve count) o r = ServesFrom count o.moment o.disk o.disk_now o.net o.taken o.taken_now r
+Does (command.Push host) o r = PushesStore host o.moment o.disk o.disk_now o.net o.taken o.taken_now r
 Does command.Help o r = Tells help_text status.Done o.taken o.taken_now r
 Does command.Version o r = Tells version_text status.Done o.taken o.taken_now r
 

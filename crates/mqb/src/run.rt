@@ -1,4 +1,4 @@
-ghost use Rattle.std.specs.Prelude.{◌≡◌, ◌≢◌, ◌⊎◌, [], map, Some};
+ghost use Rattle.std.specs.Prelude.{◌≡◌, ◌⊎◌, [], map, Some};
 ghost use Rattle.std.specs.String.{string_bytes};
 ghost use Rattle.mqb.specs.Runs.{Does, IsUnread, NetCause, Runs, UsageHasCause};
 ghost use Rattle.mqb_commands.specs.Causes.{DiskFaultHasCause};
@@ -41,20 +41,29 @@ fn run_command<S: Source, K: Sink, D: Disk, M: Medium, N: Net, C: Clock>(
       disk = D.view disk.old;
       disk_now = D.view disk.new;
       strings = M.strings medium.new;
+      net = record {
+        finished = N.finished net.old;
+        finished_now = N.finished net.new;
+        faults = N.faults net.old;
+        faults_now = N.faults net.new;
+        lost = N.lost net.old;
+        lost_now = N.lost net.new;
+      };
       moment = C.steady clock.old;
     }) result }
     ensures complete { asked.now ≡ command.Replay → Completes (S.held input.old)
         (S.read_faults input.old) (S.read_faults input.new)
         (K.write_faults out.old) (K.write_faults out.new) result }
     ensures usage { UsageHasCause (Some asked.now) result }
-    ensures read_fault { asked.now ≢ command.Probe →
-        ReadFaultHasCause (S.read_faults input.old) (S.read_faults input.new) result }
-    ensures write_fault { asked.now ≢ command.Probe →
-        WriteFaultHasCause (K.write_faults out.old) (K.write_faults out.new) result }
+    ensures read_fault { ReadFaultHasCause (S.read_faults input.old) (S.read_faults input.new)
+        result }
+    ensures write_fault { WriteFaultHasCause (K.write_faults out.old) (K.write_faults out.new)
+        result }
     ensures disk_fault { DiskFaultHasCause (D.view disk.old).faults (D.view disk.new).faults
         result }
     ensures net_fault { NetFaultHasCause (NetCause (Some asked.now)
         (N.faults net.old) (N.faults net.new) (N.lost net.old) (N.lost net.new)) result }
+    ensures unfinished { N.unfinished net.new ≡ N.unfinished net.old }
 {
     match asked {
         Command::Replay => replay(alloc, input, out, medium),
@@ -92,6 +101,14 @@ pub fn run<S: Source, K: Sink, D: Disk, M: Medium, N: Net, C: Clock>(
       disk = D.view disk.old;
       disk_now = D.view disk.new;
       strings = M.strings medium.new;
+      net = record {
+        finished = N.finished net.old;
+        finished_now = N.finished net.new;
+        faults = N.faults net.old;
+        faults_now = N.faults net.new;
+        lost = N.lost net.old;
+        lost_now = N.lost net.new;
+      };
       moment = C.steady clock.old;
     }) result ⊎ Runs (command_of (map string_bytes words.now)) (record {
       held = S.held input.old;
@@ -101,6 +118,14 @@ pub fn run<S: Source, K: Sink, D: Disk, M: Medium, N: Net, C: Clock>(
       disk = D.view disk.old;
       disk_now = D.view disk.new;
       strings = M.strings medium.new;
+      net = record {
+        finished = N.finished net.old;
+        finished_now = N.finished net.new;
+        faults = N.faults net.old;
+        faults_now = N.faults net.new;
+        lost = N.lost net.old;
+        lost_now = N.lost net.new;
+      };
       moment = C.steady clock.old;
     }) result }
 
@@ -109,16 +134,19 @@ pub fn run<S: Source, K: Sink, D: Disk, M: Medium, N: Net, C: Clock>(
         Completes (S.held input.old) (S.read_faults input.old) (S.read_faults input.new)
         (K.write_faults out.old) (K.write_faults out.new) result }
 
-    // Where each fault comes from. (Of a probe, whose connection is the input and the output, that is open.)
+    // Where each fault comes from.
     ensures usage { UsageHasCause (command_of (map string_bytes words.now)) result }
-    ensures read_fault { command_of (map string_bytes words.now) ≢ Some command.Probe →
-        ReadFaultHasCause (S.read_faults input.old) (S.read_faults input.new) result }
-    ensures write_fault { command_of (map string_bytes words.now) ≢ Some command.Probe →
-        WriteFaultHasCause (K.write_faults out.old) (K.write_faults out.new) result }
+    ensures read_fault { ReadFaultHasCause (S.read_faults input.old) (S.read_faults input.new)
+        result }
+    ensures write_fault { WriteFaultHasCause (K.write_faults out.old) (K.write_faults out.new)
+        result }
     ensures disk_fault { DiskFaultHasCause (D.view disk.old).faults (D.view disk.new).faults
         result }
     ensures net_fault { NetFaultHasCause (NetCause (command_of (map string_bytes words.now))
         (N.faults net.old) (N.faults net.new) (N.lost net.old) (N.lost net.new)) result }
+
+    // Each connection that the net gave is finished.
+    ensures unfinished { N.unfinished net.new ≡ N.unfinished net.old }
 {
     match command_of(alloc, words) {
         Ok(command) => run_command(alloc, &command, input, out, disk, medium, net, clock),

@@ -1,17 +1,9 @@
-use Rattle.std.proofs.Common.{ap, sym, subst, ◌∙◌}
-use Rattle.std.specs.Prelude.{Option, Some}
+use Rattle.std.proofs.Common.{sym, subst}
+use Rattle.std.specs.Prelude.{Option}
 use Rattle.mqb.specs.Runs.{NetCause}
 use Rattle.mqb.proofs.run.run.Goals as goal
 use Rattle.mqb_connections.specs.Causes.{NetFaultHasCause}
 use Rattle.mqb_words.specs.declared.commands.Command.{Command}
-
-pub returns-in-Ok-clause-read_fault : goal.returns-in-Ok-clause-read_fault
-returns-in-Ok-clause-read_fault g c = λ other. c.run_command.ensures.read_fault
-    (λ is. other (c.in-Ok.ensures.words ∙ ap (λ (asked : Command). Some asked) is))
-
-pub returns-in-Ok-clause-write_fault : goal.returns-in-Ok-clause-write_fault
-returns-in-Ok-clause-write_fault g c = λ other. c.run_command.ensures.write_fault
-    (λ is. other (c.in-Ok.ensures.words ∙ ap (λ (asked : Command). Some asked) is))
 
 pub returns-in-Ok-clause-net_fault : goal.returns-in-Ok-clause-net_fault
 returns-in-Ok-clause-net_fault g c =

@@ -6,12 +6,6 @@ use Rattle.mqb.proofs.run.run_command.Goals as goal
 use Rattle.mqb_connections.specs.Causes.{NetFaultHasCause}
 use Rattle.mqb_words.specs.declared.commands.Command.{Command}
 
-pub returns-in-Probe-clause-read_fault : goal.returns-in-Probe-clause-read_fault
-returns-in-Probe-clause-read_fault g c = λ other. absurd (other c.in-Probe.is)
-
-pub returns-in-Probe-clause-write_fault : goal.returns-in-Probe-clause-write_fault
-returns-in-Probe-clause-write_fault g c = λ other. absurd (other c.in-Probe.is)
-
 pub returns-in-Probe-clause-net_fault : goal.returns-in-Probe-clause-net_fault
 returns-in-Probe-clause-net_fault g c = probe_net _ c.probe.result c.probe.ensures.ends
 
