@@ -15,4 +15,5 @@ loop-rest-preserved g c =
       read_faults = s.read_faults ∙ i.read_faults;
       given = s.given ∙ i.given;
       address = s.address ∙ i.address;
+      lent = s.lent ∙ i.lent;
     }

@@ -10,6 +10,7 @@ invariant-loop-rest g l = record {
   read_faults : g.C.Source.read_faults l.conn ≡ g.C.Source.read_faults l.initial.conn;
   given : g.C.Conn.given l.conn ≡ g.C.Conn.given l.initial.conn;
   address : g.C.Conn.address l.conn ≡ g.C.Conn.address l.initial.conn;
+  lent : g.C.Conn.lent l.conn ≡ g.C.Conn.lent l.initial.conn;
 }
 
 abbrev pub decreases-loop-rest : goal.decreases-loop-rest

@@ -115,4 +115,5 @@ pieces-preserved g c =
       read_faults = w.read_faults ∙ e.read_faults ∙ v.read_faults;
       given = w.given ∙ e.given ∙ v.given;
       address = w.address ∙ e.address ∙ v.address;
+      lent = w.lent ∙ e.lent ∙ v.lent;
     }

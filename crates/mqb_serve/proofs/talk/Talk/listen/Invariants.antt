@@ -20,6 +20,7 @@ invariant-pieces g l = record {
   read_faults : g.C.Source.read_faults l.conn ≡ g.C.Source.read_faults l.fn.conn;
   given : g.C.Conn.given l.conn ≡ g.C.Conn.given l.fn.conn;
   address : g.C.Conn.address l.conn ≡ g.C.Conn.address l.fn.conn;
+  lent : g.C.Conn.lent l.conn ≡ g.C.Conn.lent l.fn.conn;
 }
 
 abbrev pub decreases-pieces : goal.decreases-pieces

@@ -54,6 +54,7 @@ loop-pump-preserved g c =
       held = e.held ∙ i.held;
       given = e.given ∙ i.given;
       address = e.address ∙ i.address;
+      lent = e.lent ∙ i.lent;
     }
 
 pub returns-clause-goes : goal.returns-clause-goes

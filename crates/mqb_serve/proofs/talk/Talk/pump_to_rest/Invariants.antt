@@ -20,4 +20,5 @@ invariant-loop-pump g l = record {
   held : g.C.Source.held l.conn ≡ g.C.Source.held l.fn.conn;
   given : g.C.Conn.given l.conn ≡ g.C.Conn.given l.fn.conn;
   address : g.C.Conn.address l.conn ≡ g.C.Conn.address l.fn.conn;
+  lent : g.C.Conn.lent l.conn ≡ g.C.Conn.lent l.fn.conn;
 }

@@ -95,6 +95,7 @@ loop-rest-preserved g c =
       held = e.held ∙ i.held;
       given = e.given ∙ i.given;
       address = e.address ∙ i.address;
+      lent = e.lent ∙ i.lent;
     }
 
 pub returns-clause-goes : goal.returns-clause-goes
