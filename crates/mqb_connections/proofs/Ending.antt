@@ -1,15 +1,12 @@
 -- How the commands end that serve connections.
-use Rattle.std.proofs.Common.{inl, inr, ℕ, List, Option, sym, subst}
+use Rattle.std.proofs.Common.{ℕ, List, Option}
 use Rattle.std.specs.Prelude.{Err, IfErr, Ok, Result}
 use Rattle.mqb_commands.specs.Opened.{IsNotOpened}
 use Rattle.mqb_devices.specs.Disk.{View}
 use Rattle.mqb_serve_laws.specs.Serving.{Answer}
-use Rattle.mqb_serving.specs.declared.faults.ConnFault.TheVariants as fault
-use Rattle.mqb_status.specs.Outputs.{Tells}
 use Rattle.mqb_status.specs.declared.status.Status.{Status}
 use Rattle.mqb_status.specs.declared.status.Status.TheVariants as status
-use Rattle.mqb_connections.specs.Causes.{IsNetEnd, IsProbeEnd}
-use Rattle.mqb_connections.specs.Statuses.{probe_status, push_status}
+use Rattle.mqb_connections.specs.Causes.{IsNetEnd}
 use Rattle.mqb_connections.specs.Told.{TellsEnd, TellsNetFault}
 
 pub not_opened_net : (d e : View) (end : Status) → IsNotOpened d e end → IsNetEnd end
@@ -28,23 +25,6 @@ not_opened_net d e (status.Peer why) failed = tt
 not_opened_net d e status.NetFull failed = absurd failed
 not_opened_net d e status.Memory failed = tt
 not_opened_net d e status.Refused failed = tt
-
-pub not_opened_probe : (d e : View) (end : Status) → IsNotOpened d e end → IsProbeEnd end
-not_opened_probe d e status.Done failed = tt
-not_opened_probe d e status.Usage failed = absurd failed
-not_opened_probe d e (status.Script line kind) failed = absurd failed
-not_opened_probe d e status.TooLong failed = absurd failed
-not_opened_probe d e status.TooManyLines failed = absurd failed
-not_opened_probe d e status.ReadFault failed = tt
-not_opened_probe d e status.WriteFault failed = tt
-not_opened_probe d e status.DiskFault failed = tt
-not_opened_probe d e status.NetFault failed = absurd failed
-not_opened_probe d e (status.BadStore at) failed = tt
-not_opened_probe d e status.NotEmpty failed = tt
-not_opened_probe d e (status.Peer why) failed = tt
-not_opened_probe d e status.NetFull failed = absurd failed
-not_opened_probe d e status.Memory failed = tt
-not_opened_probe d e status.Refused failed = tt
 
 pub told_end : (number : ℕ) (end : Answer) (before after : Option (List ℕ)) (r : Result (Unit {0}) Status) → TellsEnd number end before after r → IfErr r IsNetEnd
 told_end number end before after (Ok done) told = tt
@@ -80,23 +60,3 @@ told_net before after (status.Peer why) told = tt
 told_net before after status.NetFull told = absurd told
 told_net before after status.Memory told = tt
 told_net before after status.Refused told = tt
-
-pub push_ends : (end : Answer) → IsNetEnd (push_status end)
-push_ends (Ok done) = tt
-push_ends (Err (fault.Peer why)) = tt
-push_ends (Err fault.ReadFault) = tt
-push_ends (Err fault.WriteFault) = tt
-push_ends (Err fault.DiskFault) = tt
-push_ends (Err fault.Memory) = tt
-
-pub probe_ends : (end : Answer) → IsProbeEnd (probe_status end)
-probe_ends (Ok done) = tt
-probe_ends (Err (fault.Peer why)) = tt
-probe_ends (Err fault.ReadFault) = tt
-probe_ends (Err fault.WriteFault) = tt
-probe_ends (Err fault.DiskFault) = tt
-probe_ends (Err fault.Memory) = tt
-
-pub told_as : (text : List ℕ) (end : Status) (before after : Option (List ℕ)) (r : Status) → Tells text end before after r → IsNetEnd end → IsNetEnd r
-told_as text end before after r (inl told) ends = subst IsNetEnd (sym told.0) ends
-told_as text end before after r (inr told) ends = subst IsNetEnd (sym told.0) tt

@@ -1,7 +1,6 @@
 -- From the disk before a store was opened to the disk behind that.
-use Rattle.mqb_commands.specs.Opened.{OpensAs}
 use Rattle.mqb_devices.specs.Disk.{OnlyReads, View}
-use Rattle.mqb_manager.specs.Keeping.{KeepsDisk, keeping_goes_on}
+use Rattle.mqb_manager.specs.Keeping.{KeepsDisk}
 use Rattle.mqb_manager.specs.States.{ManagerState}
 use Rattle.mqb_store_laws.specs.Carrying.{on_read}
 
@@ -14,7 +13,3 @@ opened_keeps d f m reads = record {
   doubt = λ up on settled down. absurd (down up);
   switch = reads.switch;
 }
-
--- what is kept behind the opening is kept from the disk before it
-pub kept_from : (d f e : View) (m n : ManagerState) → OnlyReads d f → OpensAs d m → KeepsDisk f e m n → KeepsDisk d e m n
-kept_from d f e m n reads opened kept = keeping_goes_on d f e m m n (opened_keeps d f m reads) opened.up kept

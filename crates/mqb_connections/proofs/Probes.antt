@@ -3,14 +3,14 @@ use Rattle.std.proofs.Common.{◌≡◌, ◌≢◌, inl, ℕ, List, Option, Err,
 use Rattle.mqb_commands.specs.Opened.{IsMoment, OpensAs}
 use Rattle.mqb_devices.specs.Disk.{OnlyReads, View}
 use Rattle.mqb_journal.specs.Causes.{FaultsAsSaid}
-use Rattle.mqb_manager.specs.Keeping.{KeepsDisk}
+use Rattle.mqb_manager.specs.Keeping.{KeepsDisk, keeping_goes_on}
 use Rattle.mqb_manager.specs.States.{IsUp, ManagerState, manager_of}
 use Rattle.mqb_model.specs.declared.answers.Role.TheVariants as role
 use Rattle.mqb_outside.specs.Faults.{Rose}
 use Rattle.mqb_serve_laws.specs.Serving.{Answer, Serves, ServesWhole, is_disk_fault, is_read_fault, is_write_fault}
 use Rattle.mqb_serving.specs.declared.faults.ConnFault.TheVariants as fault
 use Rattle.mqb_status.specs.declared.status.Status.{Status}
-use Rattle.mqb_connections.proofs.Opening.{kept_from}
+use Rattle.mqb_connections.proofs.Opening.{opened_keeps}
 use Rattle.mqb_connections.specs.Probed.{CompletesProbe, ProbesStore}
 use Rattle.mqb_connections.specs.Statuses.{IsFaultless, probe_status}
 
@@ -18,9 +18,9 @@ pub store_probes : (steady : Option ℕ) (d f e : View) (m n : ManagerState) (no
     → OpensAs d m → OnlyReads d f → f.faults ≡ d.faults → IsMoment steady now
     → Serves role.Acceptor now (manager_of m) (manager_of n) held held_now taken taken_now end
     → ServesWhole end role.Acceptor now (manager_of m) (manager_of n) held taken taken_now
-    → KeepsDisk f e m n → FaultsAsSaid is_disk_fault f.faults e.faults end → (end ≢ Err fault.DiskFault → IsUp n) → r ≡ probe_status end
+    → KeepsDisk f e m n → (end ≢ Err fault.DiskFault → IsUp n) → FaultsAsSaid is_disk_fault f.faults e.faults end → r ≡ probe_status end
     → ProbesStore steady d e held held_now taken taken_now r
-store_probes steady d f e m n now end held held_now taken taken_now r opened reads same moment serves whole kept disk up ends = inl (record {
+store_probes steady d f e m n now end held held_now taken taken_now r opened reads same moment serves whole kept up disk ends = inl (record {
   first = m;
   last = n;
   now = now;
@@ -29,9 +29,9 @@ store_probes steady d f e m n now end held held_now taken taken_now r opened rea
   moment = moment;
   serves = serves;
   whole = whole;
-  disk = kept_from d f e m n reads opened kept;
-  disk_faults = subst (λ (k : ℕ). FaultsAsSaid is_disk_fault k e.faults end) same disk;
+  disk = keeping_goes_on d f e m m n (opened_keeps d f m reads) opened.up kept;
   up = up;
+  disk_faults = subst (λ (k : ℕ). FaultsAsSaid is_disk_fault k e.faults end) same disk;
   ends = ends;
 })
 

@@ -1,13 +1,13 @@
 -- How a push ends, from the disk before its store was opened.
-use Rattle.std.proofs.Common.{◌≡◌, ◌⊎◌, inl, inr, ℕ, List, Option, Some, None, Err, Ok, refl, sym, ap, subst, ◌∙◌, arith}
-use Rattle.std.specs.Option.{option_map}
-use Rattle.std.specs.Prelude.{◌+◌, ◌-◌, codes}
+use Rattle.std.proofs.Common.{◌≡◌, ◌⊎◌, inl, inr, ℕ, List, Option, Some, None, Err, Ok, refl, sym, ap, subst, ◌∙◌}
+use Rattle.std.specs.Prelude.{codes}
 use Rattle.mqb_base.specs.declared.ids.Identity.{Identity}
 use Rattle.mqb_commands.specs.Opened.{IsNotOpened, OpensAs}
 use Rattle.mqb_devices.specs.Disk.{OnlyReads, View}
 use Rattle.mqb_devices.specs.Images.{Each}
 use Rattle.mqb_devices.specs.Runs.{reads_then}
 use Rattle.mqb_journal.specs.Causes.{FaultsAsSaid}
+use Rattle.mqb_manager.specs.Keeping.{keeping_goes_on}
 use Rattle.mqb_manager.specs.States.{ManagerState}
 use Rattle.mqb_outside.specs.Faults.{Rose}
 use Rattle.mqb_serve_laws.specs.Serving.{Answer, is_disk_fault}
@@ -16,18 +16,13 @@ use Rattle.mqb_status.specs.Outputs.{IsPlain, Tells, WriteFaultHasCause}
 use Rattle.mqb_status.specs.declared.status.Status.{Status}
 use Rattle.mqb_status.specs.declared.status.Status.TheVariants as status
 use Rattle.mqb_store_laws.specs.Faults.{IsBadStore}
-use Rattle.mqb_connections.proofs.Opening.{kept_from}
+use Rattle.mqb_connections.proofs.Opening.{opened_keeps}
 use Rattle.mqb_connections.specs.Causes.{is_lost}
 use Rattle.mqb_connections.specs.Pushed.{CompletesPush, PushesAt, PushesStore, TellsPush, index_of_host}
 use Rattle.mqb_connections.specs.Served.{Nets}
 use Rattle.mqb_connections.specs.Statuses.{IsFaultless, push_status}
 use Rattle.mqb_connections.specs.Told.{GoesOn}
 use Rattle.mqb_connections.specs.Visits.{end_line}
-
--- A connection that was given and taken back leaves the count of those that are not.
-pub given_and_taken : (before between after : Option ℕ) → between ≡ option_map (λ n. n + 1) before → after ≡ option_map (λ n. n - 1) between → after ≡ before
-given_and_taken None between after given taken = taken ∙ ap (option_map (λ n. n - 1)) given
-given_and_taken (Some n) between after given taken = taken ∙ ap (option_map (λ n. n - 1)) given ∙ ap (λ k. Some k) (omega arith)
 
 -- The line of the connection.
 
@@ -78,9 +73,9 @@ from_disk (Some peer) steady m d f e net before after r opened reads same (inr o
   last = over.last;
   end = over.end;
   push = over.push;
-  disk = kept_from d f e m over.last reads opened over.disk;
-  disk_faults = subst (λ (k : ℕ). FaultsAsSaid is_disk_fault k e.faults over.end) same over.disk_faults;
+  disk = keeping_goes_on d f e m m over.last (opened_keeps d f m reads) opened.up over.disk;
   up = over.up;
+  disk_faults = subst (λ (k : ℕ). FaultsAsSaid is_disk_fault k e.faults over.end) same over.disk_faults;
   faults = over.faults;
   lost = over.lost;
   told = over.told;
@@ -150,18 +145,7 @@ pub unopened_faultless : (d e : View) (r : Status) → IsNotOpened d e r → ((a
 unopened_faultless d e (status.BadStore at) failed sound disk = absurd (sound at failed.0)
 unopened_faultless d e status.DiskFault failed sound disk = absurd (disk failed.0)
 unopened_faultless d e status.Memory failed sound disk = tt
-unopened_faultless d e status.Done failed sound disk = absurd failed
-unopened_faultless d e status.Usage failed sound disk = absurd failed
-unopened_faultless d e (status.Script line kind) failed sound disk = absurd failed
-unopened_faultless d e status.TooLong failed sound disk = absurd failed
-unopened_faultless d e status.TooManyLines failed sound disk = absurd failed
-unopened_faultless d e status.ReadFault failed sound disk = absurd failed
-unopened_faultless d e status.WriteFault failed sound disk = absurd failed
-unopened_faultless d e status.NetFault failed sound disk = absurd failed
-unopened_faultless d e status.NotEmpty failed sound disk = absurd failed
-unopened_faultless d e (status.Peer why) failed sound disk = absurd failed
-unopened_faultless d e status.NetFull failed sound disk = absurd failed
-unopened_faultless d e status.Refused failed sound disk = absurd failed
+unopened_faultless d e _ failed sound disk = absurd failed
 
 pub push_completes : (host : List ℕ) (steady : Option ℕ) (d e : View) (net : Nets) (before after : Option (List ℕ)) (writes writes_now : ℕ) (r : Status)
     → PushesStore host steady d e net before after r → WriteFaultHasCause writes writes_now r → CompletesPush d e net writes writes_now r

@@ -3,12 +3,12 @@ use Rattle.std.proofs.Common.{◌≢◌, ℕ, List, Option}
 use Rattle.mqb_commands.specs.Opened.{OpensAs}
 use Rattle.mqb_devices.specs.Disk.{OnlyReads, View}
 use Rattle.mqb_devices.specs.Net.{Ended}
-use Rattle.mqb_manager.specs.Keeping.{KeepsDisk}
+use Rattle.mqb_manager.specs.Keeping.{KeepsDisk, keeping_goes_on}
 use Rattle.mqb_manager.specs.States.{IsUp, ManagerState}
 use Rattle.mqb_status.specs.declared.status.Status.{Status}
 use Rattle.mqb_status.specs.declared.status.Status.TheVariants as status
 use Rattle.mqb_connections.specs.Served.{ServesPeers, ServesStore}
-use Rattle.mqb_connections.proofs.Opening.{kept_from}
+use Rattle.mqb_connections.proofs.Opening.{opened_keeps}
 
 pub store_served : {count : ℕ} {steady : Option ℕ} {d f e : View} {m n : ManagerState} {ended ended_now : Option (List Ended)} {faults faults_now : ℕ}
     {before after : Option (List ℕ)} {r : Status} → OpensAs d m → OnlyReads d f → ServesPeers 1 count steady m n ended ended_now faults faults_now before after r
@@ -18,6 +18,6 @@ store_served {count} {steady} {d} {f} {e} {m} {n} opened reads serves disk up = 
   left = n;
   opened = opened;
   serves = serves;
-  disk = kept_from d f e m n reads opened disk;
+  disk = keeping_goes_on d f e m m n (opened_keeps d f m reads) opened.up disk;
   up = up;
 }

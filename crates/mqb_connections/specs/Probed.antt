@@ -26,8 +26,9 @@ pub record Probes (steady : Option ℕ) (d e : View) (held held_now taken taken_
   pub serves : Serves role.Acceptor now (manager_of first) (manager_of last) held held_now taken taken_now end
   pub whole : ServesWhole end role.Acceptor now (manager_of first) (manager_of last) held taken taken_now
   pub disk : KeepsDisk d e first last
-  pub disk_faults : FaultsAsSaid is_disk_fault d.faults e.faults end
+  -- so the disk is settled still, where it was, and stands for that manager
   pub up : end ≢ Err fault.DiskFault → IsUp last
+  pub disk_faults : FaultsAsSaid is_disk_fault d.faults e.faults end
   pub ends : r ≡ probe_status end
 
 -- a store that was not opened: nothing is read and nothing is written

@@ -48,8 +48,9 @@ pub record PushesOver (peer : ℕ) (steady : Option ℕ) (first : ManagerState) 
   pub end : Answer
   pub push : IsPush peer steady first last net.finished net.finished_now end
   pub disk : KeepsDisk d e first last
-  pub disk_faults : FaultsAsSaid is_disk_fault d.faults e.faults end
+  -- so the disk is settled still, where it was, and stands for that manager
   pub up : end ≢ Err fault.DiskFault → IsUp last
+  pub disk_faults : FaultsAsSaid is_disk_fault d.faults e.faults end
   pub faults : net.faults_now ≡ net.faults
   pub lost : FaultsAsSaid is_lost net.lost net.lost_now end
   pub told : TellsPush end before after r

@@ -51,10 +51,10 @@ fn serve_piped<S: Source, K: Sink, D: Disk>(
         (S.held input.old) (S.held input.new) (K.taken out.old) (K.taken out.new) result }
     ensures whole { ServesWhole result Role.Acceptor now (manager_of manager.old)
         (manager_of manager.new) (S.held input.old) (K.taken out.old) (K.taken out.new) }
+    ensures up { result ≢ Err ConnFault.DiskFault → IsUp manager.new }
     ensures disk { KeepsDisk (D.view disk.old) (D.view disk.new) manager.old manager.new }
     ensures disk_faults { FaultsAsSaid is_disk_fault (D.view disk.old).faults
         (D.view disk.new).faults result }
-    ensures up { result ≢ Err ConnFault.DiskFault → IsUp manager.new }
     ensures read_faults { FaultsAsSaid is_read_fault (S.read_faults input.old)
         (S.read_faults input.new) result }
     ensures write_faults { FaultsAsSaid is_write_fault (K.write_faults out.old)

@@ -68,10 +68,10 @@ fn push_over<D: Disk, N: Net, C: Clock>(
     requires peer { peer < length manager.old.store.state.peers }
     ensures push { IfOk result (IsPush peer (C.steady clock.old) manager.old manager.new
         (N.finished net.old) (N.finished net.new)) }
+    ensures up { IfOk result (λ end. end ≢ Err ConnFault.DiskFault → IsUp manager.new) }
     ensures disk { KeepsDisk (D.view disk.old) (D.view disk.new) manager.old manager.new }
     ensures disk_faults { IfOk result (FaultsAsSaid is_disk_fault (D.view disk.old).faults
         (D.view disk.new).faults) }
-    ensures up { IfOk result (λ end. end ≢ Err ConnFault.DiskFault → IsUp manager.new) }
     ensures unchanged { OnErr result ((disk.new ≡ disk.old) × (manager.new ≡ manager.old)) }
     ensures net_faults { HasCause (N.faults net.old) (N.faults net.new) result }
     ensures lost { IfOk result (FaultsAsSaid is_lost (N.lost net.old) (N.lost net.new)) }

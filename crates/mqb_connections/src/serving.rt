@@ -26,7 +26,7 @@ use std::alloc::Global;
 
 /// Writes the line of a connection that ended, and says how the program ends, where it does.
 #[tactic(auto, using(crate::proofs::Ending::told_end))]
-pub(crate) fn tell_end<K: Sink>(
+fn tell_end<K: Sink>(
     alloc: Global,
     number: u32,
     end: Result<(), ConnFault>,

@@ -13,8 +13,8 @@ returns-clause-probes g c =
     c.in-Ok.manager c.serve_piped-end.new.manager c.now-now.result c.serve_piped-end.result
     (g.S.Source.held c.args.input.now) (g.S.Source.held c.serve_piped-end.new.input) (g.K.Sink.taken c.args.out.now) (g.K.Sink.taken c.serve_piped-end.new.out)
     c.probe_status.result c.in-Ok.ensures.opened c.in-Ok.ensures.reads c.in-Ok.ensures.cause c.now-now.ensures.moment
-    c.serve_piped-end.ensures.served c.serve_piped-end.ensures.whole c.serve_piped-end.ensures.disk c.serve_piped-end.ensures.disk_faults
-    c.serve_piped-end.ensures.up c.probe_status.ensures
+    c.serve_piped-end.ensures.served c.serve_piped-end.ensures.whole c.serve_piped-end.ensures.disk c.serve_piped-end.ensures.up
+    c.serve_piped-end.ensures.disk_faults c.probe_status.ensures
 
 pub returns-clause-complete : goal.returns-clause-complete
 returns-clause-complete g c =
