@@ -1,5 +1,5 @@
 -- What a call of a store command comes to.
-use Rattle.std.specs.Prelude.{List, Result, ℕ}
+use Rattle.std.specs.Prelude.{IsOk, List, Result, ℕ}
 use Rattle.mqb_answers.specs.Told.{commit_told, create_told, peer_told, purge_told, roll_told, send_told, take_told, tick_told}
 use Rattle.mqb_answers.specs.declared.told.Told.{Told}
 use Rattle.mqb_base.specs.declared.ledger.Line.{Line}
@@ -46,3 +46,7 @@ outcome_of (call.Take place) m now = told_with take_told m (take_message m place
 outcome_of (call.Purge place) m now = told_with purge_told m (purge m place now)
 outcome_of call.Tick m now = told_with tick_told m (tick m now)
 outcome_of (call.SetRoll count) m now = told_by roll_told (set_roll m count)
+
+-- No definition answers a fault of the machine: of each there is something to tell.
+abbrev pub OutcomesAreTold : Type 0
+OutcomesAreTold = (asked : Call) (m : Manager) (now : ℕ) → IsOk (outcome_of asked m now).answer

@@ -5,9 +5,11 @@
 
 mod answering;
 mod calls;
+mod laws;
 mod lines;
 mod texts;
 mod told;
 
 pub use answering::answer;
+pub use laws::outcomes_are_told;
 pub use told::{CallEnd, Said, Taken, Told};

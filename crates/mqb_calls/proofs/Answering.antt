@@ -1,6 +1,7 @@
 -- A call of a store from the disk before the store was opened to the disk behind the call.
 use Rattle.std.proofs.Common.{◌≡◌, ℕ, List, [], ◌++◌, Bool, true, false, cond, Option, Result, Ok, Err, refl, sym, ap, subst, ◌∙◌, inl, inr}
-use Rattle.std.specs.Prelude.{◌⊎◌}
+use Rattle.std.specs.Prelude.{◌⊎◌, IsOk}
+use Rattle.mqb_answers.proofs.Definitions.{outcomes_are_told}
 use Rattle.mqb_answers.specs.Calls.{IsTold, Tells}
 use Rattle.mqb_answers.specs.Outcomes.{outcome_of}
 use Rattle.mqb_answers.specs.Texts.{hosts_of, told_text}
@@ -87,13 +88,17 @@ made_or_not m n o (inr (inr none)) = absurd (apart none.0)
     apart : told_err fault.Memory ≡ told_err fault.DiskFault → ⊥
     apart e = cc
 
-failed_or_made : (m n : ManagerState) (o : Outcome Telling) → Ends fault.Memory fault.DiskFault m n o (told_err fault.DiskFault) → FailsUnder m n o ⊎ Succeeds m n o
-failed_or_made m n o (inl went) = inr went.1
-failed_or_made m n o (inr (inl none)) = absurd (apart none.0)
+-- a disk fault is the disk's, since no definition answers it
+failed : (m n : ManagerState) (o : Outcome Telling) → IsOk o.answer → Ends fault.Memory fault.DiskFault m n o (told_err fault.DiskFault) → FailsUnder m n o
+failed m n o told (inl went) = absurd (apart (subst (λ (answer : Telling). IsOk answer) (sym went.0) told))
+  where
+    apart : IsOk (told_err fault.DiskFault) → ⊥
+    apart e = cc
+failed m n o told (inr (inl none)) = absurd (apart none.0)
   where
     apart : told_err fault.DiskFault ≡ told_err fault.Memory → ⊥
     apart e = cc
-failed_or_made m n o (inr (inr none)) = inl none.1
+failed m n o told (inr (inr broke)) = broke.1
 
 abbrev End : Type 0
 End = Result CallEnd AnswerFault
@@ -107,14 +112,22 @@ end_err why = Err why
 ok_no_fault : (end : CallEnd) (why : AnswerFault) → end_ok end ≡ end_err why → ⊥
 ok_no_fault end why e = cc
 
-module _ (asked : Call) (now : ℕ) (d f e : View) (kept : Type 0) (m n : ManagerState) (text : List ℕ) (opened : OpensAs d m) (reads : OnlyReads d f) where
+-- what is told, or not for want of memory, is no disk fault
+told_no_fault : (t : Told) → told_ok t ≡ told_err fault.DiskFault → ⊥
+told_no_fault t e = cc
+
+module _ (asked : Call) (now : ℕ) (d f e : View) (kept : Type 0) (m n : ManagerState) (text : List ℕ) (opened : OpensAs d m) (reads : OnlyReads d f) (calm : f.faults ≡ d.faults) where
   keeps : {r : End} → IsTold f e kept m n (outcome_of asked (manager_of m) now) [] text r → KeepsDisk d e m n
   keeps told = keeping_goes_on d f e m m n (opened_keeps d f m reads) opened.up
       (calls_keep_disks fault.Memory fault.DiskFault f e m n (outcome_of asked (manager_of m) now) told.answer told.call)
 
+  stays : {r : End} (told : IsTold f e kept m n (outcome_of asked (manager_of m) now) [] text r) → (told.answer ≡ told_err fault.DiskFault → ⊥) → e.faults ≡ d.faults
+  stays told not = told.call.stayed not ∙ calm
+
   by_answer : (answer : Telling) (end : CallEnd) → Ends fault.Memory fault.DiskFault m n (outcome_of asked (manager_of m) now) answer
-      → Tells (hosts_of n.store.state) answer [] text (end_ok end) → KeepsDisk d e m n → IsAnswered asked now d e text end
-  by_answer (Ok t) end ends (inl said) keep =
+      → Tells (hosts_of n.store.state) answer [] text (end_ok end) → KeepsDisk d e m n → ((answer ≡ told_err fault.DiskFault → ⊥) → e.faults ≡ d.faults)
+      → IsAnswered asked now d e text end
+  by_answer (Ok t) end ends (inl said) keep stayed =
       let is = made_if m n (outcome_of asked (manager_of m) now) t ends in
       record {
         before = m;
@@ -127,15 +140,16 @@ module _ (asked : Call) (now : ℕ) (d f e : View) (kept : Type 0) (m n : Manage
         said = said.1;
         up = up_after m n (outcome_of asked (manager_of m) now) is.1 opened.up;
         disk = keep;
+        stayed = stayed (told_no_fault t);
       }
     where
       same_end : (t : Told) (end : CallEnd) → end_ok end ≡ end_ok t.end → t.end ≡ end
       same_end t end e = cc
-  by_answer (Ok t) end ends (inr none) keep = absurd (ok_no_fault end fault.Memory none.0)
-  by_answer (Err why) end ends said keep = absurd (ok_no_fault end why said.0)
+  by_answer (Ok t) end ends (inr none) keep stayed = absurd (ok_no_fault end fault.Memory none.0)
+  by_answer (Err why) end ends said keep stayed = absurd (ok_no_fault end why said.0)
 
   pub is_answered : (end : CallEnd) → IsTold f e kept m n (outcome_of asked (manager_of m) now) [] text (end_ok end) → IsAnswered asked now d e text end
-  is_answered end told = by_answer told.answer end told.call.ends told.told (keeps told)
+  is_answered end told = by_answer told.answer end told.call.ends told.told (keeps told) (stays told)
 
   by_fault : (answer : Telling) → Ends fault.Memory fault.DiskFault m n (outcome_of asked (manager_of m) now) answer
       → Tells (hosts_of n.store.state) answer [] text (end_err fault.DiskFault) → answer ≡ told_err fault.DiskFault
@@ -149,16 +163,16 @@ module _ (asked : Call) (now : ℕ) (d f e : View) (kept : Type 0) (m n : Manage
       same_why : (why : AnswerFault) → end_err fault.DiskFault ≡ end_err why → told_err why ≡ told_err fault.DiskFault
       same_why why e = cc
 
-  pub is_broken : f.faults ≡ d.faults → IsTold f e kept m n (outcome_of asked (manager_of m) now) [] text (end_err fault.DiskFault) → IsBroken asked now d e
-  is_broken same told =
+  pub is_broken : IsTold f e kept m n (outcome_of asked (manager_of m) now) [] text (end_err fault.DiskFault) → IsBroken asked now d e
+  is_broken told =
       let is = by_fault told.answer told.call.ends told.told in
       record {
         before = m;
         after = n;
         opened = opened;
-        ended = failed_or_made m n (outcome_of asked (manager_of m) now)
+        failed = failed m n (outcome_of asked (manager_of m) now) (outcomes_are_told asked (manager_of m) now)
             (subst (Ends fault.Memory fault.DiskFault m n (outcome_of asked (manager_of m) now)) is told.call.ends);
-        rose = subst (λ (k : ℕ). Rose k e.faults) same (told.call.rose is);
+        rose = subst (λ (k : ℕ). Rose k e.faults) calm (told.call.rose is);
         disk = keeps told;
       }
 
@@ -172,6 +186,13 @@ module _ (asked : Call) (now : ℕ) (d f e : View) (kept : Type 0) (m n : Manage
       no_fault : end_err fault.Memory ≡ end_err fault.DiskFault → ⊥
       no_fault e = cc
 
+  wants_memory : (answer : Telling) → Tells (hosts_of n.store.state) answer [] text (end_err fault.Memory) → answer ≡ told_err fault.DiskFault → ⊥
+  wants_memory (Ok t) said same = told_no_fault t same
+  wants_memory (Err why) said same = apart why said.0 same
+    where
+      apart : (why : AnswerFault) → end_err fault.Memory ≡ end_err why → told_err why ≡ told_err fault.DiskFault → ⊥
+      apart why e same = cc
+
   still_up : Succeeds m n (outcome_of asked (manager_of m) now) ⊎ IsSame m n → IsUp n
   still_up (inl made) = up_after m n (outcome_of asked (manager_of m) now) made opened.up
   still_up (inr same) = up_same m n same opened.up
@@ -179,7 +200,8 @@ module _ (asked : Call) (now : ℕ) (d f e : View) (kept : Type 0) (m n : Manage
   pub is_not_told : IsTold f e kept m n (outcome_of asked (manager_of m) now) [] text (end_err fault.Memory) → IsNotTold asked now d e
   is_not_told told =
       let made = by_memory told.answer told.call.ends told.told in
-      record { before = m; after = n; opened = opened; made = made; up = still_up made; disk = keeps told }
+      let stayed = stays told (wants_memory told.answer told.told) in
+      record { before = m; after = n; opened = opened; made = made; up = still_up made; disk = keeps told; stayed = stayed }
 
 -- Where a disk fault comes from.
 pub has_cause : (before after : ℕ) (r : Status) → (r ≡ status.DiskFault → Rose before after) → DiskFaultHasCause before after r

@@ -22,7 +22,7 @@ abbrev pub status_of : CallEnd → Status
 status_of call.Done = status.Done
 status_of call.Refused = status.Refused
 
--- A call of the manager to which the store opens was made at a moment, and its answer is told.
+-- A call of the manager to which the store opens was made at a moment, and its answer is told. The disk did not fail.
 pub record IsAnswered (asked : Call) (now : ℕ) (d e : View) (text : List ℕ) (end : CallEnd) : Type 0 where
   pub before : ManagerState
   pub after : ManagerState
@@ -34,8 +34,9 @@ pub record IsAnswered (asked : Call) (now : ℕ) (d e : View) (text : List ℕ) 
   pub said : text ≡ told_text (hosts_of after.store.state) told
   pub up : IsUp after
   pub disk : KeepsDisk d e before after
+  pub stayed : e.faults ≡ d.faults
 
--- Memory ran out: the call was made and is not told, or it was not made.
+-- Memory ran out: the call was made and is not told, or it was not made. The disk did not fail.
 pub record IsNotTold (asked : Call) (now : ℕ) (d e : View) : Type 0 where
   pub before : ManagerState
   pub after : ManagerState
@@ -43,13 +44,14 @@ pub record IsNotTold (asked : Call) (now : ℕ) (d e : View) : Type 0 where
   pub made : Succeeds before after (outcome_of asked (manager_of before) now) ⊎ IsSame before after
   pub up : IsUp after
   pub disk : KeepsDisk d e before after
+  pub stayed : e.faults ≡ d.faults
 
--- The disk failed under the call's record, which is in doubt. (A definition that answered this fault itself would be made; none does.)
+-- The disk failed under the call's record, which is in doubt.
 pub record IsBroken (asked : Call) (now : ℕ) (d e : View) : Type 0 where
   pub before : ManagerState
   pub after : ManagerState
   pub opened : OpensAs d before
-  pub ended : FailsUnder before after (outcome_of asked (manager_of before) now) ⊎ Succeeds before after (outcome_of asked (manager_of before) now)
+  pub failed : FailsUnder before after (outcome_of asked (manager_of before) now)
   pub rose : Rose d.faults e.faults
   pub disk : KeepsDisk d e before after
 

@@ -3,7 +3,7 @@ ghost use Rattle.mqb_outside.specs.Faults.{HasCause};
 ghost use Rattle.mqb_outside.specs.Told.{Gave};
 ghost use Rattle.mqb_status.specs.Outputs.{ReadFaultHasCause, WriteFaultHasCause};
 ghost use Rattle.mqb_show.specs.Shown.{Shows};
-ghost use Rattle.mqb_show.specs.Showing.{ShowCauses, ShowsAll, Stopped, status_of};
+ghost use Rattle.mqb_show.specs.Showing.{ShowCauses, ShowsAll, Stopped};
 
 use crate::faults::ShowFault;
 use crate::viewer::Viewer;
@@ -57,17 +57,6 @@ fn show_all<S: Source, K: Sink>(alloc: Global, input: &mut S, out: &mut K) -> Re
         }
     }
     Err(ShowFault::Peer(PeerFault::TooMuch))
-}
-
-fn status_of(fault: ShowFault) -> Status
-    ensures { result ≡ status_of fault }
-{
-    match fault {
-        ShowFault::Peer(fault) => Status::Peer(fault),
-        ShowFault::ReadFault => Status::ReadFault,
-        ShowFault::WriteFault => Status::WriteFault,
-        ShowFault::Memory => Status::Memory,
-    }
 }
 
 /// Writes the fault line, where there is one.

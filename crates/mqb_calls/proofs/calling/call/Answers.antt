@@ -51,7 +51,7 @@ returns-in-Ok-answer-clause-calls g c =
     let text = c.answer.new.out.items in
     let told : IsTold f e kept m n (outcome_of asked (manager_of m) now) [] text (Ok c.in-Ok-answer.end) =
     subst (λ (t : List ℕ). IsTold f e kept m n (outcome_of asked (manager_of m) now) t text (Ok c.in-Ok-answer.end)) c.new-text.ensures.items c.in-Ok-answer.ensures.call in
-    let said = is_answered asked now d f e kept m n text c.in-Ok.ensures.opened c.open.ensures.reads c.in-Ok-answer.end told in
+    let said = is_answered asked now d f e kept m n text c.in-Ok.ensures.opened c.open.ensures.reads c.in-Ok.ensures.cause c.in-Ok-answer.end told in
     record {
       now = now;
       moment = c.now-now.ensures.moment;
@@ -120,7 +120,7 @@ returns-clause-calls g c =
     let told : IsTold f e kept m n (outcome_of asked (manager_of m) now) [] text (Err fault.Memory) =
     subst (λ (t : List ℕ). IsTold f e kept m n (outcome_of asked (manager_of m) now) t text (Err fault.Memory)) c.new-text.ensures.items
     (subst (λ (w : AnswerFault). IsTold f e kept m n (outcome_of asked (manager_of m) now) c.new-text.result.items text (Err w)) c.in-Err-Memory.field-0-is c.in-Err-Memory.ensures.call) in
-    let not_told = is_not_told asked now d f e kept m n text c.in-Ok.ensures.opened c.open.ensures.reads told in
+    let not_told = is_not_told asked now d f e kept m n text c.in-Ok.ensures.opened c.open.ensures.reads c.in-Ok.ensures.cause told in
     record { now = now; moment = c.now-now.ensures.moment; calls = inr (inr (inl (c.memory.ensures.end, c.memory.ensures.text, not_told))) }
 
 pub returns-clause-cause : goal.returns-clause-cause
