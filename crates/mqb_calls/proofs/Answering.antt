@@ -25,10 +25,10 @@ use Rattle.mqb_words.specs.declared.commands.Call.{Call}
 use Rattle.mqb_status.specs.Outputs.{IsFaultLine}
 use Rattle.mqb_status.specs.declared.status.Status.{Status}
 use Rattle.mqb_status.specs.declared.status.Status.TheVariants as status
-use Rattle.mqb_commands.specs.Causes.{DiskFaultHasCause}
+use Rattle.mqb_commands.specs.Causes.{DiskFaultHasCause, is_disk_fault}
 use Rattle.mqb_commands.specs.Opened.{IsNotOpened, OpensAs}
 use Rattle.mqb_commands.specs.Said.{FailsToOpen}
-use Rattle.mqb_calls.specs.Calls.{Calls, IsAnswered, IsBroken, IsNotTold, status_of}
+use Rattle.mqb_calls.specs.Calls.{Calls, IsAnswered, IsBroken, IsNotTold, TellsFaults, status_of}
 
 -- Opening only reads, so the disk stands for the manager still.
 pub opened_keeps : (d f : View) (m : ManagerState) → OnlyReads d f → KeepsDisk d f m m
@@ -109,24 +109,39 @@ end_ok end = Ok end
 abbrev end_err : AnswerFault → End
 end_err why = Err why
 
-ok_no_fault : (end : CallEnd) (why : AnswerFault) → end_ok end ≡ end_err why → ⊥
-ok_no_fault end why e = cc
+end_no_fault : (end : CallEnd) (why : AnswerFault) → end_ok end ≡ end_err why → ⊥
+end_no_fault end why e = cc
 
--- what is told, or not for want of memory, is no disk fault
+-- Where a call is told, or is not for want of memory, its disk did not fail.
+
 told_no_fault : (t : Told) → told_ok t ≡ told_err fault.DiskFault → ⊥
 told_no_fault t e = cc
+
+module _ (asked : Call) (now : ℕ) (d f e : View) (kept : Type 0) (m n : ManagerState) (before text : List ℕ) (calm : f.faults ≡ d.faults) where
+  ok_no_fault : (answer : Telling) (end : CallEnd) → Tells (hosts_of n.store.state) answer before text (end_ok end) → answer ≡ told_err fault.DiskFault → ⊥
+  ok_no_fault (Ok t) end said same = told_no_fault t same
+  ok_no_fault (Err why) end said same = end_no_fault end why said.0
+
+  pub answered_stays : (end : CallEnd) → IsTold f e kept m n (outcome_of asked (manager_of m) now) before text (end_ok end) → e.faults ≡ d.faults
+  answered_stays end told = told.call.stayed (ok_no_fault told.answer end told.told) ∙ calm
+
+  want_no_fault : (answer : Telling) → Tells (hosts_of n.store.state) answer before text (end_err fault.Memory) → answer ≡ told_err fault.DiskFault → ⊥
+  want_no_fault (Ok t) said same = told_no_fault t same
+  want_no_fault (Err why) said same = apart why said.0 same
+    where
+      apart : (why : AnswerFault) → end_err fault.Memory ≡ end_err why → told_err why ≡ told_err fault.DiskFault → ⊥
+      apart why e same = cc
+
+  pub unanswered_stays : IsTold f e kept m n (outcome_of asked (manager_of m) now) before text (end_err fault.Memory) → e.faults ≡ d.faults
+  unanswered_stays told = told.call.stayed (want_no_fault told.answer told.told) ∙ calm
 
 module _ (asked : Call) (now : ℕ) (d f e : View) (kept : Type 0) (m n : ManagerState) (text : List ℕ) (opened : OpensAs d m) (reads : OnlyReads d f) (calm : f.faults ≡ d.faults) where
   keeps : {r : End} → IsTold f e kept m n (outcome_of asked (manager_of m) now) [] text r → KeepsDisk d e m n
   keeps told = keeping_goes_on d f e m m n (opened_keeps d f m reads) opened.up
       (calls_keep_disks fault.Memory fault.DiskFault f e m n (outcome_of asked (manager_of m) now) told.answer told.call)
 
-  stays : {r : End} (told : IsTold f e kept m n (outcome_of asked (manager_of m) now) [] text r) → (told.answer ≡ told_err fault.DiskFault → ⊥) → e.faults ≡ d.faults
-  stays told not = told.call.stayed not ∙ calm
-
   by_answer : (answer : Telling) (end : CallEnd) → Ends fault.Memory fault.DiskFault m n (outcome_of asked (manager_of m) now) answer
-      → Tells (hosts_of n.store.state) answer [] text (end_ok end) → KeepsDisk d e m n → ((answer ≡ told_err fault.DiskFault → ⊥) → e.faults ≡ d.faults)
-      → IsAnswered asked now d e text end
+      → Tells (hosts_of n.store.state) answer [] text (end_ok end) → KeepsDisk d e m n → e.faults ≡ d.faults → IsAnswered asked now d e text end
   by_answer (Ok t) end ends (inl said) keep stayed =
       let is = made_if m n (outcome_of asked (manager_of m) now) t ends in
       record {
@@ -140,20 +155,20 @@ module _ (asked : Call) (now : ℕ) (d f e : View) (kept : Type 0) (m n : Manage
         said = said.1;
         up = up_after m n (outcome_of asked (manager_of m) now) is.1 opened.up;
         disk = keep;
-        stayed = stayed (told_no_fault t);
+        stayed = stayed;
       }
     where
       same_end : (t : Told) (end : CallEnd) → end_ok end ≡ end_ok t.end → t.end ≡ end
       same_end t end e = cc
-  by_answer (Ok t) end ends (inr none) keep stayed = absurd (ok_no_fault end fault.Memory none.0)
-  by_answer (Err why) end ends said keep stayed = absurd (ok_no_fault end why said.0)
+  by_answer (Ok t) end ends (inr none) keep stayed = absurd (end_no_fault end fault.Memory none.0)
+  by_answer (Err why) end ends said keep stayed = absurd (end_no_fault end why said.0)
 
   pub is_answered : (end : CallEnd) → IsTold f e kept m n (outcome_of asked (manager_of m) now) [] text (end_ok end) → IsAnswered asked now d e text end
-  is_answered end told = by_answer told.answer end told.call.ends told.told (keeps told) (stays told)
+  is_answered end told = by_answer told.answer end told.call.ends told.told (keeps told) (answered_stays asked now d f e kept m n [] text calm end told)
 
   by_fault : (answer : Telling) → Ends fault.Memory fault.DiskFault m n (outcome_of asked (manager_of m) now) answer
       → Tells (hosts_of n.store.state) answer [] text (end_err fault.DiskFault) → answer ≡ told_err fault.DiskFault
-  by_fault (Ok t) ends (inl said) = absurd (ok_no_fault t.end fault.DiskFault (sym said.0))
+  by_fault (Ok t) ends (inl said) = absurd (end_no_fault t.end fault.DiskFault (sym said.0))
   by_fault (Ok t) ends (inr none) = absurd (no_memory none.0)
     where
       no_memory : end_err fault.DiskFault ≡ end_err fault.Memory → ⊥
@@ -186,13 +201,6 @@ module _ (asked : Call) (now : ℕ) (d f e : View) (kept : Type 0) (m n : Manage
       no_fault : end_err fault.Memory ≡ end_err fault.DiskFault → ⊥
       no_fault e = cc
 
-  wants_memory : (answer : Telling) → Tells (hosts_of n.store.state) answer [] text (end_err fault.Memory) → answer ≡ told_err fault.DiskFault → ⊥
-  wants_memory (Ok t) said same = told_no_fault t same
-  wants_memory (Err why) said same = apart why said.0 same
-    where
-      apart : (why : AnswerFault) → end_err fault.Memory ≡ end_err why → told_err why ≡ told_err fault.DiskFault → ⊥
-      apart why e same = cc
-
   still_up : Succeeds m n (outcome_of asked (manager_of m) now) ⊎ IsSame m n → IsUp n
   still_up (inl made) = up_after m n (outcome_of asked (manager_of m) now) made opened.up
   still_up (inr same) = up_same m n same opened.up
@@ -200,7 +208,7 @@ module _ (asked : Call) (now : ℕ) (d f e : View) (kept : Type 0) (m n : Manage
   pub is_not_told : IsTold f e kept m n (outcome_of asked (manager_of m) now) [] text (end_err fault.Memory) → IsNotTold asked now d e
   is_not_told told =
       let made = by_memory told.answer told.call.ends told.told in
-      let stayed = stays told (wants_memory told.answer told.told) in
+      let stayed = unanswered_stays asked now d f e kept m n [] text calm told in
       record { before = m; after = n; opened = opened; made = made; up = still_up made; disk = keeps told; stayed = stayed }
 
 -- Where a disk fault comes from.
@@ -230,3 +238,22 @@ end_cause before after call.Refused r is = subst (DiskFaultHasCause before after
 
 pub rose_cause : (before after : ℕ) (r : Status) → Rose before after → DiskFaultHasCause before after r
 rose_cause before after r rose = has_cause before after r (λ is. rose)
+
+-- a fault of opening is told
+pub opening_is_told : (before after : ℕ) (fault r : Status) (text : List ℕ) → cond (is_disk_fault fault) (Rose before after) (after ≡ before) → IsFaultLine fault text r
+    → TellsFaults before after text r
+opening_is_told before after status.Done r text cause line = inl cause
+opening_is_told before after status.Usage r text cause line = inl cause
+opening_is_told before after (status.Script line kind) r text cause line = inl cause
+opening_is_told before after status.TooLong r text cause line = inl cause
+opening_is_told before after status.TooManyLines r text cause line = inl cause
+opening_is_told before after status.ReadFault r text cause line = inl cause
+opening_is_told before after status.WriteFault r text cause line = inl cause
+opening_is_told before after status.DiskFault r text cause line = inr line
+opening_is_told before after status.NetFault r text cause line = inl cause
+opening_is_told before after (status.BadStore at) r text cause line = inl cause
+opening_is_told before after status.NotEmpty r text cause line = inl cause
+opening_is_told before after (status.Peer why) r text cause line = inl cause
+opening_is_told before after status.NetFull r text cause line = inl cause
+opening_is_told before after status.Memory r text cause line = inl cause
+opening_is_told before after status.Refused r text cause line = inl cause

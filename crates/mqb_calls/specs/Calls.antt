@@ -67,3 +67,7 @@ pub record CallsAt (asked : Call) (steady : Option ℕ) (d e : View) (text : Lis
   pub now : ℕ
   pub moment : IsMoment steady now
   pub calls : Calls asked now d e text r
+
+-- The disk did not fail, or its fault is what is said.
+abbrev pub TellsFaults : (before after : ℕ) → List ℕ → Status → Type 0
+TellsFaults before after text r = (after ≡ before) ⊎ IsFaultLine status.DiskFault text r

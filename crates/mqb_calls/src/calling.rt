@@ -1,6 +1,6 @@
 ghost use Rattle.std.specs.Prelude.{◌≡◌};
 ghost use Rattle.mqb_commands.specs.Causes.{DiskFaultHasCause};
-ghost use Rattle.mqb_calls.specs.Calls.{CallsAt, status_of};
+ghost use Rattle.mqb_calls.specs.Calls.{CallsAt, TellsFaults, status_of};
 ghost use Rattle.mqb_words.specs.Formed.{IsFormedCall};
 
 use mqb_answers::{CallEnd, answer};
@@ -28,6 +28,8 @@ pub fn call<D: Disk, C: Clock>(alloc: Global, disk: &mut D, clock: &mut C, call:
         result.text.items result.end }
     ensures cause { DiskFaultHasCause (D.view disk.old).faults (D.view disk.new).faults
         result.end }
+    ensures faults { TellsFaults (D.view disk.old).faults (D.view disk.new).faults
+        result.text.items result.end }
     ensures clock { C.steady clock.new ≡ C.steady clock.old }
 {
     let now = clock.now();

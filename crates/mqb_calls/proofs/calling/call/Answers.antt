@@ -3,7 +3,7 @@ use Rattle.std.specs.Prelude.{Ok, Err}
 use Rattle.mqb_answers.specs.Calls.{IsTold}
 use Rattle.mqb_answers.specs.Outcomes.{outcome_of}
 use Rattle.mqb_calls.specs.Calls.{Calls, IsAnswered}
-use Rattle.mqb_calls.proofs.Answering.{end_cause, fails_cause, is_answered, is_broken, is_not_told, rose_cause, has_cause}
+use Rattle.mqb_calls.proofs.Answering.{answered_stays, end_cause, fails_cause, has_cause, is_answered, is_broken, is_not_told, opening_is_told, rose_cause, unanswered_stays}
 use Rattle.mqb_commands.specs.Causes.{DiskFaultHasCause}
 use Rattle.mqb_commands.proofs.Failing.{line_fails}
 use Rattle.mqb_manager.specs.States.{manager_of}
@@ -28,6 +28,12 @@ returns-in-Err-clause-cause g c =
     let f = g.D.Disk.view c.open.new.disk in
     fails_cause d f c.fault.result.text.items c.fault.result.end
     (line_fails d f c.in-Err.fault c.fault.result.end c.fault.result.text.items c.in-Err.ensures.fails c.open.ensures.reads c.fault.ensures)
+
+pub returns-in-Err-clause-faults : goal.returns-in-Err-clause-faults
+returns-in-Err-clause-faults g c =
+    let d = g.D.Disk.view c.args.disk.now in
+    let f = g.D.Disk.view c.open.new.disk in
+    opening_is_told d.faults f.faults c.in-Err.fault c.fault.result.end c.fault.result.text.items c.in-Err.ensures.cause c.fault.ensures
 
 pub returns-in-Err-clause-clock : goal.returns-in-Err-clause-clock
 returns-in-Err-clause-clock g c = c.now-now.ensures.stays
@@ -66,6 +72,18 @@ pub returns-in-Ok-answer-clause-cause : goal.returns-in-Ok-answer-clause-cause
 returns-in-Ok-answer-clause-cause g c =
     end_cause (g.D.Disk.view c.args.disk.now).faults (g.D.Disk.view c.answer.new.disk).faults c.in-Ok-answer.end c.new.result.end (c.new.ensures.end ∙ c.status_of.ensures)
 
+pub returns-in-Ok-answer-clause-faults : goal.returns-in-Ok-answer-clause-faults
+returns-in-Ok-answer-clause-faults g c =
+    let d = g.D.Disk.view c.args.disk.now in
+    let f = g.D.Disk.view c.open.new.disk in
+    let e = g.D.Disk.view c.answer.new.disk in
+    let m = c.in-Ok.manager in
+    let n = c.answer.new.manager in
+    let kept : Type 0 = c.answer.new.disk ≡ c.open.new.disk in
+    let asked = c.args.call.now in
+    let now = c.now-now.result in
+    inl (answered_stays asked now d f e kept m n c.new-text.result.items c.answer.new.out.items c.in-Ok.ensures.cause c.in-Ok-answer.end c.in-Ok-answer.ensures.call)
+
 pub returns-in-Ok-answer-clause-clock : goal.returns-in-Ok-answer-clause-clock
 returns-in-Ok-answer-clause-clock g c = c.now-now.ensures.stays
 
@@ -103,6 +121,9 @@ returns-in-Err-DiskFault-clause-cause g c =
     let broken = is_broken asked now d f e kept m n text c.in-Ok.ensures.opened c.open.ensures.reads c.in-Ok.ensures.cause told in
     rose_cause d.faults e.faults c.fault-in-Err-DiskFault.result.end broken.rose
 
+pub returns-in-Err-DiskFault-clause-faults : goal.returns-in-Err-DiskFault-clause-faults
+returns-in-Err-DiskFault-clause-faults g c = inr c.fault-in-Err-DiskFault.ensures
+
 pub returns-in-Err-DiskFault-clause-clock : goal.returns-in-Err-DiskFault-clause-clock
 returns-in-Err-DiskFault-clause-clock g c = c.now-now.ensures.stays
 
@@ -126,6 +147,22 @@ returns-clause-calls g c =
 pub returns-clause-cause : goal.returns-clause-cause
 returns-clause-cause g c =
     subst (DiskFaultHasCause (g.D.Disk.view c.args.disk.now).faults (g.D.Disk.view c.answer.new.disk).faults) (sym c.memory.ensures.end) tt
+
+pub returns-clause-faults : goal.returns-clause-faults
+returns-clause-faults g c =
+    let d = g.D.Disk.view c.args.disk.now in
+    let f = g.D.Disk.view c.open.new.disk in
+    let e = g.D.Disk.view c.answer.new.disk in
+    let m = c.in-Ok.manager in
+    let n = c.answer.new.manager in
+    let kept : Type 0 = c.answer.new.disk ≡ c.open.new.disk in
+    let asked = c.args.call.now in
+    let now = c.now-now.result in
+    let before = c.new-text.result.items in
+    let text = c.answer.new.out.items in
+    let told : IsTold f e kept m n (outcome_of asked (manager_of m) now) before text (Err fault.Memory) =
+    subst (λ (w : AnswerFault). IsTold f e kept m n (outcome_of asked (manager_of m) now) before text (Err w)) c.in-Err-Memory.field-0-is c.in-Err-Memory.ensures.call in
+    inl (unanswered_stays asked now d f e kept m n before text c.in-Ok.ensures.cause told)
 
 pub returns-clause-clock : goal.returns-clause-clock
 returns-clause-clock g c = c.now-now.ensures.stays
