@@ -3,10 +3,10 @@ use Rattle.std.proofs.Common.{◌≡◌, ℕ, suc, ◌+◌, Bool, true, false, L
 use Rattle.std.specs.Prelude.{codes}
 use Rattle.std.specs.Fmt.{decimal}
 use Rattle.mqb_fields.specs.Reading.{◌>>=◌}
-use Rattle.mqb_picture.specs.declared.sides.Side.{Side}
+use Rattle.mqb_svg.specs.declared.sides.Side.{Side}
+use Rattle.mqb_svg.specs.declared.elements.Element.{Element}
 use Rattle.mqb_picture.specs.declared.faults.Kind.{Kind}
 use Rattle.mqb_picture.specs.declared.packets.Packet.{Packet}
-use Rattle.mqb_picture.specs.declared.elements.Element.{Element}
 use Rattle.mqb_picture.specs.declared.asked.Asked.{Asked}
 use Rattle.mqb_picture.specs.declared.asked.Asked.TheVariants as asked
 use Rattle.mqb_picture.specs.Words.{parts_by, words_of, behind}

@@ -1,7 +1,7 @@
 -- What one step adds to what was read.
 use Rattle.std.proofs.Common.{◌≡◌, ℕ, ◌+◌, ◌<◌, ◌≤◌, Bool, List, length, drop, map, get_or, Result, Ok, Err, refl, ap, ◌∙◌, Bor}
 use Rattle.std.proofs.lemmas.List.{at_drop_more, drop_all}
-use Rattle.mqb_picture.specs.declared.sides.Side.{Side}
+use Rattle.mqb_svg.specs.declared.sides.Side.{Side}
 use Rattle.mqb_picture.specs.declared.packets.Packet.{Packet}
 use Rattle.mqb_picture.specs.declared.faults.Kind.{Kind}
 use Rattle.mqb_picture.specs.declared.faults.Fault.{Fault}

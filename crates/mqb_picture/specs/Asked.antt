@@ -2,7 +2,7 @@
 use Rattle.std.specs.Prelude.{ℕ, ◌||◌, List, [], ◌∷◌, codes, Option, Some, None, if◌then◌else◌}
 use Rattle.std.specs.Option.{option_map}
 use Rattle.mqb_base.specs.Same.{same_bytes}
-use Rattle.mqb_picture.specs.declared.sides.Side.{Side}
+use Rattle.mqb_svg.specs.declared.sides.Side.{Side}
 use Rattle.mqb_picture.specs.declared.asked.Asked.{Asked}
 use Rattle.mqb_picture.specs.declared.asked.Asked.TheVariants.{Connect, Disconnect, Pump, Flow, Packet, At}
 use Rattle.mqb_picture.specs.Words.{packet_of}

@@ -4,13 +4,13 @@ use Rattle.std.specs.Fmt.{decimal}
 use Rattle.std.specs.List.{list_any}
 use Rattle.mqb_base.specs.Same.{same_bytes}
 use Rattle.mqb_fields.specs.Reading.{◌>>=◌}
-use Rattle.mqb_picture.specs.declared.sides.Side.{Side}
+use Rattle.mqb_svg.specs.declared.sides.Side.{Side}
+use Rattle.mqb_svg.specs.declared.fates.Fate.{Fate}
+use Rattle.mqb_svg.specs.declared.fates.Fate.TheVariants.{Came, Lost, Repeated, Late}
+use Rattle.mqb_svg.specs.Sides.{other, same_side}
 use Rattle.mqb_picture.specs.declared.faults.Kind.{Kind}
 use Rattle.mqb_picture.specs.declared.faults.Kind.TheVariants.{Line}
-use Rattle.mqb_picture.specs.declared.fates.Fate.{Fate}
-use Rattle.mqb_picture.specs.declared.fates.Fate.TheVariants.{Came, Lost, Repeated, Late}
 use Rattle.mqb_picture.specs.declared.packets.Packet.{Packet}
-use Rattle.mqb_picture.specs.Sides.{other, same_side}
 
 -- one packet more was sent
 abbrev pub post : Side → Bool → List Packet → List Packet

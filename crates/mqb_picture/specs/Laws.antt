@@ -1,15 +1,11 @@
 -- What is true of every picture.
-use Rattle.std.specs.Prelude.{◌≡◌, ℕ, Bool, ◌+◌, ◌==◌, ◌&&◌, not, nat_le, List, length, Some, Ok}
+use Rattle.std.specs.Prelude.{◌≡◌, ℕ, ◌+◌, List, length, Some, Ok}
 use Rattle.mqb_picture.specs.declared.asked.Asked.{Asked}
 use Rattle.mqb_picture.specs.declared.asked.Asked.TheVariants as asked
 use Rattle.mqb_picture.specs.Words.{parts_by, words_of}
 use Rattle.mqb_picture.specs.Asked.{asked_of}
 use Rattle.mqb_picture.specs.Elements.{Progress}
 use Rattle.mqb_picture.specs.Picture.{said_to, drawn}
-
--- a printable byte with which no tag and no attribute begins or ends
-abbrev pub is_plain : ℕ → Bool
-is_plain b = (nat_le 32 b && nat_le b 126) && not (b == 60) && not (b == 62) && not (b == 34) && not (b == 39)
 
 -- how many answers a reply has: that of a flow has one more for each packet, of which a colon tells
 abbrev pub answers_in : Asked → List ℕ → ℕ

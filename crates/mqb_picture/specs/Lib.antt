@@ -7,7 +7,6 @@ pub mod Texts
 pub mod Elements
 pub mod Picture
 pub mod Reading
-pub mod Svg
 pub mod Input
 pub mod Outputs
 pub mod Runs

@@ -2,12 +2,23 @@
 use Rattle.std.specs.Prelude.{◌≡◌, ℕ, List, ◌++◌, length, codes, nat_lt, Option, Result, Ok, Err, if◌then◌else◌}
 use Rattle.mqb_fields.specs.Reading.{◌>>=◌}
 use Rattle.mqb_outside.specs.Told.{Took}
+use Rattle.mqb_svg.specs.declared.elements.Element.{Element}
+use Rattle.mqb_svg.specs.Svg.{svg_of, MOST_ELEMENTS}
 use Rattle.mqb_picture.specs.declared.faults.Kind.{Kind}
 use Rattle.mqb_picture.specs.declared.faults.Kind.TheVariants.{TooLong, NoTranscript, Line, NoEnd, TooLarge}
 use Rattle.mqb_picture.specs.Words.{around}
 use Rattle.mqb_picture.specs.Reading.{picture_of}
-use Rattle.mqb_picture.specs.Svg.{svg_within}
 use Rattle.mqb_picture.specs.Input.{LONGEST}
+
+-- the greatest length of the text of a picture
+abbrev pub LARGEST : ℕ
+LARGEST = 1048576
+
+-- the text of a picture that is not too large
+unfoldable pub svg_within : List Element → Result (List ℕ) Kind
+svg_within elements = if nat_lt MOST_ELEMENTS (length elements) then Err TooLarge
+    else if nat_lt LARGEST (length (svg_of elements)) then Err TooLarge
+    else Ok (svg_of elements)
 
 -- the text of an input's picture, or why it has none
 unfoldable pub svg_made : List ℕ → Result (List ℕ) Kind

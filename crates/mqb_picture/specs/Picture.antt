@@ -2,13 +2,13 @@
 use Rattle.std.specs.Prelude.{ℕ, Bool, true, false, ◌+◌, List, [], ◌∷◌, ◌++◌, length, codes, Option, Some, None, Result, Ok, Err, ok_or, unwrap_or, if◌then◌else◌}
 use Rattle.std.specs.Fmt.{decimal}
 use Rattle.mqb_base.specs.Same.{same_bytes}
-use Rattle.mqb_picture.specs.declared.sides.Side.{Side}
+use Rattle.mqb_svg.specs.declared.sides.Side.{Side}
+use Rattle.mqb_svg.specs.declared.elements.Element.TheVariants.{Arrow, Note, Bar}
 use Rattle.mqb_picture.specs.declared.faults.Kind.{Kind}
 use Rattle.mqb_picture.specs.declared.faults.Kind.TheVariants.{Line}
 use Rattle.mqb_picture.specs.declared.packets.Packet.{Packet}
 use Rattle.mqb_picture.specs.declared.asked.Asked.{Asked}
 use Rattle.mqb_picture.specs.declared.asked.Asked.TheVariants as asked
-use Rattle.mqb_picture.specs.declared.elements.Element.TheVariants.{Arrow, Note, Bar}
 use Rattle.mqb_picture.specs.Words.{parts_by, words_of, behind, in_front_of}
 use Rattle.mqb_picture.specs.Asked.{asked_of}
 use Rattle.mqb_picture.specs.Fates.{post, posted, packet_at, fate_of, after}

@@ -2,9 +2,9 @@
 use Rattle.std.specs.Prelude.{◌≡◌, ℕ, Bool, true, false, ◌+◌, ◌==◌, ◌||◌, List, [], ◌∷◌, codes, Option, Some, None, Result, Ok, Err, if◌then◌else◌, take, drop}
 use Rattle.std.specs.List.{position, starts_with}
 use Rattle.mqb_base.specs.Same.{same_bytes}
+use Rattle.mqb_svg.specs.declared.elements.Element.TheVariants.{End}
 use Rattle.mqb_picture.specs.declared.faults.Kind.{Kind}
 use Rattle.mqb_picture.specs.declared.faults.Kind.TheVariants.{NoTranscript, NoEnd}
-use Rattle.mqb_picture.specs.declared.elements.Element.TheVariants.{End}
 use Rattle.mqb_picture.specs.Words.{lines_of}
 use Rattle.mqb_fields.specs.Reading.{◌>>=◌}
 use Rattle.mqb_picture.specs.declared.faults.Fault.{Fault}

@@ -6,9 +6,8 @@ use Rattle.mqb_picture.specs.declared.faults.Kind.{Kind}
 use Rattle.mqb_picture.specs.declared.faults.Kind.TheVariants.{TooLong}
 use Rattle.mqb_picture.specs.declared.run.Status.{Status}
 use Rattle.mqb_picture.specs.declared.run.Status.TheVariants as status
-use Rattle.mqb_picture.specs.Svg.{LARGEST}
 use Rattle.mqb_picture.specs.Input.{IsAtEnd}
-use Rattle.mqb_picture.specs.Outputs.{answer_to, fault_text, read_fault_text, output_of, TookFront}
+use Rattle.mqb_picture.specs.Outputs.{LARGEST, answer_to, fault_text, read_fault_text, output_of, TookFront}
 
 -- the exit status of each end of the program
 abbrev pub exit_of : Status → ℕ

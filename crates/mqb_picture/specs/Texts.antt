@@ -2,8 +2,8 @@
 use Rattle.std.specs.Prelude.{ℕ, Bool, ◌==◌, ◌||◌, nat_le, List, [], ◌∷◌, ◌++◌, length, take, codes, if◌then◌else◌}
 use Rattle.std.specs.List.{before_first, list_any}
 use Rattle.mqb_base.specs.Same.{same_bytes}
-use Rattle.mqb_picture.specs.declared.marks.Mark.{Mark}
-use Rattle.mqb_picture.specs.declared.marks.Mark.TheVariants.{Commit, Put, Refusal, Stop, Restart, Plain}
+use Rattle.mqb_svg.specs.declared.marks.Mark.{Mark}
+use Rattle.mqb_svg.specs.declared.marks.Mark.TheVariants.{Commit, Put, Refusal, Stop, Restart, Plain}
 
 -- a text, or its front and two dots where it is too long
 unfoldable pub clipped : List ℕ → List ℕ

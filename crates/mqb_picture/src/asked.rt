@@ -1,8 +1,9 @@
 ghost use Rattle.std.specs.Prelude.{◌≡◌, map};
 ghost use Rattle.mqb_picture.specs.Asked.{asked_at, asked_about, asked_of};
 
-use crate::sides::{Side, side_of};
+use crate::sides::side_of;
 use crate::words::{is_word, packet_of};
+use mqb_svg::Side;
 
 /// What a line of a script asks, as far as a picture tells it apart.
 #[derive(Clone, Copy)]

@@ -2,20 +2,16 @@
 #![tactic(auto)]
 
 mod asked;
-mod elements;
-mod fates;
 mod faults;
 mod input;
 mod laws;
 mod marks;
 mod output;
 mod packets;
-mod page;
 mod picture;
 mod reading;
 mod run;
 mod sides;
-mod svg;
 mod texts;
 mod words;
 

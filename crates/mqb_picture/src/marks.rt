@@ -4,17 +4,7 @@ ghost use Rattle.mqb_base.specs.Same.{same_bytes};
 ghost use Rattle.mqb_picture.specs.Texts.{is_commit, is_put, is_refusal, is_stop, mark_of};
 
 use crate::words::is_word;
-
-/// What an answer is marked with.
-#[derive(Clone, Copy)]
-pub enum Mark {
-    Commit,
-    Put,
-    Refusal,
-    Stop,
-    Restart,
-    Plain,
-}
+use mqb_svg::Mark;
 
 fn is_commit(word: &[u8]) -> bool
     ensures { result ≡ is_commit word.now }

@@ -2,11 +2,10 @@ ghost use Rattle.std.specs.Prelude.{◌≡◌, ◌+◌, ◌-◌, ◌≤◌, ◌<
 ghost use Rattle.mqb_picture.specs.Faults.{IsFaultOf};
 ghost use Rattle.mqb_picture.specs.Fates.{post, posted_one, next_sender, posted, packet_at, any_heard, is_unheard, fate_of, after};
 
-use crate::fates::Fate;
 use crate::faults::Fault;
-use crate::sides::Side;
 use crate::words::{around, is_word};
 use mqb_base::Memory;
+use mqb_svg::{Fate, Side};
 use std::alloc::Global;
 use std::marker::Model;
 

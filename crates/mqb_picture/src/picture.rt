@@ -7,14 +7,13 @@ ghost use Rattle.mqb_picture.specs.Reading.{blank};
 ghost use Rattle.mqb_picture.specs.Picture.{note, between, arrived, heard, sent, said_in, heard_next, flowed, flow, answered, said_to, drawn};
 
 use crate::asked::{Asked, asked_of};
-use crate::elements::Element;
 use crate::faults::Fault;
 use crate::marks::mark_of;
 use crate::packets::{Packet, Packets};
-use crate::sides::Side;
 use crate::texts::{clipped, first_word, request_of, told};
 use crate::words::{around, behind, in_front_of, is_word, parts};
 use mqb_base::Memory;
+use mqb_svg::{Element, Side};
 use std::alloc::Global;
 use std::marker::Model;
 

@@ -4,11 +4,11 @@ ghost use Rattle.mqb_base.specs.Same.{same_bytes};
 ghost use Rattle.mqb_picture.specs.Faults.{IsFaultOf};
 ghost use Rattle.mqb_picture.specs.Reading.{is_skipped, is_fault, is_given_up, ended, drawn_first, drawn_from, blank, picture_of, TurnsTo, Stops};
 
-use crate::elements::Element;
 use crate::faults::{Fault, Kind};
 use crate::picture::Picture;
 use crate::texts::clipped;
 use crate::words::{is_word, parts};
+use mqb_svg::Element;
 use std::alloc::Global;
 
 fn is_skipped(line: &[u8]) -> bool

@@ -1,20 +1,18 @@
 ghost use Rattle.std.specs.Prelude.{◌≡◌, ◌≤◌, length, IfOk, IfErr};
 ghost use Rattle.mqb_picture.specs.Faults.{IsFaultOf};
 ghost use Rattle.mqb_picture.specs.Input.{LONGEST};
-ghost use Rattle.mqb_picture.specs.Svg.{LARGEST};
-ghost use Rattle.mqb_picture.specs.Outputs.{svg_made, fault_text};
+ghost use Rattle.mqb_picture.specs.Outputs.{LARGEST, svg_made, fault_text};
 ghost use Rattle.mqb_picture.specs.Runs.{exit_of, Tells, TellsKind, Draws, Completes, ReadFaultHasCause, WriteFaultHasCause, IsPlain};
 ghost use Rattle.mqb_picture.specs.declared.run.Status.TheVariants as status;
 
 use crate::faults::{Fault, Kind};
 use crate::input::{InputFault, read_all};
 use crate::output::write_all;
-use crate::page::Page;
 use crate::reading::read_picture;
-use crate::svg::{MAX_ELEMENTS, draw};
 use crate::words::around;
 use mqb_base::Memory;
 use mqb_outside::{Sink, Source};
+use mqb_svg::{MAX_ELEMENTS, Page, draw};
 use std::alloc::Global;
 
 /// How the program ended.
@@ -51,7 +49,7 @@ impl Status {
 const MAX_LENGTH: usize = 1_048_576;
 
 /// The text of an input's picture.
-#[tactic(auto, unfolding(crate::specs::Outputs::svg_made, crate::specs::Svg::svg_within))]
+#[tactic(auto, unfolding(crate::specs::Outputs::svg_made, crate::specs::Outputs::svg_within))]
 fn svg_made(alloc: Global, text: &[u8]) -> Result<Page, Fault>
     ensures ok { IfOk result (λ page. svg_made text.now ≡ Ok page) }
     ensures small { IfOk result (λ page. length page ≤ LARGEST) }

@@ -1,7 +1,7 @@
 use Rattle.std.proofs.Common.{ℕ, List, ◌≡◌, ◌++◌, OnOk, subst}
-use Rattle.mqb_picture.specs.Svg.{lifelines_text}
-use Rattle.mqb_picture.proofs.Written.{wrote_five}
-use Rattle.mqb_picture.proofs.page.Page.lifelines.Goals as goal
+use Rattle.mqb_svg.specs.Svg.{lifelines_text}
+use Rattle.mqb_svg.proofs.Written.{wrote_five}
+use Rattle.mqb_svg.proofs.page.Page.lifelines.Goals as goal
 
 pub returns : goal.returns
 unfolding lifelines_text

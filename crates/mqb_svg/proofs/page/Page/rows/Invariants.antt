@@ -1,6 +1,6 @@
 use Rattle.std.proofs.Common.{◌≡◌, ◌+◌, ◌*◌, ◌++◌, drop}
-use Rattle.mqb_picture.specs.Svg.{TOP, ROW, rows_from}
-use Rattle.mqb_picture.proofs.page.Page.rows.Given as goal
+use Rattle.mqb_svg.specs.Svg.{TOP, ROW, rows_from}
+use Rattle.mqb_svg.proofs.page.Page.rows.Given as goal
 
 abbrev pub invariant-loop-element : goal.invariant-loop-element
 invariant-loop-element l = record {

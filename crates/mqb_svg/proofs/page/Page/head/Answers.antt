@@ -1,7 +1,7 @@
 use Rattle.std.proofs.Common.{ℕ, List, ◌≡◌, ◌++◌, subst}
-use Rattle.mqb_picture.specs.Svg.{head_text}
-use Rattle.mqb_picture.proofs.Written.{wrote_five}
-use Rattle.mqb_picture.proofs.page.Page.head.Goals as goal
+use Rattle.mqb_svg.specs.Svg.{head_text}
+use Rattle.mqb_svg.proofs.Written.{wrote_five}
+use Rattle.mqb_svg.proofs.page.Page.head.Goals as goal
 
 pub returns : goal.returns
 unfolding head_text

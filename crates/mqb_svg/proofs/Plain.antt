@@ -3,8 +3,8 @@ use Rattle.std.proofs.Common.{◌≡◌, ℕ, Bool, true, false, ◌==◌, ◌&&
 use Rattle.std.specs.Prelude.{if◌then◌else◌, nat_le}
 use Rattle.std.specs.List.{list_all, flat_map}
 use Rattle.std.proofs.lemmas.List.Folds.{list_all-append}
-use Rattle.mqb_picture.specs.Svg.{escaped_byte, escaped}
-use Rattle.mqb_picture.specs.Laws.{is_plain}
+use Rattle.mqb_svg.specs.Svg.{escaped_byte, escaped}
+use Rattle.mqb_svg.specs.Laws.{is_plain}
 
 both : (a b : Bool) → a ≡ true → b ≡ true → (a && b) ≡ true
 both a b p q = rw (p, q) refl

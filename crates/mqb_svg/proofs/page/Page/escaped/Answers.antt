@@ -1,7 +1,7 @@
 use Rattle.std.proofs.Common.{sym, append-nil}
-use Rattle.mqb_picture.specs.Svg.{escaped_byte, escaped}
-use Rattle.mqb_picture.proofs.Written.{wrote_more}
-use Rattle.mqb_picture.proofs.page.Page.escaped.Goals as goal
+use Rattle.mqb_svg.specs.Svg.{escaped_byte, escaped}
+use Rattle.mqb_svg.proofs.Written.{wrote_more}
+use Rattle.mqb_svg.proofs.page.Page.escaped.Goals as goal
 
 pub loop-byte-init : goal.loop-byte-init
 unfolding escaped

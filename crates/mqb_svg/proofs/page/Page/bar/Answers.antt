@@ -1,6 +1,6 @@
-use Rattle.mqb_picture.specs.Svg.{bar_text}
-use Rattle.mqb_picture.proofs.Written.{wrote_four}
-use Rattle.mqb_picture.proofs.page.Page.bar.Goals as goal
+use Rattle.mqb_svg.specs.Svg.{bar_text}
+use Rattle.mqb_svg.proofs.Written.{wrote_four}
+use Rattle.mqb_svg.proofs.page.Page.bar.Goals as goal
 
 pub returns : goal.returns
 unfolding bar_text

@@ -1,6 +1,6 @@
-use Rattle.mqb_picture.specs.Svg.{shape_text}
-use Rattle.mqb_picture.proofs.Written.{wrote_five}
-use Rattle.mqb_picture.proofs.page.Page.shape.Goals as goal
+use Rattle.mqb_svg.specs.Svg.{shape_text}
+use Rattle.mqb_svg.proofs.Written.{wrote_five}
+use Rattle.mqb_svg.proofs.page.Page.shape.Goals as goal
 
 pub returns : goal.returns
 unfolding shape_text

@@ -1,7 +1,7 @@
 ghost use Rattle.std.specs.Prelude.{◌≡◌, ◌≤◌, ◌+◌, ◌*◌, ◌++◌, length, codes, IfOk, OnOk};
 ghost use Rattle.std.specs.Fmt.{decimal};
-ghost use Rattle.mqb_picture.specs.Sides.{other};
-ghost use Rattle.mqb_picture.specs.Svg.{escaped, shape_text, mark_name, mark_place, mark_text, fate_name, fate_word, arrow_place, arrow_text, landing, bar_text, line_text, element_text, row_text, rows_from, TOP, ROW, style_text, shapes_text, names_text, lifelines_text, head_text, svg_of, MOST_ELEMENTS};
+ghost use Rattle.mqb_svg.specs.Sides.{other};
+ghost use Rattle.mqb_svg.specs.Svg.{escaped, shape_text, mark_name, mark_place, mark_text, fate_name, fate_word, arrow_place, arrow_text, landing, bar_text, line_text, element_text, row_text, rows_from, TOP, ROW, style_text, shapes_text, names_text, lifelines_text, head_text, svg_of, MOST_ELEMENTS};
 
 use crate::elements::Element;
 use crate::fates::Fate;

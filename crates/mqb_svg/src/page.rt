@@ -1,6 +1,6 @@
 ghost use Rattle.std.specs.Prelude.{◌≡◌, ◌++◌, [], OnOk};
 ghost use Rattle.std.specs.Fmt.{decimal};
-ghost use Rattle.mqb_picture.specs.Svg.{escaped_byte, escaped};
+ghost use Rattle.mqb_svg.specs.Svg.{escaped_byte, escaped};
 
 use mqb_base::Memory;
 use std::alloc::Global;
@@ -22,7 +22,7 @@ impl Model for Page {
 }
 
 impl Page {
-    pub fn new(alloc: Global) -> Page
+    pub(crate) fn new(alloc: Global) -> Page
         ensures { result ≡ [] }
     {
         Page {
@@ -37,14 +37,14 @@ impl Page {
         self.text.as_slice()
     }
 
-    pub fn put(&mut self, text: &[u8]) -> Result<(), Memory>
+    pub(crate) fn put(&mut self, text: &[u8]) -> Result<(), Memory>
         ensures { OnOk result (self.new ≡ self.old ++ text.now) }
     {
         self.text.extend_from_slice(text)?;
         Ok(())
     }
 
-    pub fn number(&mut self, number: usize) -> Result<(), Memory>
+    pub(crate) fn number(&mut self, number: usize) -> Result<(), Memory>
         ensures { OnOk result (self.new ≡ self.old ++ decimal number) }
     {
         let digits = number.to_string(self.alloc)?;
@@ -67,7 +67,7 @@ impl Page {
 
     /// A text, in which nothing is markup.
     #[tactic(auto, unfolding(crate::specs::Svg::escaped))]
-    pub fn escaped(&mut self, text: &[u8]) -> Result<(), Memory>
+    pub(crate) fn escaped(&mut self, text: &[u8]) -> Result<(), Memory>
         ensures { OnOk result (self.new ≡ self.old ++ escaped text.now) }
     {
         for byte in text {

@@ -1,17 +1,15 @@
 -- The text of a picture, in the language SVG.
-use Rattle.std.specs.Prelude.{ℕ, ◌+◌, ◌*◌, ◌==◌, ◌&&◌, nat_le, nat_lt, List, [], ◌∷◌, ◌++◌, length, codes, flat_map, Result, Ok, Err, if◌then◌else◌}
+use Rattle.std.specs.Prelude.{ℕ, ◌+◌, ◌*◌, ◌==◌, ◌&&◌, nat_le, List, [], ◌∷◌, ◌++◌, length, codes, flat_map, if◌then◌else◌}
 use Rattle.std.specs.Fmt.{decimal}
-use Rattle.mqb_picture.specs.declared.sides.Side.{Side}
-use Rattle.mqb_picture.specs.declared.sides.Side.TheVariants as side
-use Rattle.mqb_picture.specs.declared.faults.Kind.{Kind}
-use Rattle.mqb_picture.specs.declared.faults.Kind.TheVariants.{TooLarge}
-use Rattle.mqb_picture.specs.declared.fates.Fate.{Fate}
-use Rattle.mqb_picture.specs.declared.fates.Fate.TheVariants as fate
-use Rattle.mqb_picture.specs.declared.marks.Mark.{Mark}
-use Rattle.mqb_picture.specs.declared.marks.Mark.TheVariants as mark
-use Rattle.mqb_picture.specs.declared.elements.Element.{Element}
-use Rattle.mqb_picture.specs.declared.elements.Element.TheVariants.{Arrow, Note, Bar, End}
-use Rattle.mqb_picture.specs.Sides.{other}
+use Rattle.mqb_svg.specs.declared.sides.Side.{Side}
+use Rattle.mqb_svg.specs.declared.sides.Side.TheVariants as side
+use Rattle.mqb_svg.specs.declared.fates.Fate.{Fate}
+use Rattle.mqb_svg.specs.declared.fates.Fate.TheVariants as fate
+use Rattle.mqb_svg.specs.declared.marks.Mark.{Mark}
+use Rattle.mqb_svg.specs.declared.marks.Mark.TheVariants as mark
+use Rattle.mqb_svg.specs.declared.elements.Element.{Element}
+use Rattle.mqb_svg.specs.declared.elements.Element.TheVariants.{Arrow, Note, Bar, End}
+use Rattle.mqb_svg.specs.Sides.{other}
 
 -- Texts without markup.
 
@@ -149,15 +147,6 @@ head_text height = codes "<svg xmlns='http://www.w3.org/2000/svg' viewBox='0 0 1
 unfoldable pub svg_of : List Element → List ℕ
 svg_of elements = head_text (TOP + ROW * length elements) ++ rows_from TOP elements ++ codes "</svg>\n"
 
--- the greatest number of elements of a picture, and the greatest length of its text
+-- the greatest number of elements of a picture
 abbrev pub MOST_ELEMENTS : ℕ
 MOST_ELEMENTS = 4096
-
-abbrev pub LARGEST : ℕ
-LARGEST = 1048576
-
--- the text of a picture that is not too large
-unfoldable pub svg_within : List Element → Result (List ℕ) Kind
-svg_within elements = if nat_lt MOST_ELEMENTS (length elements) then Err TooLarge
-    else if nat_lt LARGEST (length (svg_of elements)) then Err TooLarge
-    else Ok (svg_of elements)

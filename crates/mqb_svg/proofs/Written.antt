@@ -3,8 +3,8 @@ use Rattle.std.proofs.Common.{◌≡◌, ℕ, suc, ◌+◌, ◌<◌, List, [], �
 use Rattle.std.specs.List.{flat_map}
 use Rattle.std.proofs.lemmas.List.{take_more}
 use Rattle.std.proofs.lemmas.Grind.{flat_map-append}
-use Rattle.mqb_picture.specs.declared.elements.Element.{Element}
-use Rattle.mqb_picture.specs.Svg.{ROW, row_text, rows_from}
+use Rattle.mqb_svg.specs.declared.elements.Element.{Element}
+use Rattle.mqb_svg.specs.Svg.{ROW, row_text, rows_from}
 
 flat_more : {X : Type 0} (f : X → List ℕ) (xs : List X) (k : ℕ) (d : X) → k < length xs
     → flat_map f (take (k + 1) xs) ≡ flat_map f (take k xs) ++ f (get_or xs k d)
