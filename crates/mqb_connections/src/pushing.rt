@@ -161,13 +161,13 @@ pub fn push<K: Sink, D: Disk, N: Net, C: Clock>(
         }) (K.taken out.old) (K.taken out.new) result }
     ensures unfinished { N.unfinished net.new ≡ N.unfinished net.old }
     ensures complete { CompletesPush (D.view disk.old) (D.view disk.new) (record {
-          finished = N.finished net.old;
-          finished_now = N.finished net.new;
-          faults = N.faults net.old;
-          faults_now = N.faults net.new;
-          lost = N.lost net.old;
-          lost_now = N.lost net.new;
-        }) (K.write_faults out.old) (K.write_faults out.new) result }
+      finished = N.finished net.old;
+      finished_now = N.finished net.new;
+      faults = N.faults net.old;
+      faults_now = N.faults net.new;
+      lost = N.lost net.old;
+      lost_now = N.lost net.new;
+    }) (K.write_faults out.old) (K.write_faults out.new) result }
     ensures write_faults { WriteFaultHasCause (K.write_faults out.old) (K.write_faults out.new)
         result }
     ensures disk_faults { DiskFaultHasCause (D.view disk.old).faults (D.view disk.new).faults
