@@ -244,7 +244,7 @@ pub opening_is_told : (before after : ℕ) (fault r : Status) (text : List ℕ) 
     → TellsFaults before after text r
 opening_is_told before after status.Done r text cause line = inl cause
 opening_is_told before after status.Usage r text cause line = inl cause
-opening_is_told before after (status.Script line kind) r text cause line = inl cause
+opening_is_told before after (status.Script at kind) r text cause line = inl cause
 opening_is_told before after status.TooLong r text cause line = inl cause
 opening_is_told before after status.TooManyLines r text cause line = inl cause
 opening_is_told before after status.ReadFault r text cause line = inl cause
