@@ -1,3 +1,4 @@
+ghost use Rattle.mqb_moves.specs.Counting.{PumpsAreCounted};
 ghost use Rattle.mqb_moves.specs.Downs.{DownRefusesAll};
 ghost use Rattle.mqb_moves.specs.Never.{DefinitionsDoNotFail, TransactionsHaveOps};
 
@@ -14,4 +15,9 @@ pub fn down_refuses_all()
 /// A transaction that has ops is not refused for having none.
 pub fn transactions_have_ops()
     ensures { TransactionsHaveOps }
+{}
+
+/// A pump answers how many packets it gives out.
+pub fn pumps_are_counted()
+    ensures { PumpsAreCounted }
 {}

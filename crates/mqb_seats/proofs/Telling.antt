@@ -1,15 +1,19 @@
 -- What a call of the manager in a seat comes to.
 use Rattle.std.proofs.Common.{◌≡◌, ◌==◌, ◌≤◌, ℕ, length, inl, inr, Bool, true, false, cond, List, [], Option, None, Some, Result, Ok, Err, refl, sym, ap, subst, ◌∙◌}
 use Rattle.std.specs.Prelude.{not}
+use Rattle.mqb_base.specs.declared.heard.Heard.{Heard}
 use Rattle.mqb_base.specs.declared.ledger.Line.{Line}
 use Rattle.mqb_devices.specs.Disk.{View}
 use Rattle.mqb_base.specs.declared.draft.Op.{Op}
 use Rattle.mqb_manager.specs.Calls.{Ends, IsCall}
 use Rattle.mqb_manager.specs.States.{ManagerState, manager_of}
 use Rattle.mqb_model.specs.calls.Commit.{commit}
+use Rattle.mqb_model.specs.calls.hear.Hear.{hear}
 use Rattle.mqb_model.specs.declared.answers.Done.{Done}
 use Rattle.mqb_model.specs.declared.faults.CommitFault.{CommitFault}
 use Rattle.mqb_model.specs.declared.faults.CommitFault.TheVariants as commits
+use Rattle.mqb_model.specs.declared.faults.HearFault.{HearFault}
+use Rattle.mqb_model.specs.declared.faults.HearFault.TheVariants as hears
 use Rattle.mqb_model.specs.laws.Validity.{UnreadIsValid}
 use Rattle.mqb_model.specs.managers.Manager.{Manager, is_down}
 use Rattle.mqb_model.specs.managers.Outcomes.{Outcome, lines_after}
@@ -19,13 +23,17 @@ use Rattle.mqb_moves.specs.Calling.{Went, broke, lines_told, seat_of, went_well}
 use Rattle.mqb_moves.specs.Moves.{IsMove}
 use Rattle.mqb_moves.specs.Never.{TransactionsHaveOps}
 use Rattle.mqb_moves.specs.Seats.{SeatState, seated}
+use Rattle.mqb_packet.specs.declared.packet.Packet.{Packet}
 use Rattle.mqb_replies.specs.declared.faults.AnswerFault.{AnswerFault}
 use Rattle.mqb_replies.specs.declared.faults.AnswerFault.TheVariants as answer
 use Rattle.mqb_transcript.specs.declared.replies.Reply.{Reply}
 use Rattle.mqb_seats.specs.Called.{IsCalled, failure_of, how_by}
+use Rattle.mqb_seats.specs.Passed.{IsHeard, TellsHeard}
 use Rattle.mqb_seats.specs.declared.called.Called.{Called}
 use Rattle.mqb_seats.specs.declared.called.Called.TheVariants.{Broke, Told}
 use Rattle.mqb_seats.specs.declared.called.Failure.{Failure}
+use Rattle.mqb_seats.specs.declared.packets.Passed.{Passed}
+use Rattle.mqb_seats.specs.declared.packets.Passed.TheVariants as passed
 
 -- A transaction with ops is not told to have none.
 
@@ -141,3 +149,36 @@ module _ (d e : View) (m n : ManagerState) (u stopped : Bool) (s : SeatState) (i
       subst (λ (t : SeatState). IsMove d e s t (make (seated s)) (Some (failure_of how))) after_is
       (subst (λ (k : SeatState). IsMove d e k (seat_of n) (make (seated k)) (Some (failure_of how))) seat_is
       (broke memory broken d e m n (make (manager_of m)) r call manager_up differ (never (manager_of m)) failed (failure_of how)))
+
+  -- a packet was heard, and is told so
+  pub hear_told : (p : Packet) (now : ℕ) (r : Result Heard HearFault) → IsCall hears.Memory hears.DiskFault d e m n (hear (manager_of m) p now) r
+      → ((k : Manager) → (hear k p now).answer ≡ Err hears.DiskFault → ⊥) → (before : ℕ) → before ≡ m.store.journal.count
+      → (q : Passed) → TellsHeard stopped r (not (n.store.journal.count == before)) q → IsHeard d e stopped s after (hear (seated s) p now) q
+  hear_told p now r call never before counted (passed.Heard heard told) (is, recorded) =
+      let went = call_went hears.Memory hears.DiskFault (λ k. hear k p now) r call (λ e. clash heard hears.Memory (sym is ∙ e)) (λ e. clash heard hears.DiskFault (sym is ∙ e)) in
+      (went.0, sym went.1 ∙ is, ap (λ (b : Bool). cond b n.store.lines []) recorded ∙ went.2 before counted)
+    where
+      clash : (heard : Heard) (fault : HearFault) → ◌≡◌ {A = Result Heard HearFault} (Ok heard) (Err fault) → ⊥
+      clash heard fault same = let none : ⊥ = cc in none
+  hear_told p now r call never before counted passed.Gone (inl down) =
+      let went = call_went hears.Memory hears.DiskFault (λ k. hear k p now) r call (λ e. wants (sym down ∙ e)) (λ e. fails (sym down ∙ e)) in
+      (went.0, (hears.Down, sym went.1 ∙ down))
+    where
+      wants : ◌≡◌ {A = Result Heard HearFault} (Err hears.Down) (Err hears.Memory) → ⊥
+      wants same = let none : ⊥ = cc in none
+
+      fails : ◌≡◌ {A = Result Heard HearFault} (Err hears.Down) (Err hears.DiskFault) → ⊥
+      fails same = let none : ⊥ = cc in none
+  hear_told p now r call never before counted passed.Gone (inr apart) =
+      let went = call_went hears.Memory hears.DiskFault (λ k. hear k p now) r call (λ e. wants (sym apart ∙ e)) (λ e. fails (sym apart ∙ e)) in
+      (went.0, (hears.NotLinked, sym went.1 ∙ apart))
+    where
+      wants : ◌≡◌ {A = Result Heard HearFault} (Err hears.NotLinked) (Err hears.Memory) → ⊥
+      wants same = let none : ⊥ = cc in none
+
+      fails : ◌≡◌ {A = Result Heard HearFault} (Err hears.NotLinked) (Err hears.DiskFault) → ⊥
+      fails same = let none : ⊥ = cc in none
+  hear_told p now r call never before counted (passed.Broke how) (failed, stops) = (
+    call_failed hears.Memory hears.DiskFault (λ k. hear k p now) r how call (λ e. let none : ⊥ = cc in none) never failed,
+    stops,
+  )

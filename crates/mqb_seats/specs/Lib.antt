@@ -1,2 +1,4 @@
 pub mod Called
 pub mod Opened
+pub mod Passed
+pub mod Pumped

@@ -6,9 +6,11 @@
 mod called;
 mod calls;
 mod links;
+mod packets;
 mod restarting;
 mod seat;
 
 pub use called::{Called, Failure};
+pub use packets::{Passed, Pumped};
 pub use restarting::Opened;
 pub use seat::Seat;

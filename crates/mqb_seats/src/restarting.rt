@@ -1,5 +1,5 @@
-//! How a manager is dropped and started again over what a restart left on its disk.
-ghost use Rattle.std.specs.Prelude.{◌==◌, ◌≡◌, IfOk, Some, not};
+//! How a call of a manager's disk is armed, and how the manager is dropped and started again over what a restart left there.
+ghost use Rattle.std.specs.Prelude.{◌==◌, ◌≡◌, ◌≤◌, IfOk, Some, not};
 ghost use Rattle.mqb_devices.specs.Disk.{Counted};
 ghost use Rattle.mqb_moves.specs.Calling.{seat_of};
 ghost use Rattle.mqb_moves.specs.Seats.{IsHeldOn};
@@ -7,7 +7,7 @@ ghost use Rattle.mqb_seats.specs.Opened.{IsOpened, opened_by};
 
 use crate::seat::Seat;
 use mqb_base::Memory;
-use mqb_devices::{Pick, Power};
+use mqb_devices::{Mode, Pick, Power};
 use mqb_journal::stands_for_one_list;
 use mqb_manager::Manager;
 use mqb_model::durable_is_applied;
@@ -35,6 +35,20 @@ impl Seat {
         self.manager = manager;
         self.unread = false;
         if kept { Opened::Kept } else { Opened::Same }
+    }
+
+    /// Arms a call of the disk. What the disk has stays, and so the manager is held as before.
+    pub fn arm<P: Power>(&self, disk: &mut P, call: u32, mode: Mode)
+        requires call { 1 ≤ call }
+        requires held { IsHeldOn (P.view disk.old) self.now }
+        ensures held { IsHeldOn (P.view disk.new) self.now }
+        ensures armed { P.armed disk.new ≡ Some (call, mode) }
+        ensures arms { Counted 1 (P.view disk.old).switch.arms (P.view disk.new).switch.arms }
+        ensures restarts { (P.view disk.new).switch.restarts ≡ (P.view disk.old).switch.restarts }
+        ensures pick { (P.view disk.new).switch.last_pick ≡ (P.view disk.old).switch.last_pick }
+        ensures faults { (P.view disk.new).faults ≡ (P.view disk.old).faults }
+    {
+        disk.arm(call, mode);
     }
 
     /// Leaves on the disk what a crash may leave, and starts the manager on it. Where the disk fails, the manager is down, with the doubt that there was.

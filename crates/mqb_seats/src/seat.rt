@@ -57,6 +57,11 @@ impl Seat {
         }
     }
 
+    /// The allocator with which it was made.
+    pub fn alloc(&self) -> Global {
+        self.alloc
+    }
+
     /// The manager that is held is valid. This says so, and does nothing.
     pub fn is_valid(&self)
         ensures { IsValidManager (seated self.now) }
@@ -89,6 +94,17 @@ impl Seat {
         ensures { result.now ≡ self.now.manager.store.lines }
     {
         self.manager.lines()
+    }
+
+    /// A copy of the lines of the last record, where something was recorded, and else none.
+    pub fn lines_where(&self, recorded: bool) -> Result<Listed<Line>, Memory>
+        ensures { IfOk result (λ lines. lines ≡
+            (if recorded then self.now.manager.store.lines else [])) }
+    {
+        if !recorded {
+            return Ok(Listed::new(self.alloc));
+        }
+        listed(self.alloc, self.manager.lines())
     }
 
     /// The lines of what was recorded since there were so many records.
