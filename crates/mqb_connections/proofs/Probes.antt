@@ -9,8 +9,10 @@ use Rattle.mqb_model.specs.declared.answers.Role.TheVariants as role
 use Rattle.mqb_outside.specs.Faults.{Rose}
 use Rattle.mqb_serve_laws.specs.Serving.{Answer, Serves, ServesWhole, is_disk_fault, is_read_fault, is_write_fault}
 use Rattle.mqb_serving.specs.declared.faults.ConnFault.TheVariants as fault
+use Rattle.mqb_status.specs.Outputs.{ReadFaultHasCause, WriteFaultHasCause}
 use Rattle.mqb_status.specs.declared.status.Status.{Status}
 use Rattle.mqb_connections.proofs.Opening.{opened_keeps}
+use Rattle.mqb_connections.specs.Causes.{IsProbeEnd}
 use Rattle.mqb_connections.specs.Probed.{CompletesProbe, ProbesStore}
 use Rattle.mqb_connections.specs.Statuses.{IsFaultless, probe_status}
 
@@ -50,3 +52,38 @@ pub probe_completes : (d f e : View) (reads reads_now writes writes_now : ℕ) (
 probe_completes d f e reads reads_now writes writes_now end r same disk read wrote ends sound none heard written = subst IsFaultless (sym ends)
     (ended_faultless f.faults e.faults reads reads_now writes writes_now end disk read wrote
     (λ rose. none (subst (λ (k : ℕ). Rose k e.faults) same rose)) heard written)
+
+-- Each fault has its cause.
+
+read_of : (a b : ℕ) (end : Answer) → FaultsAsSaid is_read_fault a b end → ReadFaultHasCause a b (probe_status end)
+read_of a b (Ok done) said = tt
+read_of a b (Err (fault.Peer why)) said = tt
+read_of a b (Err fault.ReadFault) said = said
+read_of a b (Err fault.WriteFault) said = tt
+read_of a b (Err fault.DiskFault) said = tt
+read_of a b (Err fault.Memory) said = tt
+
+write_of : (a b : ℕ) (end : Answer) → FaultsAsSaid is_write_fault a b end → WriteFaultHasCause a b (probe_status end)
+write_of a b (Ok done) said = tt
+write_of a b (Err (fault.Peer why)) said = tt
+write_of a b (Err fault.ReadFault) said = tt
+write_of a b (Err fault.WriteFault) said = said
+write_of a b (Err fault.DiskFault) said = tt
+write_of a b (Err fault.Memory) said = tt
+
+end_of : (end : Answer) → IsProbeEnd (probe_status end)
+end_of (Ok done) = tt
+end_of (Err (fault.Peer why)) = tt
+end_of (Err fault.ReadFault) = tt
+end_of (Err fault.WriteFault) = tt
+end_of (Err fault.DiskFault) = tt
+end_of (Err fault.Memory) = tt
+
+pub probe_read : (a b : ℕ) (end : Answer) (r : Status) → r ≡ probe_status end → FaultsAsSaid is_read_fault a b end → ReadFaultHasCause a b r
+probe_read a b end r is said = subst (ReadFaultHasCause a b) (sym is) (read_of a b end said)
+
+pub probe_write : (a b : ℕ) (end : Answer) (r : Status) → r ≡ probe_status end → FaultsAsSaid is_write_fault a b end → WriteFaultHasCause a b r
+probe_write a b end r is said = subst (WriteFaultHasCause a b) (sym is) (write_of a b end said)
+
+pub probe_ends : (end : Answer) (r : Status) → r ≡ probe_status end → IsProbeEnd r
+probe_ends end r is = subst IsProbeEnd (sym is) (end_of end)

@@ -1,14 +1,14 @@
 -- How a push ends, from the disk before its store was opened.
-use Rattle.std.proofs.Common.{◌≡◌, ◌⊎◌, inl, inr, ℕ, List, Option, Some, None, Err, Ok, refl, sym, ap, subst, ◌∙◌}
+use Rattle.std.proofs.Common.{◌≡◌, ◌≢◌, ◌⊎◌, inl, inr, ℕ, List, Option, Some, None, Err, Ok, refl, sym, ap, subst, ◌∙◌}
 use Rattle.std.specs.Prelude.{codes}
-use Rattle.mqb_base.specs.declared.ids.Identity.{Identity}
+use Rattle.mqb_commands.specs.Causes.{DiskFaultHasCause}
 use Rattle.mqb_commands.specs.Opened.{IsNotOpened, OpensAs}
 use Rattle.mqb_devices.specs.Disk.{OnlyReads, View}
 use Rattle.mqb_devices.specs.Images.{Each}
 use Rattle.mqb_devices.specs.Runs.{reads_then}
 use Rattle.mqb_journal.specs.Causes.{FaultsAsSaid}
-use Rattle.mqb_manager.specs.Keeping.{keeping_goes_on}
-use Rattle.mqb_manager.specs.States.{ManagerState}
+use Rattle.mqb_manager.specs.Keeping.{KeepsDisk, keeping_goes_on}
+use Rattle.mqb_manager.specs.States.{IsUp, ManagerState}
 use Rattle.mqb_outside.specs.Faults.{Rose}
 use Rattle.mqb_serve_laws.specs.Serving.{Answer, is_disk_fault}
 use Rattle.mqb_serving.specs.declared.faults.ConnFault.TheVariants as fault
@@ -16,9 +16,10 @@ use Rattle.mqb_status.specs.Outputs.{IsPlain, Tells, WriteFaultHasCause}
 use Rattle.mqb_status.specs.declared.status.Status.{Status}
 use Rattle.mqb_status.specs.declared.status.Status.TheVariants as status
 use Rattle.mqb_store_laws.specs.Faults.{IsBadStore}
+use Rattle.mqb_connections.proofs.Ending.{not_opened_net}
 use Rattle.mqb_connections.proofs.Opening.{opened_keeps}
-use Rattle.mqb_connections.specs.Causes.{is_lost}
-use Rattle.mqb_connections.specs.Pushed.{CompletesPush, PushesAt, PushesStore, TellsPush, index_of_host}
+use Rattle.mqb_connections.specs.Causes.{IsNetEnd, NetFaultHasCause, is_lost}
+use Rattle.mqb_connections.specs.Pushed.{CompletesPush, IsPush, PushesAt, PushesStore, TellsPush, index_of_host}
 use Rattle.mqb_connections.specs.Served.{Nets}
 use Rattle.mqb_connections.specs.Statuses.{IsFaultless, push_status}
 use Rattle.mqb_connections.specs.Told.{GoesOn}
@@ -51,6 +52,23 @@ no_line (Err fault.WriteFault) before after goes same = inr (refl, same)
 no_line (Err fault.DiskFault) before after goes same = absurd goes
 no_line (Err fault.Memory) before after goes same = absurd goes
 
+-- A connection that was served.
+pub served_pushes : (peer : ℕ) (steady : Option ℕ) (m n : ManagerState) (d e : View) (net : Nets) (before after : Option (List ℕ)) (end : Answer) (r : Status)
+    → IsPush peer steady m n net.finished net.finished_now end → KeepsDisk d e m n → (end ≢ Err fault.DiskFault → IsUp n)
+    → FaultsAsSaid is_disk_fault d.faults e.faults end → net.faults_now ≡ net.faults → FaultsAsSaid is_lost net.lost net.lost_now end
+    → TellsPush end before after r → PushesAt (Some peer) steady m d e net before after r
+served_pushes peer steady m n d e net before after end r push kept up disk faults lost told = inr (record {
+  last = n;
+  end = end;
+  push = push;
+  disk = kept;
+  up = up;
+  disk_faults = disk;
+  faults = faults;
+  lost = lost;
+  told = told;
+})
+
 -- Opening only reads: what is pushed from the disk behind it is pushed from the disk before.
 
 from_disk : (o steady : Option ℕ) (m : ManagerState) (d f e : View) (net : Nets) (before after : Option (List ℕ)) (r : Status) → OpensAs d m → OnlyReads d f
@@ -81,17 +99,16 @@ from_disk (Some peer) steady m d f e net before after r opened reads same (inr o
   told = over.told;
 })
 
-pub store_pushes : (host : List ℕ) (peers : List Identity) (o steady : Option ℕ) (m : ManagerState) (d f e : View) (net : Nets) (before after : Option (List ℕ))
-    (r : Status) → OpensAs d m → OnlyReads d f → f.faults ≡ d.faults → peers ≡ m.store.state.peers → o ≡ index_of_host peers host
-    → PushesAt o steady m f e net before after r → PushesStore host steady d e net before after r
-store_pushes host peers o steady m d f e net before after r opened reads same known index pushes = inl (record {
+pub store_pushes : (host : List ℕ) (o steady : Option ℕ) (m : ManagerState) (d f e : View) (net : Nets) (before after : Option (List ℕ)) (r : Status)
+    → OpensAs d m → OnlyReads d f → f.faults ≡ d.faults → o ≡ index_of_host m.store.state.peers host → PushesAt o steady m f e net before after r
+    → PushesStore host steady d e net before after r
+store_pushes host o steady m d f e net before after r opened reads same index pushes = inl (record {
   first = m;
   opened = opened;
-  pushes = subst (λ (k : Option ℕ). PushesAt k steady m d e net before after r) (index ∙ ap (λ (ps : List Identity). index_of_host ps host) known)
-      (from_disk o steady m d f e net before after r opened reads same pushes);
+  pushes = subst (λ (k : Option ℕ). PushesAt k steady m d e net before after r) index (from_disk o steady m d f e net before after r opened reads same pushes);
 })
 
--- Where no device failed, the program ends with no fault.
+-- How the program ends by what is told.
 
 tells_as : (P : Status → Type 0) (text : List ℕ) (end : Status) (before after : Option (List ℕ)) (r : Status) → P end → P status.WriteFault
     → Tells text end before after r → P r
@@ -115,6 +132,73 @@ push_as P (Err fault.WriteFault) before after r ended failed none told =
 push_as P (Err fault.DiskFault) before after r ended failed none told = subst P (sym told.0) ended
 push_as P (Err fault.Memory) before after r ended failed none told = subst P (sym told.0) none
 
+-- Each fault has its cause.
+
+disk_of : (a b : ℕ) (end : Answer) → FaultsAsSaid is_disk_fault a b end → DiskFaultHasCause a b (push_status end)
+disk_of a b (Ok done) said = tt
+disk_of a b (Err (fault.Peer why)) said = tt
+disk_of a b (Err fault.ReadFault) said = tt
+disk_of a b (Err fault.WriteFault) said = tt
+disk_of a b (Err fault.DiskFault) said = said
+disk_of a b (Err fault.Memory) said = tt
+
+net_of : (given : Type 0) (a b : ℕ) (end : Answer) → FaultsAsSaid is_lost a b end → NetFaultHasCause (given ⊎ Rose a b) (push_status end)
+net_of given a b (Ok done) said = tt
+net_of given a b (Err (fault.Peer why)) said = tt
+net_of given a b (Err fault.ReadFault) said = inr said
+net_of given a b (Err fault.WriteFault) said = inr said
+net_of given a b (Err fault.DiskFault) said = tt
+net_of given a b (Err fault.Memory) said = tt
+
+end_of : (end : Answer) → IsNetEnd (push_status end)
+end_of (Ok done) = tt
+end_of (Err (fault.Peer why)) = tt
+end_of (Err fault.ReadFault) = tt
+end_of (Err fault.WriteFault) = tt
+end_of (Err fault.DiskFault) = tt
+end_of (Err fault.Memory) = tt
+
+-- P holds of how a push ends at an index, where it holds of each end that it can have.
+pushed_as : (P : Status → Type 0) (o steady : Option ℕ) (m : ManagerState) (d e : View) (net : Nets) (before after : Option (List ℕ)) (r : Status)
+    → PushesAt o steady m d e net before after r → P status.Refused → P status.WriteFault → P status.Memory → (Rose net.faults net.faults_now → P status.NetFault)
+    → ((end : Answer) → FaultsAsSaid is_disk_fault d.faults e.faults end → FaultsAsSaid is_lost net.lost net.lost_now end → P (push_status end)) → P r
+pushed_as P None steady m d e net before after r none refused failed memory given ended =
+    tells_as P (codes "nopeer\n") status.Refused before after r refused failed none.told
+pushed_as P (Some peer) steady m d e net before after r (inl un) refused failed memory given ended =
+    tells_as P (codes "connection 1: netfault\n") status.NetFault before after r (given un.faults) failed un.told
+pushed_as P (Some peer) steady m d e net before after r (inr over) refused failed memory given ended =
+    push_as P over.end before after r (ended over.end over.disk_faults over.lost) failed memory over.told
+
+unopened_disk : (d e : View) (r : Status) → IsNotOpened d e r → DiskFaultHasCause d.faults e.faults r
+unopened_disk d e status.DiskFault failed = failed.0
+unopened_disk d e _ failed = tt
+
+unopened_net : (cause : Type 0) (d e : View) (r : Status) → IsNotOpened d e r → NetFaultHasCause cause r
+unopened_net cause d e status.NetFault failed = absurd failed
+unopened_net cause d e _ failed = tt
+
+pub store_disk : {host : List ℕ} {steady : Option ℕ} {d e : View} {net : Nets} {before after : Option (List ℕ)} {r : Status}
+    → PushesStore host steady d e net before after r → DiskFaultHasCause d.faults e.faults r
+store_disk {host} {steady} {d} {e} {net} {before} {after} {r} (inl p) =
+    pushed_as (DiskFaultHasCause d.faults e.faults) (index_of_host p.first.store.state.peers host) steady p.first d e net before after r p.pushes
+    tt tt tt (λ rose. tt) (λ end disk lost. disk_of d.faults e.faults end disk)
+store_disk {host} {steady} {d} {e} {net} {before} {after} {r} (inr p) = unopened_disk d e r p.0.0
+
+pub store_net : {host : List ℕ} {steady : Option ℕ} {d e : View} {net : Nets} {before after : Option (List ℕ)} {r : Status}
+    → PushesStore host steady d e net before after r → NetFaultHasCause (Rose net.faults net.faults_now ⊎ Rose net.lost net.lost_now) r
+store_net {host} {steady} {d} {e} {net} {before} {after} {r} (inl p) =
+    pushed_as (NetFaultHasCause (Rose net.faults net.faults_now ⊎ Rose net.lost net.lost_now)) (index_of_host p.first.store.state.peers host) steady p.first d e net
+    before after r p.pushes tt tt tt (λ rose. inl rose) (λ end disk lost. net_of (Rose net.faults net.faults_now) net.lost net.lost_now end lost)
+store_net {host} {steady} {d} {e} {net} {before} {after} {r} (inr p) = unopened_net (Rose net.faults net.faults_now ⊎ Rose net.lost net.lost_now) d e r p.0.0
+
+pub store_ends : {host : List ℕ} {steady : Option ℕ} {d e : View} {net : Nets} {before after : Option (List ℕ)} {r : Status}
+    → PushesStore host steady d e net before after r → IsNetEnd r
+store_ends {host} {steady} {d} {e} {net} {before} {after} {r} (inl p) =
+    pushed_as IsNetEnd (index_of_host p.first.store.state.peers host) steady p.first d e net before after r p.pushes tt tt tt (λ rose. tt) (λ end disk lost. end_of end)
+store_ends {host} {steady} {d} {e} {net} {before} {after} {r} (inr p) = not_opened_net d e r p.0.0
+
+-- Where no device failed, the program ends with no fault.
+
 ended_faultless : (a b l m : ℕ) (end : Answer) → FaultsAsSaid is_disk_fault a b end → FaultsAsSaid is_lost l m end → (Rose a b → ⊥) → (Rose l m → ⊥)
     → IsFaultless (push_status end)
 ended_faultless a b l m (Ok done) disk lost none kept = tt
@@ -128,27 +212,16 @@ ended_faultless a b l m (Err fault.Memory) disk lost none kept = tt
 abbrev IfWritten : (writes writes_now : ℕ) → Status → Type 0
 IfWritten writes writes_now r = WriteFaultHasCause writes writes_now r → IsFaultless r
 
-pushed_faultless : (o steady : Option ℕ) (m : ManagerState) (d e : View) (net : Nets) (before after : Option (List ℕ)) (writes writes_now : ℕ) (r : Status)
-    → PushesAt o steady m d e net before after r → (Rose d.faults e.faults → ⊥) → (Rose net.faults net.faults_now → ⊥) → (Rose net.lost net.lost_now → ⊥)
-    → (Rose writes writes_now → ⊥) → IfWritten writes writes_now r
-pushed_faultless None steady m d e net before after writes writes_now r none disk given kept written =
-    tells_as (IfWritten writes writes_now) (codes "nopeer\n") status.Refused before after r (λ cause. tt) (λ cause. absurd (written cause)) none.told
-pushed_faultless (Some peer) steady m d e net before after writes writes_now r (inl un) disk given kept written =
-    tells_as (IfWritten writes writes_now) (codes "connection 1: netfault\n") status.NetFault before after r
-    (λ cause. absurd (given un.faults)) (λ cause. absurd (written cause)) un.told
-pushed_faultless (Some peer) steady m d e net before after writes writes_now r (inr over) disk given kept written =
-    push_as (IfWritten writes writes_now) over.end before after r
-    (λ cause. ended_faultless d.faults e.faults net.lost net.lost_now over.end over.disk_faults over.lost disk kept)
-    (λ cause. absurd (written cause)) (λ cause. tt) over.told
-
 pub unopened_faultless : (d e : View) (r : Status) → IsNotOpened d e r → ((at : ℕ) → Each d.reads (IsBadStore at) → ⊥) → (Rose d.faults e.faults → ⊥) → IsFaultless r
 unopened_faultless d e (status.BadStore at) failed sound disk = absurd (sound at failed.0)
 unopened_faultless d e status.DiskFault failed sound disk = absurd (disk failed.0)
 unopened_faultless d e status.Memory failed sound disk = tt
 unopened_faultless d e _ failed sound disk = absurd failed
 
-pub push_completes : (host : List ℕ) (steady : Option ℕ) (d e : View) (net : Nets) (before after : Option (List ℕ)) (writes writes_now : ℕ) (r : Status)
+pub push_completes : {host : List ℕ} {steady : Option ℕ} {d e : View} {net : Nets} {before after : Option (List ℕ)} {r : Status} (writes writes_now : ℕ)
     → PushesStore host steady d e net before after r → WriteFaultHasCause writes writes_now r → CompletesPush d e net writes writes_now r
-push_completes host steady d e net before after writes writes_now r (inl p) cause sound disk given kept written =
-    pushed_faultless (index_of_host p.first.store.state.peers host) steady p.first d e net before after writes writes_now r p.pushes disk given kept written cause
-push_completes host steady d e net before after writes writes_now r (inr p) cause sound disk given kept written = unopened_faultless d e r p.0.0 sound disk
+push_completes {host} {steady} {d} {e} {net} {before} {after} {r} writes writes_now (inl p) cause sound disk given kept written =
+    pushed_as (IfWritten writes writes_now) (index_of_host p.first.store.state.peers host) steady p.first d e net before after r p.pushes
+    (λ none. tt) (λ rose. absurd (written rose)) (λ none. tt) (λ rose none. absurd (given rose))
+    (λ end failed lost none. ended_faultless d.faults e.faults net.lost net.lost_now end failed lost disk kept) cause
+push_completes {host} {steady} {d} {e} {net} {before} {after} {r} writes writes_now (inr p) cause sound disk given kept written = unopened_faultless d e r p.0.0 sound disk

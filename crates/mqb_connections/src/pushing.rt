@@ -32,6 +32,14 @@ fn index_of_host(peers: &[Identity], host: &Name) -> Option<usize>
         .position(|peer| peer.host.eq_ignore_ascii_case(host))
 }
 
+/// The index of the first peer of a host that a manager knows.
+fn peer_of_host(manager: &Manager, host: &Name) -> Option<usize>
+    ensures index { result ≡ index_of_host manager.now.store.state.peers host.now }
+    ensures within { IfSome result (λ peer. peer < length manager.now.store.state.peers) }
+{
+    index_of_host(manager.state().contents().peers(), host)
+}
+
 /// The address of the peer at an index.
 fn address_at(peers: &[Identity], peer: usize) -> [u8; 4]
     requires { peer < length peers.now }
@@ -181,7 +189,7 @@ pub fn push<K: Sink, D: Disk, N: Net, C: Clock>(
         Ok(manager) => manager,
         Err(status) => return status,
     };
-    match index_of_host(manager.state().contents().peers(), host) {
+    match peer_of_host(&manager, host) {
         Some(peer) => push_to(alloc, peer, &mut manager, out, disk, net, clock),
         None => tell(out, b"nopeer\n", Status::Refused),
     }

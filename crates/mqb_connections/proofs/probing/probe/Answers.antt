@@ -1,5 +1,5 @@
 use Rattle.mqb_connections.proofs.Ends.{probe_disk}
-use Rattle.mqb_connections.proofs.Probes.{probe_completes, store_probes}
+use Rattle.mqb_connections.proofs.Probes.{probe_completes, probe_ends, probe_read, probe_write, store_probes}
 use Rattle.mqb_connections.proofs.probing.probe.Goals as goal
 
 pub returns-clause-disk_faults : goal.returns-clause-disk_faults
@@ -23,3 +23,16 @@ returns-clause-complete g c =
     (g.K.Sink.write_faults c.args.out.now) (g.K.Sink.write_faults c.serve_piped-end.new.out)
     c.serve_piped-end.result c.probe_status.result c.in-Ok.ensures.cause c.serve_piped-end.ensures.disk_faults
     c.serve_piped-end.ensures.read_faults c.serve_piped-end.ensures.write_faults c.probe_status.ensures
+
+pub returns-clause-read_faults : goal.returns-clause-read_faults
+returns-clause-read_faults g c =
+    probe_read (g.S.Source.read_faults c.args.input.now) (g.S.Source.read_faults c.serve_piped-end.new.input)
+    c.serve_piped-end.result c.probe_status.result c.probe_status.ensures c.serve_piped-end.ensures.read_faults
+
+pub returns-clause-write_faults : goal.returns-clause-write_faults
+returns-clause-write_faults g c =
+    probe_write (g.K.Sink.write_faults c.args.out.now) (g.K.Sink.write_faults c.serve_piped-end.new.out)
+    c.serve_piped-end.result c.probe_status.result c.probe_status.ensures c.serve_piped-end.ensures.write_faults
+
+pub returns-clause-ends : goal.returns-clause-ends
+returns-clause-ends g c = probe_ends c.serve_piped-end.result c.probe_status.result c.probe_status.ensures
