@@ -11,8 +11,8 @@ returns-in-Ok-serve_all-clause-served g c =
     let served = c.in-Ok-serve_all.ensures in
     inr (store_served c.in-Ok.ensures.opened c.open.ensures.reads served.served served.disk served.up)
 
-pub returns-in-Err-serve_all-clause-served : goal.returns-in-Err-serve_all-clause-served
-returns-in-Err-serve_all-clause-served g c =
+pub returns-clause-served : goal.returns-clause-served
+returns-clause-served g c =
     let served = c.in-Err-serve_all.ensures in
     inr (store_served c.in-Ok.ensures.opened c.open.ensures.reads served.served served.disk served.up)
 
@@ -22,8 +22,8 @@ returns-in-Err-clause-complete g c = unopened_completes _ _ _ _ _ _ c.in-Err.sta
 pub returns-in-Ok-serve_all-clause-complete : goal.returns-in-Ok-serve_all-clause-complete
 returns-in-Ok-serve_all-clause-complete g c = λ _ _ _ _. inl refl
 
-pub returns-in-Err-serve_all-clause-complete : goal.returns-in-Err-serve_all-clause-complete
-returns-in-Err-serve_all-clause-complete g c =
+pub returns-clause-complete : goal.returns-clause-complete
+returns-clause-complete g c =
     let served = c.in-Err-serve_all.ensures in
     served_completes (g.D.Disk.view c.args.disk.now) (g.D.Disk.view c.open.new.disk) (g.D.Disk.view c.serve_all.new.disk)
     _ _ _ _ _ _ _ _ _ c.in-Err-serve_all.status _ served.served.ends c.in-Ok.ensures.cause served.write_faults served.disk_faults served.net_faults
