@@ -305,3 +305,20 @@ probe_net cause (status.Peer why) ends = tt
 probe_net cause status.NetFull ends = absurd ends
 probe_net cause status.Memory ends = tt
 probe_net cause status.Refused ends = tt
+
+pub probe_usage : (asked : Option Command) (r : Status) → IsProbeEnd r → UsageHasCause asked r
+probe_usage asked status.Done ends = tt
+probe_usage asked status.Usage ends = absurd ends
+probe_usage asked (status.Script line kind) ends = absurd ends
+probe_usage asked status.TooLong ends = absurd ends
+probe_usage asked status.TooManyLines ends = absurd ends
+probe_usage asked status.ReadFault ends = tt
+probe_usage asked status.WriteFault ends = tt
+probe_usage asked status.DiskFault ends = tt
+probe_usage asked status.NetFault ends = absurd ends
+probe_usage asked (status.BadStore at) ends = tt
+probe_usage asked status.NotEmpty ends = tt
+probe_usage asked (status.Peer why) ends = tt
+probe_usage asked status.NetFull ends = absurd ends
+probe_usage asked status.Memory ends = tt
+probe_usage asked status.Refused ends = tt

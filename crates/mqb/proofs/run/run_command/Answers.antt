@@ -1,10 +1,13 @@
 use Rattle.std.proofs.Common.{sym, subst}
 use Rattle.std.specs.Prelude.{Some}
-use Rattle.mqb.proofs.Quiet.{probe_net}
+use Rattle.mqb.proofs.Quiet.{probe_net, probe_usage}
 use Rattle.mqb.specs.Runs.{NetCause}
 use Rattle.mqb.proofs.run.run_command.Goals as goal
 use Rattle.mqb_connections.specs.Causes.{NetFaultHasCause}
 use Rattle.mqb_words.specs.declared.commands.Command.{Command}
+
+pub returns-in-Probe-clause-usage : goal.returns-in-Probe-clause-usage
+returns-in-Probe-clause-usage g c = probe_usage _ c.probe.result c.probe.ensures.ends
 
 pub returns-in-Probe-clause-net_fault : goal.returns-in-Probe-clause-net_fault
 returns-in-Probe-clause-net_fault g c = probe_net _ c.probe.result c.probe.ensures.ends
