@@ -1,0 +1,8 @@
+use Rattle.mqb_turns.proofs.Posts.{broke_by}
+use Rattle.mqb_turns.specs.Sides.{side}
+use Rattle.mqb_turns.proofs.sending.pump.Goals as goal
+
+pub returns-in-Broke-clause-turn : goal.returns-in-Broke-clause-turn
+returns-in-Broke-clause-turn g c = let sent = c.in_ok-pumped.ensures {u = tt} in
+    broke_by c.args.which (side c.args.own.now c.args.other.now c.args.traffic.now) (side c.send_out.new.own c.send_out.new.other c.send_out.new.traffic) _ _ _ _ _ c.args.now
+    c.in_ok-pumped.pumped sent.sent c.refusals_change_nothing.ensures c.in-Broke.how c.in-Broke.is c.failure_reply.result c.failure_reply.ensures

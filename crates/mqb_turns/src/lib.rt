@@ -1,0 +1,18 @@
+//! What the events of a script are to two managers with their disks and the traffic between them: each is a turn of their network.
+//!
+//! Each function takes the manager that acts, the other one, and their traffic; `specs/Sides.antt` has the network that these make.
+#![tactic(auto)]
+
+mod between;
+mod calls;
+mod links;
+mod passing;
+mod sending;
+mod starting;
+
+pub use between::{failure_reply, note, part, part_where, settle};
+pub use calls::{commit, purge, queue, roll, send, take, tick};
+pub use links::{disconnect, drop_packet, resend};
+pub use passing::pass;
+pub use sending::{numbers, pump, send_out};
+pub use starting::restart;
