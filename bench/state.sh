@@ -4,13 +4,15 @@
 # At each depth there are 100,000 messages of each in all, so that what is called is as far from the caches in each. MESSAGES=10000 takes fewer.
 # What is timed is a record that is read, prepared and installed. Nothing is written.
 #
-# Seen twice on a machine that was busy with more than it has processors, in nanoseconds a message at 100, 10,000 and 100,000 messages:
-#   commit, alone         3,861    2,353      2,296 and  3,203    3,089       3,086
-#   commit, 64 together   4,679    2,872      1,893 and  4,023    3,930       2,278
-#   arrival               2,904    1,948      1,726 and  2,623    2,552       2,162
-#   take                  5,138  391,119  6,965,169 and  4,464  710,852  15,469,557
+# Seen once on a machine that was busy with three times as many programs as it has processors, in nanoseconds a message at 100, 10,000 and 100,000
+# messages, and in hundredths of what it costs at 100:
+#   commit, alone         2,818    2,502       2,653    94 at 100,000
+#   commit, 64 together   3,705    3,354       2,165    58
+#   arrival               2,262    2,072       1,962    86
+#   take                  4,161  558,338  33,181,611
 # So commits and arrivals do not grow with the depth. A take at the front of a queue moves all that stands behind it three times, since it is prepared,
-# taken back and installed: that is its whole cost (memmove below MessageList::remove and insert of mqb_queue).
+# taken back and installed: that is its whole cost (memmove below MessageList::remove and insert of mqb_queue). Two runs from before the copies of a body
+# shared its bytes took 3.2 to 4.7 microseconds for a commit at 100 messages, and 2.6 to 2.9 for an arrival.
 #
 # The program is built in a copy of the crates, so that it is no part of what is proved with each change; its proof takes some two minutes. HOW=try runs
 # it without a proof, some two hundred times slower, and HOW="try --seconds 1500" as long as that takes.
