@@ -6,14 +6,28 @@
 #   hundredths a packet costs of one with 10. Ten go in each pump, and all records go to disks in memory. MESSAGES=1000 keeps fewer.
 # FOLDER is where the files stand, which decides what a sync costs.
 #
-# Seen once on a machine that was busy with more than it has processors, by HOW=try, with MESSAGES=1000, of a packet, in hundredths of one with 10:
-#   pumped 97, heard 117, an acknowledgement heard 96
-# With 20 messages a packet that is heard cost 68, so such numbers are true to a third. A run of 3 rounds with MESSAGES=5000 was disturbed so much that
-# packets cost most with 10 messages (100; 9, 34 and 89 with 5,000): it says nothing.
-# The raw loop took 0.31 milliseconds a record of one message in a file, and 3.4 of 64. What commits take by HOW=try says nothing beside it.
+# Seen in four runs of the proved program that kept their processor (chrt -f 10), on a machine with five times as many busy programs as processors:
+#   memory, 1 op       6 to 7 hundredths of the raw loop (a commit took 3.6 to 4.4 microseconds, the raw loop 0.27 to 0.29)
+#   memory, 64 ops     5 to 6 (330 to 390 microseconds, and 18 to 22)
+#   file, 1 op         90, 96, 100 and 104 (117 to 146 microseconds, and 111 to 147)
+#   file, 64 ops       34 to 45 (520 to 540 microseconds, and 188 to 237)
+# So the raw loop is reached in a file by transactions of one message. In one of 64 a manager computes 4 to 5 microseconds for a message (it tries the op,
+# spells the record, reads it again, makes it, and frames it), which is more than the four calls of a file whose syncs are that quick. Where a sync took 2
+# milliseconds it was 91. A third of it are page faults, since malloc gives back the memory of a record and takes it anew: with
+# GLIBC_TUNABLES=glibc.malloc.trim_threshold=4000000000:glibc.malloc.mmap_threshold=4000000000 in memory 210 to 280 microseconds.
 #
-# The program is built in a copy of the crates, so that it is no part of what is proved with each change. HOW=try runs it without a proof, with checks
-# that make it some two hundred times slower: HOW='try --steps 1000 --seconds 900'.
+# Of a packet, in hundredths of one with 10 messages kept, with 1,000 and with 50,000 messages:
+#   pumped                   218 to 233, 676 to 885 (0.41 to 0.47 microseconds with 10, 3.2 to 3.8 with 50,000)
+#   heard                    104 to 113, 172 to 242 (3.5 to 4.1, and 6.8 to 8.4)
+#   acknowledgement heard    112 to 126, 271 to 322 (4.8, and 13 to 15; it releases ten messages)
+# No step of these calls goes through the messages that are kept: a pump halves what is kept to find where it goes on. But 10 messages stand in the
+# nearest caches, and 50,000 with their bodies and disks take 200 megabytes.
+#
+# On a busy machine a program that may be interrupted says little: six such runs said 54 to 108 for one op in a file, 12 to 91 for 64.
+#
+# The program is built in a copy of the crates, so that it is no part of what is proved with each change; its proof takes some six minutes of a
+# processor. A function in whose scope a manager ends is dear to prove, some three minutes each, so each of them is let go by a call of drop.
+# HOW=try runs it without a proof, with checks that make it some two hundred times slower: HOW='try --steps 1000 --seconds 900'.
 set -e
 top=$(cd "$(dirname "$0")/.." && pwd)
 work=$(mktemp -d)
