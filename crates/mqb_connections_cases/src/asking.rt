@@ -1,0 +1,46 @@
+//! The commands, of which nothing is said here. So a test that calls them over forms in memory has nothing to carry, and nothing to prove of a manager.
+use mqb_base::{Memory, Name};
+use mqb_commands::list;
+use mqb_connections::{probe, push, serve};
+use mqb_devices::{Clock, Disk, FixedClock, Net};
+use mqb_outside::{Sink, Source};
+use mqb_sample_stores::NOW;
+use mqb_status::Status;
+use std::alloc::Global;
+
+/// Probes a store.
+pub(crate) fn probes<S: Source, K: Sink, D: Disk>(
+    alloc: Global,
+    input: &mut S,
+    out: &mut K,
+    disk: &mut D,
+) -> Status {
+    probe(alloc, input, out, disk, &mut FixedClock(NOW))
+}
+
+/// Serves so many connections.
+pub(crate) fn serves<K: Sink, D: Disk, N: Net>(
+    alloc: Global,
+    count: u32,
+    out: &mut K,
+    disk: &mut D,
+    net: &mut N,
+) -> Status {
+    serve(alloc, count, out, disk, net, &mut FixedClock(NOW))
+}
+
+/// Pushes to a host.
+pub(crate) fn pushes<K: Sink, D: Disk, N: Net>(
+    alloc: Global,
+    host: &Name,
+    out: &mut K,
+    disk: &mut D,
+    net: &mut N,
+) -> Status {
+    push(alloc, host, out, disk, net, &mut FixedClock(NOW))
+}
+
+/// What a store holds.
+pub(crate) fn holds<D: Disk>(alloc: Global, disk: &mut D) -> Vec<u8> {
+    list(alloc, disk).text
+}
