@@ -2,8 +2,13 @@
 """refused.py [MOST]: refuses each allocation of a command in turn (the first MOST, or all): of `mqb probe` at a store of alpha to which beta's Establish and Parameters
 come, of the same at a store of beta to which an order comes, and of `mqb replay` of examples/one_message.mqb.
 
-Each run must end with status 10, and what it printed must begin what the whole run prints. Afterwards the store must list what it listed before, or what the whole
-run leaves. It prints, of each command, how many allocations it makes, and how many refusals each number of printed bytes had.
+Each run must end with status 10, and what it printed must begin what the whole run prints; or the refusal does no harm, and it is as the whole run. Afterwards the
+store must list what it listed before, or what the whole run leaves. It prints, of each command, how many allocations it makes, how many refusals did no harm, and of
+the others how many had each number of printed bytes.
+
+Seen: of 20 allocations of a session 17 ended with status 10 and nothing printed, of 63 of an order 60 (25 behind nothing, 34 behind the set-up's 604 bytes, one behind
+all 820), of 174 of a replay 158; the others did no harm: the first is that of the variable of the port, which then is 1801, and the next are room for a list of words, which is asked for
+once more as the words come.
 
 The allocations are those of the C library, refused by a library that stands before it, which `cc` makes. It stands outside the gate. MQB names another program.
 """
@@ -39,11 +44,12 @@ def asked(*words):
 
 
 # Refuses the allocation whose number REFUSED says, counted from 1 (0: none), and at the end writes how many there were into the file that REFUSED_TOLD names. What the
-# loader allocates before is not counted.
+# loader allocates before is not counted. The clock stands still, so that each run prints the same.
 REFUSING = r"""#define _GNU_SOURCE
 #include <dlfcn.h>
 #include <stdio.h>
 #include <stdlib.h>
+#include <time.h>
 
 static unsigned long refused, made;
 
@@ -63,6 +69,12 @@ __attribute__((destructor)) static void end(void) {
     fprintf(file, "%lu", count);
     fclose(file);
   }
+}
+
+int clock_gettime(clockid_t clock, struct timespec *now) {
+  now->tv_sec = 1800000000;
+  now->tv_nsec = 0;
+  return 0;
 }
 
 void *malloc(size_t size) {
@@ -118,16 +130,20 @@ def refuse(refusing, name, words, given, store, fresh):
     whole, count = refusing.run(0, words, given)
     after = left()
     assert whole.returncode == 0 and count > 0, (name, whole, count)
-    lengths = collections.Counter()
+    lengths, harmless = collections.Counter(), []
     for at in range(1, (min(count, MOST) if MOST else count) + 1):
         again()
         done, _ = refusing.run(at, words, given)
+        assert left() in (before, after), (name, at)
+        if (done.returncode, done.stdout) == (0, whole.stdout):
+            harmless.append(at)
+            continue
         assert done.returncode == MEMORY, (name, at, done.returncode, done.stdout[-200:], done.stderr[-200:])
         assert whole.stdout.startswith(done.stdout), (name, at, done.stdout[-200:])
-        assert left() in (before, after), (name, at)
         lengths[len(done.stdout)] += 1
     printed = ", ".join(f"{length} bytes {times} times" for length, times in sorted(lengths.items()))
-    print(f"{name}: {count} allocations, {sum(lengths.values())} refused; of {len(whole.stdout)} bytes were printed {printed}", flush=True)
+    print(f"{name}: {count} allocations, {sum(lengths.values()) + len(harmless)} refused, {len(harmless)} without harm {harmless}; "
+          f"of {len(whole.stdout)} bytes were printed {printed}", flush=True)
 
 
 def main():

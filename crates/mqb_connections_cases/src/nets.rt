@@ -75,7 +75,7 @@ fn an_order_goes_over_a_net(rt: HostRuntime) -> Result<(), Fail> {
     for (failing_writes, text, exit, count) in [
         ([1].as_slice(), "connection 1: netfault\n", 7, 0),
         (&[4], "connection 1: netfault\n", 7, 812),
-        (&[], "connection 1: ended\n", 0, 640),
+        (&[], "connection 1: ended\n", 0, 604),
     ] {
         let coming = Coming {
             failing_writes,
