@@ -2,9 +2,9 @@
 """commands.py [MOST]: what the words of the program cost, as ratios in one run: `mqb commit` and `mqb list` at stores of 10, 1,000 and MOST (100,000) records;
 messages a second from `push` to `serve` over the loopback, beside a raw loop of the same writes and syncs; bytes a second of `mqb show`.
 
-Seen on a machine that did much else, with MOST = 10000: a commit at 1,000 and 10,000 records took 0.7 and 4.4 times what it took at 10, a list 1.6 and 8.2 times
-(each reads the whole store); push to serve 417 and 253 messages a second, 0.13 and 0.98 of the raw loop, as its syncs went; show 40 million bytes a second.
-MOST = 100000 was not run.
+Seen on a machine with five times as many busy programs as processors: a commit at 1,000 and 100,000 records took 1.07 and 30 times what it took at 10 (36 and 1,078
+milliseconds), a list 4 and 113 times (9.7 and 1,093), since each reads the whole store; push to serve 137 and 213 messages a second, 0.88 and 0.19 of the raw loop, as its
+syncs went; show 10 million bytes a second. On one that was less busy, with MOST = 10000: 0.7 and 4.4, 1.6 and 8.2; 417 and 253 messages a second, 0.13 and 0.98; 40 million.
 
 A store gets its records by messages that are pushed to it: each that arrives is one. FOLDER is where the files stand, which decides what a sync costs. It stands
 outside the gate. Its port must be free: 1801, or MQB_PORT. MQB names another program.

@@ -4,8 +4,8 @@
 After each kill both stores must open; a commit whose line was printed must be there, and at most one that was not; what the sender has as acknowledged must be
 decided at the receiver. At the end every message is pushed and taken: each once, in the order of its commits. It stands outside the gate.
 
-Seen: of 100 commits 62 had printed their line, 9 were there and had not, 29 were not there; in 23 of 100 pushes and 10 of 100 serves that were killed something was
-decided of which the sender had not heard; 676 messages came once each, in the order of their commits.
+Seen twice: of 100 commits 62 and 60 had printed their line, 9 and 6 were there and had not, 29 and 34 were not there; in 23 and 100 of 100 pushes and in 10 and 66 of
+100 serves that were killed something was decided of which the sender had not heard; 676 and 671 messages came once each, in the order of their commits.
  Its port must be free: 1801, or MQB_PORT. MQB names another program.
 """
 import os, pathlib, random, re, subprocess, sys, tempfile, time
