@@ -3,29 +3,30 @@
 # - commits of a message of 1,000 bytes, and of 64 of them, on a disk in memory and in a file, beside a raw loop that writes, syncs, writes one byte
 #   and syncs, as many bytes in all: how many hundredths the commits a second are of the raw loop's.
 # - packets that it pumps and hears with 10, 1,000 and 50,000 messages kept for its peer, and as many in the queue where they come: how many
-#   hundredths a packet costs of one with 10. Ten go in each pump, and all records go to disks in memory. MESSAGES=1000 keeps fewer.
+#   hundredths a packet costs of one with 10. Ten go in each pump, and all records go to disks in memory. MESSAGES=1000 keeps fewer. The caches that are a
+#   processor's own are emptied before each call, so that what is called is as far away with 10 messages as with 50,000.
 # FOLDER is where the files stand, which decides what a sync costs.
 #
-# Seen in four runs of the proved program that kept their processor (chrt -f 10), on a machine with five times as many busy programs as processors:
-#   memory, 1 op       6 to 7 hundredths of the raw loop (a commit took 3.6 to 4.4 microseconds, the raw loop 0.27 to 0.29)
+# Seen in seven runs of the proved program that kept their processor (chrt -f 10), on a machine with five times as many busy programs as processors:
+#   memory, 1 op       6 to 8 hundredths of the raw loop (a commit took 3.6 to 4.4 microseconds, the raw loop 0.27 to 0.32)
 #   memory, 64 ops     5 to 6 (330 to 390 microseconds, and 18 to 22)
-#   file, 1 op         90, 96, 100 and 104 (117 to 146 microseconds, and 111 to 147)
-#   file, 64 ops       34 to 45 (520 to 540 microseconds, and 188 to 237)
+#   file, 1 op         90 to 104 (115 to 146 microseconds, and 108 to 147)
+#   file, 64 ops       34 to 45 (520 to 690 microseconds, and 188 to 299)
 # So the raw loop is reached in a file by transactions of one message. In one of 64 a manager computes 4 to 5 microseconds for a message (it tries the op,
 # spells the record, reads it again, makes it, and frames it), which is more than the four calls of a file whose syncs are that quick. Where a sync took 2
-# milliseconds it was 91. A third of it are page faults, since malloc gives back the memory of a record and takes it anew: with
+# milliseconds it was 91. Up to a third of it are page faults, since malloc gives back the memory of a record and takes it anew: with
 # GLIBC_TUNABLES=glibc.malloc.trim_threshold=4000000000:glibc.malloc.mmap_threshold=4000000000 in memory 210 to 280 microseconds.
 #
-# Of a packet, in hundredths of one with 10 messages kept, with 1,000 and with 50,000 messages:
-#   pumped                   218 to 233, 676 to 885 (0.41 to 0.47 microseconds with 10, 3.2 to 3.8 with 50,000)
-#   heard                    104 to 113, 172 to 242 (3.5 to 4.1, and 6.8 to 8.4)
-#   acknowledgement heard    112 to 126, 271 to 322 (4.8, and 13 to 15; it releases ten messages)
-# No step of these calls goes through the messages that are kept: a pump halves what is kept to find where it goes on. But 10 messages stand in the
-# nearest caches, and 50,000 with their bodies and disks take 200 megabytes.
+# In three of these runs, in hundredths of a packet with 10 messages kept, with 1,000 and with 50,000 messages:
+#   pumped                   89 to 122, 99 to 113 (4.8 to 5.7 microseconds)
+#   heard                    91 to 108, 93 to 111 (9.9 to 12)
+#   acknowledgement heard    74 to 106, 85 to 95 (43 to 58; it releases ten messages)
+# So packets do not grow with what is kept. Where the caches were left as they are, a packet with 10 messages was pumped in 0.4 microseconds, heard in 3.5,
+# and acknowledged in 4.8, and with 50,000, which stand in no near cache, it cost 676 to 885, 172 to 242 and 271 to 322 hundredths of that.
 #
 # On a busy machine a program that may be interrupted says little: six such runs said 54 to 108 for one op in a file, 12 to 91 for 64.
 #
-# The program is built in a copy of the crates, so that it is no part of what is proved with each change; its proof takes some six minutes of a
+# The program is built in a copy of the crates, so that it is no part of what is proved with each change; its proof takes some five minutes of a
 # processor. A function in whose scope a manager ends is dear to prove, some three minutes each, so each of them is let go by a call of drop.
 # HOW=try runs it without a proof, with checks that make it some two hundred times slower: HOW='try --steps 1000 --seconds 900'.
 set -e
