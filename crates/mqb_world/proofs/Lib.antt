@@ -1,0 +1,3 @@
+mod Beginnings
+mod Growing
+mod Starting
