@@ -1,6 +1,0 @@
-pub mod Faults
-pub mod Hosts
-pub mod Events
-pub mod Worlds
-pub mod Steps
-pub mod Standing
