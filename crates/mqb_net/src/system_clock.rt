@@ -7,11 +7,12 @@ use std::time::{SystemTime, UNIX_EPOCH};
 #[derive(Drop)]
 pub struct SystemClock {
     rt: HostRuntime,
+    asked: u64,
 }
 
 impl SystemClock {
     pub fn new(rt: &HostRuntime) -> SystemClock {
-        SystemClock { rt: *rt }
+        SystemClock { rt: *rt, asked: 0 }
     }
 }
 
@@ -24,8 +25,11 @@ fn seconds(rt: &HostRuntime) -> Option<u64> {
 impl Clock for SystemClock {
     ghost steady = { λ _. None };
 
+    ghost asked = { λ clock. clock.asked };
+
     /// It is 0 where the system tells no time or one before 1970, and the greatest moment for each later one.
     fn now(&mut self) -> u32 {
+        self.asked = self.asked.saturating_add(1);
         let seconds = seconds(&self.rt).unwrap_or(0);
         u32::try_from(seconds).unwrap_or(u32::MAX)
     }
