@@ -4,7 +4,6 @@ use Rattle.std.proofs.lemmas.List.{length-map}
 use Rattle.std.specs.Option.{option_map_or}
 use Rattle.std.specs.Prelude.{if◌then◌else◌, slice_get}
 use Rattle.mqb_base.specs.declared.ids.Guid.{Guid}
-use Rattle.mqb_base.specs.declared.ids.Identity.{Identity}
 use Rattle.mqb_model.specs.calls.pump.Candidates.{Candidate, candidates}
 use Rattle.mqb_model.specs.calls.pump.Choosing.{chosen, session_after, with_heads}
 use Rattle.mqb_model.specs.calls.pump.Pump.{PumpOutcome, packet_for, pump, pump_at, pump_linked, pump_owed, pump_ready, pump_refusal, pump_to, pump_with, sending_ack, sending_chosen}
@@ -12,7 +11,6 @@ use Rattle.mqb_model.specs.declared.faults.PumpFault.{PumpFault}
 use Rattle.mqb_model.specs.declared.faults.PumpFault.TheVariants as fault
 use Rattle.mqb_model.specs.managers.Manager.{Manager, linked_peer}
 use Rattle.mqb_model.specs.managers.Outcomes.{answering, unless}
-use Rattle.mqb_plain.specs.Plain.{PlainLists}
 use Rattle.mqb_session.specs.Phases.{owed_by}
 use Rattle.mqb_session.specs.Sending.{is_ready}
 use Rattle.mqb_session.specs.State as one_end

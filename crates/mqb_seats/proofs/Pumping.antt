@@ -1,13 +1,13 @@
 -- What a pump of the manager in a seat comes to.
-use Rattle.std.proofs.Common.{◌≡◌, ◌==◌, ◌≤◌, ℕ, Bool, true, false, cond, List, [], ◌∷◌, ◌++◌, Result, Ok, Err, refl, sym, ap, subst, ◌∙◌}
+use Rattle.std.proofs.Common.{◌≡◌, ◌==◌, ℕ, Bool, false, cond, List, [], ◌∷◌, ◌++◌, Result, Ok, Err, sym, ap, subst, ◌∙◌}
 use Rattle.std.proofs.lemmas.List.Elements.{recursion_from_All}
 use Rattle.std.specs.List.{AllByRecursion}
-use Rattle.std.specs.Prelude.{All, IfErr, OnErr, OnOk, flat_map, map, not}
+use Rattle.std.specs.Prelude.{All, IfErr, OnErr, OnOk, flat_map, not}
 use Rattle.mqb_devices.specs.Disk.{View}
 use Rattle.mqb_manager.specs.Calls.{IsCall}
 use Rattle.mqb_manager.specs.States.{ManagerState, manager_of}
 use Rattle.mqb_model.specs.calls.hear.Hear.{IsReadable}
-use Rattle.mqb_model.specs.calls.pump.Pump.{PumpOutcome, pump}
+use Rattle.mqb_model.specs.calls.pump.Pump.{pump}
 use Rattle.mqb_model.specs.declared.faults.PumpFault.{PumpFault}
 use Rattle.mqb_model.specs.declared.faults.PumpFault.TheVariants as pumps
 use Rattle.mqb_model.specs.laws.Fitting.{PumpedIsReadable}
@@ -24,7 +24,7 @@ use Rattle.mqb_replies.specs.declared.faults.AnswerFault.{AnswerFault}
 use Rattle.mqb_replies.specs.declared.faults.AnswerFault.TheVariants as answer
 use Rattle.mqb_transcript.specs.declared.replies.Reply.{Reply}
 use Rattle.mqb_seats.proofs.Telling.{call_failed, call_went, seat_is}
-use Rattle.mqb_seats.specs.Pumped.{IsPumped, SpellPumped, TellsPumped, packets_by, pump_fault_reply}
+use Rattle.mqb_seats.specs.Pumped.{IsPumped, SpellPumped, TellsPumped, pump_fault_reply}
 use Rattle.mqb_seats.specs.declared.packets.Pumped.{Pumped}
 use Rattle.mqb_seats.specs.declared.packets.Pumped.TheVariants as pumped
 

@@ -1,5 +1,5 @@
 -- What a call of the manager in a seat comes to.
-use Rattle.std.proofs.Common.{◌≡◌, ◌==◌, ◌≤◌, ℕ, length, inl, inr, Bool, true, false, cond, List, [], Option, None, Some, Result, Ok, Err, refl, sym, ap, subst, ◌∙◌}
+use Rattle.std.proofs.Common.{◌≡◌, ◌==◌, ◌≤◌, ℕ, length, inl, inr, Bool, true, false, cond, List, [], None, Some, Result, Ok, Err, refl, sym, ap, subst, ◌∙◌}
 use Rattle.std.specs.Prelude.{not}
 use Rattle.mqb_base.specs.declared.heard.Heard.{Heard}
 use Rattle.mqb_base.specs.declared.ledger.Line.{Line}
@@ -19,7 +19,7 @@ use Rattle.mqb_model.specs.managers.Manager.{Manager, is_down}
 use Rattle.mqb_model.specs.managers.Outcomes.{Outcome, lines_after}
 use Rattle.mqb_model.specs.managers.Restarts.{unread}
 use Rattle.mqb_model.specs.managers.Valid.{IsValidManager}
-use Rattle.mqb_moves.specs.Calling.{Went, broke, lines_told, seat_of, went_well}
+use Rattle.mqb_moves.specs.Calling.{broke, lines_told, seat_of, went_well}
 use Rattle.mqb_moves.specs.Moves.{IsMove}
 use Rattle.mqb_moves.specs.Never.{TransactionsHaveOps}
 use Rattle.mqb_moves.specs.Seats.{SeatState, seated}

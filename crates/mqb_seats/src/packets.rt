@@ -1,5 +1,5 @@
 //! How a manager hears a packet, and gives packets out.
-ghost use Rattle.std.specs.Prelude.{[], ◌≡◌, IfOk, List, OnErr, Some};
+ghost use Rattle.std.specs.Prelude.{[], ◌≡◌, IfOk, OnErr, Some};
 ghost use Rattle.mqb_model.specs.calls.hear.Hear.{hear};
 ghost use Rattle.mqb_model.specs.calls.pump.Pump.{pump};
 ghost use Rattle.mqb_moves.specs.Seats.{IsHeldOn, seated};

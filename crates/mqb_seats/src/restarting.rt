@@ -29,7 +29,8 @@ impl Seat {
     /// The manager that was started takes the place of the one before. The count of records tells whether the one in doubt was kept.
     fn opened(&mut self, manager: Manager) -> Opened
         ensures seat { self.new ≡ seat_of manager }
-        ensures opened { result ≡ opened_by (not (manager.store.journal.count == self.old.manager.store.journal.count)) }
+        ensures opened { result ≡
+            opened_by (not (manager.store.journal.count == self.old.manager.store.journal.count)) }
     {
         let kept = manager.lsn() != self.manager.lsn();
         self.manager = manager;

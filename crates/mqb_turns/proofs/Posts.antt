@@ -1,5 +1,5 @@
 -- The packets of one manager go.
-use Rattle.std.proofs.Common.{◌≡◌, ℕ, ◌+◌, Bool, true, false, cond, List, [], ◌∷◌, ◌++◌, Option, Some, None, Result, Ok, Err, length, ◌<◌, refl, sym, ap, subst, ◌∙◌, arith, length-append}
+use Rattle.std.proofs.Common.{◌≡◌, ℕ, ◌+◌, Bool, true, cond, List, [], ◌++◌, Option, Some, None, Result, Ok, length, ◌<◌, refl, sym, ap, subst, ◌∙◌, arith, length-append}
 use Rattle.std.proofs.lemmas.List.{append-nil, length-map}
 use Rattle.std.specs.Option.{option_map_or}
 use Rattle.std.specs.Prelude.{IfOk, if◌then◌else◌, map, replicate}
@@ -13,14 +13,13 @@ use Rattle.mqb_model.specs.laws.Validity.{RefusedIsSame}
 use Rattle.mqb_model.specs.managers.Outcomes.{lines_after, succeeded}
 use Rattle.mqb_model.specs.managers.Valid.{IsValidManager}
 use Rattle.mqb_moves.specs.Counting.{PumpsAreCounted}
-use Rattle.mqb_moves.specs.Holding.{StaysStored, same_stores, stored_held}
-use Rattle.mqb_moves.specs.Moves.{IsMove}
-use Rattle.mqb_moves.specs.Seats.{IsHeldOn, SeatState, seated}
+use Rattle.mqb_moves.specs.Holding.{same_stores, stored_held}
+use Rattle.mqb_moves.specs.Seats.{SeatState, seated}
 use Rattle.mqb_network.specs.Answers.{Answer}
-use Rattle.mqb_network.specs.Changes.{ended, failed_at, note_by, noted, succeeded_at, with_lines}
+use Rattle.mqb_network.specs.Changes.{failed_at, note_by, noted, succeeded_at, with_lines}
 use Rattle.mqb_network.specs.Choices.{Choice, Failure, Fails, Well, failure_in}
 use Rattle.mqb_network.specs.Courses.{Course, called_unless, course_from, posted}
-use Rattle.mqb_network.specs.Network.{Connection, Network, Note, connection_of, manager_at, with_manager}
+use Rattle.mqb_network.specs.Network.{Connection, Network, Note, connection_of, manager_at}
 use Rattle.mqb_network.specs.Replies as network
 use Rattle.mqb_network.specs.Sending.{numbers_behind, packets_unless, pump_by, pumped}
 use Rattle.mqb_script.specs.declared.managers.Which.{Which}

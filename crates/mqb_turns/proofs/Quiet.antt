@@ -1,5 +1,5 @@
 -- Events that call no disk.
-use Rattle.std.proofs.Common.{◌≡◌, ℕ, Bool, true, false, cond, List, [], ◌++◌, Option, None, Some, Ok, refl, sym, ap, subst, ◌∙◌}
+use Rattle.std.proofs.Common.{◌≡◌, ℕ, Bool, true, false, cond, List, [], Option, None, Some, refl, sym, ap, subst, ◌∙◌}
 use Rattle.std.proofs.lemmas.List.{append-nil}
 use Rattle.std.specs.Option.{option_map_or}
 use Rattle.std.specs.Prelude.{◌-◌, is_some, slice_set}
@@ -12,7 +12,7 @@ use Rattle.mqb_moves.specs.Seats.{SeatState, seated}
 use Rattle.mqb_network.specs.Answers.{Answer, only}
 use Rattle.mqb_network.specs.Changes.{as_dropped, dropped, ended, succeeded_at, with_lines}
 use Rattle.mqb_network.specs.Connecting.{disconnect, resend_by}
-use Rattle.mqb_network.specs.Courses.{Course, course_from, moved}
+use Rattle.mqb_network.specs.Courses.{course_from, moved}
 use Rattle.mqb_network.specs.Delivering.{drop_packet}
 use Rattle.mqb_network.specs.Network.{Network, Note, is_connected, manager_at, with_manager}
 use Rattle.mqb_network.specs.Replies as network

@@ -1,15 +1,13 @@
 -- A manager that is started again.
-use Rattle.std.proofs.Common.{◌≡◌, ℕ, Bool, true, false, cond, List, [], ◌++◌, Option, None, Some, Result, Ok, refl, sym, ap, subst, ◌∙◌}
+use Rattle.std.proofs.Common.{◌≡◌, ℕ, Bool, true, false, cond, List, [], Ok, refl, sym, ap, subst, ◌∙◌}
 use Rattle.std.proofs.lemmas.List.{append-nil}
-use Rattle.std.specs.Prelude.{IsSome, is_some, not}
+use Rattle.std.specs.Prelude.{is_some, not}
 use Rattle.mqb_base.specs.declared.ledger.Line.{Line}
 use Rattle.mqb_devices.specs.Disk.{View}
 use Rattle.mqb_model.specs.managers.Manager.{Condition, Down, Manager, Up, doubt_of, is_down}
 use Rattle.mqb_model.specs.managers.Restarts.{lines_in_doubt, restarted, unread}
-use Rattle.mqb_model.specs.records.Record.{Record}
 use Rattle.mqb_moves.specs.Holding.{StaysStored}
 use Rattle.mqb_moves.specs.Seats.{IsHeldOn, SeatState, seated}
-use Rattle.mqb_network.specs.Answers.{Answer}
 use Rattle.mqb_network.specs.Changes.{ended, with_lines}
 use Rattle.mqb_network.specs.Choices as choice
 use Rattle.mqb_network.specs.Courses.{Course, course_from, moved}

@@ -1,5 +1,5 @@
 -- A call of one manager with its disk is a turn of the world.
-use Rattle.std.proofs.Common.{◌≡◌, ◌==◌, ℕ, Bool, true, false, cond, List, [], ◌∷◌, ◌++◌, Option, Some, None, Result, Ok, Err, refl, sym, ap, subst, ◌∙◌}
+use Rattle.std.proofs.Common.{◌≡◌, ℕ, Bool, true, cond, List, [], ◌++◌, Option, Some, None, Result, Ok, Err, refl, sym, ap, subst, ◌∙◌}
 use Rattle.std.specs.Option.{option_map_or}
 use Rattle.std.specs.Prelude.{IfOk, is_some, length, nat_lt, if◌then◌else◌}
 use Rattle.mqb_base.specs.declared.ledger.Line.{Line}
@@ -13,7 +13,7 @@ use Rattle.mqb_moves.specs.Seats.{IsHeldOn, SeatState, seated}
 use Rattle.mqb_network.specs.Answers.{Answer, call}
 use Rattle.mqb_network.specs.Changes.{ended, failed_at, succeeded_at, with_lines}
 use Rattle.mqb_network.specs.Choices.{Choice, Failure, Fails, Well, failure_in}
-use Rattle.mqb_network.specs.Courses.{Course, called_unless, course_from, written_by}
+use Rattle.mqb_network.specs.Courses.{called_unless, course_from, written_by}
 use Rattle.mqb_network.specs.Network.{Network, manager_at, with_manager}
 use Rattle.mqb_network.specs.Replies as network
 use Rattle.mqb_replies.specs.declared.faults.AnswerFault.{AnswerFault}

@@ -6,7 +6,7 @@ use Rattle.mqb_moves.specs.Holding.{StaysStored}
 use Rattle.mqb_moves.specs.Seats.{IsHeldOn}
 use Rattle.mqb_network.specs.Choices.{Choice, Failure, Well, choice_behind, failure_in}
 use Rattle.mqb_network.specs.Courses.{Course, Written}
-use Rattle.mqb_network.specs.Delivering.{Delivered, passed}
+use Rattle.mqb_network.specs.Delivering.{passed}
 use Rattle.mqb_network.specs.Network.{Network, Note}
 use Rattle.mqb_network.specs.Replies.{Delivery, Unheard}
 use Rattle.mqb_outside.specs.Faults.{Rose}

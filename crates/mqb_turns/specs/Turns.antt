@@ -1,5 +1,5 @@
 -- What an event is to the network of a world, as one manager sees it.
-use Rattle.std.specs.Prelude.{[], ◌≡◌, Bool, IsTrue, None, Ok, Option, length, ℕ}
+use Rattle.std.specs.Prelude.{[], ◌≡◌, Bool, IsTrue, None, Ok, length, ℕ}
 use Rattle.mqb_devices.specs.Disk.{View}
 use Rattle.mqb_moves.specs.Holding.{StaysStored}
 use Rattle.mqb_moves.specs.Seats.{IsHeldOn}

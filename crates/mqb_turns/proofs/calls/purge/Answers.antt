@@ -1,5 +1,4 @@
-use Rattle.std.proofs.Common.{Err, Ok, Result, refl}
-use Rattle.std.specs.Prelude.{IfOk}
+use Rattle.std.proofs.Common.{refl}
 use Rattle.mqb_model.specs.calls.Purge.{purge}
 use Rattle.mqb_moves.specs.Seats.{seated}
 use Rattle.mqb_network.specs.Replies as network
