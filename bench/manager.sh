@@ -35,7 +35,7 @@ work=$(mktemp -d)
 folder=${FOLDER:-$work}
 trap 'rm -rf "$work" "$folder/raw.store" "$folder/manager.store"' EXIT
 git -C "$top" archive HEAD crates crates.txt HANDLES | tar -x -C "$work"
-for name in mqb_disk mqb_manager $(sed -n "s/^mqb_manager: //p" "$top/crates.txt"); do # what rt has kept of them is not proved again
+for name in $(ls "$top/crates"); do # what rt has kept of them is not proved again
   [ ! -d "$top/crates/$name/out" ] || cp -a "$top/crates/$name/out" "$work/crates/$name/"
 done
 crate=$work/crates/mqb_kept
@@ -46,6 +46,6 @@ for file in $(cd "$crate" && find src specs proofs -name '*.txt'); do # no check
   mv "$crate/$file" "$crate/${file%.txt}.$ending"
 done
 sed -i "s/^const MESSAGES: u32 = .*/const MESSAGES: u32 = ${MESSAGES:-50_000};/; s|FOLDER|$folder|" "$crate/src/main.rt"
-sed -n 's/^mqb_manager: \(.*\)/mqb_kept: \1 mqb_disk mqb_manager/p' "$top/crates.txt" >> "$work/crates.txt"
+echo 'mqb_kept: mqb_base mqb_devices mqb_disk mqb_heads mqb_hearing mqb_model mqb_packet mqb_store_laws mqb_manager thiserror' >> "$work/crates.txt"
 cd "$crate"
 rt ${HOW:-run}

@@ -21,7 +21,7 @@ top=$(cd "$(dirname "$0")/.." && pwd)
 work=$(mktemp -d)
 trap 'rm -rf "$work"' EXIT
 git -C "$top" archive HEAD crates crates.txt HANDLES | tar -x -C "$work"
-for name in $(sed -n "s/^mqb_state_cases: //p" "$top/crates.txt"); do # what rt has kept of them is not proved again
+for name in $(ls "$top/crates"); do # what rt has kept of them is not proved again
   [ ! -d "$top/crates/$name/out" ] || cp -a "$top/crates/$name/out" "$work/crates/$name/"
 done
 crate=$work/crates/mqb_depths
