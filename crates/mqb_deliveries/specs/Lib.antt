@@ -1,0 +1,13 @@
+pub mod Steps
+pub mod Failing
+pub mod Delivers
+pub mod Flows
+pub mod Courses
+pub mod Peers
+pub mod Unsent
+pub mod Delivered
+pub mod Flowing
+pub mod Flowed
+pub mod Coming
+pub mod SettingUp
+pub mod Connected

@@ -1,0 +1,5 @@
+mod Reading
+mod Making
+mod Bounding
+mod Sizing
+mod Whole

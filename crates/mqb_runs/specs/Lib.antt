@@ -1,0 +1,5 @@
+pub mod Hosts
+pub mod Events
+pub mod Runs
+pub mod Texts
+pub mod Guarantees
