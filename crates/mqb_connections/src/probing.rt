@@ -1,6 +1,7 @@
 //! `probe`: one connection over input and output.
 ghost use Rattle.std.specs.Prelude.{◌≡◌, ◌≢◌, Err, None};
 ghost use Rattle.mqb_commands.specs.Causes.{DiskFaultHasCause};
+ghost use Rattle.mqb_connections.specs.Asked.{AsksOnce};
 ghost use Rattle.mqb_connections.specs.Causes.{IsProbeEnd};
 ghost use Rattle.mqb_connections.specs.Probed.{CompletesProbe, ProbesStore};
 ghost use Rattle.mqb_connections.specs.Statuses.{probe_status};
@@ -84,6 +85,7 @@ pub fn probe<S: Source, K: Sink, D: Disk, C: Clock>(
     ensures disk_faults { DiskFaultHasCause (D.view disk.old).faults (D.view disk.new).faults
         result }
     ensures clock { C.steady clock.new ≡ C.steady clock.old }
+    ensures asked { AsksOnce (C.asked clock.old) (C.asked clock.new) }
     ensures ends { IsProbeEnd result }
 {
     let mut manager = match open(alloc, disk) {
@@ -92,5 +94,6 @@ pub fn probe<S: Source, K: Sink, D: Disk, C: Clock>(
     };
     let now = clock.now();
     let end = serve_piped(alloc, &mut manager, input, out, disk, now);
+    drop(manager);
     probe_status(end)
 }

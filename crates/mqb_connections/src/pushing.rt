@@ -1,6 +1,7 @@
 //! `push`: one connection to a peer.
-ghost use Rattle.std.specs.Prelude.{◌<◌, ◌≡◌, ◌≢◌, ◌⊎◌, Err, IfOk, IfSome, None, OnErr, Some, length};
+ghost use Rattle.std.specs.Prelude.{◌<◌, ◌≡◌, ◌≢◌, ◌⊎◌, Err, IfOk, IfSome, MatchResult, None, OnErr, Some, length};
 ghost use Rattle.mqb_commands.specs.Causes.{DiskFaultHasCause};
+ghost use Rattle.mqb_connections.specs.Asked.{AsksForEach, RoseBy};
 ghost use Rattle.mqb_connections.specs.Causes.{IsNetEnd, NetFaultHasCause, is_lost};
 ghost use Rattle.mqb_connections.specs.Pushed.{CompletesPush, IsPush, PushesAt, PushesStore, TellsPush, address_at, index_of_host};
 ghost use Rattle.mqb_connections.specs.Statuses.{push_status};
@@ -87,6 +88,8 @@ fn push_over<D: Disk, N: Net, C: Clock>(
     ensures none_finished { OnErr result (N.finished net.new ≡ N.finished net.old) }
     ensures unfinished { N.unfinished net.new ≡ N.unfinished net.old }
     ensures clock { C.steady clock.new ≡ C.steady clock.old }
+    ensures asked { MatchResult result (λ _. RoseBy 1 (C.asked clock.old) (C.asked clock.new))
+        (λ _. C.asked clock.new ≡ C.asked clock.old) }
 {
     let address = address_at(manager.state().contents().peers(), peer);
     let mut conn = net.connect(address)?;
@@ -141,6 +144,8 @@ fn push_to<K: Sink, D: Disk, N: Net, C: Clock>(
         result }
     ensures unfinished { N.unfinished net.new ≡ N.unfinished net.old }
     ensures clock { C.steady clock.new ≡ C.steady clock.old }
+    ensures asked { AsksForEach 1 (N.finished net.old) (N.finished net.new) (C.asked clock.old)
+        (C.asked clock.new) }
 {
     match push_over(alloc, peer, manager, disk, net, clock) {
         Ok(end) => tell_push(alloc, end, out),
@@ -183,14 +188,19 @@ pub fn push<K: Sink, D: Disk, N: Net, C: Clock>(
     ensures net_faults { NetFaultHasCause (Rose (N.faults net.old) (N.faults net.new)
         ⊎ Rose (N.lost net.old) (N.lost net.new)) result }
     ensures clock { C.steady clock.new ≡ C.steady clock.old }
+    ensures asked { AsksForEach 1 (N.finished net.old) (N.finished net.new) (C.asked clock.old)
+        (C.asked clock.new) }
     ensures ends { IsNetEnd result }
 {
     let mut manager = match open(alloc, disk) {
         Ok(manager) => manager,
         Err(status) => return status,
     };
-    match peer_of_host(&manager, host) {
-        Some(peer) => push_to(alloc, peer, &mut manager, out, disk, net, clock),
-        None => tell(out, b"nopeer\n", Status::Refused),
-    }
+    let Some(peer) = peer_of_host(&manager, host) else {
+        drop(manager);
+        return tell(out, b"nopeer\n", Status::Refused);
+    };
+    let end = push_to(alloc, peer, &mut manager, out, disk, net, clock);
+    drop(manager);
+    end
 }

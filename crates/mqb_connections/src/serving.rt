@@ -1,6 +1,7 @@
 //! `serve`: connections that peers make, one after another.
 ghost use Rattle.std.specs.Prelude.{◌≡◌, ◌≢◌, Err, IfErr, IfOk, MatchResult, None, OnErr};
 ghost use Rattle.mqb_commands.specs.Causes.{DiskFaultHasCause};
+ghost use Rattle.mqb_connections.specs.Asked.{AsksForEach, RoseBy};
 ghost use Rattle.mqb_connections.specs.Causes.{IsNetEnd, NetFaultHasCause};
 ghost use Rattle.mqb_connections.specs.Served.{Completes, ServesFrom, ServesPeers, end_of};
 ghost use Rattle.mqb_connections.specs.Told.{TellsEnd, TellsNetFault};
@@ -89,6 +90,8 @@ fn serve_next<D: Disk, N: Net, C: Clock>(
     ensures net_faults { HasCause (N.faults net.old) (N.faults net.new) result }
     ensures unfinished { N.unfinished net.new ≡ N.unfinished net.old }
     ensures clock { C.steady clock.new ≡ C.steady clock.old }
+    ensures asked { MatchResult result (λ _. RoseBy 1 (C.asked clock.old) (C.asked clock.new))
+        (λ _. C.asked clock.new ≡ C.asked clock.old) }
 {
     let mut conn = net.accept()?;
     let now = clock.now();
@@ -128,6 +131,8 @@ fn serve_and_tell<K: Sink, D: Disk, N: Net, C: Clock>(
         (λ _. N.faults net.new ≡ N.faults net.old)
         (NetFaultHasCause (Rose (N.faults net.old) (N.faults net.new))) }
     ensures clock { C.steady clock.new ≡ C.steady clock.old }
+    ensures asked { AsksForEach 1 (N.finished net.old) (N.finished net.new) (C.asked clock.old)
+        (C.asked clock.new) }
     ensures ends { IfErr result IsNetEnd }
 {
     match serve_next(alloc, manager, disk, net, clock) {
@@ -165,6 +170,8 @@ fn serve_all<K: Sink, D: Disk, N: Net, C: Clock>(
         (λ _. N.faults net.new ≡ N.faults net.old)
         (NetFaultHasCause (Rose (N.faults net.old) (N.faults net.new))) }
     ensures clock { C.steady clock.new ≡ C.steady clock.old }
+    ensures asked { AsksForEach count (N.finished net.old) (N.finished net.new)
+        (C.asked clock.old) (C.asked clock.new) }
     ensures ends { IfErr result IsNetEnd }
 {
     for index in 0..count {
@@ -201,13 +208,17 @@ pub fn serve<K: Sink, D: Disk, N: Net, C: Clock>(
         result }
     ensures net_faults { NetFaultHasCause (Rose (N.faults net.old) (N.faults net.new)) result }
     ensures clock { C.steady clock.new ≡ C.steady clock.old }
+    ensures asked { AsksForEach count (N.finished net.old) (N.finished net.new)
+        (C.asked clock.old) (C.asked clock.new) }
     ensures ends { IsNetEnd result }
 {
     let mut manager = match open(alloc, disk) {
         Ok(manager) => manager,
         Err(status) => return status,
     };
-    match serve_all(alloc, count, &mut manager, out, disk, net, clock) {
+    let served = serve_all(alloc, count, &mut manager, out, disk, net, clock);
+    drop(manager);
+    match served {
         Ok(()) => Status::Done,
         Err(status) => status,
     }

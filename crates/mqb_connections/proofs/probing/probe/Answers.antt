@@ -1,3 +1,5 @@
+use Rattle.std.proofs.Common.{inr}
+use Rattle.mqb_connections.proofs.Asking.{rose_once}
 use Rattle.mqb_connections.proofs.Ends.{probe_disk}
 use Rattle.mqb_connections.proofs.Probes.{probe_completes, probe_ends, probe_read, probe_write, store_probes}
 use Rattle.mqb_connections.proofs.probing.probe.Goals as goal
@@ -36,3 +38,6 @@ returns-clause-write_faults g c =
 
 pub returns-clause-ends : goal.returns-clause-ends
 returns-clause-ends g c = probe_ends c.serve_piped-end.result c.probe_status.result c.probe_status.ensures
+
+pub returns-clause-asked : goal.returns-clause-asked
+returns-clause-asked g c = inr (rose_once _ _ c.now-now.ensures.asked)

@@ -5,6 +5,7 @@ use Rattle.mqb_devices.specs.Net.{Ended}
 use Rattle.mqb_model.specs.declared.answers.Role.TheVariants as role
 use Rattle.mqb_connections.specs.Pushed.{address_at}
 use Rattle.mqb_connections.specs.Visits.{Visit}
+use Rattle.mqb_connections.proofs.Asking.{rose_once}
 use Rattle.mqb_connections.proofs.Ends.{given_back, lost_over, taken_back}
 use Rattle.mqb_connections.proofs.Visiting.{is_visit}
 use Rattle.mqb_connections.proofs.pushing.push_over.Goals as goal
@@ -25,6 +26,9 @@ pub returns-clause-unfinished : goal.returns-clause-unfinished
 returns-clause-unfinished g c =
     taken_back (g.N.Net.unfinished c.args.net.now) (g.N.Net.unfinished c.connect.new.self) (g.N.Net.unfinished c.finish.new.self)
     c.in_ok-conn.ensures.opened c.finish.ensures.closed
+
+pub returns-clause-asked : goal.returns-clause-asked
+returns-clause-asked g c = rose_once _ _ c.now-now.ensures.asked
 
 pub returns-clause-push : goal.returns-clause-push
 returns-clause-push g c =

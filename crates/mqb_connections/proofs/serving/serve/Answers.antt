@@ -6,24 +6,24 @@ use Rattle.mqb_connections.proofs.serving.serve.Goals as goal
 pub returns-in-Err-clause-served : goal.returns-in-Err-clause-served
 returns-in-Err-clause-served g c = inl ((c.in-Err.ensures.fails, refl), record { finished = refl; faults = refl; lost = refl })
 
-pub returns-in-Ok-serve_all-clause-served : goal.returns-in-Ok-serve_all-clause-served
-returns-in-Ok-serve_all-clause-served g c =
-    let served = c.in-Ok-serve_all.ensures in
+pub returns-in-Ok-served-clause-served : goal.returns-in-Ok-served-clause-served
+returns-in-Ok-served-clause-served g c =
+    let served = c.in-Ok-served.ensures in
     inr (store_served c.in-Ok.ensures.opened c.open.ensures.reads served.served served.disk served.up)
 
-pub returns-clause-served : goal.returns-clause-served
-returns-clause-served g c =
-    let served = c.in-Err-serve_all.ensures in
+pub returns-in-Err-served-clause-served : goal.returns-in-Err-served-clause-served
+returns-in-Err-served-clause-served g c =
+    let served = c.in-Err-served.ensures in
     inr (store_served c.in-Ok.ensures.opened c.open.ensures.reads served.served served.disk served.up)
 
 pub returns-in-Err-clause-complete : goal.returns-in-Err-clause-complete
 returns-in-Err-clause-complete g c = unopened_completes _ _ _ _ _ _ c.in-Err.status c.in-Err.ensures.fails
 
-pub returns-in-Ok-serve_all-clause-complete : goal.returns-in-Ok-serve_all-clause-complete
-returns-in-Ok-serve_all-clause-complete g c = λ _ _ _ _. inl refl
+pub returns-in-Ok-served-clause-complete : goal.returns-in-Ok-served-clause-complete
+returns-in-Ok-served-clause-complete g c = λ _ _ _ _. inl refl
 
-pub returns-clause-complete : goal.returns-clause-complete
-returns-clause-complete g c =
-    let served = c.in-Err-serve_all.ensures in
-    served_completes (g.D.Disk.view c.args.disk.now) (g.D.Disk.view c.open.new.disk) (g.D.Disk.view c.serve_all.new.disk)
-    _ _ _ _ _ _ _ _ _ c.in-Err-serve_all.status _ served.served.ends c.in-Ok.ensures.cause served.write_faults served.disk_faults served.net_faults
+pub returns-in-Err-served-clause-complete : goal.returns-in-Err-served-clause-complete
+returns-in-Err-served-clause-complete g c =
+    let served = c.in-Err-served.ensures in
+    served_completes (g.D.Disk.view c.args.disk.now) (g.D.Disk.view c.open.new.disk) (g.D.Disk.view c.serve_all-served.new.disk)
+    _ _ _ _ _ _ _ _ _ c.in-Err-served.status _ served.served.ends c.in-Ok.ensures.cause served.write_faults served.disk_faults served.net_faults

@@ -1,6 +1,7 @@
 use Rattle.std.proofs.Common.{ℕ, ◌≡◌, ◌∙◌, Err, ap, refl, arith}
 use Rattle.std.proofs.lemmas.Result.{err_from_is_err_and}
 use Rattle.mqb_manager.specs.Keeping.{keeping_goes_on, nothing_keeps}
+use Rattle.mqb_connections.proofs.Asking.{asks_none, asks_then}
 use Rattle.mqb_connections.proofs.Peers.{no_peers, peers_then}
 use Rattle.mqb_connections.proofs.serving.serve_all.Goals as goal
 
@@ -15,6 +16,7 @@ loop-index-init g c = record {
   disk_faults = refl;
   net_faults = refl;
   clock = refl;
+  asked = asks_none 0 _ _ _ _ refl refl;
 }
 
 pub returns-in_err-serve_and_tell-clause-served : goal.returns-in_err-serve_and_tell-clause-served
@@ -24,6 +26,11 @@ returns-in_err-serve_and_tell-clause-served g c =
     let so_far = c.loop-index.invariant in
     rw (same.1, same.2) (peers_then {o = c.serve_and_tell.new.manager} (omega arith) so_far.clock so_far.net_faults (omega arith) (λ is. absurd (stopped (ap Err is)))
     so_far.served c.in_err-serve_and_tell.ensures.served)
+
+pub returns-in_err-serve_and_tell-clause-asked : goal.returns-in_err-serve_and_tell-clause-asked
+returns-in_err-serve_and_tell-clause-asked g c =
+    let so_far = c.loop-index.invariant in
+    asks_then _ (omega arith) so_far.served.finished so_far.asked c.in_err-serve_and_tell.ensures.asked
 
 pub loop-index-preserved : goal.loop-index-preserved
 loop-index-preserved g c =
@@ -39,4 +46,5 @@ loop-index-preserved g c =
       disk_faults = one.disk_faults ∙ so_far.disk_faults;
       net_faults = one.net_faults ∙ so_far.net_faults;
       clock = one.clock ∙ so_far.clock;
+      asked = asks_then _ (omega arith) so_far.served.finished so_far.asked one.asked;
     }

@@ -3,6 +3,7 @@ use Rattle.std.specs.Prelude.{None}
 use Rattle.mqb_manager.specs.Keeping.{KeepsDisk}
 use Rattle.mqb_manager.specs.States.{IsUp}
 use Rattle.mqb_status.specs.declared.status.Status.TheVariants as status
+use Rattle.mqb_connections.specs.Asked.{AsksForEach}
 use Rattle.mqb_connections.specs.Served.{ServesPeers}
 use Rattle.mqb_connections.proofs.serving.serve_all.Given as goal
 
@@ -19,4 +20,5 @@ invariant-loop-index g l = record {
   disk_faults : (g.D.Disk.view l.disk).faults ≡ (g.D.Disk.view l.fn.disk).faults;
   net_faults : g.N.Net.faults l.net ≡ g.N.Net.faults l.fn.net;
   clock : g.C.Clock.steady l.clock ≡ g.C.Clock.steady l.fn.clock;
+  asked : AsksForEach l.index (g.N.Net.finished l.fn.net) (g.N.Net.finished l.net) (g.C.Clock.asked l.fn.clock) (g.C.Clock.asked l.clock);
 }

@@ -1,4 +1,5 @@
 use Rattle.std.proofs.Common.{Err, refl}
+use Rattle.mqb_connections.proofs.Asking.{asks_none, asks_one}
 use Rattle.mqb_connections.proofs.Ends.{disk_behind}
 use Rattle.mqb_connections.proofs.Peers.{net_no_done, none_told, one_told, told_no_done, up_unless}
 use Rattle.mqb_connections.proofs.serving.serve_and_tell.Goals as goal
@@ -32,3 +33,11 @@ pub returns-in-Err-clause-stops : goal.returns-in-Err-clause-stops
 returns-in-Err-clause-stops g c =
     net_no_done (g.K.Sink.taken c.args.out.now) (g.K.Sink.taken c.tell_net_fault.new.out) c.tell_net_fault.result c.tell_net_fault.ensures.told
     (Err c.tell_net_fault.result) refl
+
+pub returns-in-Ok-clause-asked : goal.returns-in-Ok-clause-asked
+returns-in-Ok-clause-asked g c =
+    let next = c.in-Ok.ensures.next in
+    asks_one _ _ next.visit.ended _ _ next.finished c.in-Ok.ensures.asked
+
+pub returns-in-Err-clause-asked : goal.returns-in-Err-clause-asked
+returns-in-Err-clause-asked g c = asks_none 1 _ _ _ _ c.in-Err.ensures.unchanged.2 c.in-Err.ensures.asked

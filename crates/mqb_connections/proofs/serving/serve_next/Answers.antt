@@ -3,6 +3,7 @@ use Rattle.std.specs.Option.{option_map}
 use Rattle.mqb_devices.specs.Net.{Ended}
 use Rattle.mqb_model.specs.declared.answers.Role.TheVariants as role
 use Rattle.mqb_connections.specs.Visits.{Visit}
+use Rattle.mqb_connections.proofs.Asking.{rose_once}
 use Rattle.mqb_connections.proofs.Ends.{given_back, taken_back}
 use Rattle.mqb_connections.proofs.Visiting.{is_visit}
 use Rattle.mqb_connections.proofs.serving.serve_next.Goals as goal
@@ -14,6 +15,9 @@ pub returns-clause-unfinished : goal.returns-clause-unfinished
 returns-clause-unfinished g c =
     taken_back (g.N.Net.unfinished c.args.net.now) (g.N.Net.unfinished c.accept.new.self) (g.N.Net.unfinished c.finish.new.self)
     c.in_ok-conn.ensures.opened c.finish.ensures.closed
+
+pub returns-clause-asked : goal.returns-clause-asked
+returns-clause-asked g c = rose_once _ _ c.now-now.ensures.asked
 
 pub returns-clause-next : goal.returns-clause-next
 returns-clause-next g c =
