@@ -1,5 +1,5 @@
 -- How a push ends, from the disk before its store was opened.
-use Rattle.std.proofs.Common.{◌≡◌, ◌≢◌, ◌⊎◌, inl, inr, ℕ, List, Option, Some, None, Err, Ok, refl, sym, ap, subst, ◌∙◌}
+use Rattle.std.proofs.Common.{◌≡◌, ◌≢◌, ◌⊎◌, inl, inr, ℕ, List, Option, Some, None, Err, Ok, refl, sym, subst, ◌∙◌}
 use Rattle.std.specs.Prelude.{codes}
 use Rattle.mqb_commands.specs.Causes.{DiskFaultHasCause}
 use Rattle.mqb_commands.specs.Opened.{IsNotOpened, OpensAs}
