@@ -1,7 +1,6 @@
 -- What ends a command that serves the connections of a store before all are served.
 use Rattle.std.proofs.Common.{◌≡◌, ℕ, List, Option, Some, None, Err, inl, inr, refl, sym, subst}
 use Rattle.mqb_commands.specs.Causes.{DiskFaultHasCause}
-use Rattle.mqb_commands.specs.Opened.{IsNotOpened}
 use Rattle.mqb_devices.specs.Disk.{View}
 use Rattle.mqb_outside.specs.Faults.{Rose}
 use Rattle.mqb_serve_laws.specs.Serving.{Answer}
@@ -12,12 +11,6 @@ use Rattle.mqb_connections.specs.Causes.{NetFaultHasCause}
 use Rattle.mqb_connections.specs.Served.{Completes, EndsServing}
 use Rattle.mqb_connections.specs.Told.{TellsEnd, TellsNetFault}
 use Rattle.mqb_connections.specs.Visits.{Visit}
-
-pub unopened_completes : (d e : View) (faults faults_now writes writes_now : ℕ) (r : Status) → IsNotOpened d e r → Completes d e faults faults_now writes writes_now r
-unopened_completes d e faults faults_now writes writes_now (status.BadStore at) failed = λ sound _ _ _. absurd (sound at failed.0)
-unopened_completes d e faults faults_now writes writes_now status.DiskFault failed = λ _ no_disk _ _. absurd (no_disk failed.0)
-unopened_completes d e faults faults_now writes writes_now status.Memory failed = λ _ _ _ _. inr refl
-unopened_completes d e faults faults_now writes writes_now _ failed = absurd failed
 
 -- an end behind connections that were served
 abbrev IsServeEnd : Status → Type 0

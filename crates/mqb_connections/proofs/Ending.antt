@@ -1,30 +1,11 @@
 -- How the commands end that serve connections.
 use Rattle.std.proofs.Common.{ℕ, List, Option}
 use Rattle.std.specs.Prelude.{Err, IfErr, Ok, Result}
-use Rattle.mqb_commands.specs.Opened.{IsNotOpened}
-use Rattle.mqb_devices.specs.Disk.{View}
 use Rattle.mqb_serve_laws.specs.Serving.{Answer}
 use Rattle.mqb_status.specs.declared.status.Status.{Status}
 use Rattle.mqb_status.specs.declared.status.Status.TheVariants as status
 use Rattle.mqb_connections.specs.Causes.{IsNetEnd}
 use Rattle.mqb_connections.specs.Told.{TellsEnd, TellsNetFault}
-
-pub not_opened_net : (d e : View) (end : Status) → IsNotOpened d e end → IsNetEnd end
-not_opened_net d e status.Done failed = tt
-not_opened_net d e status.Usage failed = absurd failed
-not_opened_net d e (status.Script line kind) failed = absurd failed
-not_opened_net d e status.TooLong failed = absurd failed
-not_opened_net d e status.TooManyLines failed = absurd failed
-not_opened_net d e status.ReadFault failed = absurd failed
-not_opened_net d e status.WriteFault failed = tt
-not_opened_net d e status.DiskFault failed = tt
-not_opened_net d e status.NetFault failed = tt
-not_opened_net d e (status.BadStore at) failed = tt
-not_opened_net d e status.NotEmpty failed = tt
-not_opened_net d e (status.Peer why) failed = tt
-not_opened_net d e status.NetFull failed = absurd failed
-not_opened_net d e status.Memory failed = tt
-not_opened_net d e status.Refused failed = tt
 
 pub told_end : (number : ℕ) (end : Answer) (before after : Option (List ℕ)) (r : Result (Unit {0}) Status) → TellsEnd number end before after r → IfErr r IsNetEnd
 told_end number end before after (Ok done) told = tt

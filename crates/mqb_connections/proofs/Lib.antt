@@ -6,6 +6,7 @@ pub mod Visiting
 pub mod Behind
 pub mod Peers
 pub mod Opening
+pub mod Unopened
 pub mod Storing
 pub mod Completing
 pub mod Pushes

@@ -2,9 +2,8 @@
 use Rattle.std.proofs.Common.{◌≡◌, ◌≢◌, ◌⊎◌, inl, inr, ℕ, List, Option, Some, None, Err, Ok, refl, sym, subst, ◌∙◌}
 use Rattle.std.specs.Prelude.{codes}
 use Rattle.mqb_commands.specs.Causes.{DiskFaultHasCause}
-use Rattle.mqb_commands.specs.Opened.{IsNotOpened, OpensAs}
+use Rattle.mqb_commands.specs.Opened.{OpensAs}
 use Rattle.mqb_devices.specs.Disk.{OnlyReads, View}
-use Rattle.mqb_devices.specs.Images.{Each}
 use Rattle.mqb_devices.specs.Runs.{reads_then}
 use Rattle.mqb_journal.specs.Causes.{FaultsAsSaid}
 use Rattle.mqb_manager.specs.Keeping.{KeepsDisk, keeping_goes_on}
@@ -15,12 +14,11 @@ use Rattle.mqb_serving.specs.declared.faults.ConnFault.TheVariants as fault
 use Rattle.mqb_status.specs.Outputs.{IsPlain, Tells, WriteFaultHasCause}
 use Rattle.mqb_status.specs.declared.status.Status.{Status}
 use Rattle.mqb_status.specs.declared.status.Status.TheVariants as status
-use Rattle.mqb_store_laws.specs.Faults.{IsBadStore}
-use Rattle.mqb_connections.proofs.Ending.{not_opened_net}
 use Rattle.mqb_connections.proofs.Opening.{opened_keeps}
+use Rattle.mqb_connections.proofs.Unopened.{unopened_disk, unopened_faultless, unopened_net, unopened_net_end}
 use Rattle.mqb_connections.specs.Causes.{IsNetEnd, NetFaultHasCause, is_lost}
 use Rattle.mqb_connections.specs.Pushed.{CompletesPush, IsPush, PushesAt, PushesStore, TellsPush, index_of_host}
-use Rattle.mqb_connections.specs.Served.{Nets}
+use Rattle.mqb_connections.specs.Served.{IsUntouched, Nets}
 use Rattle.mqb_connections.specs.Statuses.{IsFaultless, push_status}
 use Rattle.mqb_connections.specs.Told.{GoesOn}
 use Rattle.mqb_connections.specs.Visits.{end_line}
@@ -108,6 +106,17 @@ store_pushes host o steady m d f e net before after r opened reads same index pu
   pushes = subst (λ (k : Option ℕ). PushesAt k steady m d e net before after r) index (from_disk o steady m d f e net before after r opened reads same pushes);
 })
 
+-- where no peer has the host
+pub store_without_peer : (host : List ℕ) (steady : Option ℕ) (m : ManagerState) (d e : View) (net : Nets) (before after : Option (List ℕ)) (r : Status)
+    → OpensAs d m → OnlyReads d e → e.faults ≡ d.faults → None ≡ index_of_host m.store.state.peers host → IsUntouched net
+    → Tells (codes "nopeer\n") status.Refused before after r → PushesStore host steady d e net before after r
+store_without_peer host steady m d e net before after r opened reads same index untouched told = inl (record {
+  first = m;
+  opened = opened;
+  pushes = subst (λ (k : Option ℕ). PushesAt k steady m d e net before after r) index
+      (record { disk = reads; disk_faults = same; untouched = untouched; told = told });
+})
+
 -- How the program ends by what is told.
 
 tells_as : (P : Status → Type 0) (text : List ℕ) (end : Status) (before after : Option (List ℕ)) (r : Status) → P end → P status.WriteFault
@@ -169,14 +178,6 @@ pushed_as P (Some peer) steady m d e net before after r (inl un) refused failed 
 pushed_as P (Some peer) steady m d e net before after r (inr over) refused failed memory given ended =
     push_as P over.end before after r (ended over.end over.disk_faults over.lost) failed memory over.told
 
-unopened_disk : (d e : View) (r : Status) → IsNotOpened d e r → DiskFaultHasCause d.faults e.faults r
-unopened_disk d e status.DiskFault failed = failed.0
-unopened_disk d e _ failed = tt
-
-unopened_net : (cause : Type 0) (d e : View) (r : Status) → IsNotOpened d e r → NetFaultHasCause cause r
-unopened_net cause d e status.NetFault failed = absurd failed
-unopened_net cause d e _ failed = tt
-
 pub store_disk : {host : List ℕ} {steady : Option ℕ} {d e : View} {net : Nets} {before after : Option (List ℕ)} {r : Status}
     → PushesStore host steady d e net before after r → DiskFaultHasCause d.faults e.faults r
 store_disk {host} {steady} {d} {e} {net} {before} {after} {r} (inl p) =
@@ -195,7 +196,7 @@ pub store_ends : {host : List ℕ} {steady : Option ℕ} {d e : View} {net : Net
     → PushesStore host steady d e net before after r → IsNetEnd r
 store_ends {host} {steady} {d} {e} {net} {before} {after} {r} (inl p) =
     pushed_as IsNetEnd (index_of_host p.first.store.state.peers host) steady p.first d e net before after r p.pushes tt tt tt (λ rose. tt) (λ end disk lost. end_of end)
-store_ends {host} {steady} {d} {e} {net} {before} {after} {r} (inr p) = not_opened_net d e r p.0.0
+store_ends {host} {steady} {d} {e} {net} {before} {after} {r} (inr p) = unopened_net_end d e r p.0.0
 
 -- Where no device failed, the program ends with no fault.
 
@@ -211,12 +212,6 @@ ended_faultless a b l m (Err fault.Memory) disk lost none kept = tt
 -- with no write fault, since the output did not fail
 abbrev IfWritten : (writes writes_now : ℕ) → Status → Type 0
 IfWritten writes writes_now r = WriteFaultHasCause writes writes_now r → IsFaultless r
-
-pub unopened_faultless : (d e : View) (r : Status) → IsNotOpened d e r → ((at : ℕ) → Each d.reads (IsBadStore at) → ⊥) → (Rose d.faults e.faults → ⊥) → IsFaultless r
-unopened_faultless d e (status.BadStore at) failed sound disk = absurd (sound at failed.0)
-unopened_faultless d e status.DiskFault failed sound disk = absurd (disk failed.0)
-unopened_faultless d e status.Memory failed sound disk = tt
-unopened_faultless d e _ failed sound disk = absurd failed
 
 pub push_completes : {host : List ℕ} {steady : Option ℕ} {d e : View} {net : Nets} {before after : Option (List ℕ)} {r : Status} (writes writes_now : ℕ)
     → PushesStore host steady d e net before after r → WriteFaultHasCause writes writes_now r → CompletesPush d e net writes writes_now r

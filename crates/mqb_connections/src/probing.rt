@@ -66,7 +66,6 @@ fn serve_piped<S: Source, K: Sink, D: Disk>(
 }
 
 /// Serves one connection over the input and the output, on which nothing else is written.
-#[tactic(auto, using(crate::proofs::Pushes::unopened_faultless))]
 pub fn probe<S: Source, K: Sink, D: Disk, C: Clock>(
     alloc: Global,
     input: &mut S,

@@ -154,7 +154,6 @@ fn push_to<K: Sink, D: Disk, N: Net, C: Clock>(
 }
 
 /// Pushes to the peer of a host what waits for it, and says how the connection ended.
-#[tactic(auto, using(crate::proofs::Pushes::unopened_faultless))]
 pub fn push<K: Sink, D: Disk, N: Net, C: Clock>(
     alloc: Global,
     host: &Name,

@@ -181,7 +181,6 @@ fn serve_all<K: Sink, D: Disk, N: Net, C: Clock>(
 }
 
 /// Serves so many connections that peers make, one after another, and says of each how it ended, as soon as it did.
-#[tactic(auto, using(crate::proofs::Ending::not_opened_net))]
 pub fn serve<K: Sink, D: Disk, N: Net, C: Clock>(
     alloc: Global,
     count: u32,

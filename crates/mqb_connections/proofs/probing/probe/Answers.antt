@@ -1,7 +1,8 @@
-use Rattle.std.proofs.Common.{inr}
+use Rattle.std.proofs.Common.{inl, inr, refl}
 use Rattle.mqb_connections.proofs.Asking.{rose_once}
 use Rattle.mqb_connections.proofs.Ends.{probe_disk}
 use Rattle.mqb_connections.proofs.Probes.{probe_completes, probe_ends, probe_read, probe_write, store_probes}
+use Rattle.mqb_connections.proofs.Unopened.{unopened_disk, unopened_faultless, unopened_probe_end, unopened_read, unopened_write}
 use Rattle.mqb_connections.proofs.probing.probe.Goals as goal
 
 pub returns-clause-disk_faults : goal.returns-clause-disk_faults
@@ -41,3 +42,26 @@ returns-clause-ends g c = probe_ends c.serve_piped-end.result c.probe_status.res
 
 pub returns-clause-asked : goal.returns-clause-asked
 returns-clause-asked g c = inr (rose_once _ _ c.now-now.ensures.asked)
+
+-- the store was not opened
+
+pub returns-in-Err-clause-probes : goal.returns-in-Err-clause-probes
+returns-in-Err-clause-probes g c = inr (c.in-Err.ensures.fails, refl, refl)
+
+pub returns-in-Err-clause-complete : goal.returns-in-Err-clause-complete
+returns-in-Err-clause-complete g c = λ sound failed _ _. unopened_faultless _ _ c.in-Err.status c.in-Err.ensures.fails sound failed
+
+pub returns-in-Err-clause-read_faults : goal.returns-in-Err-clause-read_faults
+returns-in-Err-clause-read_faults g c = unopened_read _ _ _ _ c.in-Err.status c.in-Err.ensures.fails
+
+pub returns-in-Err-clause-write_faults : goal.returns-in-Err-clause-write_faults
+returns-in-Err-clause-write_faults g c = unopened_write _ _ _ _ c.in-Err.status c.in-Err.ensures.fails
+
+pub returns-in-Err-clause-disk_faults : goal.returns-in-Err-clause-disk_faults
+returns-in-Err-clause-disk_faults g c = unopened_disk _ _ c.in-Err.status c.in-Err.ensures.fails
+
+pub returns-in-Err-clause-ends : goal.returns-in-Err-clause-ends
+returns-in-Err-clause-ends g c = unopened_probe_end _ _ c.in-Err.status c.in-Err.ensures.fails
+
+pub returns-in-Err-clause-asked : goal.returns-in-Err-clause-asked
+returns-in-Err-clause-asked g c = inl refl
