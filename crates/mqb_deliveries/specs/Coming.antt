@@ -165,7 +165,7 @@ module _ (n n_now : Network) (i now : ℕ) (strings strings_now : List (List ℕ
     within = step.within;
   })
 
-  flow_told : told (flow i now Well (course_from n)).reply ≡ Ok given
+  pub flow_told : told (flow i now Well (course_from n)).reply ≡ Ok given
   flow_told = ap (λ (l : Choice). told (flow i now l (course_from n)).reply) (sym choice_is) ∙ step.reply
 
 -- Where no disk fails, none is told.

@@ -1,0 +1,368 @@
+-- The events of one manager, and those that call none, as steps of the network of a world.
+use Rattle.std.proofs.Common.{◌≡◌, ℕ, Bool, true, false, cond, List, [], ◌++◌, Option, None, Result, Ok, Err, length, refl, sym, ap, subst, ◌∙◌}
+use Rattle.std.proofs.lemmas.List.{append-nil}
+use Rattle.std.specs.Prelude.{IfOk, map}
+use Rattle.mqb_base.specs.declared.ledger.Line.{Line}
+use Rattle.mqb_deliveries.specs.Steps.{FallsShort, may_at}
+use Rattle.mqb_devices.specs.Disk.{Switch, View}
+use Rattle.mqb_devices.specs.declared.power.Mode.{Mode}
+use Rattle.mqb_devices.specs.declared.power.Pick.{Pick}
+use Rattle.mqb_model.specs.calls.Commit.{commit}
+use Rattle.mqb_model.specs.calls.CreateQueue.{create_queue}
+use Rattle.mqb_model.specs.calls.Purge.{purge}
+use Rattle.mqb_model.specs.calls.Send.{send}
+use Rattle.mqb_model.specs.calls.SetRoll.{set_roll}
+use Rattle.mqb_model.specs.calls.Take.{take_message}
+use Rattle.mqb_model.specs.calls.Tick.{tick}
+use Rattle.mqb_model.specs.calls.pump.Pump.{PumpOutcome, pump}
+use Rattle.mqb_model.specs.declared.faults.PumpFault.{PumpFault}
+use Rattle.mqb_model.specs.managers.Manager.{Manager, is_down}
+use Rattle.mqb_moves.specs.Holding.{same_stores, stored_held}
+use Rattle.mqb_moves.specs.Seats.{IsHeldOn, seated}
+use Rattle.mqb_network.specs.Answers.{Answer, lines_at}
+use Rattle.mqb_network.specs.Changes.{ended}
+use Rattle.mqb_network.specs.Courses.{course_from}
+use Rattle.mqb_network.specs.Choices.{Choice, Failure, Fails, Kept, Lost, Unread, Well, failure_in}
+use Rattle.mqb_network.specs.Events as network
+use Rattle.mqb_network.specs.Network.{Network, manager_at}
+use Rattle.mqb_network.specs.Replies as answer
+use Rattle.mqb_network.specs.Runs.{may_fail}
+use Rattle.mqb_network.specs.Sending.{pumped}
+use Rattle.mqb_network.specs.Step.{step}
+use Rattle.mqb_packet.specs.Plain.{plain_spelling}
+use Rattle.mqb_packet.specs.declared.packet.Packet.{Packet}
+use Rattle.mqb_posts.specs.Packets.{AreWritable}
+use Rattle.mqb_posts.specs.Posting.{HasFront, IsCutOff, IsWithin}
+use Rattle.mqb_posts.specs.declared.faults.PostFault.{PostFault}
+use Rattle.mqb_posts.specs.declared.faults.PostFault.TheVariants as post
+use Rattle.mqb_runs.specs.Events.{event_of}
+use Rattle.mqb_script.specs.declared.events.Event.{Event}
+use Rattle.mqb_script.specs.declared.events.Event.TheVariants as event
+use Rattle.mqb_script.specs.declared.managers.Which.{Which}
+use Rattle.mqb_script.specs.declared.managers.Which.TheVariants.{Alpha, Beta}
+use Rattle.mqb_seats.specs.Called.{failure_of, how_by}
+use Rattle.mqb_traffic.specs.Networks.{index_of}
+use Rattle.mqb_transcript.specs.declared.replies.Reply.{Reply}
+use Rattle.mqb_transcript.specs.declared.replies.Reply.TheVariants as reply
+use Rattle.mqb_turns.specs.Replies.{told}
+use Rattle.mqb_turns.specs.Sends.{ComesShort, IsPumpTurn, pump_at}
+use Rattle.mqb_turns.specs.Sides.{Side, network_at}
+use Rattle.mqb_turns.specs.Starts.{FailsInStart, IsStarted}
+use Rattle.mqb_turns.specs.Turns.{IsQuiet, IsTurn, answers_to}
+use Rattle.mqb_world.specs.Acting.{IsActed, IsCallOf, IsOf}
+use Rattle.mqb_world.specs.Disks.{FaultsGo, IsToldSo, LeavesIt, SwitchGoes, Switching, calls_disk_of, failures_alone, failures_of, is_same, switching}
+use Rattle.mqb_world.proofs.Told.{IsNoDelivery, failures_in_told, faults_so, faults_told, none_delivered}
+
+-- no packet joins the medium
+pub none_posted : (strings : List (List ℕ)) (sent : List Packet) → sent ≡ [] → strings ≡ strings ++ map plain_spelling sent
+none_posted strings sent none = sym (append-nil strings) ∙ ap (λ (ps : List Packet). strings ++ map plain_spelling ps) (sym none)
+
+pub none_written : (sent : List Packet) → sent ≡ [] → AreWritable sent
+none_written sent none = subst AreWritable (sym none) tt
+
+-- Where memory ran out, and the medium has what it had.
+pub nothing_posted : (strings wanted : List (List ℕ)) → HasFront strings strings wanted
+nothing_posted strings wanted = record { front = []; rest = wanted; wanted_are = refl; added = sym (append-nil strings) }
+
+-- Calls.
+
+may_of_call : (which : Which) (n : Network) (asked : Event) → IsCallOf which asked → (choice : Choice)
+    → may_at n None (event_of asked) choice ≡ may_fail (length (step n None (event_of asked) Well).after.written) choice
+may_of_call which n (event.Queue m plan) is choice = refl
+may_of_call which n (event.Commit m now ops) is choice = refl
+may_of_call which n (event.Send m now recoverable parts) is choice = refl
+may_of_call which n (event.Take m now place) is choice = refl
+may_of_call which n (event.Purge m now place) is choice = refl
+may_of_call which n (event.Tick m now) is choice = refl
+may_of_call which n (event.Roll m count) is choice = refl
+may_of_call which n (event.Connect m now alpha beta) is choice = absurd is
+may_of_call which n event.Disconnect is choice = absurd is
+may_of_call which n (event.Pump m now) is choice = absurd is
+may_of_call which n (event.Deliver k now) is choice = absurd is
+may_of_call which n (event.Drop k) is choice = absurd is
+may_of_call which n (event.Flow m now) is choice = absurd is
+may_of_call which n (event.Resend m) is choice = absurd is
+may_of_call which n (event.Arm m call mode) is choice = absurd is
+may_of_call which n (event.Restart m pick) is choice = absurd is
+
+call_none : (which : Which) (n : Network) (asked : Event) → IsCallOf which asked → (choice : Choice) → IsNoDelivery (step n None (event_of asked) choice).reply
+call_none which n (event.Queue m plan) is choice = none_delivered (failure_in choice (create_queue (manager_at n (index_of m)) plan)) (answer.Created (create_queue (manager_at n (index_of m)) plan).answer) tt
+call_none which n (event.Commit m now ops) is choice = none_delivered (failure_in choice (commit (manager_at n (index_of m)) ops now)) (answer.Committed (commit (manager_at n (index_of m)) ops now).answer (lines_at (index_of m) (commit (manager_at n (index_of m)) ops now) (course_from n))) tt
+call_none which n (event.Send m now recoverable parts) is choice = none_delivered (failure_in choice (send (manager_at n (index_of m)) parts recoverable now)) (answer.Sent (send (manager_at n (index_of m)) parts recoverable now).answer (lines_at (index_of m) (send (manager_at n (index_of m)) parts recoverable now) (course_from n))) tt
+call_none which n (event.Take m now place) is choice = none_delivered (failure_in choice (take_message (manager_at n (index_of m)) place now)) (answer.Took (take_message (manager_at n (index_of m)) place now).answer (lines_at (index_of m) (take_message (manager_at n (index_of m)) place now) (course_from n))) tt
+call_none which n (event.Purge m now place) is choice = none_delivered (failure_in choice (purge (manager_at n (index_of m)) place now)) (answer.Purged (purge (manager_at n (index_of m)) place now).answer (lines_at (index_of m) (purge (manager_at n (index_of m)) place now) (course_from n))) tt
+call_none which n (event.Tick m now) is choice = none_delivered (failure_in choice (tick (manager_at n (index_of m)) now)) (answer.Ticked (tick (manager_at n (index_of m)) now).answer (lines_at (index_of m) (tick (manager_at n (index_of m)) now) (course_from n))) tt
+call_none which n (event.Roll m count) is choice = none_delivered (failure_in choice (set_roll (manager_at n (index_of m)) count)) (answer.Rolled (set_roll (manager_at n (index_of m)) count).answer) tt
+call_none which n (event.Connect m now alpha beta) is choice = absurd is
+call_none which n event.Disconnect is choice = absurd is
+call_none which n (event.Pump m now) is choice = absurd is
+call_none which n (event.Deliver k now) is choice = absurd is
+call_none which n (event.Drop k) is choice = absurd is
+call_none which n (event.Flow m now) is choice = absurd is
+call_none which n (event.Resend m) is choice = absurd is
+call_none which n (event.Arm m call mode) is choice = absurd is
+call_none which n (event.Restart m pick) is choice = absurd is
+
+call_says : (which : Which) (asked : Event) → IsCallOf which asked → (stopped : Bool) (how : Failure) → how ≡ failure_of (how_by stopped) → IsToldSo asked stopped how
+call_says which (event.Queue m plan) is stopped how so = so
+call_says which (event.Commit m now ops) is stopped how so = so
+call_says which (event.Send m now recoverable parts) is stopped how so = so
+call_says which (event.Take m now place) is stopped how so = so
+call_says which (event.Purge m now place) is stopped how so = so
+call_says which (event.Tick m now) is stopped how so = so
+call_says which (event.Roll m count) is stopped how so = so
+call_says which (event.Connect m now alpha beta) is stopped how so = absurd is
+call_says which event.Disconnect is stopped how so = absurd is
+call_says which (event.Pump m now) is stopped how so = absurd is
+call_says which (event.Deliver k now) is stopped how so = absurd is
+call_says which (event.Drop k) is stopped how so = absurd is
+call_says which (event.Flow m now) is stopped how so = absurd is
+call_says which (event.Resend m) is stopped how so = absurd is
+call_says which (event.Arm m call mode) is stopped how so = absurd is
+call_says which (event.Restart m pick) is stopped how so = absurd is
+
+same_self : (which : Which) → is_same which which ≡ true
+same_self Alpha = refl
+same_self Beta = refl
+
+calls_own : (which : Which) (asked : Event) → IsCallOf which asked → calls_disk_of which asked ≡ true
+calls_own which (event.Queue m plan) is = ap (is_same which) is ∙ same_self which
+calls_own which (event.Commit m now ops) is = ap (is_same which) is ∙ same_self which
+calls_own which (event.Send m now recoverable parts) is = ap (is_same which) is ∙ same_self which
+calls_own which (event.Take m now place) is = ap (is_same which) is ∙ same_self which
+calls_own which (event.Purge m now place) is = ap (is_same which) is ∙ same_self which
+calls_own which (event.Tick m now) is = ap (is_same which) is ∙ same_self which
+calls_own which (event.Roll m count) is = ap (is_same which) is ∙ same_self which
+calls_own which (event.Connect m now alpha beta) is = absurd is
+calls_own which event.Disconnect is = absurd is
+calls_own which (event.Pump m now) is = absurd is
+calls_own which (event.Deliver k now) is = absurd is
+calls_own which (event.Drop k) is = absurd is
+calls_own which (event.Flow m now) is = absurd is
+calls_own which (event.Resend m) is = absurd is
+calls_own which (event.Arm m call mode) is = absurd is
+calls_own which (event.Restart m pick) is = absurd is
+
+-- what is told of the disk of the one who acts
+alone_so : (which : Which) (asked : Event) (stopped : Bool) (before after : ℕ) (given : Reply) → calls_disk_of which asked ≡ true → FaultsGo asked stopped before after (failures_of given)
+    → FaultsGo asked stopped before after (failures_alone which asked given)
+alone_so which asked stopped before after given is go = subst (λ (b : Bool). FaultsGo asked stopped before after (cond b (failures_of given) [])) (sym is) go
+
+module _ (which : Which) (x y : Side) (asked : Event) (strings : List (List ℕ)) (within : IsWithin strings) (given : Reply) where
+  abbrev answers : Choice → Answer
+  answers = answers_to which x (event_of asked)
+
+  pub call_acted : IsCallOf which asked → (d e : View) (stopped : Bool) → IsHeldOn d x.own → IsTurn which x y d e stopped answers given
+      → IsActed which x y d e stopped asked strings strings given
+  call_acted is d e stopped held t = record {
+    step = record {
+      choice = t.choice;
+      may = may_of_call which (network_at which x) asked is t.choice ∙ t.may;
+      reply = t.reply;
+      network = t.network;
+      posted = none_posted strings (answers t.choice).after.sent t.sent;
+      writable = none_written (answers t.choice).after.sent t.sent;
+      within = within;
+    };
+    held = t.held held;
+    beside = t.beside;
+    faults = alone_so which asked stopped d.faults e.faults given (calls_own which asked is)
+        (faults_told asked stopped d.faults e.faults (told (answers t.choice).reply) given t.reply
+        (faults_so asked stopped d.faults e.faults (call_says which asked is stopped) (answers t.choice).reply (call_none which (network_at which x) asked is t.choice) t.faults));
+  }
+
+-- A pump.
+
+pump_none : (before : ℕ) (r : Result ℕ PumpFault) (ls : List Line) → IsNoDelivery (pumped before r ls)
+pump_none before (Ok count) ls = tt
+pump_none before (Err fault) ls = tt
+
+pub pump_acted : (which : Which) (x y : Side) (now : ℕ) (strings strings_now : List (List ℕ)) (given : Reply) (d e : View) (stopped : Bool) → IsHeldOn d x.own
+    → IsPumpTurn which x y d e stopped strings strings_now (answers_to which x (network.Pump (index_of which) now)) given
+    → IsActed which x y d e stopped (event.Pump which now) strings strings_now given
+pump_acted which x y now strings strings_now given d e stopped held t = record {
+  step = record {
+    choice = t.choice;
+    may = t.may;
+    reply = t.reply;
+    network = t.network;
+    posted = t.posted;
+    writable = t.writable;
+    within = t.within;
+  };
+  held = t.held held;
+  beside = t.beside;
+  faults = alone_so which (event.Pump which now) stopped d.faults e.faults given (same_self which)
+      (faults_told (event.Pump which now) stopped d.faults e.faults (told (answers_to which x (network.Pump (index_of which) now) t.choice).reply) given t.reply
+      (faults_so (event.Pump which now) stopped d.faults e.faults (λ how so. so) (answers_to which x (network.Pump (index_of which) now) t.choice).reply
+      (none_delivered (failure_in t.choice o) (pumped (length (network_at which x).notes) o.answer ls) (pump_none (length (network_at which x).notes) o.answer ls)) t.faults));
+}
+  where
+    o : PumpOutcome
+    o = pump (manager_at (network_at which x) (index_of which)) now
+
+    ls : List Line
+    ls = lines_at (index_of which) o (course_from (network_at which x))
+
+own_at : (which : Which) (x : Side) → manager_at (network_at which x) (index_of which) ≡ seated x.own
+own_at Alpha x = refl
+own_at Beta x = refl
+
+pub pump_short : (which : Which) (x : Side) (now : ℕ) (strings strings_now : List (List ℕ)) (r : Result Reply PostFault) → ComesShort strings strings_now (pump_at which x now) r
+    → FallsShort (network_at which x) None (network.Pump (index_of which) now) strings strings_now r
+pump_short which x now strings strings_now (Ok given) short = tt
+pump_short which x now strings strings_now (Err post.NetFull) short = subst (λ (m : Manager). IsCutOff strings strings_now (map plain_spelling (pump m now).packets)) (sym (own_at which x)) short
+pump_short which x now strings strings_now (Err post.Memory) short = subst (λ (m : Manager). HasFront strings strings_now (map plain_spelling (pump m now).packets)) (sym (own_at which x)) short
+
+-- A restart.
+
+start_faults : (which : Which) (pick : Pick) (stopped : Bool) (before after : ℕ) (n : Network) (i : ℕ) (choice : Choice) → FailsInStart before after (step n None (network.Restart i) choice).reply
+    → FaultsGo (event.Restart which pick) stopped before after (failures_in_told (told (step n None (network.Restart i) choice).reply))
+start_faults which pick stopped before after n i choice = at choice
+  where
+    opened_so : (b : Bool) → FailsInStart before after (cond b answer.OpenedLost answer.Opened)
+        → FaultsGo (event.Restart which pick) stopped before after (failures_in_told (told (cond b answer.OpenedLost answer.Opened)))
+    opened_so true same = same
+    opened_so false same = same
+
+    at : (choice : Choice) → FailsInStart before after (step n None (network.Restart i) choice).reply
+        → FaultsGo (event.Restart which pick) stopped before after (failures_in_told (told (step n None (network.Restart i) choice).reply))
+    at Unread rose = (rose, refl)
+    at Kept same = same
+    at Well same = opened_so (is_down (manager_at (ended i n) i)) same
+    at Lost same = opened_so (is_down (manager_at (ended i n) i)) same
+    at (Fails b how) same = opened_so (is_down (manager_at (ended i n) i)) same
+
+pub start_acted : (which : Which) (x y : Side) (pick : Pick) (strings : List (List ℕ)) → IsWithin strings → (given : Reply) (d e : View) (stopped : Bool)
+    → IsStarted which x y d e given → IsActed which x y d e stopped (event.Restart which pick) strings strings given
+start_acted which x y pick strings within given d e stopped t = record {
+  step = record {
+    choice = t.choice;
+    may = t.may;
+    reply = t.reply;
+    network = t.network;
+    posted = none_posted strings (answers_to which x (network.Restart (index_of which)) t.choice).after.sent t.sent;
+    writable = none_written (answers_to which x (network.Restart (index_of which)) t.choice).after.sent t.sent;
+    within = within;
+  };
+  held = t.held;
+  beside = t.beside;
+  faults = alone_so which (event.Restart which pick) stopped d.faults e.faults given (same_self which)
+      (faults_told (event.Restart which pick) stopped d.faults e.faults (told (answers_to which x (network.Restart (index_of which)) t.choice).reply) given t.reply
+      (start_faults which pick stopped d.faults e.faults (network_at which x) (index_of which) t.choice t.faults));
+}
+
+-- An arming.
+
+pub arm_acted : (which : Which) (x : Side) (call : ℕ) (mode : Mode) (strings : List (List ℕ)) → IsWithin strings → (d e : View) (stopped : Bool) → IsHeldOn e x.own → e.faults ≡ d.faults
+    → IsActed which x x d e stopped (event.Arm which call mode) strings strings reply.Armed
+arm_acted which x call mode strings within d e stopped held same = record {
+  step = record {
+    choice = Well;
+    may = refl;
+    reply = refl;
+    network = refl;
+    posted = none_posted strings [] refl;
+    writable = tt;
+    within = within;
+  };
+  held = held;
+  beside = same_stores x.other;
+  faults = same;
+}
+
+-- Events that call no disk.
+
+module _ (which : Which) (x y : Side) (strings : List (List ℕ)) (within : IsWithin strings) (given : Reply) (d : View) (stopped : Bool) (held : IsHeldOn d x.own) where
+  abbrev n : Network
+  n = network_at which x
+
+  quiet_acted : (asked : Event) → may_at n None (event_of asked) Well ≡ true → calls_disk_of which asked ≡ false
+      → IsQuiet which x y (step n None (event_of asked) Well) given → IsActed which x y d d stopped asked strings strings given
+  quiet_acted asked may none t = record {
+    step = record {
+      choice = Well;
+      may = may;
+      reply = t.reply;
+      network = t.network;
+      posted = none_posted strings (step n None (event_of asked) Well).after.sent t.sent;
+      writable = none_written (step n None (event_of asked) Well).after.sent t.sent;
+      within = within;
+    };
+    held = stored_held d x.own y.own t.own held;
+    beside = t.beside;
+    faults = subst (λ (b : Bool). FaultsGo asked stopped d.faults d.faults (cond b (failures_of given) [])) (sym none) refl;
+  }
+
+  pub disconnect_acted : IsQuiet which x y (step n None (network.Disconnect 0) Well) given → IsActed which x y d d stopped event.Disconnect strings strings given
+  disconnect_acted = quiet_acted event.Disconnect refl refl
+
+  pub resend_acted : IsQuiet which x y (step n None (network.Resend (index_of which)) Well) given → IsActed which x y d d stopped (event.Resend which) strings strings given
+  resend_acted = quiet_acted (event.Resend which) refl refl
+
+  pub drop_acted : (k : ℕ) → IsQuiet which x y (step n None (network.Drop k) Well) given → IsActed which x y d d stopped (event.Drop k) strings strings given
+  drop_acted k = quiet_acted (event.Drop k) refl refl
+
+-- What the event is.
+
+pub acted_as : (which : Which) (x y : Side) (d e : View) (stopped : Bool) (strings strings_now : List (List ℕ)) (given : Reply) (asked b : Event) → asked ≡ b
+    → IsActed which x y d e stopped b strings strings_now given → IsActed which x y d e stopped asked strings strings_now given
+acted_as which x y d e stopped strings strings_now given asked b is = subst (λ (a : Event). IsActed which x y d e stopped a strings strings_now given) (sym is)
+
+pub resend_is : (which m : Which) (asked : Event) → asked ≡ event.Resend m → IsOf which asked → asked ≡ event.Resend which
+resend_is which m asked is of = is ∙ ap (λ (m : Which). event.Resend m) (subst (IsOf which) is of)
+
+pub pump_is : (which m : Which) (now : ℕ) (asked : Event) → asked ≡ event.Pump m now → IsOf which asked → asked ≡ event.Pump which now
+pump_is which m now asked is of = is ∙ ap (λ (m : Which). event.Pump m now) (subst (IsOf which) is of)
+
+pub restart_is : (which m : Which) (pick : Pick) (asked : Event) → asked ≡ event.Restart m pick → IsOf which asked → asked ≡ event.Restart which pick
+restart_is which m pick asked is of = is ∙ ap (λ (m : Which). event.Restart m pick) (subst (IsOf which) is of)
+
+pub is_call : (which : Which) (asked : Event) → (asked ≡ event.Disconnect → ⊥) → ((m : Which) → asked ≡ event.Resend m → ⊥) → ((k : ℕ) → asked ≡ event.Drop k → ⊥)
+    → ((m : Which) (now : ℕ) → asked ≡ event.Pump m now → ⊥) → ((m : Which) (call : ℕ) (mode : Mode) → asked ≡ event.Arm m call mode → ⊥)
+    → ((m : Which) (pick : Pick) → asked ≡ event.Restart m pick → ⊥) → IsOf which asked → IsCallOf which asked
+is_call which (event.Queue m plan) a b c d e f is = is
+is_call which (event.Commit m now ops) a b c d e f is = is
+is_call which (event.Send m now recoverable parts) a b c d e f is = is
+is_call which (event.Take m now place) a b c d e f is = is
+is_call which (event.Purge m now place) a b c d e f is = is
+is_call which (event.Tick m now) a b c d e f is = is
+is_call which (event.Roll m count) a b c d e f is = is
+is_call which (event.Connect m now alpha beta) a b c d e f is = is
+is_call which event.Disconnect a b c d e f is = absurd (a refl)
+is_call which (event.Pump m now) a b c d e f is = absurd (d m now refl)
+is_call which (event.Deliver k now) a b c d e f is = is
+is_call which (event.Drop k) a b c d e f is = absurd (c k refl)
+is_call which (event.Flow m now) a b c d e f is = is
+is_call which (event.Resend m) a b c d e f is = absurd (b m refl)
+is_call which (event.Arm m call mode) a b c d e f is = absurd (e m call mode refl)
+is_call which (event.Restart m pick) a b c d e f is = absurd (f m pick refl)
+
+call_leaves : (which : Which) (asked : Event) → IsCallOf which asked → switching which asked ≡ LeavesIt
+call_leaves which (event.Queue m plan) is = refl
+call_leaves which (event.Commit m now ops) is = refl
+call_leaves which (event.Send m now recoverable parts) is = refl
+call_leaves which (event.Take m now place) is = refl
+call_leaves which (event.Purge m now place) is = refl
+call_leaves which (event.Tick m now) is = refl
+call_leaves which (event.Roll m count) is = refl
+call_leaves which (event.Connect m now alpha beta) is = refl
+call_leaves which event.Disconnect is = refl
+call_leaves which (event.Pump m now) is = refl
+call_leaves which (event.Deliver k now) is = refl
+call_leaves which (event.Drop k) is = refl
+call_leaves which (event.Flow m now) is = refl
+call_leaves which (event.Resend m) is = refl
+call_leaves which (event.Arm m call mode) is = absurd is
+call_leaves which (event.Restart m pick) is = absurd is
+
+pub call_switch : (which : Which) (asked : Event) → IsCallOf which asked → (armed : Option (ℕ × Mode)) (s t : Switch) → t ≡ s → SwitchGoes (switching which asked) armed s t
+call_switch which asked is armed s t same = subst (λ (x : Switching). SwitchGoes x armed s t) (sym (call_leaves which asked is)) same
+
+pub ok_is_full : (given : Reply) → ◌≡◌ {A = Result Reply PostFault} (Ok given) (Err post.NetFull) → ⊥
+ok_is_full given same = let none : ⊥ = cc in none
+
+-- what follows of a result
+pub if_ok : {A E : Type 0} {P Q : A → Type 0} (q : Result A E) → ((x : A) → P x → Q x) → IfOk q P → IfOk q Q
+if_ok (Ok x) f h = f x h
+if_ok (Err e) f h = h

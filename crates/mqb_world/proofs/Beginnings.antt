@@ -1,0 +1,106 @@
+-- A manager on an empty disk, which then knows one peer.
+use Rattle.std.proofs.Common.{◌≡◌, ℕ, Bool, true, false, cond, List, [], ◌∷◌, Option, None, Some, Result, Ok, Err, length, inl, inr, refl, sym, ap, ◌∙◌, arith}
+use Rattle.std.specs.Cmp.Lexicographic.{bytes_decides}
+use Rattle.std.specs.Prelude.{◌||◌, nat_le, option_and_then}
+use Rattle.mqb_base.specs.Same.{same_guid}
+use Rattle.mqb_base.specs.declared.ids.Guid.{Guid}
+use Rattle.mqb_base.specs.declared.ids.Identity.{Identity}
+use Rattle.mqb_devices.specs.Disk.{IsSettled, View}
+use Rattle.mqb_manager.specs.Calls.{Ends, IsCall}
+use Rattle.mqb_manager.specs.States.{IsOnDisk, IsUp, ManagerState, manager_of}
+use Rattle.mqb_model.specs.calls.AddPeer.{add_peer, add_peer_refusal}
+use Rattle.mqb_model.specs.declared.faults.AddPeerFault.{AddPeerFault}
+use Rattle.mqb_model.specs.declared.faults.AddPeerFault.TheVariants as fault
+use Rattle.mqb_model.specs.declared.limits.TheConstants.{MAX_PEERS}
+use Rattle.mqb_model.specs.managers.Manager.{Manager, is_down, new_manager}
+use Rattle.mqb_model.specs.managers.Outcomes.{recording, succeeded, unless}
+use Rattle.mqb_model.specs.records.Peer.{is_met}
+use Rattle.mqb_model.specs.records.Reading.{all_some, record_of}
+use Rattle.mqb_model.specs.records.Record.{Record}
+use Rattle.mqb_model.specs.records.Record as entry
+use Rattle.mqb_model.specs.state.Durable.{durable}
+use Rattle.mqb_model.specs.state.State.{State, empty}
+use Rattle.mqb_moves.specs.Calling.{not_up_of, seat_of, went_well}
+use Rattle.mqb_moves.specs.Seats.{IsHeldOn}
+use Rattle.mqb_network.specs.Network.{formatted}
+use Rattle.mqb_store_laws.specs.Images.{state_by, state_in}
+
+guid_is : (a b : Guid) → same_guid a b ≡ true → a ≡ b
+guid_is a b same = ap (λ (x : List ℕ). record { 0 = x }) ((bytes_decides a.0 b.0).0 same)
+
+-- A store with one record has the GUID of its identity.
+
+state_one : (g : Guid) (own identity : Identity) (b : Bool) → same_guid identity.guid g ≡ b → cond b (Some (empty identity)) None ≡ Some (durable (empty own)) → g ≡ own.guid
+state_one g own identity true same is = let state : empty identity ≡ durable (empty own) = cc in
+    sym (guid_is identity.guid g same) ∙ ap (λ (s : State). s.identity.guid) state
+state_one g own identity false same is = absurd (let none : ⊥ = cc in none)
+
+record_one : (g : Guid) (own : Identity) (o : Option Record) → option_and_then (state_by g) (all_some (o ∷ [])) ≡ Some (durable (empty own)) → g ≡ own.guid
+record_one g own None is = absurd (let none : ⊥ = cc in none)
+record_one g own (Some (entry.Identity identity)) is = state_one g own identity (same_guid identity.guid g) refl is
+record_one g own (Some r) is = absurd (let none : ⊥ = cc in none)
+
+entries_one : (g : Guid) (own : Identity) (entries : List (List ℕ)) → length entries ≡ 1 → state_in g entries ≡ Some (durable (empty own)) → g ≡ own.guid
+entries_one g own [] one is = absurd (omega (arith, one))
+entries_one g own (e ∷ []) one is = record_one g own (record_of e) is
+entries_one g own (e ∷ f ∷ entries) one is = absurd (omega (arith, one))
+
+-- The disk of a manager that was just made is held.
+pub held_new : (d : View) (n : ManagerState) (own : Identity) → length own.guid.0 ≡ 16 → manager_of n ≡ new_manager own → IsOnDisk d n → IsUp n → IsSettled d
+    → n.store.journal.count ≡ 1 → IsHeldOn d (seat_of n)
+held_new d n own whole new on up settled one = record {
+  whole = ap (λ (g : Guid). length g.0) guid ∙ whole;
+  on = λ _. on;
+  settled = λ _. settled;
+  opens = λ down. absurd (not_up_of n down up);
+}
+  where
+    state : n.store.state ≡ empty own
+    state = ap (λ (m : Manager). m.state) new
+
+    guid : n.store.journal.guid ≡ own.guid
+    guid = entries_one n.store.journal.guid own on.entries (sym on.goes_on.count ∙ one) (on.state ∙ ap (λ (s : State). Some (durable s)) state)
+
+-- A new manager gets to know a peer that it did not know.
+
+module _ (own peer : Identity) (apart : is_met own peer ≡ false) where
+  abbrev new : Manager
+  new = new_manager own
+
+  not_refused : add_peer_refusal new peer ≡ None
+  not_refused = ap (λ (b : Bool). cond (b || false) (Some fault.PeerThere) (cond (nat_le MAX_PEERS 0) (Some fault.TooManyPeers) None)) apart
+
+  abbrev added : Option AddPeerFault → Manager
+  added o = succeeded new (unless {V = ℕ} new o (recording new (entry.Peer peer) (Ok 0)))
+
+  known : succeeded new (add_peer new peer) ≡ formatted own (peer ∷ [])
+  known = ap added not_refused
+
+  answered : (add_peer new peer).answer ≡ Ok 0
+  answered = ap (λ (o : Option AddPeerFault). (unless new o (recording new (entry.Peer peer) (Ok 0))).answer) not_refused
+
+  ok_errs : (n : ℕ) (f : AddPeerFault) → ◌≡◌ {A = Result ℕ AddPeerFault} (Ok n) (Err f) → ⊥
+  ok_errs n f same = let none : ⊥ = cc in none
+
+  errs : (f g : AddPeerFault) → ◌≡◌ {A = Result ℕ AddPeerFault} (Err f) (Err g) → f ≡ g
+  errs f g same = cc
+
+  module _ (d e : View) (m n : ManagerState) (r : Result ℕ AddPeerFault) (is_new : manager_of m ≡ new) (call : IsCall fault.Memory fault.DiskFault d e m n (add_peer (manager_of m) peer) r) where
+    pub never_refused : (why : AddPeerFault) → r ≡ Err why → (why ≡ fault.Memory → ⊥) → (why ≡ fault.DiskFault → ⊥) → ⊥
+    never_refused why is rich whole = at call.ends
+      where
+        at : Ends fault.Memory fault.DiskFault m n (add_peer (manager_of m) peer) r → ⊥
+        at (inl h) = ok_errs 0 why (sym (ap (λ (k : Manager). (add_peer k peer).answer) is_new ∙ answered) ∙ sym h.0 ∙ is)
+        at (inr (inl h)) = rich (errs why fault.Memory (sym is ∙ h.0))
+        at (inr (inr h)) = whole (errs why fault.DiskFault (sym is ∙ h.0))
+
+    module _ (index : ℕ) (is : r ≡ Ok index) where
+      up : is_down (manager_of m) ≡ false
+      up = ap is_down is_new
+
+      pub met : manager_of n ≡ formatted own (peer ∷ [])
+      met = (went_well fault.Memory fault.DiskFault d e m n (add_peer (manager_of m) peer) r call up (λ x. ok_errs index fault.Memory (sym is ∙ x)) (λ x. ok_errs index fault.DiskFault (sym is ∙ x))).left.manager
+          ∙ ap (λ (k : Manager). succeeded k (add_peer k peer)) is_new ∙ known
+
+      pub met_held : IsHeldOn d (seat_of m) → IsHeldOn e (seat_of n)
+      met_held = (went_well fault.Memory fault.DiskFault d e m n (add_peer (manager_of m) peer) r call up (λ x. ok_errs index fault.Memory (sym is ∙ x)) (λ x. ok_errs index fault.DiskFault (sym is ∙ x))).move.held

@@ -1,0 +1,14 @@
+mod Actions
+mod Answering
+mod Beginnings
+mod Begun
+mod Delivering
+mod Flowed
+mod Flowing
+mod Growing
+mod Happening
+mod Joined
+mod Orderly
+mod Proceeding
+mod Starting
+mod Told

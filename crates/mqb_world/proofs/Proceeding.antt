@@ -1,0 +1,214 @@
+-- The events of a world, of one manager or of both.
+use Rattle.std.proofs.Common.{◌≡◌, ℕ, Bool, true, false, cond, List, [], ◌∷◌, Option, None, Some, Result, Ok, Err, refl, sym, ap, subst, ◌∙◌}
+use Rattle.std.specs.List.{cons_option}
+use Rattle.std.specs.Prelude.{IfOk, OnOk, is_some, map}
+use Rattle.mqb_base.specs.declared.ids.Identity.{Identity}
+use Rattle.mqb_deliveries.specs.Delivered.{deliver_step, none_step}
+use Rattle.mqb_deliveries.specs.Delivers.{WasDelivered, outcome_reply}
+use Rattle.mqb_deliveries.specs.Failing.{FailsAs, arrived, failure_told, failures_at, failures_in, is_for}
+use Rattle.mqb_deliveries.specs.Peers.{KnowEachOther}
+use Rattle.mqb_deliveries.specs.Steps.{FallsShort, IsStep}
+use Rattle.mqb_devices.specs.Disk.{View}
+use Rattle.mqb_moves.specs.Seats.{IsHeldOn, seated}
+use Rattle.mqb_network.specs.Choices.{Failure}
+use Rattle.mqb_network.specs.Network.{Network, Note}
+use Rattle.mqb_network.specs.Runs.{packet_of}
+use Rattle.mqb_packet.specs.Plain.{plain_spelling}
+use Rattle.mqb_packet.specs.declared.packet.Packet.{Packet}
+use Rattle.mqb_posts.specs.Packets.{AreWritable}
+use Rattle.mqb_posts.specs.Posting.{IsWithin}
+use Rattle.mqb_posts.specs.declared.faults.PostFault.{PostFault}
+use Rattle.mqb_queue.specs.Places.{numbered}
+use Rattle.mqb_runs.specs.Events.{event_of}
+use Rattle.mqb_script.specs.declared.events.Event.{Event}
+use Rattle.mqb_script.specs.declared.events.Event.TheVariants as event
+use Rattle.mqb_script.specs.declared.managers.Which.{Which}
+use Rattle.mqb_seats.specs.Called.{failure_of, how_by}
+use Rattle.mqb_session.specs.State.{State}
+use Rattle.mqb_traffic.specs.Networks.{index_of}
+use Rattle.mqb_traffic.specs.declared.notes.Link.{Link}
+use Rattle.mqb_transcript.specs.declared.arrivals.Outcome.{Outcome}
+use Rattle.mqb_transcript.specs.declared.arrivals.Outcome.TheVariants as outcome
+use Rattle.mqb_transcript.specs.declared.replies.Reply.{Reply}
+use Rattle.mqb_transcript.specs.declared.replies.Reply.TheVariants as reply
+use Rattle.mqb_world.specs.Acting.{Happens, HappensAmong, IsOf, ShortAmong, actor}
+use Rattle.mqb_world.specs.Ordered.{IsOrdered}
+use Rattle.mqb_world.specs.Sides.{AreUnlinked}
+use Rattle.mqb_world.specs.Disks.{FaultsGo, IsToldSo, failures_of}
+use Rattle.mqb_world.specs.Worlds.{WorldState, network_of}
+
+-- An event of one manager delivers no packet.
+none_of : (which : Which) (asked : Event) → IsOf which asked → (packets : List Packet) → packet_of packets (event_of asked) ≡ None
+none_of which (event.Queue m plan) is packets = refl
+none_of which (event.Commit m now ops) is packets = refl
+none_of which (event.Send m now recoverable parts) is packets = refl
+none_of which (event.Take m now place) is packets = refl
+none_of which (event.Purge m now place) is packets = refl
+none_of which (event.Tick m now) is packets = refl
+none_of which (event.Connect m now alpha beta) is packets = refl
+none_of which event.Disconnect is packets = refl
+none_of which (event.Pump m now) is packets = refl
+none_of which (event.Deliver k now) is packets = absurd is
+none_of which (event.Drop k) is packets = refl
+none_of which (event.Flow m now) is packets = refl
+none_of which (event.Resend m) is packets = refl
+none_of which (event.Arm m call mode) is packets = refl
+none_of which (event.Restart m pick) is packets = refl
+none_of which (event.Roll m count) is packets = refl
+
+-- Which manager acts.
+pub acts_so : (asked : Event) → ((m : Which) (now alpha beta : ℕ) → asked ≡ event.Connect m now alpha beta → ⊥) → ((k now : ℕ) → asked ≡ event.Deliver k now → ⊥)
+    → ((m : Which) (now : ℕ) → asked ≡ event.Flow m now → ⊥) → IsOf (actor asked) asked
+acts_so (event.Queue m plan) c d f = refl
+acts_so (event.Commit m now ops) c d f = refl
+acts_so (event.Send m now recoverable parts) c d f = refl
+acts_so (event.Take m now place) c d f = refl
+acts_so (event.Purge m now place) c d f = refl
+acts_so (event.Tick m now) c d f = refl
+acts_so (event.Connect m now alpha beta) c d f = absurd (c m now alpha beta refl)
+acts_so event.Disconnect c d f = tt
+acts_so (event.Pump m now) c d f = refl
+acts_so (event.Deliver k now) c d f = absurd (d k now refl)
+acts_so (event.Drop k) c d f = tt
+acts_so (event.Flow m now) c d f = absurd (f m now refl)
+acts_so (event.Resend m) c d f = refl
+acts_so (event.Arm m call mode) c d f = refl
+acts_so (event.Restart m pick) c d f = refl
+acts_so (event.Roll m count) c d f = refl
+
+-- What is told of a disk in a flow or a delivery.
+faults_as : (asked : Event) (stopped : Bool) → ((how : Failure) → how ≡ failure_of (how_by stopped) → IsToldSo asked stopped how) → (before after : ℕ) (hows : List Failure)
+    → FailsAs hows stopped before after → FaultsGo asked stopped before after hows
+faults_as asked stopped says before after [] same = same
+faults_as asked stopped says before after (how ∷ []) (rose, so) = (rose, says how so)
+faults_as asked stopped says before after (how ∷ more ∷ hows) none = none
+
+told_same : (b : Bool) (given : Outcome) → cons_option (cond b (failure_told given) None) [] ≡ cond b (failures_of (outcome_reply given)) []
+told_same true (outcome.Heard heard lines) = refl
+told_same true outcome.Gone = refl
+told_same true outcome.Stopped = refl
+told_same true outcome.Failed = refl
+told_same false given = refl
+
+-- the reply to a delivery
+abbrev pub delivery_told : Option Outcome → Reply
+delivery_told None = reply.NoPacket
+delivery_told (Some given) = outcome_reply given
+
+module _ (w w_now : WorldState) (strings strings_now : List (List ℕ)) (first first_now second second_now : View) (first_stopped second_stopped : Bool) where
+  abbrev HappensTo : Option Packet → Event → (strings_now : List (List ℕ)) → Reply → Type 0
+  HappensTo q asked strings_now given = Happens w w_now q asked strings strings_now first first_now second second_now first_stopped second_stopped given
+
+  -- whatever packets there are
+  abbrev HappensSo : Event → (strings_now : List (List ℕ)) → Reply → Type 0
+  HappensSo asked strings_now given = HappensAmong w w_now asked strings strings_now first first_now second second_now first_stopped second_stopped given
+
+  -- An event of one manager.
+  pub acting_happens : (which : Which) (asked : Event) → IsOf which asked → (r : Result Reply PostFault) → IfOk r (HappensTo None asked strings_now) → IfOk r (HappensSo asked strings_now)
+  acting_happens which asked is (Ok given) x = λ packets writable spelled. subst (λ (q : Option Packet). HappensTo q asked strings_now given) (sym (none_of which asked is packets)) x
+  acting_happens which asked is (Err f) x = tt
+
+  pub acting_short : (which : Which) (asked : Event) → IsOf which asked → (r : Result Reply PostFault) → FallsShort (network_of w) None (event_of asked) strings strings_now r
+      → ShortAmong w asked strings strings_now r
+  acting_short which asked is r short = λ packets writable spelled. subst (λ (q : Option Packet). FallsShort (network_of w) q (event_of asked) strings strings_now r) (sym (none_of which asked is packets)) short
+
+  -- A flow.
+  pub flow_happens : (m : Which) (now : ℕ) (r : Result Reply PostFault) → IfOk r (IsStep (network_of w) None (event_of (event.Flow m now)) (network_of w_now) strings strings_now)
+      → OnOk r (IsHeldOn first_now w_now.alpha) → OnOk r (IsHeldOn second_now w_now.beta)
+      → IfOk r (λ given. FailsAs (failures_in (network_of w_now).notes (index_of m) 0 given) first_stopped first.faults first_now.faults)
+      → IfOk r (λ given. FailsAs (failures_in (network_of w_now).notes (index_of m) 1 given) second_stopped second.faults second_now.faults)
+      → IfOk r (HappensSo (event.Flow m now) strings_now)
+  flow_happens m now (Ok given) step alpha beta alpha_fails beta_fails = λ packets writable spelled. record {
+    step = step;
+    alpha = alpha;
+    beta = beta;
+    alpha_faults = faults_as (event.Flow m now) first_stopped (λ how so. so) first.faults first_now.faults (failures_in (network_of w_now).notes (index_of m) 0 given) alpha_fails;
+    beta_faults = faults_as (event.Flow m now) second_stopped (λ how so. so) second.faults second_now.faults (failures_in (network_of w_now).notes (index_of m) 1 given) beta_fails;
+  }
+  flow_happens m now (Err f) step alpha beta alpha_fails beta_fails = tt
+
+  -- A connection.
+  pub connect_happens : (m : Which) (now a b : ℕ) (r : Result Reply PostFault) → IfOk r (IsStep (network_of w) None (event_of (event.Connect m now a b)) (network_of w_now) strings strings_now)
+      → OnOk r (IsHeldOn first_now w_now.alpha) → OnOk r (IsHeldOn second_now w_now.beta) → OnOk r (first_now.faults ≡ first.faults) → OnOk r (second_now.faults ≡ second.faults)
+      → IfOk r (HappensSo (event.Connect m now a b) strings_now)
+  connect_happens m now a b (Ok given) step alpha beta alpha_same beta_same = λ packets writable spelled. record {
+    step = step;
+    alpha = alpha;
+    beta = beta;
+    alpha_faults = alpha_same;
+    beta_faults = beta_same;
+  }
+  connect_happens m now a b (Err f) step alpha beta alpha_same beta_same = tt
+
+  -- A delivery.
+  module _ (within : IsWithin strings) (k now : ℕ) where
+    told_by : (notes notes_now : List Note) → notes_now ≡ notes → (i : ℕ) (stopped : Bool) (before after : ℕ) (r : Option Outcome) → FailsAs (failures_at notes i (arrived k r)) stopped before after
+        → FaultsGo (event.Deliver k now) stopped before after (cond (is_for notes_now i k) (failures_of (delivery_told r)) [])
+    told_by notes notes_now same i stopped before after None fails = at (is_for notes_now i k)
+      where
+        at : (b : Bool) → FaultsGo (event.Deliver k now) stopped before after (cond b [] [])
+        at true = fails
+        at false = fails
+    told_by notes notes_now same i stopped before after (Some given) fails = faults_as (event.Deliver k now) stopped (λ how so. so) before after (cond (is_for notes_now i k) (failures_of (outcome_reply given)) [])
+        (subst (λ (hows : List Failure). FailsAs hows stopped before after)
+        (told_same (is_for notes i k) given ∙ ap (λ (ns : List Note). cond (is_for ns i k) (failures_of (outcome_reply given)) []) (sym same)) fails)
+
+    delivers_happens : (packets : List Packet) (r : Option Outcome) → WasDelivered (network_of w) (network_of w_now) packets k now r → IsHeldOn first_now w_now.alpha → IsHeldOn second_now w_now.beta
+        → FailsAs (failures_at (network_of w).notes 0 (arrived k r)) first_stopped first.faults first_now.faults
+        → FailsAs (failures_at (network_of w).notes 1 (arrived k r)) second_stopped second.faults second_now.faults
+        → HappensTo (numbered packets k) (event.Deliver k now) strings (delivery_told r)
+    delivers_happens packets None (none, same) alpha beta alpha_fails beta_fails = record {
+      step = subst (λ (n : Network). IsStep (network_of w) (numbered packets k) (event_of (event.Deliver k now)) n strings strings reply.NoPacket) (sym same)
+          (none_step (network_of w) k (numbered packets k) now strings within none);
+      alpha = alpha;
+      beta = beta;
+      alpha_faults = told_by (network_of w).notes (network_of w_now).notes (ap (λ (n : Network). n.notes) same) 0 first_stopped first.faults first_now.faults None alpha_fails;
+      beta_faults = told_by (network_of w).notes (network_of w_now).notes (ap (λ (n : Network). n.notes) same) 1 second_stopped second.faults second_now.faults None beta_fails;
+    }
+    delivers_happens packets (Some given) (p, is, some, one) alpha beta alpha_fails beta_fails = record {
+      step = subst (λ (q : Option Packet). IsStep (network_of w) q (event_of (event.Deliver k now)) (network_of w_now) strings strings (outcome_reply given)) (sym is)
+          (deliver_step (network_of w) (network_of w_now) k p now given strings within some one);
+      alpha = alpha;
+      beta = beta;
+      alpha_faults = told_by (network_of w).notes (network_of w_now).notes one.notes 0 first_stopped first.faults first_now.faults (Some given) alpha_fails;
+      beta_faults = told_by (network_of w).notes (network_of w_now).notes one.notes 1 second_stopped second.faults second_now.faults (Some given) beta_fails;
+    }
+
+    -- by what the call answers
+    pub some_happens : (r : Option Outcome) (o : Outcome) → r ≡ Some o → (told : Reply) → told ≡ outcome_reply o
+        → ((packets : List Packet) → AreWritable packets → strings ≡ map plain_spelling packets → WasDelivered (network_of w) (network_of w_now) packets k now r)
+        → IsHeldOn first_now w_now.alpha → IsHeldOn second_now w_now.beta
+        → FailsAs (failures_at (network_of w).notes 0 (arrived k r)) first_stopped first.faults first_now.faults
+        → FailsAs (failures_at (network_of w).notes 1 (arrived k r)) second_stopped second.faults second_now.faults
+        → HappensSo (event.Deliver k now) strings told
+    some_happens r o is told told_is was alpha beta alpha_fails beta_fails = λ packets writable spelled.
+        subst (λ (given : Reply). HappensTo (numbered packets k) (event.Deliver k now) strings given) (sym told_is)
+        (delivers_happens packets (Some o) (subst (λ (r : Option Outcome). WasDelivered (network_of w) (network_of w_now) packets k now r) is (was packets writable spelled)) alpha beta
+        (subst (λ (r : Option Outcome). FailsAs (failures_at (network_of w).notes 0 (arrived k r)) first_stopped first.faults first_now.faults) is alpha_fails)
+        (subst (λ (r : Option Outcome). FailsAs (failures_at (network_of w).notes 1 (arrived k r)) second_stopped second.faults second_now.faults) is beta_fails))
+
+  -- of an event that is this one
+  pub flow_so : (asked : Event) (m : Which) (now : ℕ) → asked ≡ event.Flow m now → (r : Result Reply PostFault) → IfOk r (HappensSo (event.Flow m now) strings_now) → IfOk r (HappensSo asked strings_now)
+  flow_so asked m now is r = subst (λ (a : Event). IfOk r (HappensSo a strings_now)) (sym is)
+
+  pub connect_short : (asked : Event) (m : Which) (now a b : ℕ) → asked ≡ event.Connect m now a b → (r : Result Reply PostFault)
+      → FallsShort (network_of w) None (event_of (event.Connect m now a b)) strings strings_now r → ShortAmong w asked strings strings_now r
+  connect_short asked m now a b is r short = subst (λ (e : Event). ShortAmong w e strings strings_now r) (sym is) (λ packets writable spelled. short)
+
+-- Where no connection stands there is no session.
+pub unlinked_so : (w : WorldState) (strings : List (List ℕ)) → IsOrdered w strings → AreUnlinked w
+unlinked_so w strings ordered = record {
+  alpha = λ none. by (seated w.alpha).rest.session w.traffic.link ordered.alpha_linked.session none;
+  beta = λ none. by (seated w.beta).rest.session w.traffic.link ordered.beta_linked.session none;
+}
+  where
+    by : (s : Option State) (l : Option Link) → is_some s ≡ is_some l → l ≡ None → s ≡ None
+    by None l same none = refl
+    by (Some s) l same none = absurd (let no : ⊥ = cc (same, none) in no)
+
+-- Each is the other's only peer.
+pub known_so : (w : WorldState) (strings : List (List ℕ)) → IsOrdered w strings → KnowEachOther (seated w.alpha).state (seated w.beta).state
+known_so w strings ordered = record {
+  first = ordered.alpha_itself.peers ∙ ap (λ (i : Identity). i ∷ []) (sym ordered.beta_itself.identity);
+  second = ordered.beta_itself.peers ∙ ap (λ (i : Identity). i ∷ []) (sym ordered.alpha_itself.identity);
+}

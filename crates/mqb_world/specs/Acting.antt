@@ -1,0 +1,83 @@
+-- The events of one manager alone, and those that call none.
+use Rattle.std.specs.Prelude.{◌≡◌, Bool, List, None, Option, Result, map, ℕ}
+use Rattle.mqb_devices.specs.Disk.{View}
+use Rattle.mqb_deliveries.specs.Steps.{FallsShort, IsStep}
+use Rattle.mqb_moves.specs.Holding.{StaysStored}
+use Rattle.mqb_moves.specs.Seats.{IsHeldOn}
+use Rattle.mqb_network.specs.Runs.{packet_of}
+use Rattle.mqb_packet.specs.Plain.{plain_spelling}
+use Rattle.mqb_packet.specs.declared.packet.Packet.{Packet}
+use Rattle.mqb_posts.specs.Packets.{AreWritable}
+use Rattle.mqb_posts.specs.declared.faults.PostFault.{PostFault}
+use Rattle.mqb_runs.specs.Events.{event_of}
+use Rattle.mqb_script.specs.declared.events.Event.{Event}
+use Rattle.mqb_script.specs.declared.events.Event.TheVariants as event
+use Rattle.mqb_script.specs.declared.managers.Which.{Which}
+use Rattle.mqb_script.specs.declared.managers.Which.TheVariants.{Alpha, Beta}
+use Rattle.mqb_traffic.specs.Networks.{notes_of}
+use Rattle.mqb_transcript.specs.declared.replies.Reply.{Reply}
+use Rattle.mqb_turns.specs.Sides.{Side, network_at}
+use Rattle.mqb_world.specs.Disks.{FaultsGo, failures_alone, failures_told}
+use Rattle.mqb_world.specs.Worlds.{WorldState, network_of}
+
+-- an event is one call of this manager with its disk
+abbrev pub IsCallOf : Which → Event → Type 0
+IsCallOf which (event.Queue manager plan) = manager ≡ which
+IsCallOf which (event.Commit manager now ops) = manager ≡ which
+IsCallOf which (event.Send manager now recoverable parts) = manager ≡ which
+IsCallOf which (event.Take manager now place) = manager ≡ which
+IsCallOf which (event.Purge manager now place) = manager ≡ which
+IsCallOf which (event.Tick manager now) = manager ≡ which
+IsCallOf which (event.Roll manager count) = manager ≡ which
+IsCallOf which _ = ⊥
+
+-- it is of this manager alone, or of none
+abbrev pub IsOf : Which → Event → Type 0
+IsOf which event.Disconnect = Unit {0}
+IsOf which (event.Drop packet) = Unit {0}
+IsOf which (event.Resend manager) = manager ≡ which
+IsOf which (event.Pump manager now) = manager ≡ which
+IsOf which (event.Arm manager call mode) = manager ≡ which
+IsOf which (event.Restart manager pick) = manager ≡ which
+IsOf which e = IsCallOf which e
+
+-- the manager that acts in an event, or alpha where none does
+abbrev pub actor : Event → Which
+actor (event.Queue manager plan) = manager
+actor (event.Commit manager now ops) = manager
+actor (event.Send manager now recoverable parts) = manager
+actor (event.Take manager now place) = manager
+actor (event.Purge manager now place) = manager
+actor (event.Tick manager now) = manager
+actor (event.Resend manager) = manager
+actor (event.Pump manager now) = manager
+actor (event.Arm manager call mode) = manager
+actor (event.Restart manager pick) = manager
+actor (event.Roll manager count) = manager
+actor _ = Alpha
+
+-- What it makes of the two managers, the medium and the disk.
+pub record IsActed (which : Which) (x y : Side) (d e : View) (stopped : Bool) (asked : Event) (strings strings_now : List (List ℕ)) (given : Reply) : Type 0 where
+  pub step : IsStep (network_at which x) None (event_of asked) (network_at which y) strings strings_now given
+  pub held : IsHeldOn e y.own
+  pub beside : StaysStored x.other y.other
+  pub faults : FaultsGo asked stopped d.faults e.faults (failures_alone which asked given)
+
+-- What an event makes of a world, its medium and both disks.
+pub record Happens (w w_now : WorldState) (q : Option Packet) (asked : Event) (strings strings_now : List (List ℕ)) (first first_now second second_now : View) (first_stopped second_stopped : Bool) (given : Reply) : Type 0 where
+  pub step : IsStep (network_of w) q (event_of asked) (network_of w_now) strings strings_now given
+  pub alpha : IsHeldOn first_now w_now.alpha
+  pub beta : IsHeldOn second_now w_now.beta
+  pub alpha_faults : FaultsGo asked first_stopped first.faults first_now.faults (failures_told (notes_of w_now.traffic) Alpha asked given)
+  pub beta_faults : FaultsGo asked second_stopped second.faults second_now.faults (failures_told (notes_of w_now.traffic) Beta asked given)
+
+-- It happens with whatever packets the strings of the medium spell.
+abbrev pub HappensAmong : (w w_now : WorldState) → Event → (strings strings_now : List (List ℕ)) → (first first_now second second_now : View) → (first_stopped second_stopped : Bool) → Reply → Type 0
+HappensAmong w w_now asked strings strings_now first first_now second second_now first_stopped second_stopped given = (packets : List Packet) → AreWritable packets
+    → strings ≡ map plain_spelling packets
+    → Happens w w_now (packet_of packets (event_of asked)) asked strings strings_now first first_now second second_now first_stopped second_stopped given
+
+-- or falls short with them
+abbrev pub ShortAmong : {T : Type 0} → WorldState → Event → (strings strings_now : List (List ℕ)) → Result T PostFault → Type 0
+ShortAmong w asked strings strings_now result = (packets : List Packet) → AreWritable packets → strings ≡ map plain_spelling packets
+    → FallsShort (network_of w) (packet_of packets (event_of asked)) (event_of asked) strings strings_now result

@@ -1,0 +1,84 @@
+-- What becomes of the disk of a manager in an event.
+use Rattle.std.specs.Prelude.{[], ◌∷◌, ◌≡◌, Bool, List, Option, Some, false, if◌then◌else◌, true, ℕ}
+use Rattle.mqb_deliveries.specs.Failing.{failures_in, is_for}
+use Rattle.mqb_devices.specs.Disk.{Counted, Switch}
+use Rattle.mqb_devices.specs.declared.power.Mode.{Mode}
+use Rattle.mqb_devices.specs.declared.power.Pick.{Pick}
+use Rattle.mqb_network.specs.Choices.{Failed, Failure, Stopped}
+use Rattle.mqb_network.specs.Network.{Note}
+use Rattle.mqb_outside.specs.Faults.{Rose}
+use Rattle.mqb_script.specs.declared.events.Event.{Event}
+use Rattle.mqb_script.specs.declared.events.Event.TheVariants as event
+use Rattle.mqb_script.specs.declared.managers.Which.{Which}
+use Rattle.mqb_script.specs.declared.managers.Which.TheVariants.{Alpha, Beta}
+use Rattle.mqb_seats.specs.Called.{failure_of, how_by}
+use Rattle.mqb_traffic.specs.Networks.{index_of}
+use Rattle.mqb_transcript.specs.declared.replies.Reply.{Reply}
+use Rattle.mqb_transcript.specs.declared.replies.Reply.TheVariants as reply
+
+-- one manager is the other one, or itself
+abbrev pub is_same : Which → Which → Bool
+is_same Alpha Alpha = true
+is_same Beta Beta = true
+is_same _ _ = false
+
+-- The power switch.
+
+-- what an event asks of the switch of a manager's disk
+pub data Switching : Type 0 where
+  Arms : (call : ℕ) → Mode → Switching
+  Restarts : Pick → Switching
+  LeavesIt : Switching
+
+abbrev pub switching : Which → Event → Switching
+switching which (event.Arm manager call mode) = if is_same which manager then Arms call mode else LeavesIt
+switching which (event.Restart manager pick) = if is_same which manager then Restarts pick else LeavesIt
+switching which _ = LeavesIt
+
+-- An arming is counted, and is exactly this call and mode. A restart is counted, and tells its pick.
+abbrev pub SwitchGoes : Switching → (armed : Option (ℕ × Mode)) → (before after : Switch) → Type 0
+SwitchGoes (Arms call mode) armed s t = (armed ≡ Some (call, mode)) × Counted 1 s.arms t.arms × (t.restarts ≡ s.restarts) × (t.last_pick ≡ s.last_pick)
+SwitchGoes (Restarts pick) armed s t = (t.arms ≡ s.arms) × Counted 1 s.restarts t.restarts × (t.last_pick ≡ Some pick)
+SwitchGoes LeavesIt armed s t = t ≡ s
+
+-- Failures.
+
+-- how a disk failed, as the reply to an event of one manager tells
+abbrev pub failures_of : Reply → List Failure
+failures_of reply.Stopped = Stopped ∷ []
+failures_of reply.Failed = Failed ∷ []
+failures_of _ = []
+
+-- an event is one of this manager alone that may call its disk
+abbrev pub calls_disk_of : Which → Event → Bool
+calls_disk_of which (event.Queue manager plan) = is_same which manager
+calls_disk_of which (event.Commit manager now ops) = is_same which manager
+calls_disk_of which (event.Send manager now recoverable parts) = is_same which manager
+calls_disk_of which (event.Take manager now place) = is_same which manager
+calls_disk_of which (event.Purge manager now place) = is_same which manager
+calls_disk_of which (event.Tick manager now) = is_same which manager
+calls_disk_of which (event.Pump manager now) = is_same which manager
+calls_disk_of which (event.Restart manager pick) = is_same which manager
+calls_disk_of which (event.Roll manager count) = is_same which manager
+calls_disk_of which _ = false
+
+-- how the disk of a manager failed in an event of one manager
+abbrev pub failures_alone : Which → Event → Reply → List Failure
+failures_alone which e given = if calls_disk_of which e then failures_of given else []
+
+-- How the disk of a manager failed in an event, as the reply tells. A packet is heard by the manager that it is for, as the notes of all packets tell.
+abbrev pub failures_told : List Note → Which → Event → Reply → List Failure
+failures_told notes which (event.Flow manager now) given = failures_in notes (index_of manager) (index_of which) given
+failures_told notes which (event.Deliver packet now) given = if is_for notes (index_of which) packet then failures_of given else []
+failures_told notes which e given = failures_alone which e given
+
+-- It is told whether the disk has stopped, but for a restart, which is always told as one that failed.
+abbrev pub IsToldSo : Event → (stopped : Bool) → Failure → Type 0
+IsToldSo (event.Restart manager pick) stopped how = how ≡ Failed
+IsToldSo e stopped how = how ≡ failure_of (how_by stopped)
+
+-- The count of faults rose where a failure is told, which is one at most, and else it stays.
+abbrev pub FaultsGo : Event → (stopped : Bool) → (before after : ℕ) → List Failure → Type 0
+FaultsGo e stopped before after [] = after ≡ before
+FaultsGo e stopped before after (how ∷ []) = Rose before after × IsToldSo e stopped how
+FaultsGo e stopped before after _ = ⊥

@@ -1,0 +1,138 @@
+//! The events of one manager with its disk, and those that call none.
+ghost use Rattle.std.specs.Prelude.{◌≡◌, ◌≢◌, Err, IfOk, None, false, is_some, length, true};
+ghost use Rattle.mqb_deliveries.specs.Steps.{FallsShort};
+ghost use Rattle.mqb_model.specs.managers.Manager.{is_down};
+ghost use Rattle.mqb_moves.specs.Seats.{IsHeldOn, seated};
+ghost use Rattle.mqb_network.specs.Choices.{Well};
+ghost use Rattle.mqb_posts.specs.Posting.{IsWithin};
+ghost use Rattle.mqb_runs.specs.Events.{event_of};
+ghost use Rattle.mqb_script.specs.Formed.{IsFormed};
+ghost use Rattle.mqb_turns.specs.Sides.{network_at, side};
+ghost use Rattle.mqb_turns.specs.Turns.{IsQuiet, IsTurn, answers_to};
+ghost use Rattle.mqb_world.specs.Acting.{IsActed, IsCallOf, IsOf, actor};
+ghost use Rattle.mqb_world.specs.Disks.{SwitchGoes, switching};
+
+use mqb_base::Memory;
+use mqb_devices::Power;
+use mqb_outside::Medium;
+use mqb_posts::PostFault;
+use mqb_script::{Event, Which};
+use mqb_seats::Seat;
+use mqb_traffic::Traffic;
+use mqb_transcript::Reply;
+use mqb_turns::{
+    commit, disconnect, drop_packet, pump, purge, queue, resend, restart, roll, send, take, tick,
+};
+
+/// The manager that acts in an event, or alpha where none does.
+pub(crate) fn actor(event: &Event) -> Which
+    ensures { result ≡ actor event.now }
+{
+    match event {
+        Event::Queue { manager, .. } => *manager,
+        Event::Commit { manager, .. } => *manager,
+        Event::Send { manager, .. } => *manager,
+        Event::Take { manager, .. } => *manager,
+        Event::Purge { manager, .. } => *manager,
+        Event::Tick { manager, .. } => *manager,
+        Event::Resend { manager } => *manager,
+        Event::Pump { manager, .. } => *manager,
+        Event::Arm { manager, .. } => *manager,
+        Event::Restart { manager, .. } => *manager,
+        Event::Roll { manager, .. } => *manager,
+        _ => Which::Alpha,
+    }
+}
+
+/// An event that is one call of this manager.
+fn call_own<P: Power>(
+    own: &mut Seat,
+    other: &mut Seat,
+    traffic: &mut Traffic,
+    which: Which,
+    disk: &mut P,
+    event: &Event,
+) -> Result<Reply, Memory>
+    requires formed { IsFormed event.now }
+    requires calls { IsCallOf which event.now }
+    requires held { IsHeldOn (P.view disk.old) own.old }
+    ensures turn { IfOk result (IsTurn which (side own.old other.old traffic.old)
+        (side own.new other.new traffic.new) (P.view disk.old) (P.view disk.new)
+        (P.is_stopped disk.new) (answers_to which (side own.old other.old traffic.old)
+        (event_of event.now))) }
+    ensures switch { (P.view disk.new).switch ≡ (P.view disk.old).switch }
+{
+    match event {
+        Event::Queue { manager: _, plan } => queue(own, other, traffic, which, disk, plan),
+        Event::Roll { manager: _, count } => roll(own, other, traffic, which, disk, *count),
+        Event::Commit {
+            manager: _,
+            now,
+            ops,
+        } => commit(own, other, traffic, which, disk, ops.as_slice(), *now),
+        Event::Send {
+            manager: _,
+            now,
+            recoverable,
+            draft,
+        } => send(own, other, traffic, which, disk, draft, *recoverable, *now),
+        Event::Take {
+            manager: _,
+            now,
+            place,
+        } => take(own, other, traffic, which, disk, place, *now),
+        Event::Purge {
+            manager: _,
+            now,
+            place,
+        } => purge(own, other, traffic, which, disk, place, *now),
+        Event::Tick { manager: _, now } => tick(own, other, traffic, which, disk, *now),
+        _ => unreachable!(),
+    }
+}
+
+/// An event of this manager alone, or of none.
+pub(crate) fn act<P: Power, M: Medium>(
+    own: &mut Seat,
+    other: &mut Seat,
+    traffic: &mut Traffic,
+    which: Which,
+    disk: &mut P,
+    medium: &mut M,
+    event: &Event,
+) -> Result<Reply, PostFault>
+    requires formed { IsFormed event.now }
+    requires acts { IsOf which event.now }
+    requires held { IsHeldOn (P.view disk.old) own.old }
+    requires within { IsWithin (M.strings medium.old) }
+    requires noted { length traffic.old.notes ≡ length (M.strings medium.old) }
+    requires up { is_some traffic.old.link ≡ true → is_down (seated own.old) ≡ false }
+    ensures acted { IfOk result (IsActed which (side own.old other.old traffic.old)
+        (side own.new other.new traffic.new) (P.view disk.old) (P.view disk.new)
+        (P.is_stopped disk.new) event.now (M.strings medium.old) (M.strings medium.new)) }
+    ensures short { FallsShort (network_at which (side own.old other.old traffic.old)) None
+        (event_of event.now) (M.strings medium.old) (M.strings medium.new) result }
+    ensures switch { SwitchGoes (switching which event.now) (P.armed disk.new)
+        (P.view disk.old).switch (P.view disk.new).switch }
+    ensures full { result ≡ Err PostFault.NetFull
+        → (P.view disk.new).faults ≡ (P.view disk.old).faults }
+{
+    match event {
+        Event::Disconnect => Ok(disconnect(own, other, traffic)),
+        Event::Resend { manager: _ } => Ok(resend(own, other, traffic)),
+        Event::Drop { packet } => Ok(drop_packet(own, other, traffic, *packet)),
+        Event::Pump { manager: _, now } => pump(own, other, traffic, which, disk, medium, *now),
+        Event::Arm {
+            manager: _,
+            call,
+            mode,
+        } => {
+            own.arm(disk, *call, *mode);
+            Ok(Reply::Armed)
+        }
+        Event::Restart { manager: _, pick } => {
+            Ok(restart(own, other, traffic, which, disk, *pick)?)
+        }
+        _ => Ok(call_own(own, other, traffic, which, disk, event)?),
+    }
+}
