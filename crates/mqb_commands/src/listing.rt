@@ -19,7 +19,9 @@ pub fn list<D: Disk>(alloc: Global, disk: &mut D) -> Answer
         Err(fault) => return Answer::fault(alloc, fault),
     };
     let mut text = Vec::new(alloc);
-    match print(alloc, manager.state().contents(), &mut text) {
+    let printed = print(alloc, manager.state().contents(), &mut text);
+    drop(manager);
+    match printed {
         Ok(()) => Answer::new(text, Status::Done),
         Err(Memory) => Answer::memory(alloc),
     }

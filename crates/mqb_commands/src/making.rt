@@ -34,7 +34,10 @@ pub fn init<D: Disk>(alloc: Global, disk: &mut D, identity: &Identity) -> Answer
         return Answer::memory(alloc);
     };
     match Manager::format(alloc, disk, identity) {
-        Ok(_) => Answer::new(text, Status::Done),
+        Ok(manager) => {
+            drop(manager);
+            Answer::new(text, Status::Done)
+        }
         Err(fault) => Answer::fault(alloc, open_status(fault)),
     }
 }
