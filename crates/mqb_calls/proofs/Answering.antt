@@ -1,20 +1,19 @@
 -- A call of a store from the disk before the store was opened to the disk behind the call.
-use Rattle.std.proofs.Common.{◌≡◌, ℕ, List, [], ◌++◌, Bool, true, false, cond, Option, Result, Ok, Err, refl, sym, ap, subst, ◌∙◌, inl, inr}
+use Rattle.std.proofs.Common.{◌≡◌, ℕ, List, [], Bool, true, false, cond, Option, Result, Ok, Err, refl, sym, ap, subst, ◌∙◌, inl, inr}
 use Rattle.std.specs.Prelude.{◌⊎◌, IsOk}
 use Rattle.mqb_answers.proofs.Definitions.{outcomes_are_told}
 use Rattle.mqb_answers.specs.Calls.{IsTold, Tells}
 use Rattle.mqb_answers.specs.Outcomes.{outcome_of}
-use Rattle.mqb_answers.specs.Texts.{hosts_of, told_text}
+use Rattle.mqb_answers.specs.Texts.{hosts_of}
 use Rattle.mqb_answers.specs.declared.told.CallEnd.{CallEnd}
 use Rattle.mqb_answers.specs.declared.told.CallEnd.TheVariants as call
 use Rattle.mqb_answers.specs.declared.told.Told.{Told}
-use Rattle.mqb_base.specs.declared.ids.Identity.{Identity}
-use Rattle.mqb_devices.specs.Disk.{IsSettled, OnlyReads, View}
+use Rattle.mqb_devices.specs.Disk.{OnlyReads, View}
 use Rattle.mqb_outside.specs.Faults.{Rose}
 use Rattle.mqb_manager.specs.Calls.{Ends, FailsUnder, Succeeds}
 use Rattle.mqb_manager.specs.Keeping.{KeepsDisk, calls_keep_disks, keeping_goes_on}
-use Rattle.mqb_manager.specs.States.{IsOnDisk, IsSame, IsUp, ManagerState, condition_of, manager_of}
-use Rattle.mqb_model.specs.managers.Manager.{Condition, Down, Manager, Up}
+use Rattle.mqb_manager.specs.States.{IsSame, IsUp, ManagerState, condition_of, manager_of}
+use Rattle.mqb_model.specs.managers.Manager.{Down, Manager, Up}
 use Rattle.mqb_model.specs.managers.Outcomes.{Outcome}
 use Rattle.mqb_model.specs.records.Record.{Record}
 use Rattle.mqb_model.specs.records.Reading.{record_of}
@@ -28,7 +27,7 @@ use Rattle.mqb_status.specs.declared.status.Status.TheVariants as status
 use Rattle.mqb_commands.specs.Causes.{DiskFaultHasCause, is_disk_fault}
 use Rattle.mqb_commands.specs.Opened.{IsNotOpened, OpensAs}
 use Rattle.mqb_commands.specs.Said.{FailsToOpen}
-use Rattle.mqb_calls.specs.Calls.{Calls, IsAnswered, IsBroken, IsNotTold, TellsFaults, status_of}
+use Rattle.mqb_calls.specs.Calls.{IsAnswered, IsBroken, IsNotTold, TellsFaults, status_of}
 
 -- Opening only reads, so the disk stands for the manager still.
 pub opened_keeps : (d f : View) (m : ManagerState) → OnlyReads d f → KeepsDisk d f m m

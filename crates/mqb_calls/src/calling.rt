@@ -1,6 +1,7 @@
 ghost use Rattle.std.specs.Prelude.{◌≡◌};
 ghost use Rattle.mqb_commands.specs.Causes.{DiskFaultHasCause};
 ghost use Rattle.mqb_calls.specs.Calls.{CallsAt, TellsFaults, status_of};
+ghost use Rattle.mqb_devices.specs.Disk.{Counted};
 ghost use Rattle.mqb_words.specs.Formed.{IsFormedCall};
 
 use mqb_answers::{CallEnd, answer};
@@ -31,6 +32,7 @@ pub fn call<D: Disk, C: Clock>(alloc: Global, disk: &mut D, clock: &mut C, call:
     ensures faults { TellsFaults (D.view disk.old).faults (D.view disk.new).faults
         result.text.items result.end }
     ensures clock { C.steady clock.new ≡ C.steady clock.old }
+    ensures asked { Counted 1 (C.asked clock.old) (C.asked clock.new) }
 {
     let now = clock.now();
     let mut manager = match open(alloc, disk) {
@@ -39,8 +41,17 @@ pub fn call<D: Disk, C: Clock>(alloc: Global, disk: &mut D, clock: &mut C, call:
     };
     let mut text = Vec::new(alloc);
     match answer(alloc, &mut manager, disk, call, now, &mut text) {
-        Ok(end) => Answer::new(text, status_of(end)),
-        Err(AnswerFault::DiskFault) => Answer::fault(alloc, Status::DiskFault),
-        Err(AnswerFault::Memory) => Answer::memory(alloc),
+        Ok(end) => {
+            drop(manager);
+            Answer::new(text, status_of(end))
+        }
+        Err(AnswerFault::DiskFault) => {
+            drop(manager);
+            Answer::fault(alloc, Status::DiskFault)
+        }
+        Err(AnswerFault::Memory) => {
+            drop(manager);
+            Answer::memory(alloc)
+        }
     }
 }

@@ -1,15 +1,14 @@
-use Rattle.std.proofs.Common.{◌≡◌, ℕ, List, [], refl, sym, ap, subst, ◌∙◌, inl, inr}
+use Rattle.std.proofs.Common.{◌≡◌, ℕ, List, [], sym, ap, subst, ◌∙◌, inl, inr}
 use Rattle.std.specs.Prelude.{Ok, Err}
 use Rattle.mqb_answers.specs.Calls.{IsTold}
 use Rattle.mqb_answers.specs.Outcomes.{outcome_of}
-use Rattle.mqb_calls.specs.Calls.{Calls, IsAnswered}
-use Rattle.mqb_calls.proofs.Answering.{answered_stays, end_cause, fails_cause, has_cause, is_answered, is_broken, is_not_told, opening_is_told, rose_cause, unanswered_stays}
+use Rattle.mqb_calls.specs.Calls.{IsAnswered}
+use Rattle.mqb_calls.proofs.Answering.{answered_stays, end_cause, fails_cause, is_answered, is_broken, is_not_told, opening_is_told, rose_cause, unanswered_stays}
 use Rattle.mqb_commands.specs.Causes.{DiskFaultHasCause}
 use Rattle.mqb_commands.proofs.Failing.{line_fails}
 use Rattle.mqb_manager.specs.States.{manager_of}
 use Rattle.mqb_replies.specs.declared.faults.AnswerFault.{AnswerFault}
 use Rattle.mqb_replies.specs.declared.faults.AnswerFault.TheVariants as fault
-use Rattle.mqb_status.specs.declared.status.Status.TheVariants as status
 use Rattle.mqb_calls.proofs.calling.call.Goals as goal
 
 pub returns-in-Err-clause-calls : goal.returns-in-Err-clause-calls
@@ -166,3 +165,15 @@ returns-clause-faults g c =
 
 pub returns-clause-clock : goal.returns-clause-clock
 returns-clause-clock g c = c.now-now.ensures.stays
+
+pub returns-in-Err-clause-asked : goal.returns-in-Err-clause-asked
+returns-in-Err-clause-asked g c = c.now-now.ensures.asked
+
+pub returns-in-Ok-answer-clause-asked : goal.returns-in-Ok-answer-clause-asked
+returns-in-Ok-answer-clause-asked g c = c.now-now.ensures.asked
+
+pub returns-in-Err-DiskFault-clause-asked : goal.returns-in-Err-DiskFault-clause-asked
+returns-in-Err-DiskFault-clause-asked g c = c.now-now.ensures.asked
+
+pub returns-clause-asked : goal.returns-clause-asked
+returns-clause-asked g c = c.now-now.ensures.asked
