@@ -3,10 +3,12 @@ use Rattle.std.specs.Prelude.{◌≡◌, ◌⊎◌, List, None, Option, Some, co
 use Rattle.mqb_calls.specs.Calls.{CallsAt}
 use Rattle.mqb_commands.specs.Helps.{help_text, version_text}
 use Rattle.mqb_commands.specs.Said.{Inits, Lists, Makes}
+use Rattle.mqb_connections.specs.Asked.{AsksForEach, AsksOnce}
 use Rattle.mqb_connections.specs.Probed.{ProbesStore}
 use Rattle.mqb_connections.specs.Pushed.{PushesStore}
 use Rattle.mqb_connections.specs.Served.{Nets, ServesFrom}
 use Rattle.mqb_devices.specs.Disk.{View}
+use Rattle.mqb_devices.specs.Net.{Ended}
 use Rattle.mqb_outside.specs.Faults.{Rose}
 use Rattle.mqb_replay.specs.Runs.{Replays}
 use Rattle.mqb_show.specs.Shown.{Shows}
@@ -62,6 +64,14 @@ abbrev pub NetCause : Option Command → (faults faults_now lost lost_now : ℕ)
 NetCause (Some (command.Serve count)) faults faults_now lost lost_now = Rose faults faults_now
 NetCause (Some (command.Push host)) faults faults_now lost lost_now = Rose faults faults_now ⊎ Rose lost lost_now
 NetCause _ faults faults_now lost lost_now = ⊥
+
+-- How often a command asks the clock, by what the net tells as finished: once for each connection, once for a call, and else never.
+abbrev pub Asks : Option Command → (ended ended_now : Option (List Ended)) → (asked asked_now : ℕ) → Type 0
+Asks (Some (command.Serve count)) ended ended_now asked asked_now = AsksForEach count ended ended_now asked asked_now
+Asks (Some (command.Push host)) ended ended_now asked asked_now = AsksForEach 1 ended ended_now asked asked_now
+Asks (Some command.Probe) ended ended_now asked asked_now = AsksOnce asked asked_now
+Asks (Some (command.Call call)) ended ended_now asked asked_now = AsksOnce asked asked_now
+Asks _ ended ended_now asked asked_now = asked_now ≡ asked
 
 -- an end of a command that makes one answer: it comes of no fault of the input, of the output, of the net or of the words
 abbrev pub IsQuiet : Status → Type 0

@@ -1,13 +1,12 @@
 ghost use Rattle.std.specs.Prelude.{◌≡◌, ◌⊎◌, [], map, Some};
 ghost use Rattle.std.specs.String.{string_bytes};
-ghost use Rattle.mqb.specs.Runs.{Does, IsUnread, NetCause, Runs, UsageHasCause};
+ghost use Rattle.mqb.specs.Completeness.{Completes};
+ghost use Rattle.mqb.specs.Runs.{Asks, Does, IsUnread, NetCause, Runs, UsageHasCause};
 ghost use Rattle.mqb_commands.specs.Causes.{DiskFaultHasCause};
 ghost use Rattle.mqb_connections.specs.Causes.{NetFaultHasCause};
-ghost use Rattle.mqb_replay.specs.Completeness.{Completes};
 ghost use Rattle.mqb_status.specs.Outputs.{ReadFaultHasCause, WriteFaultHasCause};
 ghost use Rattle.mqb_words.specs.Formed.{IsFormed};
 ghost use Rattle.mqb_words.specs.Words.{command_of};
-ghost use Rattle.mqb_words.specs.declared.commands.Command.TheVariants as command;
 
 use crate::saying::{say_called, say_formatted, say_listed, say_made};
 use mqb_commands::{help, version};
@@ -51,9 +50,21 @@ fn run_command<S: Source, K: Sink, D: Disk, M: Medium, N: Net, C: Clock>(
       };
       moment = C.steady clock.old;
     }) result }
-    ensures complete { asked.now ≡ command.Replay → Completes (S.held input.old)
-        (S.read_faults input.old) (S.read_faults input.new)
-        (K.write_faults out.old) (K.write_faults out.new) result }
+    ensures complete { Completes (Some asked.now) (D.view disk.old) (S.held input.old) (record {
+      input = S.read_faults input.old;
+      output = K.write_faults out.old;
+      disk = (D.view disk.old).faults;
+      net = N.faults net.old;
+      lost = N.lost net.old;
+    }) (record {
+      input = S.read_faults input.new;
+      output = K.write_faults out.new;
+      disk = (D.view disk.new).faults;
+      net = N.faults net.new;
+      lost = N.lost net.new;
+    }) result }
+    ensures asked { Asks (Some asked.now) (N.finished net.old) (N.finished net.new)
+        (C.asked clock.old) (C.asked clock.new) }
     ensures usage { UsageHasCause (Some asked.now) result }
     ensures read_fault { ReadFaultHasCause (S.read_faults input.old) (S.read_faults input.new)
         result }
@@ -129,10 +140,25 @@ pub fn run<S: Source, K: Sink, D: Disk, M: Medium, N: Net, C: Clock>(
       moment = C.steady clock.old;
     }) result }
 
-    // A script whose packets fit the medium is replayed whole, where the input and the output do not fail.
-    ensures complete { command_of (map string_bytes words.now) ≡ Some command.Replay →
-        Completes (S.held input.old) (S.read_faults input.old) (S.read_faults input.new)
-        (K.write_faults out.old) (K.write_faults out.new) result }
+    // Where no device fails and the store is sound, each command ends well, or memory ran out.
+    ensures complete { Completes (command_of (map string_bytes words.now)) (D.view disk.old)
+        (S.held input.old) (record {
+          input = S.read_faults input.old;
+          output = K.write_faults out.old;
+          disk = (D.view disk.old).faults;
+          net = N.faults net.old;
+          lost = N.lost net.old;
+        }) (record {
+          input = S.read_faults input.new;
+          output = K.write_faults out.new;
+          disk = (D.view disk.new).faults;
+          net = N.faults net.new;
+          lost = N.lost net.new;
+        }) result }
+
+    // How often the clock is asked.
+    ensures asked { Asks (command_of (map string_bytes words.now)) (N.finished net.old)
+        (N.finished net.new) (C.asked clock.old) (C.asked clock.new) }
 
     // Where each fault comes from.
     ensures usage { UsageHasCause (command_of (map string_bytes words.now)) result }

@@ -3,6 +3,7 @@ ghost use Rattle.std.specs.Prelude.{◌≢◌, ◌≤◌};
 ghost use Rattle.mqb_calls.specs.Calls.{CallsAt};
 ghost use Rattle.mqb_commands.specs.Causes.{DiskFaultHasCause};
 ghost use Rattle.mqb_commands.specs.Said.{Inits, Lists, Makes};
+ghost use Rattle.mqb_devices.specs.Disk.{Counted};
 ghost use Rattle.mqb_status.specs.Outputs.{Says, WriteFaultHasCause};
 ghost use Rattle.mqb_words.specs.Formed.{IsFormedCall};
 
@@ -73,6 +74,7 @@ pub(crate) fn say_called<K: Sink, D: Disk, C: Clock>(
     ensures cause { WriteFaultHasCause (K.write_faults out.old) (K.write_faults out.new) result }
     ensures net { result ≢ Status.NetFault }
     ensures disk { DiskFaultHasCause (D.view disk.old).faults (D.view disk.new).faults result }
+    ensures asked { Counted 1 (C.asked clock.old) (C.asked clock.new) }
 {
     let answer = mqb_calls::call(alloc, disk, clock, call);
     answer.write(out)

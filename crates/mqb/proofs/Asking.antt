@@ -1,0 +1,26 @@
+-- How often the clock is asked where nothing was done.
+use Rattle.std.proofs.Common.{◌≡◌, ◌+◌, ℕ, List, Option, Some, None, length, inl, inr, refl, arith}
+use Rattle.std.specs.Prelude.{IfSome}
+use Rattle.mqb_connections.specs.Asked.{AsksForEach, AsksOnce, RoseBy}
+use Rattle.mqb_devices.specs.Disk.{Counted}
+use Rattle.mqb_devices.specs.Net.{Ended}
+use Rattle.mqb_words.specs.declared.commands.Command.{Command}
+use Rattle.mqb_words.specs.declared.commands.Command.TheVariants as command
+use Rattle.mqb.specs.Runs.{Asks}
+
+none_finished : (ended : Option (List Ended)) → IfSome ended (λ before. IfSome ended (λ after. length after ≡ length before + 0))
+none_finished None = tt
+none_finished (Some before) = omega arith
+
+for_none : (count : ℕ) (ended : Option (List Ended)) (asked : ℕ) → AsksForEach count ended ended asked asked
+for_none count ended asked = record { served = 0; most = omega arith; counted = omega arith; finished = none_finished ended }
+
+pub asks_none : (words : Option Command) (ended : Option (List Ended)) (asked : ℕ) → Asks words ended ended asked asked
+asks_none (Some (command.Serve count)) ended asked = for_none count ended asked
+asks_none (Some (command.Push host)) ended asked = for_none 1 ended asked
+asks_none (Some command.Probe) ended asked = inl refl
+asks_none (Some (command.Call call)) ended asked = inl refl
+asks_none _ ended asked = refl
+
+pub counted_once : (asked asked_now : ℕ) → Counted 1 asked asked_now → AsksOnce asked asked_now
+counted_once asked asked_now counted = let by : RoseBy 1 asked asked_now = omega (arith, counted.later, counted.sum) in inr by
