@@ -20,13 +20,18 @@ pub record Faults : Type 0 where
   pub net : ℕ
   pub lost : ℕ
 
--- No device failed, and no connection was lost.
-pub record NoneFailed (before now : Faults) : Type 0 where
+-- where a command pushes, no connection was lost
+abbrev pub NoneLost : Option Command → (lost lost_now : ℕ) → Type 0
+NoneLost (Some (command.Push host)) lost lost_now = Rose lost lost_now → ⊥
+NoneLost _ lost lost_now = Unit {0}
+
+-- No device of a command failed. Connections of `serve` may be lost.
+pub record NoneFailed (asked : Option Command) (before now : Faults) : Type 0 where
   pub input : Rose before.input now.input → ⊥
   pub output : Rose before.output now.output → ⊥
   pub disk : Rose before.disk now.disk → ⊥
   pub net : Rose before.net now.net → ⊥
-  pub lost : Rose before.lost now.lost → ⊥
+  pub lost : NoneLost asked before.lost now.lost
 
 -- The disk reads as a store, which is bad at no place. One that does not tell what it reads as is none.
 abbrev pub IsSound : View → Type 0
@@ -53,4 +58,4 @@ EndsWell (Some command.Version) disk held r = r ≡ status.Done
 
 -- A command ends well where no device failed, or memory ran out.
 abbrev pub Completes : Option Command → (disk : View) → (held : Option (List ℕ)) → (before now : Faults) → Status → Type 0
-Completes asked disk held before now r = NoneFailed before now → EndsWell asked disk held r ⊎ (r ≡ status.Memory)
+Completes asked disk held before now r = NoneFailed asked before now → EndsWell asked disk held r ⊎ (r ≡ status.Memory)
