@@ -97,7 +97,7 @@ fn wanted(
 }
 
 /// Whether each pick leaves what it should, where the disk stopped at a call.
-fn leaves(
+fn picks_leave(
     alloc: Global,
     change: &Change,
     stop: &str,
@@ -116,21 +116,23 @@ fn leaves(
     Ok(true)
 }
 
+/// Whether each stop under a change leaves the store from before it or the one behind it, by each pick. The change makes another one.
+fn stops_leave(alloc: Global, change: &Change) -> Result<bool, Fail> {
+    let before = state_behind(alloc, change.0, "records")?;
+    let behind = state_behind(alloc, change.0, change.1)?;
+    for (stop, opens) in STOPS {
+        let states = [before.as_slice(), behind.as_slice()];
+        if !picks_leave(alloc, change, stop, opens, states)? {
+            return Ok(false);
+        }
+    }
+    Ok(before != behind)
+}
+
 #[test]
 fn what_a_stopped_call_leaves(rt: HostRuntime) -> Result<(), Fail> {
-    let alloc = rt.alloc();
-    for (before, line, ledger) in CHANGES {
-        let state = state_behind(alloc, before, "records")?;
-        let next = state_behind(alloc, before, line)?;
-        assert_ne!(rt; state, next, "{line}");
-        for (stop, opens) in STOPS {
-            let states = [state.as_slice(), next.as_slice()];
-            let change = (before, line, ledger);
-            assert!(rt;
-                leaves(alloc, &change, stop, opens, states)?,
-                "{line} {stop}"
-            );
-        }
+    for change in &CHANGES {
+        assert!(rt; stops_leave(rt.alloc(), change)?, "{}", change.1);
     }
     Ok(())
 }
