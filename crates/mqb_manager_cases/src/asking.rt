@@ -9,7 +9,8 @@
 //! | `doubt` | the bytes of the entry that alpha has in doubt |
 //! | `last` | how long the packet is that was sent last, and in how many seconds it is to reach its queue |
 //! | `peer` | alpha comes to know a third manager |
-//! | `feed` | what beta makes of the packet that was sent last, where it comes byte by byte |
+//! | `whole` | what beta makes of the packet that was sent last, where it comes through a framer at once |
+//! | `bytes` | the same, where it comes byte by byte |
 ghost use Rattle.std.specs.Prelude.{OnOk};
 ghost use Rattle.mqb_manager_cases.specs.Kept.{IsKept};
 
@@ -120,8 +121,10 @@ pub(crate) fn tell(
     }
     let reply = if asked == b"peer".as_slice() {
         alpha.known(&gamma(alloc)?)?
-    } else if asked == b"feed".as_slice() {
-        fed(beta, medium)?
+    } else if asked == b"whole".as_slice() {
+        fed(beta, medium, true)?
+    } else if asked == b"bytes".as_slice() {
+        fed(beta, medium, false)?
     } else {
         replied(alpha, beta, medium, asked)?
     };

@@ -20,25 +20,29 @@ fn feed_each(framer: &mut Framer, bytes: &[u8]) -> Result<(), Full>
     Ok(())
 }
 
-/// A framer that was fed these bytes one at a time.
-fn framer(alloc: Global, bytes: &[u8]) -> Result<Framer, Fail> {
+/// A framer that was fed these bytes, at once or one at a time.
+fn framer(alloc: Global, bytes: &[u8], at_once: bool) -> Result<Framer, Fail> {
     if bytes.len() > MAX_PACKET as usize {
         return Err(Fail::new("too long"));
     }
     let mut framer = Framer::new(alloc, MAX_PACKET)?;
-    feed_each(&mut framer, bytes)?;
+    if at_once {
+        framer.feed(bytes)?;
+    } else {
+        feed_each(&mut framer, bytes)?;
+    }
     Ok(framer)
 }
 
-/// What a manager makes of the packet that was sent last, where it comes byte by byte.
-pub(crate) fn fed(node: &mut Node, medium: &Medium) -> Result<Reply, Fail>
+/// What a manager makes of the packet that was sent last, where it comes at once or byte by byte.
+pub(crate) fn fed(node: &mut Node, medium: &Medium, at_once: bool) -> Result<Reply, Fail>
     requires { IsKept node.old.disk node.old.manager }
     ensures { OnOk result (IsKept node.new.disk node.new.manager) }
 {
     let Some(sent) = medium.packet(medium.last()) else {
         return Ok(Reply::NoPacket);
     };
-    let framer = framer(medium.alloc, sent.bytes.as_slice())?;
+    let framer = framer(medium.alloc, sent.bytes.as_slice(), at_once)?;
     match framer.next() {
         Next::Packet(packet) => node.heard(medium.alloc, packet, 1000),
         _ => Err(Fail::new("no packet")),

@@ -216,7 +216,7 @@ send alpha 1000 recoverable 3 send,DIRECT=OS:beta\\PRIVATE$\\orders,-,-,-,\
 DIRECT=OS:alpha\\PRIVATE$\\replies,-,*1012>sent alpha.1\n\
 pump alpha 1000>pumped 5\n\
 last>1248 4294967295\n\
-deliver 5 1000>bounced 800A [bounced 800A alpha.1]",
+whole>bounced 800A [bounced 800A alpha.1]",
     // and one that comes byte by byte
     b"queue beta orders tx 100 none>ok\n\
 connect alpha 1000 64 64>connected 1 2 3 4\n\
@@ -224,7 +224,7 @@ send alpha 1000 recoverable 3 send,DIRECT=OS:beta\\PRIVATE$\\orders,-,-,-,\
 DIRECT=OS:alpha\\PRIVATE$\\replies,-,*1012>sent alpha.1\n\
 pump alpha 1000>pumped 5\n\
 last>1248 4294967295\n\
-feed>bounced 800A [bounced 800A alpha.1]",
+bytes>bounced 800A [bounced 800A alpha.1]",
     // quotas, names and journals
     b"queue alpha notes plain 1 journal>ok\n\
 queue alpha NOTES plain 1 none>queuethere\n\
