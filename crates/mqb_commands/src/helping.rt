@@ -10,6 +10,8 @@ mqb replay                          replays the script from the input
     mqb replay < examples/one_message.mqb
 mqb make N                          makes a script of 1 to 10000 orders
     mqb make 200 > orders.mqb
+mqb trial N                         replays the script of 1 to 10000 orders and counts what became of them
+    mqb trial 200
 mqb init STORE HOST GUID ADDRESS    makes an empty or absent file the store of a manager
     mqb init alpha.store alpha 0a0b0c0d-1112-1314-1516-1718191a1b1c 127.0.0.1
     mqb init beta.store beta 2a2b2c2d-3132-3334-3536-3738393a3b3c 127.0.0.2

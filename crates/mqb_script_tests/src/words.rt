@@ -25,6 +25,7 @@ fn asked(command: &Command) -> Asked {
     match command {
         Command::Replay => ("replay", 0, NO),
         Command::Make { orders } => ("make", u64::from(*orders), NO),
+        Command::Trial { orders } => ("trial", u64::from(*orders), NO),
         Command::Show => ("show", 0, NO),
         Command::Init { identity } => ("init", identity_number(identity), NO),
         Command::Call(call) => called(call),
@@ -58,10 +59,12 @@ fn called(call: &Call) -> Asked {
 }
 
 /// Words, what their command tells, and whether their second word is a store.
-static WORDS: [(&str, Asked, bool); 37] = [
+static WORDS: [(&str, Asked, bool); 39] = [
     ("replay", ("replay", 0, NO), false),
     ("make 1", ("make", 1, NO), false),
     ("make 10000", ("make", 10_000, NO), false),
+    ("trial 1", ("trial", 1, NO), false),
+    ("trial 10000", ("trial", 10_000, NO), false),
     ("show", ("show", 0, NO), false),
     (
         "init here alpha 0a0b0c0d-1112-1314-1516-1718191a1b1c 10.0.0.1",
@@ -147,7 +150,7 @@ fn each_form_of_words_is_read(rt: HostRuntime) -> Result<(), Memory> {
 }
 
 /// Words outside their forms.
-static OUTSIDE: [&str; 79] = [
+static OUTSIDE: [&str; 84] = [
     "",
     "reply",
     "REPLAY",
@@ -160,6 +163,11 @@ static OUTSIDE: [&str; 79] = [
     "make 01",
     "make 1 2",
     "make x",
+    "trial",
+    "trial 0",
+    "trial 10001",
+    "trial 1 2",
+    "trials 1",
     "init",
     "init here a 0a0b0c0d-1112-1314-1516-1718191a1b1c",
     "init here a 0a0b0c0d-1112-1314-1516-1718191a1b1c 10.0.0.1 x",

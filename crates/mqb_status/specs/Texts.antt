@@ -4,6 +4,8 @@ use Rattle.std.specs.Prelude.{[], ◌++◌, Err, List, Ok, Result, codes, ℕ}
 use Rattle.mqb_fields.specs.declared.faults.HeadFault.{HeadFault}
 use Rattle.mqb_fields.specs.declared.faults.HeadKind.{HeadKind}
 use Rattle.mqb_fields.specs.declared.faults.HeadKind.TheVariants as head
+use Rattle.mqb_forms.specs.declared.faults.LineKind.{LineKind}
+use Rattle.mqb_forms.specs.declared.faults.LineKind.TheVariants as line
 use Rattle.mqb_serving.specs.declared.faults.ConnFault.{ConnFault}
 use Rattle.mqb_serving.specs.declared.faults.ConnFault.TheVariants as conn
 use Rattle.mqb_serving.specs.declared.faults.PeerFault.{PeerFault}
@@ -45,9 +47,15 @@ end_text (Err conn.WriteFault) = codes "netfault"
 end_text (Err conn.DiskFault) = []
 end_text (Err conn.Memory) = []
 
--- the fault line of a script: its first line that is not built
-unfoldable pub script_fault_text : ℕ → List ℕ
-script_fault_text line = codes "fault: script " ++ decimal line ++ codes " unbuilt\n"
+unfoldable pub line_kind_text : LineKind → List ℕ
+line_kind_text line.Byte = codes "byte"
+line_kind_text line.Word = codes "word"
+line_kind_text line.Count = codes "count"
+line_kind_text line.Value = codes "value"
+
+-- the fault line of a script: its first line that fails, and what is wrong with it
+unfoldable pub script_fault_text : ℕ → LineKind → List ℕ
+script_fault_text number kind = codes "fault: script " ++ decimal number ++ codes " " ++ line_kind_text kind ++ codes "\n"
 
 -- that of a disk that is no store, with the first place where it is none
 unfoldable pub bad_store_text : ℕ → List ℕ
@@ -60,7 +68,7 @@ shown_fault_text why = codes "fault: " ++ peer_text why ++ codes "\n"
 -- the fault line of an end, where it has one
 unfoldable pub fault_text : Status → List ℕ
 fault_text status.Usage = codes "fault: usage\n"
-fault_text (status.Script line kind) = script_fault_text line
+fault_text (status.Script line kind) = script_fault_text line kind
 fault_text status.TooLong = codes "fault: toolong\n"
 fault_text status.TooManyLines = codes "fault: toomanylines\n"
 fault_text status.ReadFault = codes "fault: readfault\n"

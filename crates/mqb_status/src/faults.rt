@@ -1,12 +1,13 @@
 //! What is said of faults and of the ends of connections.
 ghost use Rattle.std.specs.Prelude.{◌≡◌, ◌++◌, OnErr, OnOk, codes};
-ghost use Rattle.mqb_status.specs.Texts.{bad_store_text, bad_text, end_text, fault_text, kind_text, peer_text, script_fault_text, shown_fault_text};
+ghost use Rattle.mqb_status.specs.Texts.{bad_store_text, bad_text, end_text, fault_text, kind_text, line_kind_text, peer_text, script_fault_text, shown_fault_text};
 ghost use Rattle.mqb_transcript.specs.Printing.{wrote};
 ghost use Rattle.mqb_transcript.specs.Texts.{cause_text};
 
 use crate::status::Status;
 use mqb_base::{Cause, Memory};
 use mqb_fields::{HeadFault, HeadKind};
+use mqb_forms::LineKind;
 use mqb_serving::{ConnFault, PeerFault};
 use mqb_transcript::Printer;
 use std::alloc::Global;
@@ -40,6 +41,18 @@ fn kind_text(kind: HeadKind) -> &'static [u8]
         HeadKind::Label => b"label",
         HeadKind::Class => b"class",
         HeadKind::Sizes => b"sizes",
+    }
+}
+
+#[tactic(auto, unfolding(crate::specs::Texts::line_kind_text))]
+fn line_kind_text(kind: LineKind) -> &'static [u8]
+    ensures { result.now ≡ line_kind_text kind }
+{
+    match kind {
+        LineKind::Byte => b"byte",
+        LineKind::Word => b"word",
+        LineKind::Count => b"count",
+        LineKind::Value => b"value",
     }
 }
 
@@ -91,12 +104,14 @@ pub fn put_end(printer: &mut Printer<'_>, end: Result<(), ConnFault>) -> Result<
 }
 
 #[tactic(auto, using(mqb_transcript::specs::lemmas::Wrote::writing), unfolding(crate::specs::Texts::script_fault_text))]
-fn put_script_fault(printer: &mut Printer<'_>, line: u32) -> Result<(), Memory>
-    ensures { OnOk result (printer.new ≡ wrote printer.old (script_fault_text line)) }
+fn put_script_fault(printer: &mut Printer<'_>, line: u32, kind: LineKind) -> Result<(), Memory>
+    ensures { OnOk result (printer.new ≡ wrote printer.old (script_fault_text line kind)) }
 {
     printer.put(b"fault: script ")?;
     printer.number(line)?;
-    printer.put(b" unbuilt\n")
+    printer.put(b" ")?;
+    printer.put(line_kind_text(kind))?;
+    printer.put(b"\n")
 }
 
 #[tactic(auto, using(mqb_transcript::specs::lemmas::Wrote::writing), unfolding(crate::specs::Texts::bad_store_text))]
@@ -124,7 +139,7 @@ fn put_fault(printer: &mut Printer<'_>, end: Status) -> Result<(), Memory>
 {
     match end {
         Status::Usage => printer.put(b"fault: usage\n"),
-        Status::Script { line, .. } => put_script_fault(printer, line),
+        Status::Script { line, kind } => put_script_fault(printer, line, kind),
         Status::TooLong => printer.put(b"fault: toolong\n"),
         Status::TooManyLines => printer.put(b"fault: toomanylines\n"),
         Status::ReadFault => printer.put(b"fault: readfault\n"),

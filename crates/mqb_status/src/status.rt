@@ -1,8 +1,8 @@
 ghost use Rattle.std.specs.Prelude.{◌≡◌};
 ghost use Rattle.mqb_status.specs.Exits.{exit_of};
 
+use mqb_forms::LineKind;
 use mqb_serving::PeerFault;
-use mqb_sketch_script::LineKind;
 
 /// How the program ended.
 #[derive(Clone, Copy, Debug, PartialEq, Eq)]
@@ -11,7 +11,7 @@ pub enum Status {
     Done,
     /// The words of the command line are no command.
     Usage,
-    /// A line of the script is none that is built.
+    /// The first line of the script that fails, counted from 1.
     Script { line: u32, kind: LineKind },
     /// The script is over 16,777,216 bytes.
     TooLong,
@@ -21,13 +21,13 @@ pub enum Status {
     ReadFault,
     /// The output failed.
     WriteFault,
-    /// The disk failed.
+    /// The disk failed; in a replay, one of its two disks while the stores were made.
     DiskFault,
     /// The net gave no connection, or one that was pushed over had a fault.
     NetFault,
     /// The disk is no store of a manager: the first place where it is none.
     BadStore { at: u64 },
-    /// The disk on which a store was to be made is not empty.
+    /// A disk on which a store was to be made is not empty.
     NotEmpty,
     /// The bytes that came ended badly.
     Peer(PeerFault),

@@ -13,9 +13,9 @@ use Rattle.mqb_words.specs.declared.commands.Call.{Call}
 use Rattle.mqb_words.specs.declared.commands.Command.{Command}
 use Rattle.mqb_words.specs.declared.commands.Command.TheVariants as command
 use Rattle.mqb_words.specs.Table.{form_of}
-use Rattle.mqb_words.specs.Values.{MOST_ORDERS, MOST_CONNECTIONS, orders_of, connections_of, identity_of}
+use Rattle.mqb_words.specs.Values.{MOST_ORDERS, MOST_CONNECTIONS, connections_of, identity_of}
 use Rattle.mqb_words.specs.Calls.{peer_from, create_from, sent_with, send_from, commit_from, take_from, purge_from, tick_from, roll_from}
-use Rattle.mqb_words.specs.Words.{alone, of_store, make_from, init_from, calling, serve_from, push_from, command_with, command_from}
+use Rattle.mqb_words.specs.Words.{alone, of_store, orders_from, making, trying, init_from, calling, serve_from, push_from, command_with, command_from}
 use Rattle.mqb_words.specs.Stores.{has_store}
 use Rattle.mqb_words.specs.Formed.{IsFormedCall, IsFormed}
 
@@ -102,12 +102,16 @@ unfolding of_store
 of_store_good asked (store ∷ []) formed = (formed, λ _. omega arith)
 of_store_good asked _ formed = tt
 
-make_good : (words : List (List ℕ)) → IfOk (make_from words) (IsGood words)
-unfolding make_from
-make_good (orders ∷ []) =
-    then_gives (IsGood (orders ∷ [])) _ (orders_of orders)
-    (λ count is. let bounds = number_bounds 1 MOST_ORDERS count orders is in ((bounds.low, bounds.high), λ _. omega arith))
-make_good _ = tt
+orders_bounds : (words : List (List ℕ)) (count : ℕ) → orders_from words ≡ Ok count → (1 ≤ count) × (count ≤ MOST_ORDERS)
+unfolding orders_from
+orders_bounds (orders ∷ []) count is = let bounds = number_bounds 1 MOST_ORDERS count orders is in (bounds.low, bounds.high)
+orders_bounds _ count is = absurd (let never : ⊥ = cc in never)
+
+make_good : (words : List (List ℕ)) → IfOk (making (orders_from words)) (IsGood words)
+make_good words = then_gives (IsGood words) _ (orders_from words) (λ count is. (orders_bounds words count is, λ none. cc))
+
+trial_good : (words : List (List ℕ)) → IfOk (trying (orders_from words)) (IsGood words)
+trial_good words = then_gives (IsGood words) _ (orders_from words) (λ count is. (orders_bounds words count is, λ none. cc))
 
 init_good : (words : List (List ℕ)) → IfOk (init_from words) (IsGood words)
 unfolding init_from
@@ -135,6 +139,7 @@ command_good : (which : Form) (words : List (List ℕ)) → IfOk (command_with w
 unfolding command_with
 command_good form.Replay words = alone_good command.Replay words tt (λ none. cc)
 command_good form.Make words = make_good words
+command_good form.Trial words = trial_good words
 command_good form.Show words = alone_good command.Show words tt (λ none. cc)
 command_good form.Init words = init_good words
 command_good form.Peer words = calling_good words (peer_from words) (peer_good words)

@@ -17,6 +17,7 @@ IsFormedCall _ = Unit {0}
 
 abbrev pub IsFormed : Command → Type 0
 IsFormed (command.Make orders) = (1 ≤ orders) × (orders ≤ MOST_ORDERS)
+IsFormed (command.Trial orders) = (1 ≤ orders) × (orders ≤ MOST_ORDERS)
 IsFormed (command.Call call) = IsFormedCall call
 IsFormed (command.Serve count) = (1 ≤ count) × (count ≤ MOST_CONNECTIONS)
 IsFormed _ = Unit {0}

@@ -7,6 +7,7 @@ use Rattle.mqb_words.specs.declared.commands.Command.TheVariants as command
 abbrev pub has_store : Command → Bool
 has_store command.Replay = false
 has_store (command.Make orders) = false
+has_store (command.Trial orders) = false
 has_store command.Show = false
 has_store (command.Init identity) = true
 has_store (command.Call call) = true

@@ -7,12 +7,13 @@ use Rattle.mqb_words.specs.declared.forms.Form.{Form}
 use Rattle.mqb_words.specs.declared.forms.Form.TheVariants as form
 
 abbrev pub forms : List Form
-forms = form.Replay ∷ form.Make ∷ form.Show ∷ form.Init ∷ form.Peer ∷ form.Create ∷ form.Send ∷ form.Commit ∷ form.Take ∷ form.Purge ∷ form.Tick
-    ∷ form.Roll ∷ form.List ∷ form.Probe ∷ form.Serve ∷ form.Push ∷ form.Help ∷ form.Version ∷ []
+forms = form.Replay ∷ form.Make ∷ form.Trial ∷ form.Show ∷ form.Init ∷ form.Peer ∷ form.Create ∷ form.Send ∷ form.Commit ∷ form.Take ∷ form.Purge
+    ∷ form.Tick ∷ form.Roll ∷ form.List ∷ form.Probe ∷ form.Serve ∷ form.Push ∷ form.Help ∷ form.Version ∷ []
 
 abbrev pub word_of : Form → List ℕ
 word_of form.Replay = codes "replay"
 word_of form.Make = codes "make"
+word_of form.Trial = codes "trial"
 word_of form.Show = codes "show"
 word_of form.Init = codes "init"
 word_of form.Peer = codes "peer"

@@ -8,7 +8,7 @@ use Rattle.mqb_forms.specs.declared.faults.LineKind.TheVariants.{Value}
 use Rattle.mqb_forms.specs.Words.{number_in}
 use Rattle.mqb_forms.specs.Values.{name_of, guid_of}
 
--- the most orders of a script that is made
+-- the most orders of a script that is made, or tried
 abbrev pub MOST_ORDERS : ℕ
 MOST_ORDERS = 10000
 

@@ -30,11 +30,20 @@ unfoldable pub of_store : Command → List (List ℕ) → Result Command LineKin
 of_store command (store ∷ []) = Ok command
 of_store command _ = Err Value
 
-unfoldable pub make_from : List (List ℕ) → Result Command LineKind
-make_from (orders ∷ []) = do
-  count ← orders_of orders
-  Ok (command.Make count)
-make_from _ = Err Value
+-- a count of orders alone
+unfoldable pub orders_from : List (List ℕ) → Result ℕ LineKind
+orders_from (orders ∷ []) = orders_of orders
+orders_from _ = Err Value
+
+abbrev pub making : Result ℕ LineKind → Result Command LineKind
+making read = do
+  orders ← read
+  Ok (command.Make orders)
+
+abbrev pub trying : Result ℕ LineKind → Result Command LineKind
+trying read = do
+  orders ← read
+  Ok (command.Trial orders)
 
 unfoldable pub init_from : List (List ℕ) → Result Command LineKind
 init_from (store ∷ host ∷ guid ∷ address ∷ []) = do
@@ -62,7 +71,8 @@ push_from _ = Err Value
 -- by the form that the first word tells
 unfoldable pub command_with : Form → List (List ℕ) → Result Command LineKind
 command_with form.Replay words = alone command.Replay words
-command_with form.Make words = make_from words
+command_with form.Make words = making (orders_from words)
+command_with form.Trial words = trying (orders_from words)
 command_with form.Show words = alone command.Show words
 command_with form.Init words = init_from words
 command_with form.Peer words = calling (peer_from words)

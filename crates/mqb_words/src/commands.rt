@@ -12,6 +12,8 @@ pub enum Command {
     Replay,
     /// `make N`, from 1 to 10000
     Make { orders: u32 },
+    /// `trial N`, from 1 to 10000
+    Trial { orders: u32 },
     /// `show`
     Show,
     /// `init STORE HOST GUID ADDRESS`
@@ -66,6 +68,7 @@ impl Command {
             | Command::Push { .. } => true,
             Command::Replay
             | Command::Make { .. }
+            | Command::Trial { .. }
             | Command::Show
             | Command::Help
             | Command::Version => false,

@@ -10,6 +10,7 @@ use mqb_forms::{LineKind, is_word};
 pub enum Form {
     Replay,
     Make,
+    Trial,
     Show,
     Init,
     Peer,
@@ -28,9 +29,10 @@ pub enum Form {
     Version,
 }
 
-const FORMS: [Form; 18] = [
+const FORMS: [Form; 19] = [
     Form::Replay,
     Form::Make,
+    Form::Trial,
     Form::Show,
     Form::Init,
     Form::Peer,
@@ -56,6 +58,7 @@ impl Form {
         match self {
             Form::Replay => b"replay",
             Form::Make => b"make",
+            Form::Trial => b"trial",
             Form::Show => b"show",
             Form::Init => b"init",
             Form::Peer => b"peer",

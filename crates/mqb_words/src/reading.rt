@@ -1,7 +1,7 @@
 ghost use Rattle.std.specs.Prelude.{◌≡◌, ◌≤◌, length, map, IfOk, IsTrue};
 ghost use Rattle.std.specs.String.{string_bytes};
 ghost use Rattle.mqb_forms.specs.Faults.{Reads};
-ghost use Rattle.mqb_words.specs.Words.{alone, of_store, make_from, init_from, serve_from, push_from, command_with, command_from, command_of, Answers};
+ghost use Rattle.mqb_words.specs.Words.{alone, of_store, orders_from, init_from, serve_from, push_from, command_with, command_from, command_of, Answers};
 ghost use Rattle.mqb_words.specs.Stores.{has_store};
 ghost use Rattle.mqb_words.specs.Formed.{IsFormed};
 
@@ -37,15 +37,15 @@ fn of_store(command: Command, words: &[&[u8]]) -> Result<Command, LineKind>
     Ok(command)
 }
 
-#[tactic(auto, unfolding(crate::specs::Words::make_from))]
-fn make_from(words: &[&[u8]]) -> Result<Command, LineKind>
-    ensures { result ≡ make_from (map (λ word. word.now) words.now) }
+/// The count of orders behind the first word.
+#[tactic(auto, unfolding(crate::specs::Words::orders_from))]
+fn orders_from(words: &[&[u8]]) -> Result<u32, LineKind>
+    ensures { result ≡ orders_from (map (λ word. word.now) words.now) }
 {
     let [orders] = words else {
         return Err(LineKind::Value);
     };
-    let orders = orders_of(orders)?;
-    Ok(Command::Make { orders })
+    orders_of(orders)
 }
 
 #[tactic(auto, unfolding(crate::specs::Words::init_from))]
@@ -88,7 +88,12 @@ fn command_with(alloc: Global, form: Form, words: &[&[u8]]) -> Result<Command, L
 {
     match form {
         Form::Replay => Ok(alone(Command::Replay, words)?),
-        Form::Make => Ok(make_from(words)?),
+        Form::Make => Ok(Command::Make {
+            orders: orders_from(words)?,
+        }),
+        Form::Trial => Ok(Command::Trial {
+            orders: orders_from(words)?,
+        }),
         Form::Show => Ok(alone(Command::Show, words)?),
         Form::Init => init_from(alloc, words),
         Form::Peer => Ok(Command::Call(peer_from(alloc, words)?)),
