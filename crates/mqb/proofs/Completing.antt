@@ -1,5 +1,5 @@
 -- Where no device failed and the store is sound, a command ends well, or memory ran out.
-use Rattle.std.proofs.Common.{◌≡◌, ◌⊎◌, ◌<◌, [], ℕ, List, Option, Some, None, Ok, Err, inl, inr, refl, sym, subst, arith}
+use Rattle.std.proofs.Common.{◌≡◌, ◌⊎◌, ◌∙◌, ◌<◌, [], ℕ, List, Option, Result, Some, None, Ok, Err, ap, inl, inr, refl, sym, subst, arith}
 use Rattle.mqb_base.specs.declared.ids.Identity.{Identity}
 use Rattle.mqb_answers.specs.declared.told.CallEnd.{CallEnd}
 use Rattle.mqb_answers.specs.declared.told.CallEnd.TheVariants as call
@@ -13,19 +13,25 @@ use Rattle.mqb_connections.specs.Statuses.{IsFaultless, probe_status}
 use Rattle.mqb_devices.specs.Disk.{View}
 use Rattle.mqb_devices.specs.Net.{Ended}
 use Rattle.mqb_outside.specs.Faults.{Rose}
-use Rattle.mqb_replay.specs.Completeness.{FitMedium, HoldsScript}
+use Rattle.mqb_replay.specs.Completeness.{CompletesTrial, FitMedium, HoldsScript, IsDoneOr}
 use Rattle.mqb_replay.specs.Completeness as replay
+use Rattle.mqb_replay.specs.Devices.{Devices}
+use Rattle.mqb_replay.specs.Replays.{AreEmpty}
+use Rattle.mqb_replay.specs.Faults as playing
+use Rattle.mqb_replay.specs.declared.faults.ReplayFault.{ReplayFault}
+use Rattle.mqb_script.specs.Script.{script_of}
+use Rattle.mqb_script.specs.declared.events.Event.{Event}
 use Rattle.mqb_serve_laws.specs.Serving.{Answer}
 use Rattle.mqb_serving.specs.declared.faults.ConnFault.TheVariants as fault
 use Rattle.mqb_show.specs.Shown.{Shows}
-use Rattle.mqb_sketch_script.specs.declared.events.Event.{Event}
 use Rattle.mqb_status.specs.Outputs.{ReadFaultHasCause, Says, Tells, WriteFaultHasCause}
 use Rattle.mqb_status.specs.declared.status.Status.{Status}
 use Rattle.mqb_status.specs.declared.status.Status.TheVariants as status
+use Rattle.mqb_transcript.specs.Generator.{generated}
 use Rattle.mqb_words.specs.declared.commands.Call as words
 use Rattle.mqb_words.specs.declared.commands.Command.{Command}
 use Rattle.mqb_words.specs.declared.commands.Command.TheVariants as command
-use Rattle.mqb.specs.Completeness.{Completes, Faults, IsDoneOrPeer, IsSound}
+use Rattle.mqb.specs.Completeness.{Completes, Faults, IsDoneOrPeer, IsReplayed, IsSound}
 
 -- what was told where the output did not fail
 told_well : (P : Status → Type 0) (text : List ℕ) (end : Status) (before after : Option (List ℕ)) (writes writes_now : ℕ) (r : Status)
@@ -129,82 +135,102 @@ show_ends held left before after reads reads_now writes writes_now status.WriteF
 show_ends held left before after reads reads_now writes writes_now status.Memory shown read write unread unwritten = inr refl
 show_ends held left before after reads reads_now writes writes_now _ shown read write unread unwritten = absurd shown.wrote.0
 
--- a script that can be replayed whole
-abbrev Whole : Option (List ℕ) → Type 0
-Whole held = (events : List (ℕ × Event)) × HoldsScript held events × FitMedium events
+-- How a replay ends that comes to its end.
+replayed : (end : Result (Unit {0}) ReplayFault) (r : Status) → r ≡ playing.status_of end → IsDoneOr end → IsReplayed r ⊎ (r ≡ status.Memory)
+replayed end r is (inl done) = inl (inl (is ∙ ap playing.status_of done))
+replayed end r is (inr (inl none)) = inr (is ∙ ap playing.status_of none)
+replayed end r is (inr (inr failed)) = inl (inr (is ∙ ap playing.status_of failed))
 
-replay_ends : (held : Option (List ℕ)) (r : Status) → Unless (λ r. Whole held → r ≡ status.Done) r
-    → Unless (λ r. (events : List (ℕ × Event)) → HoldsScript held events → FitMedium events → r ≡ status.Done) r
-replay_ends held r (inl ends) = inl (λ events holds fit. ends (events, holds, fit))
-replay_ends held r (inr none) = inr none
+-- Under some premises it ends so; or memory ran out.
+replay_ends : (whole : Type 0) (r : Status) → (whole → IsReplayed r ⊎ (r ≡ status.Memory)) → Unless (λ r. whole → IsReplayed r) r
+replay_ends whole status.Memory ends = inr refl
+replay_ends whole status.Done ends = inl (λ is. inl refl)
+replay_ends whole status.DiskFault ends = inl (λ is. inr refl)
+replay_ends whole r ends = inl (λ is. elim (ends is) [
+  | inl well ↦ well
+  | inr none ↦ absurd (let never : ⊥ = cc in never)
+])
 
 -- Each command, by what it says and by its causes.
-module _ (d e : View) (held : Option (List ℕ)) (reads reads_now writes writes_now net net_now lost lost_now : ℕ) (r : Status) where
+module _ (d e : View) (b : Devices) (held : Option (List ℕ)) (reads reads_now writes writes_now net net_now lost lost_now : ℕ) (r : Status) where
   abbrev old : Faults
   old = record { input = reads; output = writes; disk = d.faults; net = net; lost = lost }
 
   abbrev new : Faults
   new = record { input = reads_now; output = writes_now; disk = e.faults; net = net_now; lost = lost_now }
 
-  pub make_completes : (orders : ℕ) (before after : Option (List ℕ)) → Says (Makes orders) before after r → WriteFaultHasCause writes writes_now r → Completes (Some (command.Make orders)) d held old new r
+  pub make_completes : (orders : ℕ) (before after : Option (List ℕ)) → Says (Makes orders) before after r → WriteFaultHasCause writes writes_now r → Completes (Some (command.Make orders)) d b held old new r
   make_completes orders before after said cause calm =
       said_well (Unless (λ r. r ≡ status.Done)) (Makes orders) before after writes writes_now r said cause calm.output (made_ends orders)
 
   pub init_completes : (identity : Identity) (before after : Option (List ℕ)) → Says (Inits identity d e) before after r → WriteFaultHasCause writes writes_now r
-      → Completes (Some (command.Init identity)) d held old new r
+      → Completes (Some (command.Init identity)) d b held old new r
   init_completes identity before after said cause calm =
       said_well (Unless (λ r. d.reads [] → r ≡ status.Done)) (Inits identity d e) before after writes writes_now r said cause calm.output
       (λ text end made. inits_ends identity d e text end made calm.disk)
 
-  pub list_completes : (before after : Option (List ℕ)) → Says (Lists d e) before after r → WriteFaultHasCause writes writes_now r → Completes (Some command.List) d held old new r
+  pub list_completes : (before after : Option (List ℕ)) → Says (Lists d e) before after r → WriteFaultHasCause writes writes_now r → Completes (Some command.List) d b held old new r
   list_completes before after said cause calm =
       said_well (Unless (λ r. IsSound d → r ≡ status.Done)) (Lists d e) before after writes writes_now r said cause calm.output
       (λ text end listed. lists_ends d e text end listed calm.disk)
 
   pub call_completes : (asked : words.Call) (steady : Option ℕ) (before after : Option (List ℕ)) → Says (CallsAt asked steady d e) before after r → WriteFaultHasCause writes writes_now r
-      → Completes (Some (command.Call asked)) d held old new r
+      → Completes (Some (command.Call asked)) d b held old new r
   call_completes asked steady before after said cause calm =
       said_well (Unless (λ r. IsSound d → IsAnswer r)) (CallsAt asked steady d e) before after writes writes_now r said cause calm.output
       (λ text end called. calls_ends asked called.now d e text end called.calls calm.disk)
 
-  pub help_completes : (text : List ℕ) (before after : Option (List ℕ)) → Tells text status.Done before after r → WriteFaultHasCause writes writes_now r → Completes (Some command.Help) d held old new r
+  pub help_completes : (text : List ℕ) (before after : Option (List ℕ)) → Tells text status.Done before after r → WriteFaultHasCause writes writes_now r → Completes (Some command.Help) d b held old new r
   help_completes text before after told cause calm = told_well (Unless (λ r. r ≡ status.Done)) text status.Done before after writes writes_now r told cause calm.output (inl refl)
 
   pub version_completes : (text : List ℕ) (before after : Option (List ℕ)) → Tells text status.Done before after r → WriteFaultHasCause writes writes_now r
-      → Completes (Some command.Version) d held old new r
+      → Completes (Some command.Version) d b held old new r
   version_completes text before after told cause calm = told_well (Unless (λ r. r ≡ status.Done)) text status.Done before after writes writes_now r told cause calm.output (inl refl)
 
-  pub usage_completes : (text : List ℕ) (before after : Option (List ℕ)) → Tells text status.Usage before after r → WriteFaultHasCause writes writes_now r → Completes None d held old new r
+  pub usage_completes : (text : List ℕ) (before after : Option (List ℕ)) → Tells text status.Usage before after r → WriteFaultHasCause writes writes_now r → Completes None d b held old new r
   usage_completes text before after told cause calm = told_well (Unless (λ r. r ≡ status.Usage)) text status.Usage before after writes writes_now r told cause calm.output (inl refl)
 
   pub show_completes : (left : Option (List ℕ)) (before after : Option (List ℕ)) → Shows held left before after r → ReadFaultHasCause reads reads_now r → WriteFaultHasCause writes writes_now r
-      → Completes (Some command.Show) d held old new r
+      → Completes (Some command.Show) d b held old new r
   show_completes left before after shown read write calm = show_ends held left before after reads reads_now writes writes_now r shown read write calm.input calm.output
 
   pub probe_completes : (steady : Option ℕ) (left : Option (List ℕ)) (before after : Option (List ℕ)) → ProbesStore steady d e held left before after r
-      → CompletesProbe d e reads reads_now writes writes_now r → Completes (Some command.Probe) d held old new r
+      → CompletesProbe d e reads reads_now writes writes_now r → Completes (Some command.Probe) d b held old new r
   probe_completes steady left before after probes ends calm =
       probe_ends (IsSound d) steady d e held left before after r probes (λ sound. ends sound calm.disk calm.input calm.output)
 
-  pub serve_completes : (count : ℕ) → served.Completes d e net net_now writes writes_now r → Completes (Some (command.Serve count)) d held old new r
+  pub serve_completes : (count : ℕ) → served.Completes d e net net_now writes writes_now r → Completes (Some (command.Serve count)) d b held old new r
   serve_completes count ends calm = serve_ends (IsSound d) r (λ sound. ends sound calm.disk calm.net calm.output)
 
   pub push_completes : (host : List ℕ) (finished finished_now : Option (List Ended))
       → CompletesPush d e (record { finished = finished; finished_now = finished_now; faults = net; faults_now = net_now; lost = lost; lost_now = lost_now }) writes writes_now r
-      → Completes (Some (command.Push host)) d held old new r
+      → Completes (Some (command.Push host)) d b held old new r
   push_completes host finished finished_now ends calm = push_ends (IsSound d) r (λ sound. ends sound calm.disk calm.net calm.lost calm.output)
 
-  pub replay_completes : replay.Completes held reads reads_now writes writes_now r → Completes (Some command.Replay) d held old new r
-  replay_completes ends calm = replay_ends held r (serve_ends (Whole held) r (λ whole. ends whole.0 whole.1 whole.2 calm.input calm.output))
+  pub replay_completes : (end : Result (Unit {0}) ReplayFault) → r ≡ playing.status_of end → replay.Completes held b reads reads_now writes writes_now end
+      → Completes (Some command.Replay) d b held old new r
+  replay_completes end is completes calm = elim (replay_ends ((lines : List (ℕ × Event)) × HoldsScript held lines × FitMedium lines × AreEmpty b) r
+      (λ whole. replayed end r is (completes whole.0 whole.1 whole.2 whole.3 calm.input calm.output))) [
+        | inl well ↦ inl (λ lines holds fit empty. well (lines, holds, fit, empty))
+        | inr none ↦ inr none
+      ]
+
+  pub trial_completes : (orders : ℕ) (end : Result (Unit {0}) ReplayFault) → r ≡ playing.status_of end → CompletesTrial orders b writes writes_now end
+      → Completes (Some (command.Trial orders)) d b held old new r
+  trial_completes orders end is completes calm = elim (replay_ends ((lines : List (ℕ × Event)) × (script_of (generated orders) ≡ Ok lines) × FitMedium lines × AreEmpty b) r
+      (λ whole. replayed end r is (completes whole.0 whole.1 whole.2 whole.3 calm.output))) [
+        | inl well ↦ inl (λ lines script fit empty. well (lines, script, fit, empty))
+        | inr none ↦ inr none
+      ]
 
 -- The words are those of a command.
-pub of_command : (asked is : Command) (d : View) (held : Option (List ℕ)) (old new : Faults) (r : Status) → asked ≡ is → Completes (Some is) d held old new r
-    → Completes (Some asked) d held old new r
-of_command asked is d held old new r same ends = subst (λ (a : Command). Completes (Some a) d held old new r) (sym same) ends
+pub of_command : (asked is : Command) (d : View) (b : Devices) (held : Option (List ℕ)) (old new : Faults) (r : Status) → asked ≡ is → Completes (Some is) d b held old new r
+    → Completes (Some asked) d b held old new r
+of_command asked is d b held old new r same ends = subst (λ (a : Command). Completes (Some a) d b held old new r) (sym same) ends
 
-pub of_words : (words asked : Option Command) (d : View) (held : Option (List ℕ)) (old new : Faults) (r : Status) → words ≡ asked → Completes asked d held old new r
-    → Completes words d held old new r
-of_words words asked d held old new r same ends = subst (λ (w : Option Command). Completes w d held old new r) (sym same) ends
+pub of_words : (words asked : Option Command) (d : View) (b : Devices) (held : Option (List ℕ)) (old new : Faults) (r : Status) → words ≡ asked → Completes asked d b held old new r
+    → Completes words d b held old new r
+of_words words asked d b held old new r same ends = subst (λ (w : Option Command). Completes w d b held old new r) (sym same) ends
 
-pub no_memory : (words : Option Command) (d : View) (held : Option (List ℕ)) (old new : Faults) → Completes words d held old new status.Memory
-no_memory words d held old new calm = inr refl
+pub no_memory : (words : Option Command) (d : View) (b : Devices) (held : Option (List ℕ)) (old new : Faults) → Completes words d b held old new status.Memory
+no_memory words d b held old new calm = inr refl

@@ -1,3 +1,6 @@
 pub mod Asking
+pub mod DiskFaults
+pub mod Empty
 pub mod Completing
 pub mod Quiet
+pub mod Replaying

@@ -9,14 +9,13 @@ use Rattle.mqb_commands.specs.Opened.{IsNotOpened}
 use Rattle.mqb_commands.specs.Said.{Inits, Lists, Makes}
 use Rattle.mqb_connections.specs.Causes.{IsProbeEnd, NetFaultHasCause}
 use Rattle.mqb_devices.specs.Disk.{View}
-use Rattle.mqb_replay.specs.Runs.{Replays}
 use Rattle.mqb_show.specs.Shown.{Shows}
 use Rattle.mqb_status.specs.Outputs.{IsFaultLine, IsPlain, ReadFaultHasCause, Tells}
 use Rattle.mqb_status.specs.declared.status.Status.{Status}
 use Rattle.mqb_status.specs.declared.status.Status.TheVariants as status
 use Rattle.mqb_words.specs.declared.commands.Command.{Command}
 use Rattle.mqb_words.specs.declared.commands.Call as words
-use Rattle.mqb.specs.Runs.{IsQuiet, UsageHasCause}
+use Rattle.mqb.specs.Runs.{IsDiskFaultOf, IsQuiet, UsageHasCause}
 
 pub quiet_plain : (end : Status) → IsQuiet end → IsPlain end
 quiet_plain status.Done quiet = tt
@@ -165,24 +164,6 @@ shows_usage asked held left before after status.NetFull shown = tt
 shows_usage asked held left before after status.Memory shown = tt
 shows_usage asked held left before after status.Refused shown = tt
 
-pub replays_usage : (asked : Option Command) (held rest before after : Option (List ℕ)) (strings : List (List ℕ)) (r : Status)
-    → Replays held rest before after strings r → UsageHasCause asked r
-replays_usage asked held rest before after strings status.Done replayed = tt
-replays_usage asked held rest before after strings status.Usage replayed = absurd replayed.ends
-replays_usage asked held rest before after strings (status.Script line kind) replayed = tt
-replays_usage asked held rest before after strings status.TooLong replayed = tt
-replays_usage asked held rest before after strings status.TooManyLines replayed = tt
-replays_usage asked held rest before after strings status.ReadFault replayed = tt
-replays_usage asked held rest before after strings status.WriteFault replayed = tt
-replays_usage asked held rest before after strings status.DiskFault replayed = tt
-replays_usage asked held rest before after strings status.NetFault replayed = tt
-replays_usage asked held rest before after strings (status.BadStore at) replayed = tt
-replays_usage asked held rest before after strings status.NotEmpty replayed = tt
-replays_usage asked held rest before after strings (status.Peer why) replayed = tt
-replays_usage asked held rest before after strings status.NetFull replayed = tt
-replays_usage asked held rest before after strings status.Memory replayed = tt
-replays_usage asked held rest before after strings status.Refused replayed = tt
-
 -- No net and no disk is used by these.
 
 pub quiet_net : (cause : Type 0) (end : Status) → IsQuiet end → NetFaultHasCause cause end
@@ -236,58 +217,22 @@ shows_net cause held left before after status.NetFull shown = tt
 shows_net cause held left before after status.Memory shown = tt
 shows_net cause held left before after status.Refused shown = tt
 
-pub shows_disk : (n m : ℕ) (held left before after : Option (List ℕ)) (r : Status) → Shows held left before after r → DiskFaultHasCause n m r
-shows_disk n m held left before after status.Done shown = tt
-shows_disk n m held left before after status.Usage shown = tt
-shows_disk n m held left before after (status.Script line kind) shown = tt
-shows_disk n m held left before after status.TooLong shown = tt
-shows_disk n m held left before after status.TooManyLines shown = tt
-shows_disk n m held left before after status.ReadFault shown = tt
-shows_disk n m held left before after status.WriteFault shown = tt
-shows_disk n m held left before after status.DiskFault shown = absurd shown.wrote.0
-shows_disk n m held left before after status.NetFault shown = tt
-shows_disk n m held left before after (status.BadStore at) shown = tt
-shows_disk n m held left before after status.NotEmpty shown = tt
-shows_disk n m held left before after (status.Peer why) shown = tt
-shows_disk n m held left before after status.NetFull shown = tt
-shows_disk n m held left before after status.Memory shown = tt
-shows_disk n m held left before after status.Refused shown = tt
-
-pub replays_net : (cause : Type 0) (held rest before after : Option (List ℕ)) (strings : List (List ℕ)) (r : Status)
-    → Replays held rest before after strings r → NetFaultHasCause cause r
-replays_net cause held rest before after strings status.Done replayed = tt
-replays_net cause held rest before after strings status.Usage replayed = tt
-replays_net cause held rest before after strings (status.Script line kind) replayed = tt
-replays_net cause held rest before after strings status.TooLong replayed = tt
-replays_net cause held rest before after strings status.TooManyLines replayed = tt
-replays_net cause held rest before after strings status.ReadFault replayed = tt
-replays_net cause held rest before after strings status.WriteFault replayed = tt
-replays_net cause held rest before after strings status.DiskFault replayed = tt
-replays_net cause held rest before after strings status.NetFault replayed = absurd replayed.ends
-replays_net cause held rest before after strings (status.BadStore at) replayed = tt
-replays_net cause held rest before after strings status.NotEmpty replayed = tt
-replays_net cause held rest before after strings (status.Peer why) replayed = tt
-replays_net cause held rest before after strings status.NetFull replayed = tt
-replays_net cause held rest before after strings status.Memory replayed = tt
-replays_net cause held rest before after strings status.Refused replayed = tt
-
-pub replays_disk : (n m : ℕ) (held rest before after : Option (List ℕ)) (strings : List (List ℕ)) (r : Status)
-    → Replays held rest before after strings r → DiskFaultHasCause n m r
-replays_disk n m held rest before after strings status.Done replayed = tt
-replays_disk n m held rest before after strings status.Usage replayed = tt
-replays_disk n m held rest before after strings (status.Script line kind) replayed = tt
-replays_disk n m held rest before after strings status.TooLong replayed = tt
-replays_disk n m held rest before after strings status.TooManyLines replayed = tt
-replays_disk n m held rest before after strings status.ReadFault replayed = tt
-replays_disk n m held rest before after strings status.WriteFault replayed = tt
-replays_disk n m held rest before after strings status.DiskFault replayed = absurd replayed.ends
-replays_disk n m held rest before after strings status.NetFault replayed = tt
-replays_disk n m held rest before after strings (status.BadStore at) replayed = tt
-replays_disk n m held rest before after strings status.NotEmpty replayed = tt
-replays_disk n m held rest before after strings (status.Peer why) replayed = tt
-replays_disk n m held rest before after strings status.NetFull replayed = tt
-replays_disk n m held rest before after strings status.Memory replayed = tt
-replays_disk n m held rest before after strings status.Refused replayed = tt
+pub shows_disk : (cause : Type 0) (held left before after : Option (List ℕ)) (r : Status) → Shows held left before after r → IsDiskFaultOf cause r
+shows_disk cause held left before after status.Done shown = tt
+shows_disk cause held left before after status.Usage shown = tt
+shows_disk cause held left before after (status.Script line kind) shown = tt
+shows_disk cause held left before after status.TooLong shown = tt
+shows_disk cause held left before after status.TooManyLines shown = tt
+shows_disk cause held left before after status.ReadFault shown = tt
+shows_disk cause held left before after status.WriteFault shown = tt
+shows_disk cause held left before after status.DiskFault shown = absurd shown.wrote.0
+shows_disk cause held left before after status.NetFault shown = tt
+shows_disk cause held left before after (status.BadStore at) shown = tt
+shows_disk cause held left before after status.NotEmpty shown = tt
+shows_disk cause held left before after (status.Peer why) shown = tt
+shows_disk cause held left before after status.NetFull shown = tt
+shows_disk cause held left before after status.Memory shown = tt
+shows_disk cause held left before after status.Refused shown = tt
 
 pub probe_net : (cause : Type 0) (r : Status) → IsProbeEnd r → NetFaultHasCause cause r
 probe_net cause status.Done ends = tt
@@ -322,3 +267,7 @@ probe_usage asked (status.Peer why) ends = tt
 probe_usage asked status.NetFull ends = absurd ends
 probe_usage asked status.Memory ends = tt
 probe_usage asked status.Refused ends = tt
+
+pub told_disk : (cause : Type 0) (text : List ℕ) (end : Status) (before after : Option (List ℕ)) (r : Status) → Tells text end before after r
+    → IsDiskFaultOf cause end → IsDiskFaultOf cause r
+told_disk cause text end before after r told well = told_is (IsDiskFaultOf cause) text end before after r told well tt

@@ -1,5 +1,5 @@
 -- What the program does, by what the words of its command line ask for.
-use Rattle.std.specs.Prelude.{◌≡◌, ◌⊎◌, List, None, Option, Some, codes, ℕ}
+use Rattle.std.specs.Prelude.{◌≡◌, ◌⊎◌, List, None, Option, Result, Some, codes, ℕ}
 use Rattle.mqb_calls.specs.Calls.{CallsAt}
 use Rattle.mqb_commands.specs.Helps.{help_text, version_text}
 use Rattle.mqb_commands.specs.Said.{Inits, Lists, Makes}
@@ -10,7 +10,11 @@ use Rattle.mqb_connections.specs.Served.{Nets, ServesFrom}
 use Rattle.mqb_devices.specs.Disk.{View}
 use Rattle.mqb_devices.specs.Net.{Ended}
 use Rattle.mqb_outside.specs.Faults.{Rose}
-use Rattle.mqb_replay.specs.Runs.{Replays}
+use Rattle.mqb_replay.specs.Devices.{Devices}
+use Rattle.mqb_replay.specs.Faults.{status_of}
+use Rattle.mqb_replay.specs.Replays.{HasFailed, Replays}
+use Rattle.mqb_replay.specs.Trials.{Tries}
+use Rattle.mqb_replay.specs.declared.faults.ReplayFault.{ReplayFault}
 use Rattle.mqb_show.specs.Shown.{Shows}
 use Rattle.mqb_status.specs.Outputs.{Says, Tells}
 use Rattle.mqb_status.specs.declared.status.Status.{Status}
@@ -18,8 +22,8 @@ use Rattle.mqb_status.specs.declared.status.Status.TheVariants as status
 use Rattle.mqb_words.specs.declared.commands.Command.{Command}
 use Rattle.mqb_words.specs.declared.commands.Command.TheVariants as command
 
--- what is told of everything outside, before and after: what the input holds, what the output took, the disk, the strings of the medium, the net, and
--- the one moment of a steady clock
+-- what is told of everything outside, before and after: what the input holds, what the output took, the disk that is a store, the medium and the two disks
+-- of a replay, the net, and the one moment of a steady clock
 pub record Outside : Type 1 where
   pub held : Option (List ℕ)
   pub held_now : Option (List ℕ)
@@ -27,7 +31,8 @@ pub record Outside : Type 1 where
   pub taken_now : Option (List ℕ)
   pub disk : View
   pub disk_now : View
-  pub strings : List (List ℕ)
+  pub devices : Devices
+  pub devices_now : Devices
   pub net : Nets
   pub moment : Option ℕ
 
@@ -35,10 +40,15 @@ pub record Outside : Type 1 where
 abbrev pub IsUnread : Outside → Status → Type 0
 IsUnread o r = (r ≡ status.Memory) × (o.taken_now ≡ o.taken)
 
+-- a replay ended so, and the program with it
+abbrev pub EndsWith : (Result (Unit {0}) ReplayFault → Type 0) → Status → Type 0
+EndsWith replay r = (end : Result (Unit {0}) ReplayFault) × (r ≡ status_of end) × replay end
+
 -- What each command does.
 abbrev pub Does : Command → Outside → Status → Type 0
-Does command.Replay o r = Replays o.held o.held_now o.taken o.taken_now o.strings r
+Does command.Replay o r = EndsWith (Replays o.held o.held_now o.devices o.devices_now o.taken o.taken_now) r
 Does (command.Make orders) o r = Says (Makes orders) o.taken o.taken_now r
+Does (command.Trial orders) o r = EndsWith (Tries orders o.devices o.devices_now o.taken o.taken_now) r
 Does command.Show o r = Shows o.held o.held_now o.taken o.taken_now r
 Does (command.Init identity) o r = Says (Inits identity o.disk o.disk_now) o.taken o.taken_now r
 Does (command.Call asked) o r = Says (CallsAt asked o.moment o.disk o.disk_now) o.taken o.taken_now r
@@ -64,6 +74,17 @@ abbrev pub NetCause : Option Command → (faults faults_now lost lost_now : ℕ)
 NetCause (Some (command.Serve count)) faults faults_now lost lost_now = Rose faults faults_now
 NetCause (Some (command.Push host)) faults faults_now lost lost_now = Rose faults faults_now ⊎ Rose lost lost_now
 NetCause _ faults faults_now lost lost_now = ⊥
+
+-- The disks' counts by which a command may end with a disk fault: those of the two disks of a replay, and of all others that of the store.
+abbrev pub DiskCause : Option Command → (faults faults_now : ℕ) → (before now : Devices) → Type 0
+DiskCause (Some command.Replay) faults faults_now before now = HasFailed before now
+DiskCause (Some (command.Trial orders)) faults faults_now before now = HasFailed before now
+DiskCause _ faults faults_now before now = Rose faults faults_now
+
+-- the program ends with a disk fault only by this cause
+abbrev pub IsDiskFaultOf : Type 0 → Status → Type 0
+IsDiskFaultOf cause status.DiskFault = cause
+IsDiskFaultOf cause _ = Unit {0}
 
 -- How often a command asks the clock, by what the net tells as finished: once for each connection, once for a call, and else never.
 abbrev pub Asks : Option Command → (ended ended_now : Option (List Ended)) → (asked asked_now : ℕ) → Type 0

@@ -6,7 +6,8 @@ mod run;
 mod saying;
 
 use mqb_base::Memory;
-use mqb_disk::FileDisk;
+use mqb_devices::{Disk, Power};
+use mqb_disk::{FileDisk, MemoryDisk};
 use mqb_net::{PORT, SystemClock, TcpNet};
 use mqb_outside::{MemoryMedium, StdSink, StdSource};
 use mqb_status::Status;
@@ -43,52 +44,89 @@ fn port_of(rt: &(impl Env + AllocGlobal)) -> Result<u16, Memory> {
     }
 }
 
-/// The file that is the store of a command, which `init` makes where it is not there; none where it cannot be opened, or the words have no store.
-fn disk_of(rt: &HostRuntime, alloc: Global, words: &[String]) -> Result<Option<FileDisk>, Memory> {
-    let command = match command_of(alloc, words) {
-        Ok(command) => command,
-        Err(WordsFault::Memory) => return Err(Memory),
-        Err(WordsFault::Usage) => return Ok(None),
-    };
+/// The room of each of the two disks of a replay, in bytes.
+const MAX_REPLAY_DISK: usize = 67_108_864;
+
+/// The disks that a command works on.
+enum Disks {
+    /// The store of a manager.
+    Store(FileDisk),
+    /// Alpha's and beta's.
+    Replay(MemoryDisk, MemoryDisk),
+    /// It has none, or its store cannot be opened.
+    None,
+}
+
+/// The file that is the store of a command, which `init` makes where it is not there.
+fn store_of(rt: &HostRuntime, command: &Command, words: &[String]) -> Disks {
     let Some(store) = command.store_of(words) else {
-        return Ok(None);
+        return Disks::None;
     };
-    match command {
-        Command::Init { .. } => Ok(FileDisk::create(rt, store.as_str()).ok()),
-        _ => Ok(FileDisk::open(rt, store.as_str()).ok()),
+    let file = match command {
+        Command::Init { .. } => FileDisk::create(rt, store.as_str()),
+        _ => FileDisk::open(rt, store.as_str()),
+    };
+    match file {
+        Ok(disk) => Disks::Store(disk),
+        Err(_) => Disks::None,
     }
 }
 
-/// Does what the words ask for, over the real objects.
-fn run_words(rt: &HostRuntime, alloc: Global) -> Result<Status, Memory> {
-    let words = words_of(rt, alloc)?;
+fn disks_of(rt: &HostRuntime, alloc: Global, words: &[String]) -> Result<Disks, Memory> {
+    match command_of(alloc, words) {
+        Ok(Command::Replay | Command::Trial { .. }) => {
+            let alpha = MemoryDisk::new(alloc, MAX_REPLAY_DISK)?;
+            let beta = MemoryDisk::new(alloc, MAX_REPLAY_DISK)?;
+            Ok(Disks::Replay(alpha, beta))
+        }
+        Ok(command) => Ok(store_of(rt, &command, words)),
+        Err(WordsFault::Memory) => Err(Memory),
+        Err(WordsFault::Usage) => Ok(Disks::None),
+    }
+}
+
+/// Does what the words ask for, over these disks and the other real objects.
+fn run_over<D: Disk, P: Power>(
+    rt: &HostRuntime,
+    alloc: Global,
+    words: &[String],
+    disk: &mut D,
+    first: &mut P,
+    second: &mut P,
+) -> Result<Status, Memory> {
     let mut input = StdSource::new(rt.reader());
     let mut out = StdSink::new(io::writer(rt));
     let mut medium = MemoryMedium::new(alloc);
     let mut net = TcpNet::with_port(rt, port_of(rt)?);
     let mut clock = SystemClock::new(rt);
-    Ok(match disk_of(rt, alloc, &words)? {
-        Some(mut disk) => run(
-            alloc,
-            &words,
-            &mut input,
-            &mut out,
-            &mut disk,
-            &mut medium,
-            &mut net,
-            &mut clock,
-        ),
-        None => run(
-            alloc,
-            &words,
-            &mut input,
-            &mut out,
-            &mut NoDisk::new(),
-            &mut medium,
-            &mut net,
-            &mut clock,
-        ),
-    })
+    Ok(run(
+        alloc,
+        words,
+        &mut input,
+        &mut out,
+        disk,
+        first,
+        second,
+        &mut medium,
+        &mut net,
+        &mut clock,
+    ))
+}
+
+/// Does what the words ask for.
+fn run_words(rt: &HostRuntime, alloc: Global) -> Result<Status, Memory> {
+    let words = words_of(rt, alloc)?;
+    let mut none = NoDisk::new();
+    let (mut no_first, mut no_second) = (NoDisk::new(), NoDisk::new());
+    match disks_of(rt, alloc, &words)? {
+        Disks::Store(mut disk) => {
+            run_over(rt, alloc, &words, &mut disk, &mut no_first, &mut no_second)
+        }
+        Disks::Replay(mut first, mut second) => {
+            run_over(rt, alloc, &words, &mut none, &mut first, &mut second)
+        }
+        Disks::None => run_over(rt, alloc, &words, &mut none, &mut no_first, &mut no_second),
+    }
 }
 
 fn main(rt: HostRuntime) -> ExitCode {

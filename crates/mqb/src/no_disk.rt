@@ -1,14 +1,20 @@
+ghost use Rattle.std.specs.Prelude.{◌≡◌};
 ghost use Rattle.mqb_devices.specs.Disk.{Counted};
 ghost use Rattle.mqb_outside.specs.Faults.{Rose};
+ghost use Rattle.mqb.specs.Disks.{no_disk_view};
 
 use mqb_base::Failed;
-use mqb_devices::Disk;
+use mqb_devices::{Disk, Mode, Pick, Power};
 
 /// A disk that is not there: each call fails.
 #[derive(Debug, Drop)]
 pub struct NoDisk {
     calls: u64,
     faults: u64,
+    armed: Option<(u32, Mode)>,
+    arms: u64,
+    restarts: u64,
+    last_pick: Option<Pick>,
 }
 
 impl NoDisk {
@@ -16,6 +22,10 @@ impl NoDisk {
         NoDisk {
             calls: 0,
             faults: 0,
+            armed: None,
+            arms: 0,
+            restarts: 0,
+            last_pick: None,
         }
     }
 
@@ -23,6 +33,7 @@ impl NoDisk {
     fn fail(&mut self) -> Failed
         ensures calls { Counted 1 self.old.calls self.new.calls }
         ensures faults { Rose self.old.faults self.new.faults }
+        ensures switch { (no_disk_view self.new).switch ≡ (no_disk_view self.old).switch }
     {
         self.calls = self.calls.saturating_add(1);
         self.faults = self.faults.saturating_add(1);
@@ -45,15 +56,42 @@ impl Disk for NoDisk {
         Err(self.fail())
     }
 
+    #[tactic(auto, using(crate::proofs::Empty::still_torn))]
     fn write_at(&mut self, _at: u64, _bytes: &[u8]) -> Result<(), Failed> {
         Err(self.fail())
     }
 
+    #[tactic(auto, using(crate::proofs::Empty::still_cut))]
     fn cut(&mut self, _len: u64) -> Result<(), Failed> {
         Err(self.fail())
     }
 
     fn sync(&mut self) -> Result<(), Failed> {
         Err(self.fail())
+    }
+}
+
+impl Power for NoDisk {
+    ghost use Rattle.std.specs.Prelude.{[], false, refl};
+
+    ghost armed = { λ d. d.armed };
+
+    ghost is_stopped = { λ d. false };
+
+    ghost tells = { λ d. ([], refl) };
+
+    fn arm(&mut self, call: u32, mode: Mode) {
+        self.armed = Some((call, mode));
+        self.arms = self.arms.saturating_add(1);
+    }
+
+    fn stopped(&self) -> bool {
+        false
+    }
+
+    fn restart(&mut self, pick: Pick) {
+        self.armed = None;
+        self.restarts = self.restarts.saturating_add(1);
+        self.last_pick = Some(pick);
     }
 }

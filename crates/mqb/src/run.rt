@@ -1,9 +1,9 @@
 ghost use Rattle.std.specs.Prelude.{◌≡◌, ◌⊎◌, [], map, Some};
 ghost use Rattle.std.specs.String.{string_bytes};
 ghost use Rattle.mqb.specs.Completeness.{Completes};
-ghost use Rattle.mqb.specs.Runs.{Asks, Does, IsUnread, NetCause, Runs, UsageHasCause};
-ghost use Rattle.mqb_commands.specs.Causes.{DiskFaultHasCause};
+ghost use Rattle.mqb.specs.Runs.{Asks, DiskCause, Does, IsDiskFaultOf, IsUnread, NetCause, Runs, UsageHasCause};
 ghost use Rattle.mqb_connections.specs.Causes.{NetFaultHasCause};
+ghost use Rattle.mqb_replay.specs.Devices.{devices};
 ghost use Rattle.mqb_status.specs.Outputs.{ReadFaultHasCause, WriteFaultHasCause};
 ghost use Rattle.mqb_words.specs.Formed.{IsFormed};
 ghost use Rattle.mqb_words.specs.Words.{command_of};
@@ -11,21 +11,23 @@ ghost use Rattle.mqb_words.specs.Words.{command_of};
 use crate::saying::{say_called, say_formatted, say_listed, say_made};
 use mqb_commands::{help, version};
 use mqb_connections::{probe, push, serve};
-use mqb_devices::{Clock, Disk, Net};
+use mqb_devices::{Clock, Disk, Net, Power};
 use mqb_outside::{Medium, Sink, Source};
-use mqb_replay::replay;
+use mqb_replay::{replay, status_of, trial};
 use mqb_show::show;
 use mqb_status::{Status, tell};
 use mqb_words::{Command, WordsFault, command_of};
 use std::alloc::Global;
 
 /// Does a command.
-fn run_command<S: Source, K: Sink, D: Disk, M: Medium, N: Net, C: Clock>(
+fn run_command<S: Source, K: Sink, D: Disk, P: Power, M: Medium, N: Net, C: Clock>(
     alloc: Global,
     asked: &Command,
     input: &mut S,
     out: &mut K,
     disk: &mut D,
+    first: &mut P,
+    second: &mut P,
     medium: &mut M,
     net: &mut N,
     clock: &mut C,
@@ -39,7 +41,8 @@ fn run_command<S: Source, K: Sink, D: Disk, M: Medium, N: Net, C: Clock>(
       taken_now = K.taken out.new;
       disk = D.view disk.old;
       disk_now = D.view disk.new;
-      strings = M.strings medium.new;
+      devices = devices (M.strings medium.old) (P.view first.old) (P.view second.old);
+      devices_now = devices (M.strings medium.new) (P.view first.new) (P.view second.new);
       net = record {
         finished = N.finished net.old;
         finished_now = N.finished net.new;
@@ -50,19 +53,21 @@ fn run_command<S: Source, K: Sink, D: Disk, M: Medium, N: Net, C: Clock>(
       };
       moment = C.steady clock.old;
     }) result }
-    ensures complete { Completes (Some asked.now) (D.view disk.old) (S.held input.old) (record {
-      input = S.read_faults input.old;
-      output = K.write_faults out.old;
-      disk = (D.view disk.old).faults;
-      net = N.faults net.old;
-      lost = N.lost net.old;
-    }) (record {
-      input = S.read_faults input.new;
-      output = K.write_faults out.new;
-      disk = (D.view disk.new).faults;
-      net = N.faults net.new;
-      lost = N.lost net.new;
-    }) result }
+    ensures complete { Completes (Some asked.now) (D.view disk.old)
+        (devices (M.strings medium.old) (P.view first.old) (P.view second.old))
+        (S.held input.old) (record {
+          input = S.read_faults input.old;
+          output = K.write_faults out.old;
+          disk = (D.view disk.old).faults;
+          net = N.faults net.old;
+          lost = N.lost net.old;
+        }) (record {
+          input = S.read_faults input.new;
+          output = K.write_faults out.new;
+          disk = (D.view disk.new).faults;
+          net = N.faults net.new;
+          lost = N.lost net.new;
+        }) result }
     ensures asked { Asks (Some asked.now) (N.finished net.old) (N.finished net.new)
         (C.asked clock.old) (C.asked clock.new) }
     ensures usage { UsageHasCause (Some asked.now) result }
@@ -70,15 +75,18 @@ fn run_command<S: Source, K: Sink, D: Disk, M: Medium, N: Net, C: Clock>(
         result }
     ensures write_fault { WriteFaultHasCause (K.write_faults out.old) (K.write_faults out.new)
         result }
-    ensures disk_fault { DiskFaultHasCause (D.view disk.old).faults (D.view disk.new).faults
-        result }
+    ensures disk_fault { IsDiskFaultOf (DiskCause (Some asked.now)
+        (D.view disk.old).faults (D.view disk.new).faults
+        (devices (M.strings medium.old) (P.view first.old) (P.view second.old))
+        (devices (M.strings medium.new) (P.view first.new) (P.view second.new))) result }
     ensures net_fault { NetFaultHasCause (NetCause (Some asked.now)
         (N.faults net.old) (N.faults net.new) (N.lost net.old) (N.lost net.new)) result }
     ensures unfinished { N.unfinished net.new ≡ N.unfinished net.old }
 {
     match asked {
-        Command::Replay => replay(alloc, input, out, medium),
+        Command::Replay => status_of(replay(alloc, input, out, first, second, medium)),
         Command::Make { orders } => say_made(alloc, *orders, out),
+        Command::Trial { orders } => status_of(trial(alloc, *orders, out, first, second, medium)),
         Command::Show => show(alloc, input, out),
         Command::Init { identity } => say_formatted(alloc, identity, out, disk),
         Command::Call(call) => say_called(alloc, call, out, disk, clock),
@@ -91,19 +99,22 @@ fn run_command<S: Source, K: Sink, D: Disk, M: Medium, N: Net, C: Clock>(
     }
 }
 
-/// Does what the words of a command line ask for. The medium is empty. `disk` is the store of a command that has one.
-pub fn run<S: Source, K: Sink, D: Disk, M: Medium, N: Net, C: Clock>(
+/// Does what the words of a command line ask for. `disk` is the store of a command that has one; `first` and `second` are those of alpha and beta in a replay, and
+/// `medium`, which is empty, keeps its packets.
+pub fn run<S: Source, K: Sink, D: Disk, P: Power, M: Medium, N: Net, C: Clock>(
     alloc: Global,
     words: &[String],
     input: &mut S,
     out: &mut K,
     disk: &mut D,
+    first: &mut P,
+    second: &mut P,
     medium: &mut M,
     net: &mut N,
     clock: &mut C,
 ) -> Status
     requires { M.strings medium.old ≡ [] }
-    // What is written, by command, and what the disk and the medium are left as.
+    // What is written, by command, and what the disks and the medium are left as.
     ensures ran { IsUnread (record {
       held = S.held input.old;
       held_now = S.held input.new;
@@ -111,7 +122,8 @@ pub fn run<S: Source, K: Sink, D: Disk, M: Medium, N: Net, C: Clock>(
       taken_now = K.taken out.new;
       disk = D.view disk.old;
       disk_now = D.view disk.new;
-      strings = M.strings medium.new;
+      devices = devices (M.strings medium.old) (P.view first.old) (P.view second.old);
+      devices_now = devices (M.strings medium.new) (P.view first.new) (P.view second.new);
       net = record {
         finished = N.finished net.old;
         finished_now = N.finished net.new;
@@ -128,7 +140,8 @@ pub fn run<S: Source, K: Sink, D: Disk, M: Medium, N: Net, C: Clock>(
       taken_now = K.taken out.new;
       disk = D.view disk.old;
       disk_now = D.view disk.new;
-      strings = M.strings medium.new;
+      devices = devices (M.strings medium.old) (P.view first.old) (P.view second.old);
+      devices_now = devices (M.strings medium.new) (P.view first.new) (P.view second.new);
       net = record {
         finished = N.finished net.old;
         finished_now = N.finished net.new;
@@ -142,6 +155,7 @@ pub fn run<S: Source, K: Sink, D: Disk, M: Medium, N: Net, C: Clock>(
 
     // Where no device fails and the store is sound, each command ends well, or memory ran out.
     ensures complete { Completes (command_of (map string_bytes words.now)) (D.view disk.old)
+        (devices (M.strings medium.old) (P.view first.old) (P.view second.old))
         (S.held input.old) (record {
           input = S.read_faults input.old;
           output = K.write_faults out.old;
@@ -166,8 +180,10 @@ pub fn run<S: Source, K: Sink, D: Disk, M: Medium, N: Net, C: Clock>(
         result }
     ensures write_fault { WriteFaultHasCause (K.write_faults out.old) (K.write_faults out.new)
         result }
-    ensures disk_fault { DiskFaultHasCause (D.view disk.old).faults (D.view disk.new).faults
-        result }
+    ensures disk_fault { IsDiskFaultOf (DiskCause (command_of (map string_bytes words.now))
+        (D.view disk.old).faults (D.view disk.new).faults
+        (devices (M.strings medium.old) (P.view first.old) (P.view second.old))
+        (devices (M.strings medium.new) (P.view first.new) (P.view second.new))) result }
     ensures net_fault { NetFaultHasCause (NetCause (command_of (map string_bytes words.now))
         (N.faults net.old) (N.faults net.new) (N.lost net.old) (N.lost net.new)) result }
 
@@ -175,7 +191,9 @@ pub fn run<S: Source, K: Sink, D: Disk, M: Medium, N: Net, C: Clock>(
     ensures unfinished { N.unfinished net.new ≡ N.unfinished net.old }
 {
     match command_of(alloc, words) {
-        Ok(command) => run_command(alloc, &command, input, out, disk, medium, net, clock),
+        Ok(command) => run_command(
+            alloc, &command, input, out, disk, first, second, medium, net, clock,
+        ),
         Err(WordsFault::Usage) => tell(out, b"fault: usage\n", Status::Usage),
         Err(WordsFault::Memory) => Status::Memory,
     }

@@ -1,5 +1,12 @@
-pub mod Playing
-pub mod Turning
-pub mod Stopping
-pub mod Growing
-pub mod Completing
+mod Causing
+mod Lines
+mod Counting
+mod Growing
+mod Playing
+mod Turning
+mod Ending
+mod Before
+mod Telling
+mod Taken
+mod Completing
+mod Trying

@@ -1,71 +1,123 @@
--- A script that is played so far.
-use Rattle.std.proofs.Common.{◌≡◌, ℕ, ◌+◌, ◌<◌, List, [], ◌∷◌, ◌++◌, length, take, drop, get_or, suc, drop-cons, Option, Some, refl, sym, ap, subst, ◌∙◌, append_assoc, append-nil, arith}
-use Rattle.std.proofs.lemmas.List.{take-append-drop}
-use Rattle.std.proofs.Math.Seq.{take-suc}
-use Rattle.mqb_outside.specs.Told.{Took}
-use Rattle.mqb_sketch_script.specs.declared.events.Event.{Event}
-use Rattle.mqb_sketch_script.specs.Texts.{printed}
-use Rattle.mqb_sketch_machine.specs.Managers.{hosts}
-use Rattle.mqb_sketch_machine.specs.Machine.{Machine, step, beginning}
-use Rattle.mqb_sketch_machine.specs.Runs.{machine_from, machine_after}
-use Rattle.mqb_sketch_world.specs.Endings.{end_text}
-use Rattle.mqb_sketch_world.specs.Transcripts.{replies_from, replies_of, transcript_of}
-use Rattle.mqb_status.specs.Outputs.{TookFront}
-use Rattle.mqb_replay.specs.Plays.{reply_line}
-use Rattle.mqb_status.specs.lemmas.Taking.{took_then, front_then, front_more}
+-- What stands behind a run, and what it goes on to.
+use Rattle.std.proofs.Common.{◌≡◌, Bool, List, [], ◌∷◌, ◌++◌, None, cond, false, refl, sym, ap, subst, true, ◌∙◌, Some, ℕ}
+use Rattle.mqb_devices.specs.Disk.{View}
+use Rattle.mqb_model.specs.managers.Manager.{Condition, Down, Manager, Up, doubt_of, is_down}
+use Rattle.mqb_model.specs.state.Durable.{durable}
+use Rattle.mqb_manager.specs.States.{manager_of}
+use Rattle.mqb_model.specs.managers.Restarts.{unread}
+use Rattle.mqb_moves.specs.Restarting.{durable_again}
+use Rattle.mqb_moves.specs.Seats.{IsHeldOn, SeatState, seated}
+use Rattle.mqb_network.specs.Courses.{Course}
+use Rattle.mqb_network.specs.Network.{Network, Note, manager_at}
+use Rattle.mqb_network.specs.Runs.{after_run, beginning, moved_on}
+use Rattle.mqb_runs.specs.Events.{event_of}
+use Rattle.mqb_runs.specs.Guarantees.{RunsKeepGuarantees}
+use Rattle.mqb_runs.specs.Hosts.{hosts}
+use Rattle.mqb_runs.specs.Runs.{Played, course_of, move_of, moves_of}
+use Rattle.mqb_runs.specs.Texts.{reply_lines}
+use Rattle.mqb_script.specs.declared.events.Event.{Event}
+use Rattle.mqb_script.specs.declared.managers.Which.{Which}
+use Rattle.mqb_script.specs.declared.managers.Which.TheVariants.{Alpha, Beta}
+use Rattle.mqb_store_laws.specs.Carrying.{opens_now}
+use Rattle.mqb_store_laws.specs.Images.{Opens}
+use Rattle.mqb_traffic.specs.Networks.{notes_of}
+use Rattle.mqb_transcript.specs.Texts.{printed}
+use Rattle.mqb_transcript.specs.declared.replies.Reply.{Reply}
+use Rattle.mqb_world.specs.Disks.{FaultsGo, failures_told}
+use Rattle.mqb_world.specs.Standing.{GoesOn, Stands}
+use Rattle.mqb_world.specs.Worlds.{WorldState, network_of}
+use Rattle.mqb_replay.specs.Devices.{Devices}
+use Rattle.mqb_replay.specs.Disks.{RoseBy, StandsOn, failures}
+use Rattle.mqb_replay.specs.Plays.{Answers, GoesBy, HasRun, IsCountedBy, IsPlayed}
+use Rattle.mqb_replay.proofs.Counting.{rose_more, switched_more}
+use Rattle.mqb_replay.proofs.Growing.{course_one, failures_one, played, run_more, stands_more, text_one}
 
-pub machine_split : (m : Machine) (xs ys : List (ℕ × Event)) → machine_from m (xs ++ ys) ≡ machine_from (machine_from m xs) ys
-machine_split m [] ys = refl
-machine_split m (x ∷ xs) ys = machine_split (step m x.1).after xs ys
+-- What stands on a disk that is held.
 
-pub replies_split : (m : Machine) (xs ys : List (ℕ × Event)) → replies_from m (xs ++ ys) ≡ replies_from m xs ++ replies_from (machine_from m xs) ys
-replies_split m [] ys = refl
-replies_split m (x ∷ xs) ys =
-    ap (λ (text : List ℕ). printed hosts (Some x.0) (step m x.1).reply ++ text) (replies_split (step m x.1).after xs ys)
-    ∙ sym (append_assoc (printed hosts (Some x.0) (step m x.1).reply) (replies_from (step m x.1).after xs) (replies_from (machine_from (step m x.1).after xs) ys))
+-- the manager that is held has the state of its store
+seated_state : (s : SeatState) → durable (seated s).state ≡ durable s.manager.store.state
+seated_state s = at s.unread
+  where
+    at : (b : Bool) → durable (cond b (unread (manager_of s.manager)) (manager_of s.manager)).state ≡ durable s.manager.store.state
+    at true = durable_again s.manager.store.state
+    at false = refl
 
--- the lines before a place and the line there
-pub taken_one : (lines : List (ℕ × Event)) (i : ℕ) (line : ℕ × Event) → i < length lines → line ≡ get_or lines i line
-    → take (i + 1) lines ≡ take i lines ++ line ∷ []
-taken_one lines i line within there =
-    let next : suc i ≡ i + 1 = omega arith in
-    ap (λ (n : ℕ). take n lines) (sym next) ∙ take-suc lines i line within ∙ ap (λ (x : ℕ × Event). take i lines ++ x ∷ []) (sym there)
+up_no_doubt : (c : Condition) → elim c [ Up ↦ false | Down doubt ↦ true ] ≡ false → doubt_of c ≡ None
+up_no_doubt Up up = refl
+up_no_doubt (Down doubt) up = absurd (let none : ⊥ = cc in none)
 
--- the line at a place, and those behind it
-pub line_at : (lines : List (ℕ × Event)) (i : ℕ) (line : ℕ × Event) → i < length lines → line ≡ get_or lines i line → drop i lines ≡ line ∷ drop (i + 1) lines
-line_at lines i line within there =
-    let next : suc i ≡ i + 1 = omega arith in
-    drop-cons lines i line within ∙ ap (λ (x : ℕ × Event). x ∷ drop (suc i) lines) (sym there) ∙ ap (λ (n : ℕ). line ∷ drop n lines) next
+held_opens : (d : View) (s : SeatState) → IsHeldOn d s → (c : List ℕ) → d.leaves c → Opens s.manager.store.journal s.manager.store.state (doubt_of (seated s).condition) c
+held_opens d s held c left = at (is_down (seated s)) refl
+  where
+    at : (b : Bool) → is_down (seated s) ≡ b → Opens s.manager.store.journal s.manager.store.state (doubt_of (seated s).condition) c
+    at true down = held.opens down c left
+    at false up = subst (λ o. Opens s.manager.store.journal s.manager.store.state o c) (sym (up_no_doubt (seated s).condition up))
+        (opens_now d s.manager.store.journal s.manager.store.state (held.on up) c (held.settled up c left))
 
-pub split_at : (lines : List (ℕ × Event)) (i : ℕ) (line : ℕ × Event) → i < length lines → line ≡ get_or lines i line
-    → lines ≡ take i lines ++ line ∷ drop (i + 1) lines
-split_at lines i line within there =
-    sym (take-append-drop i lines) ∙ ap (λ (xs : List (ℕ × Event)). take i lines ++ xs) (line_at lines i line within there)
+pub held_stands : (d : View) (s : SeatState) (m : Manager) → IsHeldOn d s → seated s ≡ m → StandsOn m d
+held_stands d s m held is = subst (λ (n : Manager). StandsOn n d) is (record {
+  journal = s.manager.store.journal;
+  state = s.manager.store.state;
+  same = sym (seated_state s);
+  opens = held_opens d s held;
+})
 
-pub machine_one : (lines : List (ℕ × Event)) (line : ℕ × Event) → machine_after (lines ++ line ∷ []) ≡ (step (machine_after lines) line.1).after
-machine_one lines line = machine_split beginning lines (line ∷ [])
+-- What was played.
 
-pub replies_one : (lines : List (ℕ × Event)) (line : ℕ × Event) → replies_of (lines ++ line ∷ []) ≡ replies_of lines ++ reply_line hosts (machine_after lines) line
-replies_one lines line =
-    replies_split beginning lines (line ∷ [])
-    ∙ ap (λ (text : List ℕ). replies_of lines ++ text) (append-nil (reply_line hosts (machine_after lines) line))
+module _ (keep : RunsKeepGuarantees) (lines : List (ℕ × Event)) (w : WorldState) (b a : Devices) (h : HasRun lines w b a) where
+  network_is : network_of w ≡ (course_of h.run).network
+  network_is = h.stands.stands.network
 
--- the reply of one line more was written
-pub replied_one : (before now now' : Option (List ℕ)) (lines : List (ℕ × Event)) (line : ℕ × Event)
-    → Took before now (replies_of lines) → Took now now' (reply_line hosts (machine_after lines) line) → Took before now' (replies_of (lines ++ line ∷ []))
-replied_one before now now' lines line so_far took =
-    subst (λ (text : List ℕ). Took before now' text) (sym (replies_one lines line)) (took_then before now now' _ _ so_far took)
+  pub played_so_far : (p : IsPlayed lines b a) × (p.run ≡ h.run)
+  played_so_far = (
+    record {
+      run = h.run;
+      is_run = h.is_run;
+      sent = h.stands.stands.spelled;
+      fits = h.stands.stands.within.bytes;
+      alpha = record { counted = h.alpha; stands = held_stands a.alpha w.alpha (manager_at (course_of h.run).network 0) h.alpha_held (ap (λ (n : Network). manager_at n 0) network_is) };
+      beta = record { counted = h.beta; stands = held_stands a.beta w.beta (manager_at (course_of h.run).network 1) h.beta_held (ap (λ (n : Network). manager_at n 1) network_is) };
+      guarantees = keep (moves_of h.run) h.stands.run;
+    },
+    refl,
+  )
 
--- a front of it was written, which is a front of the transcript
-pub replied_front : (before now now' : Option (List ℕ)) (lines rest : List (ℕ × Event)) (line : ℕ × Event)
-    → Took before now (replies_of lines) → TookFront now now' (reply_line hosts (machine_after lines) line) → TookFront before now' (transcript_of (lines ++ line ∷ rest))
-replied_front before now now' lines rest line so_far front =
-    let one : List ℕ = reply_line hosts (machine_after lines) line in
-    let behind : List ℕ = replies_from (step (machine_after lines) line.1).after rest in
-    let ending : List ℕ = end_text hosts (machine_after (lines ++ line ∷ rest)) in
-    let split : replies_of (lines ++ line ∷ rest) ≡ replies_of lines ++ (one ++ behind) = replies_split beginning lines (line ∷ rest) in
-    let regrouped : (replies_of lines ++ (one ++ behind)) ++ ending ≡ replies_of lines ++ (one ++ (behind ++ ending)) =
-    append_assoc (replies_of lines) (one ++ behind) ending ∙ ap (λ (text : List ℕ). replies_of lines ++ text) (append_assoc one behind ending) in
-    let whole : replies_of lines ++ (one ++ (behind ++ ending)) ≡ transcript_of (lines ++ line ∷ rest) =
-    sym (ap (λ (text : List ℕ). text ++ ending) split ∙ regrouped) in
-    subst (λ (text : List ℕ). TookFront before now' text) whole (front_then before now now' (replies_of lines) _ so_far (front_more now now' one (behind ++ ending) front))
+-- One line more.
+
+module _ (lines : List (ℕ × Event)) (line : ℕ × Event) (w w_now : WorldState) (b m a : Devices) (given : Reply) (h : HasRun lines w b m) (answers : Answers line.1 w m w_now a given) where
+  goes : GoesOn (moves_of h.run) (event_of line.1) given w_now a.strings
+  goes = answers.goes (moves_of h.run) h.stands
+
+  abbrev one : Played
+  one = played line h.run given w_now a.strings goes
+
+  stands : Stands w_now a.strings (moves_of (h.run ++ one ∷ []))
+  stands = stands_more line h.run given w_now a.strings goes
+
+  -- the notes of the world are those of the run
+  notes : notes_of w_now.traffic ≡ (moved_on (after_run hosts (moves_of h.run)) (move_of one)).network.notes
+  notes = ap (λ (n : Network). n.notes) (goes.stands.stands.network ∙ ap (λ (c : Course). c.network) (course_one (beginning hosts) (moves_of h.run) (move_of one)))
+
+  counted : (which : Which) (d e f : View) → IsCountedBy which lines h.run d e → (s : SeatState) → GoesBy which line.1 (notes_of w_now.traffic) given e f s
+      → IsCountedBy which (lines ++ line ∷ []) (h.run ++ one ∷ []) d f
+  counted which d e f so_far s by = record {
+    faults = subst (λ (n : ℕ). RoseBy n d.faults f.faults) (sym (failures_one which (beginning hosts) h.run one))
+        (rose_more (failures which (beginning hosts) h.run) d.faults e.faults f.faults line.1 by.stopped
+        (failures_told (moved_on (after_run hosts (moves_of h.run)) (move_of one)).network.notes which line.1 given) so_far.faults
+        (subst (λ (ns : List Note). FaultsGo line.1 by.stopped e.faults f.faults (failures_told ns which line.1 given)) notes by.faults));
+    switch = switched_more which lines line d.switch e.switch f.switch so_far.switch (by.armed, by.switch);
+  }
+
+  pub goes_on : (more : HasRun (lines ++ line ∷ []) w_now b a) × (reply_lines more.run ≡ reply_lines h.run ++ printed hosts (Some line.0) given)
+  goes_on = (
+    record {
+      run = h.run ++ one ∷ [];
+      is_run = run_more line h.run given w_now a.strings goes lines h.is_run;
+      stands = stands;
+      alpha = counted Alpha b.alpha m.alpha a.alpha h.alpha w_now.alpha answers.alpha;
+      beta = counted Beta b.beta m.beta a.beta h.beta w_now.beta answers.beta;
+      alpha_held = answers.alpha.held;
+      beta_held = answers.beta.held;
+    },
+    text_one h.run one,
+  )

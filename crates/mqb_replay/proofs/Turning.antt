@@ -1,61 +1,210 @@
--- One event that is played, and the end of a play.
-use Rattle.std.proofs.Common.{◌≡◌, ℕ, List, ◌∷◌, ◌++◌, Option, refl, sym, subst}
-use Rattle.std.specs.Prelude.{Result, Ok, Err}
-use Rattle.mqb_base.specs.declared.ids.Identity.{Identity}
+-- What becomes of a script in one of its lines.
+use Rattle.std.proofs.Common.{◌≡◌, ◌⊎◌, List, [], ◌∷◌, ◌++◌, Option, Some, append-nil, append_assoc, inl, inr, refl, sym, ap, subst, ◌∙◌, ℕ}
+use Rattle.std.specs.Prelude.{Err, Ok, Result}
+use Rattle.mqb_devices.specs.Disk.{Switch, View}
+use Rattle.mqb_network.specs.Runs.{Move}
 use Rattle.mqb_outside.specs.Told.{Took}
-use Rattle.mqb_sketch_script.specs.declared.events.Event.{Event}
-use Rattle.mqb_sketch_machine.specs.Machine.{Machine, step}
-use Rattle.mqb_sketch_machine.specs.Managers.{hosts}
-use Rattle.mqb_sketch_machine.specs.Runs.{machine_after}
-use Rattle.mqb_sketch_manager.specs.Posting.{IsCutOff}
-use Rattle.mqb_sketch_world.specs.Endings.{end_text}
-use Rattle.mqb_sketch_world.specs.Standing.{Held, Applied, strings_of, sent_between}
-use Rattle.mqb_sketch_world.specs.Transcripts.{replies_of}
-use Rattle.mqb_sketch_world.specs.declared.faults.WorldFault.{WorldFault}
-use Rattle.mqb_sketch_world.specs.declared.faults.WorldFault.TheVariants as world
-use Rattle.mqb_replay.specs.declared.play.PlayFault.{PlayFault}
-use Rattle.mqb_replay.specs.declared.play.PlayFault.TheVariants as play
-use Rattle.mqb_replay.specs.Faults.{play_fault}
-use Rattle.mqb_replay.specs.Plays.{Turned, Ended, Played}
-use Rattle.mqb_status.specs.lemmas.Taking.{front_none, took_then, front_then}
-use Rattle.mqb_replay.proofs.Playing.{replied_front}
+use Rattle.mqb_posts.specs.Posting.{HasFront, IsCutOff}
+use Rattle.mqb_runs.specs.Events.{event_of}
+use Rattle.mqb_runs.specs.Guarantees.{RunsKeepGuarantees}
+use Rattle.mqb_runs.specs.Hosts.{hosts}
+use Rattle.mqb_runs.specs.Runs.{Played, course_of, moves_of}
+use Rattle.mqb_runs.specs.Texts.{end_lines, reply_lines}
+use Rattle.mqb_script.specs.declared.events.Event.{Event}
+use Rattle.mqb_script.specs.declared.events.Event.TheVariants as event
+use Rattle.mqb_script.specs.declared.managers.Which.{Which}
+use Rattle.mqb_script.specs.declared.managers.Which.TheVariants.{Alpha, Beta}
+use Rattle.mqb_status.specs.Outputs.{TookFront}
+use Rattle.mqb_status.specs.lemmas.Taking.{front_more, front_then, took_then}
+use Rattle.mqb_transcript.specs.Texts.{printed}
+use Rattle.mqb_transcript.specs.declared.replies.Reply.{Reply}
+use Rattle.mqb_world.specs.Disks.{LeavesIt, SwitchGoes, switching}
+use Rattle.mqb_world.specs.Standing.{strings_in}
+use Rattle.mqb_world.specs.Worlds.{WorldState}
+use Rattle.mqb_replay.specs.Devices.{Devices}
+use Rattle.mqb_replay.specs.Plays.{Answers, HasPlayed, HasRun, IsCountedBy, IsFull, IsShort, IsSwitched, Overflows, RunsOut, Turned, Wrote, strings_next, strings_of}
+use Rattle.mqb_replay.specs.Replays.{IsCut, IsNetFull, IsOutOfMemory, PlaysLines, text_before}
+use Rattle.mqb_replay.specs.declared.faults.ReplayFault.{ReplayFault}
+use Rattle.mqb_replay.specs.declared.faults.ReplayFault.TheVariants as fault
+use Rattle.mqb_replay.proofs.Counting.{rose_stays, switched_more, switched_stays}
+use Rattle.mqb_replay.proofs.Playing.{goes_on, played_so_far}
 
--- an event that has no reply writes nothing
-pub turn_refused : (m : Machine) (line : ℕ × Event) (names : List Identity) (taken : Option (List ℕ)) (strings strings_now : List (List ℕ)) (held : Held)
-    (fault : WorldFault) → Applied m (step m line.1) strings strings_now held (Err fault)
-    → Turned m line names taken taken strings strings_now held (Err (play_fault fault))
-turn_refused m line names taken strings strings_now held world.NetFull cut = (refl, cut)
-turn_refused m line names taken strings strings_now held world.Memory front = front_none taken _
+-- A text that goes on.
 
--- nothing was played
-pub play_refused : (events : List (ℕ × Event)) (taken : Option (List ℕ)) (strings : List (List ℕ)) (fault : WorldFault) → fault ≡ world.Memory
-    → Played events taken taken strings (Err (play_fault fault))
-play_refused events taken strings fault is = subst (λ (f : WorldFault). Played events taken taken strings (Err (play_fault f))) (sym is) (front_none taken _)
+-- what is written before some lines are left begins with the lines of the replies
+text_begins : (rest : List (ℕ × Event)) (run : List Played) → (more : List ℕ) × (text_before rest run ≡ reply_lines run ++ more)
+text_begins [] run = (end_lines (course_of run).network, refl)
+text_begins (line ∷ rest) run = ([], sym (append-nil (reply_lines run)))
 
--- the play stops at an event
-pub play_stopped : (events first rest : List (ℕ × Event)) (line : ℕ × Event) (before now now' : Option (List ℕ)) (strings strings_now : List (List ℕ)) (held : Held)
-    (fault : PlayFault) → events ≡ first ++ line ∷ rest → Took before now (replies_of first) → strings ≡ strings_of (machine_after first).posted
-    → Turned (machine_after first) line hosts now now' strings strings_now held (Err fault) → Played events before now' strings_now (Err fault)
-play_stopped events first rest line before now now' strings strings_now held play.NetFull split took spelled turned = (
+-- a front of the lines of the replies is a front of it
+pub front_of_text : (before after : Option (List ℕ)) (rest : List (ℕ × Event)) (run : List Played) → TookFront before after (reply_lines run) → TookFront before after (text_before rest run)
+front_of_text before after rest run front = let more = text_begins rest run in
+    subst (TookFront before after) (sym more.1) (front_more before after (reply_lines run) more.0 front)
+
+-- all of them are one
+pub took_front : (before after : Option (List ℕ)) (text : List ℕ) → Took before after text → TookFront before after text
+took_front before after text took = record { written = text; left = []; whole = append-nil text; took = took }
+
+-- No event that arms a disk, or starts it again, sends a packet.
+
+not_cut : (xs ys front rest : List (List ℕ)) (next : List ℕ) → [] ≡ front ++ next ∷ rest → ⊥
+not_cut xs ys [] rest next is = let none : ⊥ = cc in none
+not_cut xs ys (x ∷ front) rest next is = let none : ⊥ = cc in none
+
+left_alone : (which : Which) (ms : List Move) (e : Event) (xs ys : List (List ℕ)) → IsCutOff xs ys (strings_in ms (event_of e)) → switching which e ≡ LeavesIt
+left_alone which ms (event.Arm manager call mode) xs ys cut = absurd (not_cut xs ys cut.front cut.rest cut.next cut.wanted_are)
+left_alone which ms (event.Restart manager pick) xs ys cut = absurd (not_cut xs ys cut.front cut.rest cut.next cut.wanted_are)
+left_alone which ms e xs ys cut = refl
+
+switch_stays : (which : Which) (e : Event) (s t : Switch) → IsSwitched which e s t → switching which e ≡ LeavesIt → t ≡ s
+switch_stays which e s t done is = subst (λ x. SwitchGoes x done.0 s t) is done.1
+
+-- Memory ran out behind a run of the first lines.
+pub short_of : (keep : RunsKeepGuarantees) (lines first rest : List (ℕ × Event)) → lines ≡ first ++ rest → (w : WorldState) (b a : Devices) (h : HasRun first w b a)
+    → (s : IsShort lines b a) × (s.run ≡ h.run) × (s.rest ≡ rest)
+short_of keep lines first rest split w b a h = (
   record {
     first = first;
-    line = line;
     rest = rest;
     split = split;
-    cut = subst (λ (ss : List (List ℕ)). IsCutOff ss strings_now (strings_of (sent_between (machine_after first) (step (machine_after first) line.1).after))) spelled turned.1;
+    run = h.run;
+    is_run = h.is_run;
+    sent = record {
+      front = [];
+      rest = strings_next h.run rest;
+      wanted_are = refl;
+      added = h.stands.stands.spelled ∙ sym (append-nil (strings_of h.run));
+    };
+    alpha = inl h.alpha.switch;
+    beta = inl h.beta.switch;
+    guarantees = keep (moves_of h.run) h.stands.run;
   },
-  subst (λ (t : Option (List ℕ)). Took before t (replies_of first)) (sym turned.0) took,
+  refl,
+  refl,
 )
-play_stopped events first rest line before now now' strings strings_now held play.Memory split took spelled turned =
-    subst (λ (es : List (ℕ × Event)). Played es before now' strings_now (Err play.Memory)) (sym split) (replied_front before now now' first rest line took turned)
-play_stopped events first rest line before now now' strings strings_now held play.Write split took spelled turned =
-    subst (λ (es : List (ℕ × Event)). Played es before now' strings_now (Err play.Write)) (sym split) (replied_front before now now' first rest line took turned)
 
--- all events were played, and the last lines follow
-pub play_ended : (events : List (ℕ × Event)) (before now now' : Option (List ℕ)) (strings : List (List ℕ)) (result : Result (Unit {0}) PlayFault)
-    → Took before now (replies_of events) → strings ≡ strings_of (machine_after events).posted → Ended now now' (end_text hosts (machine_after events)) result
-    → Played events before now' strings result
-play_ended events before now now' strings (Ok done) took spelled ended = (took_then before now now' _ _ took ended, spelled)
-play_ended events before now now' strings (Err play.NetFull) took spelled ended = absurd ended
-play_ended events before now now' strings (Err play.Memory) took spelled ended = front_then before now now' _ _ took ended
-play_ended events before now now' strings (Err play.Write) took spelled ended = front_then before now now' _ _ took ended
+-- The ends of a loop over lines.
+
+module _ (keep : RunsKeepGuarantees) (lines first rest : List (ℕ × Event)) (line : ℕ × Event) (split : lines ≡ first ++ line ∷ rest) (w w_now : WorldState) (b m a : Devices)
+    (before now after : Option (List ℕ)) (h : HasRun first w b m) (written : Took before now (reply_lines h.run)) where
+  -- those before the next one, and that
+  split_after : lines ≡ (first ++ line ∷ []) ++ rest
+  split_after = split ∙ sym (append_assoc first (line ∷ []) rest)
+
+  counted_stays : (which : Which) (d e f : View) → IsCountedBy which first h.run d e → f.faults ≡ e.faults → f.switch ≡ e.switch → IsCountedBy which first h.run d f
+  counted_stays which d e f so_far faults switch = record {
+    faults = rose_stays _ d.faults e.faults f.faults so_far.faults faults;
+    switch = switched_stays which first d.switch e.switch f.switch so_far.switch switch;
+  }
+
+  full : Overflows line.1 w m a → (f : IsFull lines b a) × (f.run ≡ h.run)
+  full over = (
+    record {
+      first = first;
+      next = line;
+      rest = rest;
+      split = split;
+      run = h.run;
+      is_run = h.is_run;
+      cut = subst (λ (xs : List (List ℕ)). IsCutOff xs a.strings (strings_in (moves_of h.run) (event_of line.1))) h.stands.stands.spelled cut;
+      alpha = counted_stays Alpha b.alpha m.alpha a.alpha h.alpha over.alpha_faults
+          (switch_stays Alpha line.1 m.alpha.switch a.alpha.switch over.alpha (left_alone Alpha (moves_of h.run) line.1 m.strings a.strings cut));
+      beta = counted_stays Beta b.beta m.beta a.beta h.beta over.beta_faults
+          (switch_stays Beta line.1 m.beta.switch a.beta.switch over.beta (left_alone Beta (moves_of h.run) line.1 m.strings a.strings cut));
+      guarantees = keep (moves_of h.run) h.stands.run;
+    },
+    refl,
+  )
+    where
+      cut : IsCutOff m.strings a.strings (strings_in (moves_of h.run) (event_of line.1))
+      cut = over.cut (moves_of h.run) h.stands
+
+  -- memory ran out in the middle of the line
+  short : RunsOut line.1 w m a → (s : IsShort lines b a) × (s.run ≡ h.run) × (s.rest ≡ line ∷ rest)
+  short out = (
+    record {
+      first = first;
+      rest = line ∷ rest;
+      split = split;
+      run = h.run;
+      is_run = h.is_run;
+      sent = subst (λ (xs : List (List ℕ)). HasFront xs a.strings (strings_in (moves_of h.run) (event_of line.1))) h.stands.stands.spelled (out.sent (moves_of h.run) h.stands);
+      alpha = inr (switched_more Alpha first line b.alpha.switch m.alpha.switch a.alpha.switch h.alpha.switch out.alpha);
+      beta = inr (switched_more Beta first line b.beta.switch m.beta.switch a.beta.switch h.beta.switch out.beta);
+      guarantees = keep (moves_of h.run) h.stands.run;
+    },
+    refl,
+    refl,
+  )
+
+  -- the line was answered
+  module _ (given : Reply) (answers : Answers line.1 w m w_now a given) where
+    abbrev more : HasRun (first ++ line ∷ []) w_now b a
+    more = (goes_on first line w w_now b m a given h answers).0
+
+    more_text : reply_lines more.run ≡ reply_lines h.run ++ printed hosts (Some line.0) given
+    more_text = (goes_on first line w w_now b m a given h answers).1
+
+    -- and memory ran out behind it
+    pub short_behind : (s : IsShort lines b a) × (s.run ≡ more.run) × (s.rest ≡ rest)
+    short_behind = (short_of keep lines (first ++ line ∷ []) rest split_after w_now b a more)
+
+    pub played_one : Took now after (printed hosts (Some line.0) given) → HasPlayed (first ++ line ∷ []) w_now b a before after
+    played_one took = (more, subst (Took before after) (sym more_text) (took_then before now after (reply_lines h.run) (printed hosts (Some line.0) given) written took))
+
+    -- or the output failed in its reply
+    pub cut_in : TookFront now after (printed hosts (Some line.0) given) → IsCut lines b a before after
+    cut_in front = let played = played_so_far keep (first ++ line ∷ []) w_now b a more in record {
+      first = first ++ line ∷ [];
+      rest = rest;
+      split = split_after;
+      played = played.0;
+      written = front_of_text before after rest played.0.run (subst (TookFront before after) (sym (ap reply_lines played.1 ∙ more_text))
+          (front_then before now after (reply_lines h.run) (printed hosts (Some line.0) given) written front));
+    }
+
+  -- What becomes of the line ends the loop.
+
+  out_of_memory : (s : IsShort lines b a) (run : List Played) (left : List (ℕ × Event)) → s.run ≡ run → s.rest ≡ left → TookFront before after (reply_lines run) → IsOutOfMemory lines b a before after
+  out_of_memory s run left is_run is_rest front = (
+    s,
+    subst (λ (ls : List (ℕ × Event)). TookFront before after (text_before ls s.run)) (sym is_rest)
+        (subst (λ (ps : List Played). TookFront before after (text_before left ps)) (sym is_run) (front_of_text before after left run front)),
+  )
+
+  written_still : after ≡ now → TookFront before after (reply_lines h.run)
+  written_still same = subst (λ (t : Option (List ℕ)). TookFront before t (reply_lines h.run)) (sym same) (took_front before now (reply_lines h.run) written)
+
+  memory_in : (given : Reply) (answers : Answers line.1 w m w_now a given) → after ≡ now → IsOutOfMemory lines b a before after
+  memory_in given answers same = let s = short_behind given answers in
+      out_of_memory s.0 (more given answers).run rest s.1 s.2
+      (subst (TookFront before after) (sym (more_text given answers))
+      (front_more before after (reply_lines h.run) (printed hosts (Some line.0) given) (written_still same)))
+
+  memory_out : RunsOut line.1 w m a → after ≡ now → IsOutOfMemory lines b a before after
+  memory_out out same = let s = short out in out_of_memory s.0 h.run (line ∷ rest) s.1 s.2 (written_still same)
+
+  memory : (((given : Reply) × Answers line.1 w m w_now a given) ⊎ RunsOut line.1 w m a) → after ≡ now → IsOutOfMemory lines b a before after
+  memory (inl answered) same = memory_in answered.0 answered.1 same
+  memory (inr out) same = memory_out out same
+
+  net_full : Overflows line.1 w m a → after ≡ now → IsNetFull lines b a before after
+  net_full over same = let f = full over in (
+    f.0,
+    subst (λ (ps : List Played). Took before after (reply_lines ps)) (sym f.1)
+        (subst (λ (t : Option (List ℕ)). Took before t (reply_lines h.run)) (sym same) written),
+  )
+
+  pub turn_stops : (f : ReplayFault) → Turned line w w_now m a now after (Err f) → PlaysLines lines w_now b a before after (Err f)
+  turn_stops fault.WriteFault turned = cut_in turned.0 turned.1 turned.2
+  turn_stops fault.NetFull turned = net_full turned.0 turned.1
+  turn_stops fault.Memory turned = memory turned.0 turned.1
+  turn_stops f turned = absurd turned
+
+-- An event was answered, and its reply was to be written.
+pub turn_answered : (line : ℕ × Event) (w w_now : WorldState) (b a : Devices) (before after : Option (List ℕ)) (given : Reply) (r : Result (Unit {0}) ReplayFault) → Answers line.1 w b w_now a given
+    → Wrote before after (printed hosts (Some line.0) given) r → Turned line w w_now b a before after r
+turn_answered line w w_now b a before after given (Ok done) answers wrote = (given, answers, wrote)
+turn_answered line w w_now b a before after given (Err fault.WriteFault) answers wrote = (given, answers, wrote)
+turn_answered line w w_now b a before after given (Err fault.Memory) answers wrote = (inl (given, answers), wrote)
+turn_answered line w w_now b a before after given (Err f) answers wrote = absurd wrote

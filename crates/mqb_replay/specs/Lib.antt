@@ -1,5 +1,7 @@
-pub mod Outputs
 pub mod Faults
+pub mod Devices
+pub mod Disks
 pub mod Plays
-pub mod Runs
+pub mod Replays
 pub mod Completeness
+pub mod Trials

@@ -1,60 +1,156 @@
--- What becomes of a script that is played.
-use Rattle.std.specs.Prelude.{◌≡◌, ℕ, List, ◌∷◌, ◌++◌, Option, Some, Result, Ok, Err}
-use Rattle.mqb_base.specs.declared.ids.Identity.{Identity}
-use Rattle.mqb_outside.specs.Faults.{Rose}
+-- What becomes of the lines of a script that are played.
+use Rattle.std.specs.Prelude.{[], ◌++◌, ◌∷◌, ◌≡◌, ◌≤◌, ◌⊎◌, Bool, Err, List, Ok, Option, Result, Some, map, take, ℕ}
+use Rattle.mqb_devices.specs.Disk.{Switch, View}
+use Rattle.mqb_devices.specs.declared.power.Mode.{Mode}
+use Rattle.mqb_moves.specs.Seats.{IsHeldOn, SeatState}
+use Rattle.mqb_network.specs.Network.{Note, manager_at}
+use Rattle.mqb_network.specs.Runs.{Move, beginning}
+use Rattle.mqb_outside.specs.Strings.{bytes_in}
 use Rattle.mqb_outside.specs.Told.{Took}
-use Rattle.mqb_sketch_script.specs.declared.events.Event.{Event}
-use Rattle.mqb_sketch_script.specs.Texts.{printed}
-use Rattle.mqb_sketch_machine.specs.Machine.{Machine, step}
-use Rattle.mqb_sketch_machine.specs.Runs.{machine_after}
-use Rattle.mqb_sketch_manager.specs.Posting.{IsCutOff}
-use Rattle.mqb_sketch_world.specs.Standing.{Held, Stands, strings_of, sent_between}
-use Rattle.mqb_sketch_world.specs.Transcripts.{transcript_of, replies_of}
-use Rattle.mqb_replay.specs.declared.play.PlayFault.{PlayFault}
-use Rattle.mqb_replay.specs.declared.play.PlayFault.TheVariants as fault
+use Rattle.mqb_packet.specs.Plain.{plain_spelling}
+use Rattle.mqb_posts.specs.Posting.{HasFront, IsCutOff}
+use Rattle.mqb_posts.specs.declared.posting.TheConstants.{MAX_MEDIUM}
+use Rattle.mqb_runs.specs.Events.{event_of}
+use Rattle.mqb_runs.specs.Guarantees.{AlwaysKeepsGuarantees}
+use Rattle.mqb_runs.specs.Hosts.{hosts}
+use Rattle.mqb_runs.specs.Runs.{IsRunOf, Played, course_of, moves_of}
+use Rattle.mqb_runs.specs.Texts.{reply_lines}
+use Rattle.mqb_script.specs.declared.events.Event.{Event}
+use Rattle.mqb_script.specs.declared.managers.Which.{Which}
+use Rattle.mqb_script.specs.declared.managers.Which.TheVariants.{Alpha, Beta}
 use Rattle.mqb_status.specs.Outputs.{TookFront}
+use Rattle.mqb_traffic.specs.Networks.{index_of, notes_of}
+use Rattle.mqb_transcript.specs.Texts.{printed}
+use Rattle.mqb_transcript.specs.declared.replies.Reply.{Reply}
+use Rattle.mqb_world.specs.Disks.{FaultsGo, SwitchGoes, failures_told, switching}
+use Rattle.mqb_world.specs.Standing.{GoesOn, Stands, strings_in}
+use Rattle.mqb_world.specs.Worlds.{WorldState}
+use Rattle.mqb_replay.specs.Devices.{Devices}
+use Rattle.mqb_replay.specs.Disks.{IsSwitchedBy, RoseBy, StandsOn, failures}
+use Rattle.mqb_replay.specs.declared.faults.ReplayFault.{ReplayFault}
+use Rattle.mqb_replay.specs.declared.faults.ReplayFault.TheVariants as fault
 
--- only a fault of the output raises its count of faults
-abbrev pub PlayCause : ℕ → ℕ → Result (Unit {0}) PlayFault → Type 0
-PlayCause before after (Err fault.Write) = Rose before after
-PlayCause before after (Err fault.Memory) = after ≡ before
-PlayCause before after (Err fault.NetFull) = after ≡ before
-PlayCause before after (Ok done) = after ≡ before
+-- One line.
 
--- the line that is written for an event
-abbrev pub reply_line : List Identity → Machine → ℕ × Event → List ℕ
-reply_line hosts m line = printed hosts (Some line.0) (step m line.1).reply
+-- A text was written; or the output failed in it; or memory ran out before it.
+abbrev pub Wrote : (before after : Option (List ℕ)) → List ℕ → Result (Unit {0}) ReplayFault → Type 0
+Wrote before after text (Ok done) = Took before after text
+Wrote before after text (Err fault.WriteFault) = TookFront before after text
+Wrote before after text (Err fault.Memory) = after ≡ before
+Wrote before after text (Err _) = ⊥
 
--- One event was played: its line was written and the next machine stands; or a packet did not fit the medium, and nothing was written; or a front was.
-abbrev pub Turned : Machine → ℕ × Event → List Identity → (before after : Option (List ℕ)) → (strings strings_now : List (List ℕ)) → Held
-    → Result (Unit {0}) PlayFault → Type 0
-Turned m line hosts before after strings strings_now held (Ok done) =
-    Took before after (reply_line hosts m line) × Stands held strings_now (step m line.1).after
-Turned m line hosts before after strings strings_now held (Err fault.NetFull) =
-    (after ≡ before) × IsCutOff strings strings_now (strings_of (sent_between m (step m line.1).after))
-Turned m line hosts before after strings strings_now held (Err fault.Memory) = TookFront before after (reply_line hosts m line)
-Turned m line hosts before after strings strings_now held (Err fault.Write) = TookFront before after (reply_line hosts m line)
+-- what an event that has this reply makes of the disk of a manager
+pub record GoesBy (which : Which) (e : Event) (notes : List Note) (given : Reply) (d d_now : View) (s : SeatState) : Type 0 where
+  pub held : IsHeldOn d_now s
+  pub stopped : Bool
+  pub faults : FaultsGo e stopped d.faults d_now.faults (failures_told notes which e given)
+  pub armed : Option (ℕ × Mode)
+  pub switch : SwitchGoes (switching which e) armed d.switch d_now.switch
 
--- The last lines were written, or a front of them.
-abbrev pub Ended : (before after : Option (List ℕ)) → List ℕ → Result (Unit {0}) PlayFault → Type 0
-Ended before after text (Ok done) = Took before after text
-Ended before after text (Err fault.NetFull) = ⊥
-Ended before after text (Err fault.Memory) = TookFront before after text
-Ended before after text (Err fault.Write) = TookFront before after text
+-- A world answers an event with this reply.
+pub record Answers (e : Event) (w : WorldState) (b : Devices) (w_now : WorldState) (a : Devices) (given : Reply) : Type 0 where
+  pub goes : (ms : List Move) → Stands w b.strings ms → GoesOn ms (event_of e) given w_now a.strings
+  pub alpha : GoesBy Alpha e (notes_of w_now.traffic) given b.alpha a.alpha w_now.alpha
+  pub beta : GoesBy Beta e (notes_of w_now.traffic) given b.beta a.beta w_now.beta
 
--- After the first events a packet of the next one did not fit the medium, which has the packets before it.
-pub record IsFull (events : List (ℕ × Event)) (strings : List (List ℕ)) : Type 0 where
+-- what an event asks of a switch is done, whatever becomes of it
+abbrev pub IsSwitched : Which → Event → Switch → Switch → Type 0
+IsSwitched which e s t = (armed : Option (ℕ × Mode)) × SwitchGoes (switching which e) armed s t
+
+-- A packet of an event does not fit the medium.
+pub record Overflows (e : Event) (w : WorldState) (b a : Devices) : Type 0 where
+  pub cut : (ms : List Move) → Stands w b.strings ms → IsCutOff b.strings a.strings (strings_in ms (event_of e))
+  pub alpha : IsSwitched Alpha e b.alpha.switch a.alpha.switch
+  pub beta : IsSwitched Beta e b.beta.switch a.beta.switch
+  pub alpha_faults : a.alpha.faults ≡ b.alpha.faults
+  pub beta_faults : a.beta.faults ≡ b.beta.faults
+
+-- Memory runs out in an event.
+pub record RunsOut (e : Event) (w : WorldState) (b a : Devices) : Type 0 where
+  pub sent : (ms : List Move) → Stands w b.strings ms → HasFront b.strings a.strings (strings_in ms (event_of e))
+  pub alpha : IsSwitched Alpha e b.alpha.switch a.alpha.switch
+  pub beta : IsSwitched Beta e b.beta.switch a.beta.switch
+
+-- What becomes of a line that is asked of a world, and of its reply.
+abbrev pub Turned : (ℕ × Event) → WorldState → WorldState → Devices → Devices → (before after : Option (List ℕ)) → Result (Unit {0}) ReplayFault → Type 0
+Turned line w w_now b a before after (Ok done) = (given : Reply) × Answers line.1 w b w_now a given × Took before after (printed hosts (Some line.0) given)
+Turned line w w_now b a before after (Err fault.WriteFault) = (given : Reply) × Answers line.1 w b w_now a given
+    × TookFront before after (printed hosts (Some line.0) given)
+Turned line w w_now b a before after (Err fault.NetFull) = Overflows line.1 w b a × (after ≡ before)
+Turned line w w_now b a before after (Err fault.Memory) = (((given : Reply) × Answers line.1 w b w_now a given) ⊎ RunsOut line.1 w b a) × (after ≡ before)
+Turned line w w_now b a before after (Err _) = ⊥
+
+-- All lines.
+
+-- the strings of all packets of a run
+abbrev pub strings_of : List Played → List (List ℕ)
+strings_of run = map plain_spelling (course_of run).sent
+
+-- Behind a run of these lines the disk of a manager failed, was armed and was started again as often as its replies say.
+pub record IsCountedBy (which : Which) (lines : List (ℕ × Event)) (run : List Played) (d e : View) : Type 0 where
+  pub faults : RoseBy (failures which (beginning hosts) run) d.faults e.faults
+  pub switch : IsSwitchedBy which lines d.switch e.switch
+
+-- and it stands for what its manager keeps
+pub record IsDiskOf (which : Which) (lines : List (ℕ × Event)) (run : List Played) (d e : View) : Type 0 where
+  pub counted : IsCountedBy which lines run d e
+  pub stands : StandsOn (manager_at (course_of run).network (index_of which)) e
+
+-- These lines were played, by a run of the two managers: string k of the medium is the plain spelling of its k-th packet, all of them fit it, and the disks are those of the run.
+pub record IsPlayed (lines : List (ℕ × Event)) (b a : Devices) : Type 0 where
+  pub run : List Played
+  pub is_run : IsRunOf lines run
+  pub sent : a.strings ≡ strings_of run
+  pub fits : bytes_in a.strings ≤ MAX_MEDIUM
+  pub alpha : IsDiskOf Alpha lines run b.alpha a.alpha
+  pub beta : IsDiskOf Beta lines run b.beta a.beta
+  -- at each of its points
+  pub guarantees : AlwaysKeepsGuarantees (moves_of run)
+
+-- A packet of the next line did not fit the medium, which has the packets of the run of the lines before, and of that line those before it.
+pub record IsFull (lines : List (ℕ × Event)) (b a : Devices) : Type 0 where
   pub first : List (ℕ × Event)
-  pub line : ℕ × Event
+  pub next : ℕ × Event
   pub rest : List (ℕ × Event)
-  pub split : events ≡ first ++ line ∷ rest
-  pub cut : IsCutOff (strings_of (machine_after first).posted) strings
-      (strings_of (sent_between (machine_after first) (step (machine_after first) line.1).after))
+  pub split : lines ≡ first ++ next ∷ rest
+  pub run : List Played
+  pub is_run : IsRunOf first run
+  pub cut : IsCutOff (strings_of run) a.strings (strings_in (moves_of run) (event_of next.1))
+  pub alpha : IsCountedBy Alpha first run b.alpha a.alpha
+  pub beta : IsCountedBy Beta first run b.beta a.beta
+  pub guarantees : AlwaysKeepsGuarantees (moves_of run)
 
--- A script was played to its end: the whole transcript was written, and the medium has the packets of the run. Or the medium is full, and the replies
--- before were written. Or a front of the transcript was written.
-abbrev pub Played : List (ℕ × Event) → (before after : Option (List ℕ)) → (strings : List (List ℕ)) → Result (Unit {0}) PlayFault → Type 0
-Played events before after strings (Ok done) = Took before after (transcript_of events) × (strings ≡ strings_of (machine_after events).posted)
-Played events before after strings (Err fault.NetFull) = (full : IsFull events strings) × Took before after (replies_of full.first)
-Played events before after strings (Err fault.Memory) = TookFront before after (transcript_of events)
-Played events before after strings (Err fault.Write) = TookFront before after (transcript_of events)
+-- the strings of the line that comes next, where one does
+abbrev pub strings_next : List Played → List (ℕ × Event) → List (List ℕ)
+strings_next run [] = []
+strings_next run (line ∷ rest) = strings_in (moves_of run) (event_of line.1)
+
+-- these lines ask a switch for what was done, or those with the next one do
+abbrev pub IsSwitchedNearly : Which → (first rest : List (ℕ × Event)) → Switch → Switch → Type 0
+IsSwitchedNearly which first rest s t = IsSwitchedBy which first s t ⊎ IsSwitchedBy which (first ++ take 1 rest) s t
+
+-- Memory ran out behind a run of the first lines, perhaps in the middle of the next one.
+pub record IsShort (lines : List (ℕ × Event)) (b a : Devices) : Type 0 where
+  pub first : List (ℕ × Event)
+  pub rest : List (ℕ × Event)
+  pub split : lines ≡ first ++ rest
+  pub run : List Played
+  pub is_run : IsRunOf first run
+  pub sent : HasFront (strings_of run) a.strings (strings_next run rest)
+  pub alpha : IsSwitchedNearly Alpha first rest b.alpha.switch a.alpha.switch
+  pub beta : IsSwitchedNearly Beta first rest b.beta.switch a.beta.switch
+  pub guarantees : AlwaysKeepsGuarantees (moves_of run)
+
+-- What was done so far in a loop over lines: a run stands behind the world, and the disks are held.
+pub record HasRun (lines : List (ℕ × Event)) (w : WorldState) (b a : Devices) : Type 0 where
+  pub run : List Played
+  pub is_run : IsRunOf lines run
+  pub stands : Stands w a.strings (moves_of run)
+  pub alpha : IsCountedBy Alpha lines run b.alpha a.alpha
+  pub beta : IsCountedBy Beta lines run b.beta a.beta
+  pub alpha_held : IsHeldOn a.alpha w.alpha
+  pub beta_held : IsHeldOn a.beta w.beta
+
+-- and its replies were written
+abbrev pub HasPlayed : List (ℕ × Event) → WorldState → Devices → Devices → (before after : Option (List ℕ)) → Type 0
+HasPlayed lines w b a before after = (so_far : HasRun lines w b a) × Took before after (reply_lines so_far.run)

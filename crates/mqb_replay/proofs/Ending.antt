@@ -1,0 +1,127 @@
+-- How a script ends that is played whole.
+use Rattle.std.proofs.Common.{◌≡◌, arith, List, [], Option, append-nil, inl, refl, sym, subst, ℕ}
+use Rattle.std.specs.Prelude.{Err, Ok, Result}
+use Rattle.mqb_moves.specs.Seats.{IsHeldOn}
+use Rattle.mqb_network.specs.Network.{Network}
+use Rattle.mqb_outside.specs.Told.{Took}
+use Rattle.mqb_runs.specs.Guarantees.{RunsKeepGuarantees}
+use Rattle.mqb_runs.specs.Runs.{Played, course_of}
+use Rattle.mqb_runs.specs.Texts.{end_lines, reply_lines, text_of}
+use Rattle.mqb_script.specs.declared.events.Event.{Event}
+use Rattle.mqb_script.specs.declared.managers.Which.TheVariants.{Alpha, Beta}
+use Rattle.mqb_status.specs.Outputs.{TookFront}
+use Rattle.mqb_status.specs.lemmas.Taking.{front_then, front_none, took_none, took_then}
+use Rattle.mqb_world.specs.Standing.{Stands}
+use Rattle.mqb_world.specs.Worlds.{WorldState, network_of}
+use Rattle.mqb_replay.specs.Devices.{Devices}
+use Rattle.mqb_replay.specs.Disks.{RoseBy}
+use Rattle.mqb_replay.specs.Plays.{HasPlayed, HasRun, Wrote, strings_next}
+use Rattle.mqb_replay.specs.Replays.{IsCut, IsDone, IsOutOfMemory, PlaysLines, PlaysWhole, text_before}
+use Rattle.mqb_replay.specs.declared.faults.ReplayFault.{ReplayFault}
+use Rattle.mqb_replay.specs.declared.faults.ReplayFault.TheVariants as fault
+use Rattle.mqb_replay.proofs.Counting.{switched_none}
+use Rattle.mqb_replay.proofs.Playing.{played_so_far}
+use Rattle.mqb_replay.proofs.Turning.{short_of}
+
+-- Nothing was played yet.
+
+pub none_run : (w : WorldState) (b a : Devices) → Stands w a.strings [] → IsHeldOn a.alpha w.alpha → IsHeldOn a.beta w.beta → a.alpha.faults ≡ b.alpha.faults → a.beta.faults ≡ b.beta.faults
+    → a.alpha.switch ≡ b.alpha.switch → a.beta.switch ≡ b.beta.switch → HasRun [] w b a
+none_run w b a stands alpha beta alpha_faults beta_faults alpha_switch beta_switch = record {
+  run = [];
+  is_run = record { lines = refl; moves = tt; replies = refl };
+  stands = stands;
+  alpha = record { faults = none_rose b.alpha.faults a.alpha.faults alpha_faults; switch = switched_none Alpha b.alpha.switch a.alpha.switch alpha_switch };
+  beta = record { faults = none_rose b.beta.faults a.beta.faults beta_faults; switch = switched_none Beta b.beta.switch a.beta.switch beta_switch };
+  alpha_held = alpha;
+  beta_held = beta;
+}
+  where
+    none_rose : (n m : ℕ) → m ≡ n → RoseBy 0 n m
+    none_rose n m same = omega arith
+
+-- and nothing was written
+pub begins : (w : WorldState) (b a : Devices) (before : Option (List ℕ)) → Stands w a.strings [] → IsHeldOn a.alpha w.alpha → IsHeldOn a.beta w.beta → a.alpha.faults ≡ b.alpha.faults
+    → a.beta.faults ≡ b.beta.faults → a.alpha.switch ≡ b.alpha.switch → a.beta.switch ≡ b.beta.switch → HasPlayed [] w b a before before
+unfolding none_run
+begins w b a before stands alpha beta alpha_faults beta_faults alpha_switch beta_switch =
+    (none_run w b a stands alpha beta alpha_faults beta_faults alpha_switch beta_switch, took_none before)
+
+-- Memory ran out before the first line.
+
+-- nothing was written then
+pub front_still : (before after : Option (List ℕ)) (text : List ℕ) → after ≡ before → TookFront before after text
+front_still before after text same = subst (λ (t : Option (List ℕ)). TookFront before t text) (sym same) (front_none before text)
+
+pub none_played : RunsKeepGuarantees → (lines : List (ℕ × Event)) (b a : Devices) (before after : Option (List ℕ)) → a.strings ≡ [] → a.alpha.switch ≡ b.alpha.switch → a.beta.switch ≡ b.beta.switch
+    → after ≡ before → IsOutOfMemory lines b a before after
+none_played keep lines b a before after strings alpha beta same = (
+  record {
+    first = [];
+    rest = lines;
+    split = refl;
+    run = [];
+    is_run = record { lines = refl; moves = tt; replies = refl };
+    sent = record { front = []; rest = strings_next [] lines; wanted_are = refl; added = strings };
+    alpha = inl (switched_none Alpha b.alpha.switch a.alpha.switch alpha);
+    beta = inl (switched_none Beta b.beta.switch a.beta.switch beta);
+    guarantees = keep [] tt;
+  },
+  front_still before after (text_before lines []) same,
+)
+
+pub none_behind : RunsKeepGuarantees → (lines : List (ℕ × Event)) (w : WorldState) (b a : Devices) (before after : Option (List ℕ)) → HasRun [] w b a → after ≡ before → IsOutOfMemory lines b a before after
+none_behind keep lines w b a before after h same = let s = short_of keep lines [] lines refl w b a h in (s.0, front_still before after (text_before s.0.rest s.0.run) same)
+
+-- All lines were played.
+
+module _ (keep : RunsKeepGuarantees) (lines : List (ℕ × Event)) (w : WorldState) (b a : Devices) (before now after : Option (List ℕ)) (h : HasRun lines w b a)
+    (written : Took before now (reply_lines h.run)) where
+  abbrev behind : List ℕ
+  behind = end_lines (course_of h.run).network
+
+  whole_front : TookFront now after behind → TookFront before after (text_of h.run)
+  whole_front front = front_then before now after (reply_lines h.run) behind written front
+
+  done : Took now after behind → IsDone lines b a before after
+  done took = let p = played_so_far keep lines w b a h in
+      (p.0, subst (λ (ps : List Played). Took before after (text_of ps)) (sym p.1) (took_then before now after (reply_lines h.run) behind written took))
+
+  cut_behind : TookFront now after behind → IsCut lines b a before after
+  cut_behind front = let p = played_so_far keep lines w b a h in record {
+    first = lines;
+    rest = [];
+    split = sym (append-nil lines);
+    played = p.0;
+    written = subst (λ (ps : List Played). TookFront before after (text_of ps)) (sym p.1) (whole_front front);
+  }
+
+  short_end : after ≡ now → IsOutOfMemory lines b a before after
+  short_end same = let s = short_of keep lines lines [] (sym (append-nil lines)) w b a h in (
+    s.0,
+    subst (λ (ls : List (ℕ × Event)). TookFront before after (text_before ls s.0.run)) (sym s.2)
+        (subst (λ (ps : List Played). TookFront before after (text_of ps)) (sym s.1) (whole_front (front_still now after behind same))),
+  )
+
+  by_end : (r : Result (Unit {0}) ReplayFault) → Wrote now after behind r → PlaysWhole lines b a before after r
+  by_end (Ok u) wrote = done wrote
+  by_end (Err fault.WriteFault) wrote = cut_behind wrote
+  by_end (Err fault.Memory) wrote = short_end wrote
+  by_end (Err f) wrote = absurd wrote
+
+  pub ended : (r : Result (Unit {0}) ReplayFault) → Wrote now after (end_lines (network_of w)) r → PlaysWhole lines b a before after r
+  ended r wrote = by_end r (subst (λ (n : Network). Wrote now after (end_lines n) r) h.stands.stands.network wrote)
+
+-- The loop stopped.
+pub stopped : (lines : List (ℕ × Event)) (w : WorldState) (b a : Devices) (before after : Option (List ℕ)) (f : ReplayFault) → PlaysLines lines w b a before after (Err f)
+    → PlaysWhole lines b a before after (Err f)
+stopped lines w b a before after fault.WriteFault plays = plays
+stopped lines w b a before after fault.NetFull plays = plays
+stopped lines w b a before after fault.Memory plays = plays
+stopped lines w b a before after f plays = absurd plays
+
+-- and not by its disks
+pub not_by_disks : (lines : List (ℕ × Event)) (w : WorldState) (b a : Devices) (before after : Option (List ℕ)) (r : Result (Unit {0}) ReplayFault) → PlaysLines lines w b a before after r
+    → (r ≡ Err fault.NotEmpty → ⊥) × (r ≡ Err fault.DiskFault → ⊥)
+not_by_disks lines w b a before after r plays =
+    ((λ is. subst (PlaysLines lines w b a before after) is plays), (λ is. subst (PlaysLines lines w b a before after) is plays))

@@ -1,0 +1,97 @@
+-- What was read, and how a replay ends.
+use Rattle.std.proofs.Common.{ap, ◌≡◌, List, Option, inl, inr, refl, sym, subst, ◌∙◌, ℕ}
+use Rattle.std.specs.Prelude.{Err, Ok, Result}
+use Rattle.mqb_outside.specs.Told.{Took}
+use Rattle.mqb_outside.specs.Faults.{Rose}
+use Rattle.mqb_script.specs.Reading.{ReadCause, ReadsScript}
+use Rattle.mqb_script.specs.declared.events.Event.{Event}
+use Rattle.mqb_script.specs.declared.faults.ScriptFault.{ScriptFault}
+use Rattle.mqb_script.specs.declared.faults.ScriptFault.TheVariants as script
+use Rattle.mqb_status.specs.Outputs.{TookFront}
+use Rattle.mqb_status.specs.Texts.{fault_text}
+use Rattle.mqb_status.specs.declared.status.Status.{Status}
+use Rattle.mqb_replay.specs.Devices.{Devices}
+use Rattle.mqb_replay.specs.Faults.{fault_status, script_fault}
+use Rattle.mqb_replay.specs.Replays.{Ends, EndsSo, IsScript, IsUntouched, PlaysWhole, Tells}
+use Rattle.mqb_replay.specs.declared.faults.ReplayFault.{ReplayFault}
+use Rattle.mqb_replay.specs.declared.faults.ReplayFault.TheVariants as fault
+
+-- there is no script, and nothing was done
+unread : (text : List ℕ) (held rest : Option (List ℕ)) (b a : Devices) (before after : Option (List ℕ)) (f : ScriptFault) (reads : ReadsScript held rest (Err f)) → reads.text ≡ text
+    → IsUntouched b a → after ≡ before → Ends reads.text rest b a before after (Err (script_fault f))
+unread text held rest b a before after (script.Line number kind) reads is untouched same =
+    (record { short = reads.answers.0; few_lines = reads.answers.1; script = reads.answers.2; ended = reads.ended }, untouched, same)
+unread text held rest b a before after script.TooLong reads is untouched same = (reads.answers, untouched, same)
+unread text held rest b a before after script.TooManyLines reads is untouched same = ((reads.answers.0, reads.answers.1, reads.ended), untouched, same)
+unread text held rest b a before after script.ReadFault reads is untouched same = (reads.answers, untouched, same)
+unread text held rest b a before after script.Memory reads is untouched same = inl (reads.answers, untouched, same)
+
+pub not_read : (held rest : Option (List ℕ)) (b a : Devices) (before after : Option (List ℕ)) (f : ScriptFault) → ReadsScript held rest (Err f) → IsUntouched b a → after ≡ before
+    → EndsSo held rest b a before after (Err (script_fault f))
+not_read held rest b a before after f reads untouched same = (reads.text, reads.gave, unread reads.text held rest b a before after f reads refl untouched same)
+
+-- a script was played
+ends_by : (text : List ℕ) (rest : Option (List ℕ)) (b a : Devices) (before after : Option (List ℕ)) (lines : List (ℕ × Event)) (r : Result (Unit {0}) ReplayFault)
+    → IsScript text rest lines → PlaysWhole lines b a before after r → Ends text rest b a before after r
+ends_by text rest b a before after lines (Ok done) is plays = (lines, is, plays)
+ends_by text rest b a before after lines (Err fault.WriteFault) is plays = (lines, is, plays)
+ends_by text rest b a before after lines (Err fault.NetFull) is plays = (lines, is, plays)
+ends_by text rest b a before after lines (Err fault.NotEmpty) is plays = (lines, is, plays)
+ends_by text rest b a before after lines (Err fault.DiskFault) is plays = (lines, is, plays)
+ends_by text rest b a before after lines (Err fault.Memory) is plays = inr (lines, is, plays)
+ends_by text rest b a before after lines (Err f) is plays = absurd plays
+
+pub was_read : (held rest : Option (List ℕ)) (b a : Devices) (before after : Option (List ℕ)) (lines : List (ℕ × Event)) (r : Result (Unit {0}) ReplayFault) → ReadsScript held rest (Ok lines)
+    → PlaysWhole lines b a before after r → EndsSo held rest b a before after r
+was_read held rest b a before after lines r reads plays = (
+  reads.text,
+  reads.gave,
+  ends_by reads.text rest b a before after lines r
+      (record { short = reads.answers.0; few_lines = reads.answers.1; script = reads.answers.2; ended = reads.ended }) plays,
+)
+
+-- The line of a fault.
+
+line_is : (f : ReplayFault) (s : Status) (text : List ℕ) → s ≡ fault_status f → text ≡ fault_text s → text ≡ fault_text (fault_status f)
+line_is f s text same is = is ∙ ap fault_text same
+
+pub told_whole : (f : ReplayFault) (s : Status) (before after : Option (List ℕ)) (text : List ℕ) → s ≡ fault_status f → text ≡ fault_text s → Took before after text
+    → Tells (Err f) before after (Err f)
+told_whole f s before after text same is took = inl (refl, subst (Took before after) (line_is f s text same is) took)
+
+pub told_cut : (f : ReplayFault) (s : Status) (before after : Option (List ℕ)) (text : List ℕ) → s ≡ fault_status f → text ≡ fault_text s → TookFront before after text
+    → Tells (Err f) before after (Err fault.WriteFault)
+told_cut f s before after text same is front = inr (inl (refl, subst (TookFront before after) (line_is f s text same is) front))
+
+pub told_short : (f : ReplayFault) (taken : Option (List ℕ)) → Tells (Err f) taken taken (Err fault.Memory)
+told_short f taken = inr (inr (refl, refl))
+
+-- Which ends are told.
+
+-- no play ends as if its input had failed
+pub plays_not_read : (lines : List (ℕ × Event)) (b a : Devices) (before after : Option (List ℕ)) (r : Result (Unit {0}) ReplayFault) → PlaysWhole lines b a before after r → r ≡ Err fault.ReadFault → ⊥
+plays_not_read lines b a before after r plays is = subst (PlaysWhole lines b a before after) is plays
+
+err_one : (f g : ReplayFault) → ◌≡◌ {A = Result (Unit {0}) ReplayFault} (Err f) (Err g) → f ≡ g
+err_one f g is = cc
+
+read_is : (f : ScriptFault) → script_fault f ≡ fault.ReadFault → f ≡ script.ReadFault
+read_is (script.Line number kind) is = absurd (let none : ⊥ = cc in none)
+read_is script.TooLong is = absurd (let none : ⊥ = cc in none)
+read_is script.TooManyLines is = absurd (let none : ⊥ = cc in none)
+read_is script.ReadFault is = refl
+read_is script.Memory is = absurd (let none : ⊥ = cc in none)
+
+-- the input failed where that is told
+pub read_cause : (f : ScriptFault) (a b : ℕ) → ReadCause a b (Err f) → ◌≡◌ {A = Result (Unit {0}) ReplayFault} (Err (script_fault f)) (Err fault.ReadFault) → Rose a b
+read_cause f a b cause is = subst (λ (g : ScriptFault). ReadCause a b (Err g)) (read_is f (err_one (script_fault f) fault.ReadFault is)) cause
+
+clash : (r : Result (Unit {0}) ReplayFault) (f g : ReplayFault) → r ≡ Err f → r ≡ Err g → (f ≡ g → ⊥) → ⊥
+clash r f g one other apart = apart (err_one f g (sym one ∙ other))
+
+-- and it is told only then
+pub told_read : (end r : Result (Unit {0}) ReplayFault) (before after : Option (List ℕ)) → Tells end before after r → r ≡ Err fault.ReadFault → end ≡ Err fault.ReadFault
+told_read (Ok done) r before after told is = sym told.0 ∙ is
+told_read (Err why) r before after (inl told) is = sym told.0 ∙ is
+told_read (Err why) r before after (inr (inl told)) is = absurd (clash r fault.WriteFault fault.ReadFault told.0 is (λ x. let none : ⊥ = cc in none))
+told_read (Err why) r before after (inr (inr told)) is = absurd (clash r fault.Memory fault.ReadFault told.0 is (λ x. let none : ⊥ = cc in none))

@@ -1,0 +1,12 @@
+-- What a replay works on beside its input and its output.
+use Rattle.std.specs.Prelude.{List, ℕ}
+use Rattle.mqb_devices.specs.Disk.{View}
+
+-- The strings of the medium, and the two disks.
+pub record Devices : Type 1 where
+  pub strings : List (List ℕ)
+  pub alpha : View
+  pub beta : View
+
+abbrev pub devices : List (List ℕ) → (alpha beta : View) → Devices
+devices strings alpha beta = record { strings = strings; alpha = alpha; beta = beta }
