@@ -1,5 +1,6 @@
 #!/bin/sh
-# Times replays of 200, 2,000 and 20,000 lines: commits of 1,000 bytes, each pumped, delivered and acknowledged.
+# Times replays of 200, 2,000 and 20,000 lines over two managers on stores in memory: commits of 1,000 bytes, each pumped, delivered and acknowledged. Then trials
+# of 100, 1,000 and 10,000 orders, which write one line each.
 # The first call of ./mqb builds the program, which is not counted.
 set -e
 top=$(cd "$(dirname "$0")/.." && pwd)
@@ -25,4 +26,10 @@ for lines in 200 2000 20000; do
   "$top/mqb" replay < "$work/script" > "$work/transcript"
   end=$(date +%s%N)
   printf '%s lines: %s ms, %s bytes of transcript\n' "$lines" "$(((end - start) / 1000000))" "$(wc -c < "$work/transcript")"
+done
+for orders in 100 1000 10000; do
+  start=$(date +%s%N)
+  "$top/mqb" trial "$orders" > "$work/line"
+  end=$(date +%s%N)
+  printf '%s orders: %s ms, %s\n' "$orders" "$(((end - start) / 1000000))" "$(cat "$work/line")"
 done

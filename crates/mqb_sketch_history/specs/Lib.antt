@@ -1,4 +1,0 @@
-pub mod Channels
-pub mod Shows
-pub mod Example
-pub mod Laws

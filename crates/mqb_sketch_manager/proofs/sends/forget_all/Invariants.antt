@@ -1,7 +1,0 @@
-use Rattle.mqb_sketch_machine.specs.Pumping.{unsent}
-use Rattle.mqb_sketch_manager.specs.Outgoing.{sending_of}
-use Rattle.mqb_sketch_manager.proofs.Marking.{IsMarked}
-use Rattle.mqb_sketch_manager.proofs.sends.forget_all.Given as goal
-
-abbrev pub invariant-loop-outgoing : goal.invariant-loop-outgoing
-invariant-loop-outgoing l = IsMarked sending_of (unsent) l.outgoing-index l.initial.outs l.outs
