@@ -4,6 +4,7 @@ use Rattle.std.specs.Prelude.{Err, Ok, Result}
 use Rattle.mqb_devices.specs.Disk.{Switch, View}
 use Rattle.mqb_network.specs.Runs.{beginning}
 use Rattle.mqb_runs.specs.Hosts.{hosts}
+use Rattle.mqb_run_laws.specs.Continuing.{RunsContinue}
 use Rattle.mqb_runs.specs.Guarantees.{RunsKeepGuarantees}
 use Rattle.mqb_runs.specs.Runs.{Played}
 use Rattle.mqb_script.specs.declared.events.Event.{Event}
@@ -21,7 +22,7 @@ use Rattle.mqb_replay.specs.Replays.{AreEmpty, HasBytes, HasFailed, IsUntouched,
 use Rattle.mqb_replay.specs.Trials.{TriesLines}
 use Rattle.mqb_replay.specs.declared.faults.ReplayFault.{ReplayFault}
 use Rattle.mqb_replay.specs.declared.faults.ReplayFault.TheVariants as fault
-use Rattle.mqb_replay.proofs.Ending.{none_played}
+use Rattle.mqb_replay.proofs.Ending.{none_played, none_short}
 
 -- what was counted since a disk is that of one with the same counts
 counted_before : (which : Which) (lines : List (ℕ × Event)) (run : List Played) (b d e : View) → d.faults ≡ b.faults → d.switch ≡ b.switch → IsCountedBy which lines run d e
@@ -112,17 +113,17 @@ module _ (keep : RunsKeepGuarantees) (lines : List (ℕ × Event)) (b a : Device
     beta = (ap (λ (s : Switch). s.arms) beta_switch, ap (λ (s : Switch). s.restarts) beta_switch);
   }
 
-  pub not_made : (f : WorldFault) → (f ≡ world.NotEmpty → HasBytes b) → (f ≡ world.DiskFault → HasFailed b a) → (f ≡ world.NetFull → ⊥) → PlaysWhole lines b a before after (Err (world_fault f))
-  not_made world.NotEmpty bytes failed full = (bytes refl, untouched, same)
-  not_made world.DiskFault bytes failed full = (failed refl, untouched, same)
-  not_made world.NetFull bytes failed full = absurd (full refl)
-  not_made world.Memory bytes failed full = none_played keep lines b a before after strings alpha_switch beta_switch same
+  pub not_made : RunsContinue → (f : WorldFault) → (f ≡ world.NotEmpty → HasBytes b) → (f ≡ world.DiskFault → HasFailed b a) → (f ≡ world.NetFull → ⊥) → PlaysWhole lines b a before after (Err (world_fault f))
+  not_made continue world.NotEmpty bytes failed full = (bytes refl, untouched, same)
+  not_made continue world.DiskFault bytes failed full = (failed refl, untouched, same)
+  not_made continue world.NetFull bytes failed full = absurd (full refl)
+  not_made continue world.Memory bytes failed full = none_played keep continue lines b a before after strings alpha_switch beta_switch same
 
   pub not_tried : (f : WorldFault) → (f ≡ world.NotEmpty → HasBytes b) → (f ≡ world.DiskFault → HasFailed b a) → (f ≡ world.NetFull → ⊥) → TriesLines lines b a before after (Err (world_fault f))
   not_tried world.NotEmpty bytes failed full = (bytes refl, untouched, same)
   not_tried world.DiskFault bytes failed full = (failed refl, untouched, same)
   not_tried world.NetFull bytes failed full = absurd (full refl)
-  not_tried world.Memory bytes failed full = ((none_played keep lines b a before after strings alpha_switch beta_switch same).0, same)
+  not_tried world.Memory bytes failed full = (none_short keep lines b a strings alpha_switch beta_switch, same)
 
 -- Where a run ended, both disks were empty.
 

@@ -8,13 +8,14 @@ use Rattle.mqb_devices.specs.Images.{Each}
 use Rattle.mqb_network.specs.Choices.{Well}
 use Rattle.mqb_network.specs.Courses.{Course}
 use Rattle.mqb_network.specs.Events as network
-use Rattle.mqb_network.specs.Runs.{IsRunFrom, Move, after_run, answer, beginning, course_after, may, moved_on}
+use Rattle.mqb_network.specs.Runs.{Move, after_run, answer, beginning, may}
 use Rattle.mqb_outside.specs.Faults.{Rose}
 use Rattle.mqb_outside.specs.Strings.{bytes_in}
 use Rattle.mqb_outside.specs.Told.{Gave}
 use Rattle.mqb_packet.specs.Plain.{plain_spelling}
 use Rattle.mqb_packet.specs.declared.packet.Packet.{Packet}
 use Rattle.mqb_posts.specs.declared.posting.TheConstants.{MAX_MEDIUM}
+use Rattle.mqb_run_laws.specs.Growing.{course_one, run_one}
 use Rattle.mqb_runs.specs.Events.{event_of}
 use Rattle.mqb_runs.specs.Hosts.{hosts}
 use Rattle.mqb_runs.specs.Runs.{Played, lines_of, moves_of}
@@ -30,7 +31,6 @@ use Rattle.mqb_replay.specs.Replays.{AreEmpty, Ends, HasBytes, IsAtEnd, IsScript
 use Rattle.mqb_replay.specs.Trials.{EndsTrial, Tries, TriesLines}
 use Rattle.mqb_replay.specs.declared.faults.ReplayFault.{ReplayFault}
 use Rattle.mqb_replay.specs.declared.faults.ReplayFault.TheVariants as fault
-use Rattle.mqb_replay.proofs.Growing.{course_one}
 use Rattle.mqb_replay.proofs.Taken.{IsTaken, taken_all, taken_of, taken_short}
 
 -- The moves of a run ask for its lines.
@@ -38,11 +38,6 @@ use Rattle.mqb_replay.proofs.Taken.{IsTaken, taken_all, taken_of, taken_short}
 asks : (ps : List Played) → AskFor (moves_of ps) (lines_of ps)
 asks [] = refl
 asks (p ∷ ps) = ap (λ (es : List network.Event). event_of p.event ∷ es) (asks ps)
-
--- A move more makes a run, where it may be made.
-run_one : (c : Course) (ms : List Move) (m : Move) → IsRunFrom c ms → IsTrue (may (course_after c ms) m.event m.choice) → IsRunFrom c (ms ++ m ∷ [])
-run_one c [] m run may_be = (may_be, tt)
-run_one c (n ∷ ms) m run may_be = (run.0, run_one (moved_on c n) ms m run.1 may_be)
 
 -- An event may go well; or it is a restart, which sends nothing.
 goes_well : (c : Course) (e : network.Event) → IsTrue (may c e Well) ⊎ ((answer c (record { event = e; choice = Well })).after.sent ≡ [])

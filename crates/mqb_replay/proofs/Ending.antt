@@ -4,22 +4,24 @@ use Rattle.std.specs.Prelude.{Err, Ok, Result}
 use Rattle.mqb_moves.specs.Seats.{IsHeldOn}
 use Rattle.mqb_network.specs.Network.{Network}
 use Rattle.mqb_outside.specs.Told.{Took}
+use Rattle.mqb_run_laws.specs.Continuing.{RunsContinue}
 use Rattle.mqb_runs.specs.Guarantees.{RunsKeepGuarantees}
-use Rattle.mqb_runs.specs.Runs.{Played, course_of}
+use Rattle.mqb_runs.specs.Runs.{IsRunOf, Played, course_of}
 use Rattle.mqb_runs.specs.Texts.{end_lines, reply_lines, text_of}
 use Rattle.mqb_script.specs.declared.events.Event.{Event}
 use Rattle.mqb_script.specs.declared.managers.Which.TheVariants.{Alpha, Beta}
 use Rattle.mqb_status.specs.Outputs.{TookFront}
-use Rattle.mqb_status.specs.lemmas.Taking.{front_then, front_none, took_none, took_then}
+use Rattle.mqb_status.specs.lemmas.Taking.{front_then, took_none, took_then}
 use Rattle.mqb_world.specs.Standing.{Stands}
 use Rattle.mqb_world.specs.Worlds.{WorldState, network_of}
 use Rattle.mqb_replay.specs.Devices.{Devices}
 use Rattle.mqb_replay.specs.Disks.{RoseBy}
-use Rattle.mqb_replay.specs.Plays.{HasPlayed, HasRun, Wrote, strings_next}
-use Rattle.mqb_replay.specs.Replays.{IsCut, IsDone, IsOutOfMemory, PlaysLines, PlaysWhole, text_before}
+use Rattle.mqb_replay.specs.Plays.{HasPlayed, HasRun, IsShort, Wrote, strings_next}
+use Rattle.mqb_replay.specs.Replays.{IsCut, IsDone, IsFront, IsOutOfMemory, PlaysLines, PlaysWhole}
 use Rattle.mqb_replay.specs.declared.faults.ReplayFault.{ReplayFault}
 use Rattle.mqb_replay.specs.declared.faults.ReplayFault.TheVariants as fault
 use Rattle.mqb_replay.proofs.Counting.{switched_none}
+use Rattle.mqb_replay.proofs.Fronts.{front_of, front_still, front_whole}
 use Rattle.mqb_replay.proofs.Playing.{played_so_far}
 use Rattle.mqb_replay.proofs.Turning.{short_of}
 
@@ -49,29 +51,32 @@ begins w b a before stands alpha beta alpha_faults beta_faults alpha_switch beta
 
 -- Memory ran out before the first line.
 
--- nothing was written then
-pub front_still : (before after : Option (List ℕ)) (text : List ℕ) → after ≡ before → TookFront before after text
-front_still before after text same = subst (λ (t : Option (List ℕ)). TookFront before t text) (sym same) (front_none before text)
+no_run : IsRunOf [] []
+no_run = record { lines = refl; moves = tt; replies = refl }
 
-pub none_played : RunsKeepGuarantees → (lines : List (ℕ × Event)) (b a : Devices) (before after : Option (List ℕ)) → a.strings ≡ [] → a.alpha.switch ≡ b.alpha.switch → a.beta.switch ≡ b.beta.switch
-    → after ≡ before → IsOutOfMemory lines b a before after
-none_played keep lines b a before after strings alpha beta same = (
-  record {
-    first = [];
-    rest = lines;
-    split = refl;
-    run = [];
-    is_run = record { lines = refl; moves = tt; replies = refl };
-    sent = record { front = []; rest = strings_next [] lines; wanted_are = refl; added = strings };
-    alpha = inl (switched_none Alpha b.alpha.switch a.alpha.switch alpha);
-    beta = inl (switched_none Beta b.beta.switch a.beta.switch beta);
-    guarantees = keep [] tt;
-  },
-  front_still before after (text_before lines []) same,
-)
+pub none_short : RunsKeepGuarantees → (lines : List (ℕ × Event)) (b a : Devices) → a.strings ≡ [] → a.alpha.switch ≡ b.alpha.switch → a.beta.switch ≡ b.beta.switch → IsShort lines b a
+none_short keep lines b a strings alpha beta = record {
+  first = [];
+  rest = lines;
+  split = refl;
+  run = [];
+  is_run = no_run;
+  sent = record { front = []; rest = strings_next [] lines; wanted_are = refl; added = strings };
+  alpha = inl (switched_none Alpha b.alpha.switch a.alpha.switch alpha);
+  beta = inl (switched_none Beta b.beta.switch a.beta.switch beta);
+  guarantees = keep [] tt;
+}
 
-pub none_behind : RunsKeepGuarantees → (lines : List (ℕ × Event)) (w : WorldState) (b a : Devices) (before after : Option (List ℕ)) → HasRun [] w b a → after ≡ before → IsOutOfMemory lines b a before after
-none_behind keep lines w b a before after h same = let s = short_of keep lines [] lines refl w b a h in (s.0, front_still before after (text_before s.0.rest s.0.run) same)
+pub none_played : RunsKeepGuarantees → RunsContinue → (lines : List (ℕ × Event)) (b a : Devices) (before after : Option (List ℕ)) → a.strings ≡ [] → a.alpha.switch ≡ b.alpha.switch
+    → a.beta.switch ≡ b.beta.switch → after ≡ before → IsOutOfMemory lines b a before after
+unfolding none_short
+none_played keep continue lines b a before after strings alpha beta same =
+    (none_short keep lines b a strings alpha beta, front_of continue lines [] lines refl [] no_run before after (front_still before after [] same))
+
+pub none_behind : RunsKeepGuarantees → RunsContinue → (lines : List (ℕ × Event)) (w : WorldState) (b a : Devices) (before after : Option (List ℕ)) → HasRun [] w b a → after ≡ before
+    → IsOutOfMemory lines b a before after
+none_behind keep continue lines w b a before after h same = let s = short_of keep lines [] lines refl w b a h in
+    (s.0, front_of continue lines s.0.first s.0.rest s.0.split s.0.run s.0.is_run before after (front_still before after (reply_lines s.0.run) same))
 
 -- All lines were played.
 
@@ -93,14 +98,13 @@ module _ (keep : RunsKeepGuarantees) (lines : List (ℕ × Event)) (w : WorldSta
     rest = [];
     split = sym (append-nil lines);
     played = p.0;
-    written = subst (λ (ps : List Played). TookFront before after (text_of ps)) (sym p.1) (whole_front front);
+    written = front_whole lines p.0.run before after p.0.is_run (subst (λ (ps : List Played). TookFront before after (text_of ps)) (sym p.1) (whole_front front));
   }
 
   short_end : after ≡ now → IsOutOfMemory lines b a before after
   short_end same = let s = short_of keep lines lines [] (sym (append-nil lines)) w b a h in (
     s.0,
-    subst (λ (ls : List (ℕ × Event)). TookFront before after (text_before ls s.0.run)) (sym s.2)
-        (subst (λ (ps : List Played). TookFront before after (text_of ps)) (sym s.1) (whole_front (front_still now after behind same))),
+    subst (λ (ps : List Played). IsFront lines ps before after) (sym s.1) (front_whole lines h.run before after h.is_run (whole_front (front_still now after behind same))),
   )
 
   by_end : (r : Result (Unit {0}) ReplayFault) → Wrote now after behind r → PlaysWhole lines b a before after r

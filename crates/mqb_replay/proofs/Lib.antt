@@ -3,6 +3,7 @@ mod Lines
 mod Counting
 mod Growing
 mod Playing
+mod Fronts
 mod Turning
 mod Ending
 mod Before

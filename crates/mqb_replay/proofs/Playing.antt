@@ -10,6 +10,7 @@ use Rattle.mqb_moves.specs.Seats.{IsHeldOn, SeatState, seated}
 use Rattle.mqb_network.specs.Courses.{Course}
 use Rattle.mqb_network.specs.Network.{Network, Note, manager_at}
 use Rattle.mqb_network.specs.Runs.{after_run, beginning, moved_on}
+use Rattle.mqb_run_laws.specs.Growing.{course_one}
 use Rattle.mqb_runs.specs.Events.{event_of}
 use Rattle.mqb_runs.specs.Guarantees.{RunsKeepGuarantees}
 use Rattle.mqb_runs.specs.Hosts.{hosts}
@@ -30,7 +31,7 @@ use Rattle.mqb_replay.specs.Devices.{Devices}
 use Rattle.mqb_replay.specs.Disks.{RoseBy, StandsOn, failures}
 use Rattle.mqb_replay.specs.Plays.{Answers, GoesBy, HasRun, IsCountedBy, IsPlayed}
 use Rattle.mqb_replay.proofs.Counting.{rose_more, switched_more}
-use Rattle.mqb_replay.proofs.Growing.{course_one, failures_one, played, run_more, stands_more, text_one}
+use Rattle.mqb_replay.proofs.Growing.{failures_one, one_by, run_by, stands_more, text_one}
 
 -- What stands on a disk that is held.
 
@@ -89,7 +90,7 @@ module _ (lines : List (ℕ × Event)) (line : ℕ × Event) (w w_now : WorldSta
   goes = answers.goes (moves_of h.run) h.stands
 
   abbrev one : Played
-  one = played line h.run given w_now a.strings goes
+  one = one_by line h.run given w_now a.strings goes
 
   stands : Stands w_now a.strings (moves_of (h.run ++ one ∷ []))
   stands = stands_more line h.run given w_now a.strings goes
@@ -112,7 +113,7 @@ module _ (lines : List (ℕ × Event)) (line : ℕ × Event) (w w_now : WorldSta
   goes_on = (
     record {
       run = h.run ++ one ∷ [];
-      is_run = run_more line h.run given w_now a.strings goes lines h.is_run;
+      is_run = run_by line h.run given w_now a.strings goes lines h.is_run;
       stands = stands;
       alpha = counted Alpha b.alpha m.alpha a.alpha h.alpha w_now.alpha answers.alpha;
       beta = counted Beta b.beta m.beta a.beta h.beta w_now.beta answers.beta;

@@ -5,11 +5,12 @@ use Rattle.mqb_devices.specs.Disk.{Switch, View}
 use Rattle.mqb_network.specs.Runs.{Move}
 use Rattle.mqb_outside.specs.Told.{Took}
 use Rattle.mqb_posts.specs.Posting.{HasFront, IsCutOff}
+use Rattle.mqb_run_laws.specs.Continuing.{RunsContinue}
 use Rattle.mqb_runs.specs.Events.{event_of}
 use Rattle.mqb_runs.specs.Guarantees.{RunsKeepGuarantees}
 use Rattle.mqb_runs.specs.Hosts.{hosts}
 use Rattle.mqb_runs.specs.Runs.{Played, course_of, moves_of}
-use Rattle.mqb_runs.specs.Texts.{end_lines, reply_lines}
+use Rattle.mqb_runs.specs.Texts.{reply_lines}
 use Rattle.mqb_script.specs.declared.events.Event.{Event}
 use Rattle.mqb_script.specs.declared.events.Event.TheVariants as event
 use Rattle.mqb_script.specs.declared.managers.Which.{Which}
@@ -23,27 +24,12 @@ use Rattle.mqb_world.specs.Standing.{strings_in}
 use Rattle.mqb_world.specs.Worlds.{WorldState}
 use Rattle.mqb_replay.specs.Devices.{Devices}
 use Rattle.mqb_replay.specs.Plays.{Answers, HasPlayed, HasRun, IsCountedBy, IsFull, IsShort, IsSwitched, Overflows, RunsOut, Turned, Wrote, strings_next, strings_of}
-use Rattle.mqb_replay.specs.Replays.{IsCut, IsNetFull, IsOutOfMemory, PlaysLines, text_before}
+use Rattle.mqb_replay.specs.Replays.{IsCut, IsNetFull, IsOutOfMemory, PlaysLines}
 use Rattle.mqb_replay.specs.declared.faults.ReplayFault.{ReplayFault}
 use Rattle.mqb_replay.specs.declared.faults.ReplayFault.TheVariants as fault
 use Rattle.mqb_replay.proofs.Counting.{rose_stays, switched_more, switched_stays}
+use Rattle.mqb_replay.proofs.Fronts.{front_of, took_front}
 use Rattle.mqb_replay.proofs.Playing.{goes_on, played_so_far}
-
--- A text that goes on.
-
--- what is written before some lines are left begins with the lines of the replies
-text_begins : (rest : List (ℕ × Event)) (run : List Played) → (more : List ℕ) × (text_before rest run ≡ reply_lines run ++ more)
-text_begins [] run = (end_lines (course_of run).network, refl)
-text_begins (line ∷ rest) run = ([], sym (append-nil (reply_lines run)))
-
--- a front of the lines of the replies is a front of it
-pub front_of_text : (before after : Option (List ℕ)) (rest : List (ℕ × Event)) (run : List Played) → TookFront before after (reply_lines run) → TookFront before after (text_before rest run)
-front_of_text before after rest run front = let more = text_begins rest run in
-    subst (TookFront before after) (sym more.1) (front_more before after (reply_lines run) more.0 front)
-
--- all of them are one
-pub took_front : (before after : Option (List ℕ)) (text : List ℕ) → Took before after text → TookFront before after text
-took_front before after text took = record { written = text; left = []; whole = append-nil text; took = took }
 
 -- No event that arms a disk, or starts it again, sends a packet.
 
@@ -61,7 +47,7 @@ switch_stays which e s t done is = subst (λ x. SwitchGoes x done.0 s t) is done
 
 -- Memory ran out behind a run of the first lines.
 pub short_of : (keep : RunsKeepGuarantees) (lines first rest : List (ℕ × Event)) → lines ≡ first ++ rest → (w : WorldState) (b a : Devices) (h : HasRun first w b a)
-    → (s : IsShort lines b a) × (s.run ≡ h.run) × (s.rest ≡ rest)
+    → (s : IsShort lines b a) × (s.run ≡ h.run)
 short_of keep lines first rest split w b a h = (
   record {
     first = first;
@@ -80,12 +66,11 @@ short_of keep lines first rest split w b a h = (
     guarantees = keep (moves_of h.run) h.stands.run;
   },
   refl,
-  refl,
 )
 
 -- The ends of a loop over lines.
 
-module _ (keep : RunsKeepGuarantees) (lines first rest : List (ℕ × Event)) (line : ℕ × Event) (split : lines ≡ first ++ line ∷ rest) (w w_now : WorldState) (b m a : Devices)
+module _ (keep : RunsKeepGuarantees) (continue : RunsContinue) (lines first rest : List (ℕ × Event)) (line : ℕ × Event) (split : lines ≡ first ++ line ∷ rest) (w w_now : WorldState) (b m a : Devices)
     (before now after : Option (List ℕ)) (h : HasRun first w b m) (written : Took before now (reply_lines h.run)) where
   -- those before the next one, and that
   split_after : lines ≡ (first ++ line ∷ []) ++ rest
@@ -120,7 +105,7 @@ module _ (keep : RunsKeepGuarantees) (lines first rest : List (ℕ × Event)) (l
       cut = over.cut (moves_of h.run) h.stands
 
   -- memory ran out in the middle of the line
-  short : RunsOut line.1 w m a → (s : IsShort lines b a) × (s.run ≡ h.run) × (s.rest ≡ line ∷ rest)
+  short : RunsOut line.1 w m a → (s : IsShort lines b a) × (s.run ≡ h.run)
   short out = (
     record {
       first = first;
@@ -134,7 +119,6 @@ module _ (keep : RunsKeepGuarantees) (lines first rest : List (ℕ × Event)) (l
       guarantees = keep (moves_of h.run) h.stands.run;
     },
     refl,
-    refl,
   )
 
   -- the line was answered
@@ -146,7 +130,7 @@ module _ (keep : RunsKeepGuarantees) (lines first rest : List (ℕ × Event)) (l
     more_text = (goes_on first line w w_now b m a given h answers).1
 
     -- and memory ran out behind it
-    pub short_behind : (s : IsShort lines b a) × (s.run ≡ more.run) × (s.rest ≡ rest)
+    pub short_behind : (s : IsShort lines b a) × (s.run ≡ more.run)
     short_behind = (short_of keep lines (first ++ line ∷ []) rest split_after w_now b a more)
 
     pub played_one : Took now after (printed hosts (Some line.0) given) → HasPlayed (first ++ line ∷ []) w_now b a before after
@@ -159,17 +143,17 @@ module _ (keep : RunsKeepGuarantees) (lines first rest : List (ℕ × Event)) (l
       rest = rest;
       split = split_after;
       played = played.0;
-      written = front_of_text before after rest played.0.run (subst (TookFront before after) (sym (ap reply_lines played.1 ∙ more_text))
+      written = front_of continue lines (first ++ line ∷ []) rest split_after played.0.run played.0.is_run before after
+          (subst (TookFront before after) (sym (ap reply_lines played.1 ∙ more_text))
           (front_then before now after (reply_lines h.run) (printed hosts (Some line.0) given) written front));
     }
 
   -- What becomes of the line ends the loop.
 
-  out_of_memory : (s : IsShort lines b a) (run : List Played) (left : List (ℕ × Event)) → s.run ≡ run → s.rest ≡ left → TookFront before after (reply_lines run) → IsOutOfMemory lines b a before after
-  out_of_memory s run left is_run is_rest front = (
+  out_of_memory : (s : IsShort lines b a) (run : List Played) → s.run ≡ run → TookFront before after (reply_lines run) → IsOutOfMemory lines b a before after
+  out_of_memory s run is_run front = (
     s,
-    subst (λ (ls : List (ℕ × Event)). TookFront before after (text_before ls s.run)) (sym is_rest)
-        (subst (λ (ps : List Played). TookFront before after (text_before left ps)) (sym is_run) (front_of_text before after left run front)),
+    front_of continue lines s.first s.rest s.split s.run s.is_run before after (subst (λ (ps : List Played). TookFront before after (reply_lines ps)) (sym is_run) front),
   )
 
   written_still : after ≡ now → TookFront before after (reply_lines h.run)
@@ -177,12 +161,12 @@ module _ (keep : RunsKeepGuarantees) (lines first rest : List (ℕ × Event)) (l
 
   memory_in : (given : Reply) (answers : Answers line.1 w m w_now a given) → after ≡ now → IsOutOfMemory lines b a before after
   memory_in given answers same = let s = short_behind given answers in
-      out_of_memory s.0 (more given answers).run rest s.1 s.2
+      out_of_memory s.0 (more given answers).run s.1
       (subst (TookFront before after) (sym (more_text given answers))
       (front_more before after (reply_lines h.run) (printed hosts (Some line.0) given) (written_still same)))
 
   memory_out : RunsOut line.1 w m a → after ≡ now → IsOutOfMemory lines b a before after
-  memory_out out same = let s = short out in out_of_memory s.0 h.run (line ∷ rest) s.1 s.2 (written_still same)
+  memory_out out same = let s = short out in out_of_memory s.0 h.run s.1 (written_still same)
 
   memory : (((given : Reply) × Answers line.1 w m w_now a given) ⊎ RunsOut line.1 w m a) → after ≡ now → IsOutOfMemory lines b a before after
   memory (inl answered) same = memory_in answered.0 answered.1 same

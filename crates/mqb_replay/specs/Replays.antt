@@ -4,6 +4,7 @@ use Rattle.mqb_devices.specs.Images.{Each}
 use Rattle.mqb_forms.specs.declared.faults.LineKind.{LineKind}
 use Rattle.mqb_outside.specs.Faults.{Rose}
 use Rattle.mqb_outside.specs.Told.{Gave, Took}
+use Rattle.mqb_run_laws.specs.Continuing.{Continues}
 use Rattle.mqb_runs.specs.Runs.{Played}
 use Rattle.mqb_runs.specs.Texts.{reply_lines, text_of}
 use Rattle.mqb_script.specs.Reading.{LONGEST, MOST_LINES, line_count}
@@ -71,10 +72,10 @@ StartsEmpty b (Err _) = Unit {0}
 
 -- The output.
 
--- What is written of a run behind which these lines are left: with the last ones it is the whole text.
-abbrev pub text_before : (rest : List (ℕ × Event)) → List Played → List ℕ
-text_before [] run = text_of run
-text_before (line ∷ rest) run = reply_lines run
+-- What was written is a front of the text of a run of all these lines, which begins with this one.
+pub record IsFront (lines : List (ℕ × Event)) (run : List Played) (before after : Option (List ℕ)) : Type 0 where
+  pub continued : Continues lines run
+  pub written : TookFront before after (text_of (run ++ continued.more))
 
 -- A script was played whole, and the whole text of its run was written.
 abbrev pub IsDone : List (ℕ × Event) → Devices → Devices → (before after : Option (List ℕ)) → Type 0
@@ -84,17 +85,17 @@ IsDone lines b a before after = (played : IsPlayed lines b a) × Took before aft
 abbrev pub IsNetFull : List (ℕ × Event) → Devices → Devices → (before after : Option (List ℕ)) → Type 0
 IsNetFull lines b a before after = (full : IsFull lines b a) × Took before after (reply_lines full.run)
 
--- The output failed behind a run of the first lines, and took a front of its text.
+-- The output failed behind a run of the first lines.
 pub record IsCut (lines : List (ℕ × Event)) (b a : Devices) (before after : Option (List ℕ)) : Type 0 where
   pub first : List (ℕ × Event)
   pub rest : List (ℕ × Event)
   pub split : lines ≡ first ++ rest
   pub played : IsPlayed first b a
-  pub written : TookFront before after (text_before rest played.run)
+  pub written : IsFront lines played.run before after
 
--- Memory ran out behind a run of the first lines, and a front of its text was written.
+-- Memory ran out behind a run of the first lines.
 abbrev pub IsOutOfMemory : List (ℕ × Event) → Devices → Devices → (before after : Option (List ℕ)) → Type 0
-IsOutOfMemory lines b a before after = (short : IsShort lines b a) × TookFront before after (text_before short.rest short.run)
+IsOutOfMemory lines b a before after = (short : IsShort lines b a) × IsFront lines short.run before after
 
 -- What becomes of the lines of a script over two new managers.
 abbrev pub PlaysLines : List (ℕ × Event) → WorldState → Devices → Devices → (before after : Option (List ℕ)) → Result (Unit {0}) ReplayFault → Type 0

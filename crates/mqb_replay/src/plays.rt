@@ -16,6 +16,7 @@ use crate::turns::turn;
 use mqb_base::Memory;
 use mqb_devices::Power;
 use mqb_outside::{Medium, Sink};
+use mqb_run_laws::runs_continue;
 use mqb_runs::runs_keep_guarantees;
 use mqb_script::{Event, Which};
 use mqb_status::write_all;
@@ -43,6 +44,7 @@ pub(crate) fn play_lines<K: Sink, P: Power, M: Medium>(
     ensures cause { WriteCause (K.write_faults out.old) (K.write_faults out.new) result }
 {
     runs_keep_guarantees();
+    runs_continue();
     let hosts = hosts(alloc)?;
     for line in script {
         turn(alloc, world, line, &hosts, out, first, second, medium)?;
@@ -133,6 +135,7 @@ pub(crate) fn play<K: Sink, P: Power, M: Medium>(
     ensures cause { WriteCause (K.write_faults out.old) (K.write_faults out.new) result }
 {
     runs_keep_guarantees();
+    runs_continue();
     let mut world = World::new(alloc, first, second)?;
     let played = play_in(alloc, &mut world, script, out, first, second, medium);
     drop(world);

@@ -1,16 +1,16 @@
 -- What holds of a world because a run stands behind it.
-use Rattle.std.proofs.Common.{◌≡◌, ℕ, zero, suc, Bool, false, true, List, Option, None, Some, length, refl, sym, ap, subst, ◌∙◌, arith}
+use Rattle.std.proofs.Common.{◌≡◌, ℕ, Bool, true, List, Option, None, Some, length, refl, sym, ap, subst, ◌∙◌}
 use Rattle.std.proofs.lemmas.List.{length-map}
 use Rattle.std.specs.Prelude.{is_some}
 use Rattle.mqb_history.specs.Laws.{HistoriesAreOrderly, RunsHaveHistories}
 use Rattle.mqb_history.specs.Orderly.{IsItself, IsLinkedRightly, IsOrderly}
 use Rattle.mqb_model.specs.managers.Manager.{Manager}
 use Rattle.mqb_moves.specs.Seats.{seated}
-use Rattle.mqb_network.specs.Laws.{AreApart}
 use Rattle.mqb_network.specs.Network.{Network, is_connected, manager_at}
 use Rattle.mqb_network.specs.Runs.{Move, after_run}
 use Rattle.mqb_packet.specs.Plain.{plain_spelling}
 use Rattle.mqb_runs.specs.Hosts.{alpha, beta, hosts}
+use Rattle.mqb_runs.specs.Orderly.{run_is_orderly}
 use Rattle.mqb_script.specs.declared.managers.Which.{Which}
 use Rattle.mqb_script.specs.declared.managers.Which.TheVariants.{Alpha, Beta}
 use Rattle.mqb_traffic.specs.Networks.{index_of, network_with, note_of}
@@ -19,15 +19,6 @@ use Rattle.mqb_traffic.specs.declared.notes.Link.{Link}
 use Rattle.mqb_world.specs.Ordered.{IsOrdered}
 use Rattle.mqb_world.specs.Standing.{Stands}
 use Rattle.mqb_world.specs.Worlds.{WorldState, network_of}
-
--- the two managers are apart
-apart : AreApart hosts
-apart zero zero d less inside = absurd (omega (arith, less))
-apart zero (suc zero) d less inside = refl
-apart zero (suc (suc j)) d less inside = absurd (omega (arith, inside))
-apart (suc i) zero d less inside = absurd (omega (arith, less))
-apart (suc i) (suc zero) d less inside = absurd (omega (arith, less))
-apart (suc i) (suc (suc j)) d less inside = absurd (omega (arith, inside))
 
 -- both are connected where a link stands
 linked_is : (a b : Manager) (t : TrafficState) (which : Which) → is_connected (network_with a b t) (index_of which) ≡ is_some t.link
@@ -46,8 +37,7 @@ linked_is a b t which = at t.link which
 
 module _ (runs : RunsHaveHistories) (orderly : HistoriesAreOrderly) (w : WorldState) (strings : List (List ℕ)) (ms : List Move) (stands : Stands w strings ms) where
   is_orderly : IsOrderly hosts (after_run hosts ms)
-  is_orderly = let history = (runs hosts ms apart stands.run (λ _. false)).0 in
-      subst (IsOrderly hosts) history.2 (orderly hosts history.0 apart history.1)
+  is_orderly = run_is_orderly runs orderly ms stands.run
 
   noted : length w.traffic.notes ≡ length strings
   noted = sym (length-map w.traffic.notes note_of) ∙ ap (λ (n : Network). length n.notes) stands.stands.network ∙ is_orderly.noted

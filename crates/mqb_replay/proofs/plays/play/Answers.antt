@@ -10,7 +10,7 @@ returns-in_err-world-clause-played g c =
     let b : Devices = devices (g.M.Medium.strings c.args.medium.now) (g.P.Disk.view c.args.first.now) (g.P.Disk.view c.args.second.now) in
     let a : Devices = devices (g.M.Medium.strings c.args.medium.now) (g.P.Disk.view c.new.new.first) (g.P.Disk.view c.new.new.second) in
     rw (p.1, p.2) (not_made c.runs_keep_guarantees.ensures c.args.script.now b a (g.K.Sink.taken c.args.out.now) (g.K.Sink.taken c.args.out.now) c.requires.empty
-    c.in_err-world.ensures.alpha_switch c.in_err-world.ensures.beta_switch refl c.in_err-world.field-0.0 (λ is. c.in_err-world.ensures.not_empty (err_world _ _ is))
+    c.in_err-world.ensures.alpha_switch c.in_err-world.ensures.beta_switch refl c.runs_continue.ensures c.in_err-world.field-0.0 (λ is. c.in_err-world.ensures.not_empty (err_world _ _ is))
     (λ is. c.in_err-world.ensures.disk_fault (err_world _ _ is)) (λ is. c.in_err-world.ensures.never (err_world _ _ is)))
 
 pub returns-clause-played : goal.returns-clause-played

@@ -1,0 +1,6 @@
+mod Tellable
+mod Calls
+mod Pumps
+mod Connects
+mod Events
+mod Continuing

@@ -1,0 +1,16 @@
+//! Each run of a script can be gone on with, so that what was played of a script is the beginning of a run of it all.
+#![tactic(auto)]
+
+ghost use Rattle.mqb_run_laws.specs.Continuing.{RunsContinue};
+
+use mqb_answers::outcomes_are_told;
+use mqb_history::{histories_are_orderly, runs_have_histories};
+
+/// Behind each run of the first lines of a script there is one of all its lines, since each event has a reply in each network that a run comes to.
+pub fn runs_continue()
+    ensures { RunsContinue }
+{
+    outcomes_are_told();
+    runs_have_histories();
+    histories_are_orderly();
+}
