@@ -42,15 +42,15 @@ pub fn call<D: Disk, C: Clock>(alloc: Global, disk: &mut D, clock: &mut C, call:
     let mut text = Vec::new(alloc);
     match answer(alloc, &mut manager, disk, call, now, &mut text) {
         Ok(end) => {
-            drop(manager);
+            manager.close();
             Answer::new(text, status_of(end))
         }
         Err(AnswerFault::DiskFault) => {
-            drop(manager);
+            manager.close();
             Answer::fault(alloc, Status::DiskFault)
         }
         Err(AnswerFault::Memory) => {
-            drop(manager);
+            manager.close();
             Answer::memory(alloc)
         }
     }

@@ -20,7 +20,7 @@ pub fn list<D: Disk>(alloc: Global, disk: &mut D) -> Answer
     };
     let mut text = Vec::new(alloc);
     let printed = print(alloc, manager.state().contents(), &mut text);
-    drop(manager);
+    manager.close();
     match printed {
         Ok(()) => Answer::new(text, Status::Done),
         Err(Memory) => Answer::memory(alloc),

@@ -35,7 +35,7 @@ pub fn init<D: Disk>(alloc: Global, disk: &mut D, identity: &Identity) -> Answer
     };
     match Manager::format(alloc, disk, identity) {
         Ok(manager) => {
-            drop(manager);
+            manager.close();
             Answer::new(text, Status::Done)
         }
         Err(fault) => Answer::fault(alloc, open_status(fault)),

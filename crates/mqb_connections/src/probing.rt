@@ -93,6 +93,6 @@ pub fn probe<S: Source, K: Sink, D: Disk, C: Clock>(
     };
     let now = clock.now();
     let end = serve_piped(alloc, &mut manager, input, out, disk, now);
-    drop(manager);
+    manager.close();
     probe_status(end)
 }

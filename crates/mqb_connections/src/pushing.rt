@@ -196,10 +196,10 @@ pub fn push<K: Sink, D: Disk, N: Net, C: Clock>(
         Err(status) => return status,
     };
     let Some(peer) = peer_of_host(&manager, host) else {
-        drop(manager);
+        manager.close();
         return tell(out, b"nopeer\n", Status::Refused);
     };
     let end = push_to(alloc, peer, &mut manager, out, disk, net, clock);
-    drop(manager);
+    manager.close();
     end
 }

@@ -216,7 +216,7 @@ pub fn serve<K: Sink, D: Disk, N: Net, C: Clock>(
         Err(status) => return status,
     };
     let served = serve_all(alloc, count, &mut manager, out, disk, net, clock);
-    drop(manager);
+    manager.close();
     match served {
         Ok(()) => Status::Done,
         Err(status) => status,

@@ -124,4 +124,9 @@ impl Manager {
             Err(fault) => Err(fault),
         }
     }
+
+    /// Lets the manager go; whatever it recorded stays on its disk. Where a manager ends by this call, how it ends is not proved again.
+    pub fn close(self) {
+        drop(self);
+    }
 }

@@ -138,6 +138,6 @@ pub(crate) fn play<K: Sink, P: Power, M: Medium>(
     runs_continue();
     let mut world = World::new(alloc, first, second)?;
     let played = play_in(alloc, &mut world, script, out, first, second, medium);
-    drop(world);
+    world.close();
     played
 }

@@ -175,7 +175,7 @@ fn try_lines<K: Sink, P: Power, M: Medium>(
     runs_keep_guarantees();
     let mut world = World::new(alloc, first, second)?;
     let tried = try_in(alloc, &mut world, script, out, first, second, medium);
-    drop(world);
+    world.close();
     tried
 }
 

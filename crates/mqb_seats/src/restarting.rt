@@ -13,6 +13,7 @@ use mqb_manager::Manager;
 use mqb_model::durable_is_applied;
 use mqb_store::OpenFault;
 use mqb_store_laws::{images_open_to_one, opened_is_not_bad};
+use std::mem::replace;
 
 /// What a start came to.
 #[derive(Clone, Copy, Debug, PartialEq, Eq)]
@@ -25,6 +26,12 @@ pub enum Opened {
     Unread,
 }
 
+fn opened_by(kept: bool) -> Opened
+    ensures { result ≡ opened_by kept }
+{
+    if kept { Opened::Kept } else { Opened::Same }
+}
+
 impl Seat {
     /// The manager that was started takes the place of the one before. The count of records tells whether the one in doubt was kept.
     fn opened(&mut self, manager: Manager) -> Opened
@@ -33,9 +40,9 @@ impl Seat {
             opened_by (not (manager.store.journal.count == self.old.manager.store.journal.count)) }
     {
         let kept = manager.lsn() != self.manager.lsn();
-        self.manager = manager;
+        replace(&mut self.manager, manager).close();
         self.unread = false;
-        if kept { Opened::Kept } else { Opened::Same }
+        opened_by(kept)
     }
 
     /// Arms a call of the disk. What the disk has stays, and so the manager is held as before.

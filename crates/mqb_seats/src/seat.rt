@@ -13,7 +13,7 @@ use std::alloc::Global;
 use std::marker::Model;
 
 /// A manager with its disk. Where a start of it failed, the manager in it is the one of before, which is called no more.
-#[derive(Debug, Drop)]
+#[derive(Debug)]
 pub struct Seat {
     pub(crate) alloc: Global,
     pub(crate) manager: Manager,
@@ -55,6 +55,16 @@ impl Seat {
             manager,
             unread: false,
         }
+    }
+
+    /// Lets the manager go; whatever it recorded stays on its disk.
+    pub fn close(self) {
+        let Seat {
+            alloc: _,
+            manager,
+            unread: _,
+        } = self;
+        manager.close();
     }
 
     /// The allocator with which it was made.

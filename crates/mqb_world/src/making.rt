@@ -89,7 +89,7 @@ pub(crate) fn make<P: Power>(
     match meet(&mut manager, disk, own, peer) {
         Ok(()) => Ok(Seat::new(alloc, manager)),
         Err(fault) => {
-            drop(manager);
+            manager.close();
             Err(fault)
         }
     }

@@ -28,7 +28,7 @@ use std::alloc::Global;
 use std::marker::Model;
 
 /// Two managers, alpha and beta, each the other's peer and on a disk of its own, and the traffic between them. What the packets say is on a medium.
-#[derive(Debug, Drop)]
+#[derive(Debug)]
 pub struct World {
     pub(crate) alloc: Global,
     pub(crate) alpha: Seat,
@@ -78,7 +78,7 @@ impl World {
                 traffic: Traffic::new(alloc),
             }),
             Err(fault) => {
-                drop(alpha);
+                alpha.close();
                 Err(fault)
             }
         }
@@ -136,6 +136,19 @@ impl World {
             Ok(reply) => Ok(reply),
             Err(fault) => Err(WorldFault::from(fault)),
         }
+    }
+
+    /// Lets both managers go; whatever they recorded stays on their disks.
+    pub fn close(self) {
+        let World {
+            alloc: _,
+            alpha,
+            beta,
+            traffic,
+        } = self;
+        alpha.close();
+        beta.close();
+        drop(traffic);
     }
 
     /// The lines of all records, in order.
