@@ -1,6 +1,7 @@
 #!/usr/bin/env python3
 """refused.py [MOST]: refuses each allocation of a command in turn (the first MOST, or all): of `mqb probe` at a store of alpha to which beta's Establish and Parameters
-come, of the same at a store of beta to which an order comes, of `mqb commit`, `take` and `list`, and of `mqb replay` of examples/one_message.mqb.
+come, of the same at a store of beta to which an order comes, of `mqb commit`, `take` and `list`, and of `mqb replay` of examples/one_message.mqb and of the
+made script of 200 orders.
 
 Each run must end with status 10, and what it printed must begin what the whole run prints; or the refusal does no harm, and it is as the whole run. Afterwards the
 store must list what it listed before, or what the whole run leaves. It prints, of each command, how many allocations it makes, how many refusals did no harm, and of
@@ -144,7 +145,9 @@ def refuse(refusing, name, words, given, store, fresh):
         assert whole.stdout.startswith(done.stdout), (name, at, done.stdout[-200:])
         lengths[len(done.stdout)] += 1
     printed = ", ".join(f"{length} bytes {times} times" for length, times in sorted(lengths.items()))
-    print(f"{name}: {count} allocations, {sum(lengths.values()) + len(harmless)} refused, {len(harmless)} without harm {harmless}; "
+    if len(lengths) > 20:
+        printed = f"fronts of {len(lengths)} lengths, {min(lengths)} to {max(lengths)}"
+    print(f"{name}: {count} allocations, {sum(lengths.values()) + len(harmless)} refused, {len(harmless)} without harm {harmless[:20]}; "
           f"of {len(whole.stdout)} bytes were printed {printed}", flush=True)
 
 
@@ -168,6 +171,7 @@ def main():
         refuse(refusing, "a list", ("list", store), b"", store, beta)
         script = (TOP / "examples/one_message.mqb").read_bytes()
         refuse(refusing, "a replay", ("replay",), script, None, None)
+        refuse(refusing, "a replay of 200 orders", ("replay",), asked("make", "200"), None, None)
 
 
 main()
