@@ -153,9 +153,16 @@ impl Draft {
         ensures grown { IsGrown self.old.rooms self.new.rooms }
         ensures held { OnOk result (self.new.held ≡ self.old.held + held change) }
     {
-        make_room(&mut self.contents, &mut self.log, &mut self.turned, &change)?;
-        make(&mut self.contents, &mut self.log, change);
-        Ok(())
+        match make_room(&mut self.contents, &mut self.log, &mut self.turned, &change) {
+            Ok(()) => {
+                make(&mut self.contents, &mut self.log, change);
+                Ok(())
+            }
+            Err(Memory) => {
+                drop(change);
+                Err(Memory)
+            }
+        }
     }
 }
 

@@ -28,6 +28,7 @@ pub fn redo(contents: &mut Contents, mut log: Log)
     ensures rooms { contents.new.rooms ≡ rooms_redone contents.old.rooms log.items }
 {
     while let Some(change) = log.pop() {
-        let _ = contents.change(change);
+        drop(contents.change(change));
     }
+    drop(log);
 }

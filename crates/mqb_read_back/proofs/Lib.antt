@@ -2,4 +2,3 @@ mod Loops
 mod Searching
 mod Keeping
 mod Waiting
-mod Wholes

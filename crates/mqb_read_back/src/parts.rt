@@ -62,9 +62,16 @@ impl ReadParts {
           state = lists_after self.old.state change;
         }) }
     {
-        self.contents.make_room(&change)?;
-        self.contents.change(change);
-        Ok(())
+        match self.contents.make_room(&change) {
+            Ok(()) => {
+                drop(self.contents.change(change));
+                Ok(())
+            }
+            Err(Memory) => {
+                drop(change);
+                Err(Memory)
+            }
+        }
     }
 
     /// Whether a message is the manager's, with a number that no other one has. Its number is noted then.

@@ -96,9 +96,15 @@ pub fn read_back(alloc: Global, bytes: &[u8]) -> Result<Contents, BackFault>
     let mut cursor = Cursor::new(bytes);
     let identity = identity_field(alloc, &mut cursor)?;
     let mut parts = ReadParts::new(alloc, identity);
-    parts.parts(&mut cursor)?;
-    if !cursor.rest().is_empty() {
-        return Err(BackFault::Bad { at: cursor.at() });
+    match parts.parts(&mut cursor) {
+        Ok(()) if cursor.rest().is_empty() => Ok(parts.into_contents()),
+        Ok(()) => {
+            drop(parts);
+            Err(BackFault::Bad { at: cursor.at() })
+        }
+        Err(fault) => {
+            drop(parts);
+            Err(fault)
+        }
     }
-    Ok(parts.into_contents())
 }

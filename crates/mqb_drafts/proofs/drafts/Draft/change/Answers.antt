@@ -8,8 +8,8 @@ use Rattle.mqb_drafts.specs.Drafts.{Drafted}
 use Rattle.mqb_drafts.proofs.drafts.Draft.change.Goals as goal
 use Rattle.mqb_drafts.proofs.drafts.Draft.change.Goals.{After-make}
 
-pub invariant_of-self : goal.invariant_of-self
-invariant_of-self c = record {
+pub invariant_of-self-in-Err : goal.invariant_of-self-in-Err
+invariant_of-self-in-Err c = record {
   ready = ready_as (ap (λ (s : State). record { lists = s; rooms = c.make_room.new.contents.rooms }) c.make_room.ensures.lists) c.make_room.ensures.log
       (ready_grown c.self.inside.contents.lists c.self.inside.log.items c.make_room.ensures.grown c.self.invariant.ready);
   room = let n : length c.make_room.new.log.items ≡ length c.self.inside.log.items = ap length c.make_room.ensures.log in
@@ -17,8 +17,8 @@ invariant_of-self c = record {
   empty = c.make_room.ensures.turned ∙ c.self.invariant.empty;
 }
 
-pub returns-in_err-make_room-clause-grown : goal.returns-in_err-make_room-clause-grown
-returns-in_err-make_room-clause-grown c =
+pub returns-in-Err-clause-grown : goal.returns-in-Err-clause-grown
+returns-in-Err-clause-grown c =
     subst (λ (d : Drafted). IsGrown d.rooms (rooms_redone c.make_room.new.contents.rooms c.make_room.new.log.items)) c.self.view_is
     (same_grown c.self.inside.contents.rooms c.make_room.new.contents.rooms c.make_room.ensures.grown c.make_room.ensures.log)
 
@@ -28,30 +28,30 @@ is_changed c = record {
   grows = c.make_room.ensures.grown;
   same = c.make_room.ensures.lists;
   can = subst (λ (d : Drafted). Can d.effect.state c.args.change) (sym c.self.view_is) c.requires;
-  room = c.in_ok-make_room.ensures.room;
+  room = c.in-Ok.ensures.room;
   made = c.make.ensures.made;
   back = refl;
   logged = c.make.ensures.log ∙ ap (λ (l : List Change). inverse c.make_room.new.contents c.args.change ∷ l) c.make_room.ensures.log;
 }
 
-pub invariant_of-self-2 : goal.invariant_of-self-2
-invariant_of-self-2 c = record {
+pub invariant_of-self : goal.invariant_of-self
+invariant_of-self c = record {
   ready = still_ready (is_changed c) c.self.invariant.ready c.make.ensures.can_back c.make.ensures.room_back;
   room = let n : length c.make.new.log.items ≡ length (inverse c.make_room.new.contents c.args.change ∷ c.make_room.new.log.items) = ap length c.make.ensures.log in
       let m : length c.make_room.new.log.items ≡ length c.self.inside.log.items = ap length c.make_room.ensures.log in
-      omega (arith, n, m, c.in_ok-make_room.ensures.back);
+      omega (arith, n, m, c.in-Ok.ensures.back);
   empty = c.make_room.ensures.turned ∙ c.self.invariant.empty;
 }
 
-pub returns-clause-start : goal.returns-clause-start
-returns-clause-start c = start_stays (is_changed c) ∙ ap (λ (d : Drafted). d.start) c.self.view_is
+pub returns-in-Ok-clause-start : goal.returns-in-Ok-clause-start
+returns-in-Ok-clause-start c = start_stays (is_changed c) ∙ ap (λ (d : Drafted). d.start) c.self.view_is
 
-pub returns-clause-grown : goal.returns-clause-grown
-returns-clause-grown c =
+pub returns-in-Ok-clause-grown : goal.returns-in-Ok-clause-grown
+returns-in-Ok-clause-grown c =
     subst (λ (d : Drafted). IsGrown d.rooms (rooms_redone c.make.new.contents.rooms c.make.new.log.items)) c.self.view_is (start_grown (is_changed c))
 
-pub returns-clause-held : goal.returns-clause-held
-returns-clause-held c =
+pub returns-in-Ok-clause-held : goal.returns-in-Ok-clause-held
+returns-in-Ok-clause-held c =
     let e = held_more (is_changed c) in
     let f = ap (λ (d : Drafted). d.held) c.self.view_is in
     omega (arith, e, f)
