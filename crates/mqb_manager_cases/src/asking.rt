@@ -9,6 +9,7 @@
 //! | `doubt` | the bytes of the entry that alpha has in doubt |
 //! | `last` | how long the packet is that was sent last, and in how many seconds it is to reach its queue |
 //! | `peer` | alpha comes to know a third manager |
+//! | `labelled` | alpha sends a recoverable message with a label and a body of 1,000 bytes |
 //! | `whole` | what beta makes of the packet that was sent last, where it comes through a framer at once |
 //! | `bytes` | the same, where it comes byte by byte |
 ghost use Rattle.std.specs.Prelude.{OnOk};
@@ -16,6 +17,7 @@ ghost use Rattle.mqb_manager_cases.specs.Kept.{IsKept};
 
 use crate::cuts::fed;
 use crate::events::replied;
+use crate::labels::labelled;
 use crate::medium::{Medium, reach_of};
 use crate::nodes::Node;
 use crate::worlds::gamma;
@@ -121,6 +123,8 @@ pub(crate) fn tell(
     }
     let reply = if asked == b"peer".as_slice() {
         alpha.known(&gamma(alloc)?)?
+    } else if asked == b"labelled".as_slice() {
+        alpha.sent(alloc, &labelled(alloc)?, true, 1000)?
     } else if asked == b"whole".as_slice() {
         fed(beta, medium, true)?
     } else if asked == b"bytes".as_slice() {

@@ -13,6 +13,8 @@ mod cuts;
 #[cfg(test)]
 mod events;
 #[cfg(test)]
+mod labels;
+#[cfg(test)]
 mod medium;
 #[cfg(test)]
 mod nodes;

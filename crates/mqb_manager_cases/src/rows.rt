@@ -212,16 +212,14 @@ take alpha 1000 notes>took alpha.2147483648",
     // a packet of 1,248 bytes that comes at once
     b"queue beta orders tx 100 none>ok\n\
 connect alpha 1000 64 64>connected 1 2 3 4\n\
-send alpha 1000 recoverable 3 send,DIRECT=OS:beta\\PRIVATE$\\orders,-,-,-,\
-DIRECT=OS:alpha\\PRIVATE$\\replies,-,*1012>sent alpha.1\n\
+labelled>sent alpha.1\n\
 pump alpha 1000>pumped 5\n\
 last>1248 4294967295\n\
 whole>bounced 800A [bounced 800A alpha.1]",
     // and one that comes byte by byte
     b"queue beta orders tx 100 none>ok\n\
 connect alpha 1000 64 64>connected 1 2 3 4\n\
-send alpha 1000 recoverable 3 send,DIRECT=OS:beta\\PRIVATE$\\orders,-,-,-,\
-DIRECT=OS:alpha\\PRIVATE$\\replies,-,*1012>sent alpha.1\n\
+labelled>sent alpha.1\n\
 pump alpha 1000>pumped 5\n\
 last>1248 4294967295\n\
 bytes>bounced 800A [bounced 800A alpha.1]",

@@ -11,8 +11,8 @@ type Change = (&'static str, &'static str, &'static str);
 const NOTED: &str = "queue alpha notes plain 2 none\n\
 send alpha 1000 recoverable 3 send,DIRECT=OS:.\\PRIVATE$\\notes,-,10,-,-,-,hi\n";
 
-/// A record of each kind but the first.
-static CHANGES: [Change; 10] = [
+/// A record of each kind but the first, and of each that a packet brings.
+static CHANGES: [Change; 14] = [
     ("", "peer", ""),
     ("", "queue alpha orders tx 2 none", ""),
     ("", "roll alpha 2", ""),
@@ -37,6 +37,44 @@ commit alpha 1000 send,DIRECT=OS:beta\\PRIVATE$\\orders,-,-,-,-,-,one\n",
 commit beta 1000 send,DIRECT=OS:alpha\\PRIVATE$\\orders,-,-,-,-,-,one\npump beta 1001\n",
         "deliver 5 1001",
         " [refused 1 1 8000 beta.1]",
+    ),
+    (
+        "queue beta notes plain 9 none\n\
+connect alpha 1000 64 64\n\
+send alpha 1000 recoverable 3 send,DIRECT=OS:beta\\PRIVATE$\\notes,-,-,-,-,-,hi\n\
+pump alpha 1000\n\
+deliver 5 1000\n\
+pump beta 1000\n",
+        "deliver 6 1000",
+        " [released alpha.1]",
+    ),
+    (
+        "queue alpha notes plain 9 none\n\
+connect alpha 1000 64 64\n\
+send beta 1000 recoverable 3 send,DIRECT=OS:alpha\\PRIVATE$\\notes,-,-,-,-,-,hi\n\
+pump beta 1000\n",
+        "deliver 5 1000",
+        " [stored beta.1]",
+    ),
+    (
+        "queue beta orders tx 9 none\n\
+connect alpha 1000 64 64\n\
+commit alpha 1000 send,DIRECT=OS:beta\\PRIVATE$\\orders,-,-,-,-,-,one\n\
+pump alpha 1001\n\
+deliver 5 1001\n\
+pump beta 1002\n",
+        "deliver 6 1002",
+        "",
+    ),
+    (
+        "connect alpha 1000 64 64\n\
+commit alpha 1000 send,DIRECT=OS:beta\\PRIVATE$\\orders,-,-,d,-,-,one\n\
+pump alpha 1001\n\
+deliver 5 1001\n\
+pump beta 1002\n\
+deliver 6 1002\n",
+        "deliver 7 1002",
+        " [stored beta.1]",
     ),
     (NOTED, "take alpha 1001 notes", " [took alpha.1]"),
     (NOTED, "purge alpha 1001 notes", " [purged alpha.1]"),

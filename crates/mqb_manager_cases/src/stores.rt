@@ -91,7 +91,7 @@ fn a_store_is_made_once(rt: HostRuntime) -> Result<(), Fail> {
 const TOO_LONG: [u8; 4] = [0x40, 0x54, 0x89, 0];
 
 /// Bytes of alpha's store that are changed, and the place where it is bad then.
-static CHANGES: [(usize, &[u8], u64); 6] = [
+static CHANGES: [(usize, &[u8], u64); 10] = [
     // the GUID is not the identity's
     (8, &[9], 0),
     (24, &[0], 24),
@@ -102,6 +102,13 @@ static CHANGES: [(usize, &[u8], u64); 6] = [
     (57, &TOO_LONG, 56),
     // a second identity
     (61, &[1], 56),
+    // no magic, and another version
+    (0, &[0], 0),
+    (4, &[2], 0),
+    // the first record is a peer
+    (29, &[2], 24),
+    // the last gate is open, and nothing stands behind it
+    (87, &[1], 87),
 ];
 
 #[test]
