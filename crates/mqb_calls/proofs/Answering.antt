@@ -10,9 +10,9 @@ use Rattle.mqb_answers.specs.declared.told.CallEnd.TheVariants as call
 use Rattle.mqb_answers.specs.declared.told.Told.{Told}
 use Rattle.mqb_devices.specs.Disk.{OnlyReads, View}
 use Rattle.mqb_outside.specs.Faults.{Rose}
-use Rattle.mqb_manager.specs.Calls.{Ends, FailsUnder, Succeeds}
-use Rattle.mqb_manager.specs.Keeping.{KeepsDisk, calls_keep_disks, keeping_goes_on}
-use Rattle.mqb_manager.specs.States.{IsSame, IsUp, ManagerState, condition_of, manager_of}
+use Rattle.mqb_commands.specs.Calls.{Ends, FailsUnder, Succeeds}
+use Rattle.mqb_commands.specs.Keeping.{KeepsDisk, calls_keep_disks, keeping_goes_on}
+use Rattle.mqb_commands.specs.States.{IsSame, IsUp, ManagerState, condition_of, manager_of}
 use Rattle.mqb_model.specs.managers.Manager.{Down, Manager, Up}
 use Rattle.mqb_model.specs.managers.Outcomes.{Outcome}
 use Rattle.mqb_model.specs.records.Record.{Record}

@@ -6,9 +6,9 @@ use Rattle.mqb_answers.specs.declared.told.CallEnd.{CallEnd}
 use Rattle.mqb_answers.specs.declared.told.CallEnd.TheVariants as call
 use Rattle.mqb_answers.specs.declared.told.Told.{Told}
 use Rattle.mqb_devices.specs.Disk.{View}
-use Rattle.mqb_manager.specs.Calls.{FailsUnder, Succeeds}
-use Rattle.mqb_manager.specs.Keeping.{KeepsDisk}
-use Rattle.mqb_manager.specs.States.{IsSame, IsUp, ManagerState, manager_of}
+use Rattle.mqb_commands.specs.Calls.{FailsUnder, Succeeds}
+use Rattle.mqb_commands.specs.Keeping.{KeepsDisk}
+use Rattle.mqb_commands.specs.States.{IsSame, IsUp, ManagerState, manager_of}
 use Rattle.mqb_outside.specs.Faults.{Rose}
 use Rattle.mqb_status.specs.Outputs.{IsFaultLine}
 use Rattle.mqb_status.specs.declared.status.Status.{Status}

@@ -4,3 +4,4 @@
 mod calling;
 
 pub use calling::call;
+pub use mqb_commands::{init, list};

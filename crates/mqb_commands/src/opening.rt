@@ -6,9 +6,8 @@ ghost use Rattle.mqb_commands.specs.Causes.{is_disk_fault, open_status};
 ghost use Rattle.mqb_manager.specs.States.{IsOnDisk};
 
 use mqb_devices::Disk;
-use mqb_manager::Manager;
+use mqb_manager::{Manager, OpenFault};
 use mqb_status::Status;
-use mqb_store::OpenFault;
 use std::alloc::Global;
 
 /// The end that a fault of opening is.

@@ -2,11 +2,9 @@
 ghost use Rattle.mqb_words.specs.Formed.{IsFormed};
 
 use mqb_base::Failed;
-use mqb_calls::call;
-use mqb_commands::{init, list};
 use mqb_devices::{Clock, Disk, FixedClock};
 use mqb_disk::MemoryDisk;
-use mqb_sample_stores::{ALPHAS, NOW, command, store};
+use mqb_sample_stores::{ALPHAS, NOW, call, command, init, list, store};
 use mqb_status::{Answer, Status};
 use mqb_words::Command;
 use std::alloc::Global;

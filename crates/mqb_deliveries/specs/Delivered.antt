@@ -12,7 +12,7 @@ use Rattle.mqb_model.specs.calls.hear.Session.{HeardOutcome}
 use Rattle.mqb_model.specs.declared.faults.HearFault.{HearFault}
 use Rattle.mqb_model.specs.declared.faults.HearFault.TheVariants as fault
 use Rattle.mqb_model.specs.managers.Outcomes.{answering, failed}
-use Rattle.mqb_moves.specs.Moves.{choice_of}
+use Rattle.mqb_turns.specs.Moves.{choice_of}
 use Rattle.mqb_network.specs.Answers.{Answer, lines_at, only}
 use Rattle.mqb_network.specs.Changes.{ended, ended_by}
 use Rattle.mqb_network.specs.Choices.{Choice, Failed, Failure, Fails, Kept, Lost, Stopped, Unread, Well, choice_behind, failure_in}

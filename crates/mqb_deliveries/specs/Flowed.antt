@@ -14,7 +14,7 @@ use Rattle.mqb_model.specs.declared.faults.PumpFault.{PumpFault}
 use Rattle.mqb_model.specs.laws.Refusals.{RefusalsChangeNothing}
 use Rattle.mqb_model.specs.managers.Manager.{Manager}
 use Rattle.mqb_model.specs.records.Record.{Record}
-use Rattle.mqb_moves.specs.Seats.{seated}
+use Rattle.mqb_turns.specs.Seats.{seated}
 use Rattle.mqb_network.specs.Answers.{Answer, lines_at}
 use Rattle.mqb_network.specs.Changes.{ended, failed_at, note_by, noted, succeeded_at}
 use Rattle.mqb_network.specs.Choices.{Choice, Failure, Fails, Well, choice_behind, failure_in}

@@ -9,9 +9,7 @@ ghost use Rattle.mqb_model.specs.state.Places.{with_plain};
 use crate::acked::drop_acked;
 use crate::work::ExpressWork;
 use mqb_base::{Class, Lane, Memory, Message};
-use mqb_drafts::Draft;
-use mqb_rules::{arrive, plain_sent, purged, taken_at};
-use mqb_timeouts::lane_ticked;
+use mqb_timeouts::{Draft, arrive, lane_ticked, plain_sent, purged, taken_at};
 
 /// An express message takes its number and is sent.
 fn send(draft: &mut Draft, message: Message, now: u32) -> Result<(), Memory>

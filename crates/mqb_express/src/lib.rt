@@ -11,5 +11,6 @@ mod noting;
 mod work;
 
 pub use beside::beside_done;
+pub use mqb_timeouts::{copy_at, is_for_order_layer, resolved, target_refusal};
 pub use noting::{Origin, note_sent};
 pub use work::ExpressWork;

@@ -5,7 +5,7 @@ use Rattle.std.specs.Prelude.{[], ◌+◌, ◌≡◌, ◌≤◌, Bool, Err, IfSo
 use Rattle.mqb_devices.specs.Disk.{Lawful, LeavesOnly, View}
 use Rattle.mqb_entries.specs.SpelledEntries.{Fits, spelled}
 use Rattle.mqb_entries.specs.declared.entry.Entry.{Entry}
-use Rattle.mqb_express.specs.Work.{beside_of}
+use Rattle.mqb_store.specs.Work.{beside_of}
 use Rattle.mqb_hearing.specs.Plans.{OnHeard, ShowsReadable, outcome_of, owing_row, rest_after}
 use Rattle.mqb_hearing.specs.declared.hearing.Hearing.{Hearing}
 use Rattle.mqb_journal.specs.States.{JournalState}
@@ -40,7 +40,7 @@ use Rattle.mqb_steps.specs.Marks.{marked}
 use Rattle.mqb_manager.specs.Seen.{seen}
 use Rattle.mqb_manager.specs.States.{IsUp, ManagerState, condition_of, manager_of}
 use Rattle.mqb_store_laws.specs.Images.{Opens}
-use Rattle.mqb_state.specs.Together.{LeavesValid}
+use Rattle.mqb_store.specs.Together.{LeavesValid}
 use Rattle.mqb_manager.proofs.Calls.{change_is}
 use Rattle.mqb_manager.proofs.Conditions.{up_condition}
 use Rattle.mqb_steps.proofs.Marks.{marked_grown}

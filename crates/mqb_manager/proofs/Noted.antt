@@ -11,7 +11,7 @@ use Rattle.mqb_model.specs.Lists.{with_changed}
 use Rattle.mqb_model.specs.managers.Beside.{OfExpress, OfRecoverable, OfRow, Origin, Owed, noted, noted_as, with_marked}
 use Rattle.mqb_model.specs.state.State.{State}
 use Rattle.mqb_choosing.specs.Noting.{AreNextSent, IsNextSent, with_noted}
-use Rattle.mqb_express.specs.Noting.{CanNote}
+use Rattle.mqb_store.specs.Noting.{CanNote}
 use Rattle.mqb_manager.specs.Pumps.{CanNoteAll}
 
 got_set : {X : Type 0} (xs : List X) (k : ℕ) (x y : X) → slice_get xs k ≡ Some y → slice_get (slice_set xs k x) k ≡ Some x

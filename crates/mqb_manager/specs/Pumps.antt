@@ -8,7 +8,7 @@ use Rattle.mqb_session.specs.State as one_end
 use Rattle.mqb_choosing.specs.Choices.{origin_of}
 use Rattle.mqb_choosing.specs.Going.{Going, candidates_to, chosen_to, known}
 use Rattle.mqb_choosing.specs.declared.choice.Choice.{Choice}
-use Rattle.mqb_express.specs.Noting.{CanNote}
+use Rattle.mqb_store.specs.Noting.{CanNote}
 use Rattle.mqb_model.specs.calls.pump.Candidates.{Candidate}
 use Rattle.mqb_model.specs.calls.pump.Pump.{PumpOutcome, pump, sending_all}
 use Rattle.mqb_model.specs.declared.faults.PumpFault.{PumpFault}

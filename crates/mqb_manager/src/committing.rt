@@ -13,9 +13,8 @@ use mqb_base::Op;
 use mqb_devices::Disk;
 use mqb_entries::{Entry, Ops};
 use mqb_model::{CommitFault, Committed};
-use mqb_state::ExpressWork;
 use mqb_steps::ops_fit;
-use mqb_store::WriteFault;
+use mqb_store::{ExpressWork, WriteFault};
 use mqb_trying::{Trial, try_ops};
 
 impl Manager {

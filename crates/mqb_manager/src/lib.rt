@@ -19,3 +19,4 @@ mod takes;
 mod writing;
 
 pub use manager::Manager;
+pub use mqb_store::OpenFault;

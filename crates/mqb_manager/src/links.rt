@@ -10,8 +10,8 @@ use mqb_model::{
     LinkFault, Role, linked_is_valid, refused_is_same, resent_is_valid, unlinked_is_valid,
 };
 use mqb_session::Session;
-use mqb_state::State;
 use mqb_steps::rewind;
+use mqb_store::State;
 
 /// The end of a session that begins, where its peer is there.
 fn session_for(state: &State, role: Role, window: u16) -> Option<Session>

@@ -15,8 +15,7 @@ use mqb_base::Identity;
 use mqb_devices::Disk;
 use mqb_entries::{Entry, IdentityView, NameSlice};
 use mqb_model::{AddPeerFault, MAX_PEERS};
-use mqb_records::peer_there;
-use mqb_state::ExpressWork;
+use mqb_store::{ExpressWork, peer_there};
 
 fn bytes_fit(bytes: &[u8])
     ensures { All (λ b. b < 256) bytes.now }

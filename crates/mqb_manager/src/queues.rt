@@ -15,8 +15,7 @@ use mqb_base::QueuePlan;
 use mqb_devices::Disk;
 use mqb_entries::{Entry, NameSlice, QueueView};
 use mqb_model::{CreateFault, MAX_QUEUES};
-use mqb_records::queue_there;
-use mqb_state::ExpressWork;
+use mqb_store::{ExpressWork, queue_there};
 
 /// A queue as an entry shows it.
 fn view_of(number: u32, plan: &QueuePlan) -> QueueView<'_>

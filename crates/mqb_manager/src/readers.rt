@@ -11,7 +11,7 @@ use crate::manager::Manager;
 use mqb_base::Line;
 use mqb_orders::OutRow;
 use mqb_session::{Phase, Session};
-use mqb_state::State;
+use mqb_store::State;
 
 /// The index of the peer to which a session leads. While it is not known, that is the index of no peer.
 pub(crate) fn linked_peer(state: &State, session: &Session) -> u32

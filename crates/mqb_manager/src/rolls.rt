@@ -10,7 +10,7 @@ use crate::writing::{answer, calls_can_be_written};
 use mqb_devices::Disk;
 use mqb_entries::Entry;
 use mqb_model::StoreFault;
-use mqb_state::ExpressWork;
+use mqb_store::ExpressWork;
 
 impl Manager {
     /// Sets the count of messages at which a sequence is full from now on.

@@ -3,7 +3,7 @@ ghost use Rattle.std.specs.Prelude.{◌++◌, ◌<◌, ◌≡◌, ◌≤◌, ◌
 ghost use Rattle.mqb_choosing.specs.Choices.{IsThere, origin_of, shown_in};
 ghost use Rattle.mqb_choosing.specs.Going.{any_waits};
 ghost use Rattle.mqb_devices.specs.Disk.{Counted};
-ghost use Rattle.mqb_express.specs.Noting as noting;
+ghost use Rattle.mqb_store.specs.Noting as noting;
 ghost use Rattle.mqb_manager.specs.Calls.{IsCall};
 ghost use Rattle.mqb_manager.specs.Pumps.{CanNoteAll, IsPlanned, pump_fault, sent_as, waiting_for, with_sent};
 ghost use Rattle.mqb_manager.specs.States.{manager_of};
@@ -24,9 +24,8 @@ use mqb_devices::Disk;
 use mqb_entries::Mark;
 use mqb_model::PumpFault;
 use mqb_session::Session;
-use mqb_state::ExpressWork;
 use mqb_steps::{Sending, offered_entry, plan_sending, put_sending};
-use mqb_store::{Store, WriteFault};
+use mqb_store::{ExpressWork, Store, WriteFault};
 
 pub(crate) fn pump_fault(fault: WriteFault) -> PumpFault
     ensures { result ≡ pump_fault fault }
@@ -38,16 +37,16 @@ pub(crate) fn pump_fault(fault: WriteFault) -> PumpFault
 }
 
 /// Where a packet came from, as it is noted.
-fn noted_origin(origin: &Origin) -> mqb_state::Origin
+fn noted_origin(origin: &Origin) -> mqb_store::Origin
     ensures { noting.origin_of result ≡ origin_of origin.now }
 {
     match origin {
-        Origin::Owed { row, .. } => mqb_state::Origin::Owed { row: *row },
+        Origin::Owed { row, .. } => mqb_store::Origin::Owed { row: *row },
         Origin::Waiting { lane, .. } => match lane {
-            Lane::Durable => mqb_state::Origin::OfRecoverable,
-            Lane::Express => mqb_state::Origin::OfExpress,
+            Lane::Durable => mqb_store::Origin::OfRecoverable,
+            Lane::Express => mqb_store::Origin::OfExpress,
         },
-        Origin::Kept { row, tx, .. } => mqb_state::Origin::OfRow {
+        Origin::Kept { row, tx, .. } => mqb_store::Origin::OfRow {
             row: *row,
             number: tx.number,
         },

@@ -1,7 +1,7 @@
 //! A record is written and what a connection knows is kept, or forgotten where the disk failed.
 ghost use Rattle.std.specs.Prelude.{◌≡◌, Err, IfSome, None, OnOk, option_copied};
 ghost use Rattle.mqb_devices.specs.Disk.{Counted};
-ghost use Rattle.mqb_express.specs.Work.{beside_of};
+ghost use Rattle.mqb_store.specs.Work.{beside_of};
 ghost use Rattle.mqb_manager.specs.Calls.{IsCall};
 ghost use Rattle.mqb_manager.specs.States.{manager_of};
 ghost use Rattle.mqb_manager.specs.Writing.{IsReady, answered, write_of};
@@ -14,8 +14,7 @@ use crate::manager::Manager;
 use mqb_devices::Disk;
 use mqb_entries::Entry;
 use mqb_model::{calls_keep_valid, calls_leave_store, records_are_spelled, records_fit};
-use mqb_state::ExpressWork;
-use mqb_store::WriteFault;
+use mqb_store::{ExpressWork, WriteFault};
 
 /// What holds of the calls of a valid manager, by which each of them can be written.
 pub(crate) fn calls_can_be_written()

@@ -6,3 +6,5 @@ pub mod Counting
 pub mod Calling
 pub mod Restarting
 pub mod Holding
+pub use Rattle.mqb_manager.specs.States
+pub use Rattle.mqb_manager.specs.Calls

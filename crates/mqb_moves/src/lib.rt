@@ -7,3 +7,4 @@ mod laws;
 pub use laws::{
     definitions_do_not_fail, down_refuses_all, pumps_are_counted, transactions_have_ops,
 };
+pub use mqb_manager::{Manager, OpenFault};

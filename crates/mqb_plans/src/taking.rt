@@ -10,9 +10,8 @@ ghost use Rattle.mqb_plans.specs.Plans.{CanWrite, ComesTo, KeepsStore, KeepsVali
 use mqb_base::{EntryPlace, Lane, Message, Place};
 use mqb_contents::Contents;
 use mqb_entries::Entry;
-use mqb_express::ExpressWork;
+use mqb_express::{ExpressWork, copy_at};
 use mqb_model::{TakeFault, calls_keep_valid, calls_leave_store, records_are_read, records_fit};
-use mqb_rules::copy_at;
 
 /// A message that is to be taken: a durable one by an entry, and an express one without.
 #[derive(Debug, Drop)]

@@ -1,7 +1,7 @@
 -- How a script ends that is played whole.
 use Rattle.std.proofs.Common.{◌≡◌, arith, List, [], Option, append-nil, inl, refl, sym, subst, ℕ}
 use Rattle.std.specs.Prelude.{Err, Ok, Result}
-use Rattle.mqb_moves.specs.Seats.{IsHeldOn}
+use Rattle.mqb_world.specs.Seats.{IsHeldOn}
 use Rattle.mqb_network.specs.Network.{Network}
 use Rattle.mqb_outside.specs.Told.{Took}
 use Rattle.mqb_run_laws.specs.Continuing.{RunsContinue}

@@ -3,10 +3,10 @@ use Rattle.std.proofs.Common.{◌≡◌, Bool, List, [], ◌∷◌, ◌++◌, No
 use Rattle.mqb_devices.specs.Disk.{View}
 use Rattle.mqb_model.specs.managers.Manager.{Condition, Down, Manager, Up, doubt_of, is_down}
 use Rattle.mqb_model.specs.state.Durable.{durable}
-use Rattle.mqb_manager.specs.States.{manager_of}
+use Rattle.mqb_world.specs.States.{manager_of}
 use Rattle.mqb_model.specs.managers.Restarts.{unread}
-use Rattle.mqb_moves.specs.Restarting.{durable_again}
-use Rattle.mqb_moves.specs.Seats.{IsHeldOn, SeatState, seated}
+use Rattle.mqb_world.specs.Restarting.{durable_again}
+use Rattle.mqb_world.specs.Seats.{IsHeldOn, SeatState, seated}
 use Rattle.mqb_network.specs.Courses.{Course}
 use Rattle.mqb_network.specs.Network.{Network, Note, manager_at}
 use Rattle.mqb_network.specs.Runs.{after_run, beginning, moved_on}

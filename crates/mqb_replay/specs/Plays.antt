@@ -2,7 +2,7 @@
 use Rattle.std.specs.Prelude.{[], ◌++◌, ◌∷◌, ◌≡◌, ◌≤◌, ◌⊎◌, Bool, Err, List, Ok, Option, Result, Some, map, take, ℕ}
 use Rattle.mqb_devices.specs.Disk.{Switch, View}
 use Rattle.mqb_devices.specs.declared.power.Mode.{Mode}
-use Rattle.mqb_moves.specs.Seats.{IsHeldOn, SeatState}
+use Rattle.mqb_world.specs.Seats.{IsHeldOn, SeatState}
 use Rattle.mqb_network.specs.Network.{Note, manager_at}
 use Rattle.mqb_network.specs.Runs.{Move, beginning}
 use Rattle.mqb_outside.specs.Strings.{bytes_in}

@@ -1,7 +1,7 @@
 //! The lines of a script, one after another, and what is held at the end.
 ghost use Rattle.std.specs.List.{AllByRecursion};
 ghost use Rattle.std.specs.Prelude.{[], ◌++◌, ◌≡◌, ◌≢◌, Err, OnOk};
-ghost use Rattle.mqb_moves.specs.Seats.{IsHeldOn, seated};
+ghost use Rattle.mqb_world.specs.Seats.{IsHeldOn, seated};
 ghost use Rattle.mqb_runs.specs.Texts.{end_lines, manager_lines};
 ghost use Rattle.mqb_script.specs.Formed.{IsFormed};
 ghost use Rattle.mqb_world.specs.Standing.{Stands};

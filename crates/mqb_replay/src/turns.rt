@@ -1,6 +1,6 @@
 //! One line of a script that is asked of a world, and its reply.
 ghost use Rattle.std.specs.Prelude.{◌≡◌, Err, List, Some};
-ghost use Rattle.mqb_moves.specs.Seats.{IsHeldOn};
+ghost use Rattle.mqb_world.specs.Seats.{IsHeldOn};
 ghost use Rattle.mqb_network.specs.Runs.{Move};
 ghost use Rattle.mqb_runs.specs.Hosts.{hosts};
 ghost use Rattle.mqb_script.specs.Formed.{IsFormed};

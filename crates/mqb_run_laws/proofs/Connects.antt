@@ -22,8 +22,8 @@ use Rattle.mqb_session.specs.State as one_end
 use Rattle.mqb_traffic.specs.Networks.{index_of}
 use Rattle.mqb_transcript.specs.declared.replies.Reply.{Reply}
 use Rattle.mqb_transcript.specs.declared.replies.Reply.TheVariants as reply
-use Rattle.mqb_turns.specs.Passes.{course_in}
-use Rattle.mqb_turns.specs.Replies.{told}
+use Rattle.mqb_runs.specs.Passes.{course_in}
+use Rattle.mqb_runs.specs.Replies.{told}
 use Rattle.mqb_run_laws.proofs.Tellable.{IsTold}
 
 neither : (a b : Bool) → (a || b) ≡ false → (a ≡ false) × (b ≡ false)

@@ -21,7 +21,7 @@ use Rattle.mqb_model.specs.managers.Manager.{Manager, is_down, linked_peer}
 use Rattle.mqb_model.specs.managers.Outcomes.{answering, unless}
 use Rattle.mqb_network.specs.Replies as network
 use Rattle.mqb_network.specs.Sending.{numbers_behind, pumped}
-use Rattle.mqb_seats.specs.Pumped.{pump_fault_reply}
+use Rattle.mqb_runs.specs.Pumped.{pump_fault_reply}
 use Rattle.mqb_transcript.specs.declared.replies.Reply.{Reply}
 use Rattle.mqb_transcript.specs.declared.replies.Reply.TheVariants as reply
 use Rattle.mqb_run_laws.proofs.Tellable.{IsTold}

@@ -2,7 +2,7 @@
 use Rattle.std.specs.Prelude.{◌≡◌, Ok}
 use Rattle.mqb_network.specs.Replies as network
 use Rattle.mqb_transcript.specs.declared.replies.Reply.{Reply}
-use Rattle.mqb_turns.specs.Replies.{told}
+use Rattle.mqb_runs.specs.Replies.{told}
 
 -- an answer of a network has a reply
 abbrev pub IsTold : network.Reply → Type 0

@@ -4,3 +4,6 @@ pub mod Runs
 pub mod Orderly
 pub mod Texts
 pub mod Guarantees
+pub use Rattle.mqb_turns.specs.Replies
+pub use Rattle.mqb_turns.specs.Passes
+pub use Rattle.mqb_turns.specs.Pumped

@@ -3,8 +3,7 @@ ghost use Rattle.std.specs.Prelude.{IfOk};
 ghost use Rattle.mqb_words.specs.Formed.{IsFormed};
 
 use mqb_base::Memory;
-use mqb_calls::call;
-use mqb_commands::init;
+use mqb_calls::{call, init};
 use mqb_devices::{Disk, FixedClock};
 use mqb_disk::MemoryDisk;
 use mqb_status::Status;

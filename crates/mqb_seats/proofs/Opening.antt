@@ -6,7 +6,7 @@ use Rattle.mqb_model.specs.laws.Durable.{DurableIsApplied}
 use Rattle.mqb_model.specs.managers.Valid.{IsValidManager}
 use Rattle.mqb_outside.specs.Faults.{Rose}
 use Rattle.mqb_store_laws.specs.Laws.{ImagesOpenToOne}
-use Rattle.mqb_manager.specs.States.{ManagerState, manager_of}
+use Rattle.mqb_moves.specs.States.{ManagerState, manager_of}
 use Rattle.mqb_moves.specs.Calling.{seat_of}
 use Rattle.mqb_moves.specs.Restarting.{Restarts, StandsForOneList, Starts, held_unread, restarts_so, unread_is}
 use Rattle.mqb_moves.specs.Seats.{IsHeldOn, SeatState}

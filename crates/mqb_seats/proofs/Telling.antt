@@ -5,8 +5,8 @@ use Rattle.mqb_base.specs.declared.heard.Heard.{Heard}
 use Rattle.mqb_base.specs.declared.ledger.Line.{Line}
 use Rattle.mqb_devices.specs.Disk.{View}
 use Rattle.mqb_base.specs.declared.draft.Op.{Op}
-use Rattle.mqb_manager.specs.Calls.{Ends, IsCall}
-use Rattle.mqb_manager.specs.States.{ManagerState, manager_of}
+use Rattle.mqb_moves.specs.Calls.{Ends, IsCall}
+use Rattle.mqb_moves.specs.States.{ManagerState, manager_of}
 use Rattle.mqb_model.specs.calls.Commit.{commit}
 use Rattle.mqb_model.specs.calls.hear.Hear.{hear}
 use Rattle.mqb_model.specs.declared.answers.Done.{Done}

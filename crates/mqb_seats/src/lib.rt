@@ -11,6 +11,7 @@ mod restarting;
 mod seat;
 
 pub use called::{Called, Failure};
+pub use mqb_moves::pumps_are_counted;
 pub use packets::{Passed, Pumped};
 pub use restarting::Opened;
 pub use seat::Seat;

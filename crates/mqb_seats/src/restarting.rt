@@ -9,9 +9,8 @@ use crate::seat::Seat;
 use mqb_base::Memory;
 use mqb_devices::{Mode, Pick, Power};
 use mqb_journal::stands_for_one_list;
-use mqb_manager::Manager;
 use mqb_model::durable_is_applied;
-use mqb_store::OpenFault;
+use mqb_moves::{Manager, OpenFault};
 use mqb_store_laws::{images_open_to_one, opened_is_not_bad};
 use std::mem::replace;
 

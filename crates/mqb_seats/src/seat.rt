@@ -6,8 +6,8 @@ ghost use Rattle.mqb_moves.specs.Seats.{seated};
 
 use crate::called::Called;
 use mqb_base::{Line, Memory};
-use mqb_manager::Manager;
 use mqb_model::unread_is_valid;
+use mqb_moves::Manager;
 use mqb_transcript::{Listed, Reply};
 use std::alloc::Global;
 use std::marker::Model;

@@ -14,6 +14,6 @@ mod typed;
 
 pub use mqb_express::{ExpressWork, Origin};
 pub use mqb_read_back::BackFault;
-pub use mqb_records::RecordFault as PrepareFault;
+pub use mqb_records::{RecordFault as PrepareFault, owned_identity, peer_there, queue_there};
 pub use prepared::Prepared;
 pub use state::State;

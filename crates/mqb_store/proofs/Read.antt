@@ -19,7 +19,7 @@ use Rattle.mqb_model.specs.rules.Effects.{Effect}
 use Rattle.mqb_model.specs.state.Durable.{durable}
 use Rattle.mqb_model.specs.state.State.{State, empty}
 use Rattle.mqb_model.specs.state.Valid.{IsValidState}
-use Rattle.mqb_records.specs.Unfit.{is_fit}
+use Rattle.mqb_state.specs.Unfit.{is_fit}
 use Rattle.mqb_store.proofs.Beginning.{first_state}
 use Rattle.mqb_store.proofs.Faulty.{StandsBehind}
 use Rattle.mqb_store.specs.Replaying.{IsReadUpTo}

@@ -18,4 +18,5 @@ mod writing;
 
 pub use faults::WriteFault;
 pub use mqb_journal::OpenFault;
+pub use mqb_state::{ExpressWork, Origin, State, peer_there, queue_there};
 pub use store::Store;

@@ -1,5 +1,5 @@
 ghost use Rattle.std.specs.Prelude.{◌≡◌};
-ghost use Rattle.mqb_express.specs.Noting.{CanNote, origin_of};
+ghost use Rattle.mqb_state.specs.Noting.{CanNote, origin_of};
 ghost use Rattle.mqb_model.specs.managers.Beside as beside;
 ghost use Rattle.mqb_model.specs.managers.Beside.{beside_done, noted_as};
 

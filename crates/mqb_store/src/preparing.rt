@@ -1,5 +1,5 @@
 ghost use Rattle.std.specs.Prelude.{◌≡◌, IfOk, IfSome, option_copied};
-ghost use Rattle.mqb_express.specs.Work.{beside_of};
+ghost use Rattle.mqb_state.specs.Work.{beside_of};
 ghost use Rattle.mqb_state.specs.Prepared.{IsPrepared};
 ghost use Rattle.mqb_state.specs.Together.{LeavesValid, effect_with};
 ghost use Rattle.mqb_store.specs.Writing.{CanWrite, change_in};

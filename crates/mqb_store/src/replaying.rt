@@ -6,7 +6,7 @@ ghost use Rattle.mqb_journal.specs.Causes.{FaultsAsSaid, open_failed};
 ghost use Rattle.mqb_journal.specs.Journals.{Lent};
 ghost use Rattle.mqb_model.specs.records.Applying.{effect_of, fits};
 ghost use Rattle.mqb_model.specs.records.Reading.{record_of};
-ghost use Rattle.mqb_records.specs.Unfit.{is_fit};
+ghost use Rattle.mqb_state.specs.Unfit.{is_fit};
 ghost use Rattle.mqb_store.specs.Replaying.{IsReadUpTo};
 ghost use Rattle.mqb_store_laws.specs.Faults.{IsBadStore};
 

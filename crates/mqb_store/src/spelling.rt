@@ -9,7 +9,7 @@ ghost use Rattle.mqb_store_laws.specs.Images.{identity_in};
 use crate::typed::address_is_whole;
 use mqb_base::{Identity, Memory};
 use mqb_entries::{Entry, IdentityView, NameSlice, entry_view, put_entry};
-use mqb_records::owned_identity;
+use mqb_state::owned_identity;
 use std::alloc::Global;
 
 /// How long a first record may be, in bytes, for which a journal that was formatted has the memory.

@@ -2,7 +2,7 @@ ghost use Rattle.std.specs.Option.{option_map_or};
 ghost use Rattle.std.specs.Prelude.{◌+◌, ◌≡◌, ◌≢◌, Err, IfSome, IsSomeAnd, None, OnOk, Some, option_copied, true};
 ghost use Rattle.mqb_contents.specs.Changes.{redone};
 ghost use Rattle.mqb_devices.specs.Disk.{Counted, IsSettled, LeavesOnly};
-ghost use Rattle.mqb_express.specs.Work.{beside_of};
+ghost use Rattle.mqb_state.specs.Work.{beside_of};
 ghost use Rattle.mqb_journal.specs.Causes.{FaultsAsSaid};
 ghost use Rattle.mqb_model.specs.records.Reading.{record_in, record_of};
 ghost use Rattle.mqb_state.specs.Prepared.{IsPreparedFrom};

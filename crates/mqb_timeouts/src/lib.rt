@@ -10,4 +10,8 @@ mod sweeps;
 mod timeouts;
 
 pub use expiries::rows_expired;
+pub use mqb_rules::{
+    Draft, arrive, copy_at, is_for_order_layer, message_sent, plain_sent, purged, resolved, taken,
+    taken_at, target_refusal,
+};
 pub use timeouts::lane_ticked;

@@ -15,8 +15,8 @@ use Rattle.mqb_model.specs.laws.Refusals.{RefusalsChangeNothing}
 use Rattle.mqb_model.specs.managers.Manager.{Manager}
 use Rattle.mqb_model.specs.managers.Outcomes.{answering, lines_after}
 use Rattle.mqb_model.specs.records.Record.{Record}
-use Rattle.mqb_moves.specs.Holding.{StaysStored, same_stores, stored_held}
-use Rattle.mqb_moves.specs.Seats.{IsHeldOn, SeatState, seated}
+use Rattle.mqb_seats.specs.Holding.{StaysStored, same_stores, stored_held}
+use Rattle.mqb_seats.specs.Seats.{IsHeldOn, SeatState, seated}
 use Rattle.mqb_network.specs.Changes.{ended, failed_at, succeeded_at, with_lines}
 use Rattle.mqb_network.specs.Choices.{Choice, Failure, Fails, Kept, Lost, Unread, Well, choice_behind, failure_in}
 use Rattle.mqb_network.specs.Courses.{Course, Written, called_unless, moved, written_by}

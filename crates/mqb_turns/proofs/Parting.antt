@@ -3,7 +3,7 @@ use Rattle.std.proofs.Common.{◌≡◌, ◌==◌, ℕ, Bool, true, cond, [], �
 use Rattle.std.proofs.lemmas.Bool.Decides.{nat_tests}
 use Rattle.std.specs.Prelude.{filter, not}
 use Rattle.mqb_model.specs.managers.Manager.{Manager}
-use Rattle.mqb_moves.specs.Seats.{SeatState, seated}
+use Rattle.mqb_seats.specs.Seats.{SeatState, seated}
 use Rattle.mqb_network.specs.Changes.{ended}
 use Rattle.mqb_network.specs.Network.{Connection, Network, is_connected}
 use Rattle.mqb_script.specs.declared.managers.Which.{Which}

@@ -12,9 +12,9 @@ use Rattle.mqb_model.specs.laws.Refusals.{RefusalsChangeNothing}
 use Rattle.mqb_model.specs.laws.Validity.{RefusedIsSame}
 use Rattle.mqb_model.specs.managers.Outcomes.{lines_after, succeeded}
 use Rattle.mqb_model.specs.managers.Valid.{IsValidManager}
-use Rattle.mqb_moves.specs.Counting.{PumpsAreCounted}
-use Rattle.mqb_moves.specs.Holding.{same_stores, stored_held}
-use Rattle.mqb_moves.specs.Seats.{SeatState, seated}
+use Rattle.mqb_seats.specs.Counting.{PumpsAreCounted}
+use Rattle.mqb_seats.specs.Holding.{same_stores, stored_held}
+use Rattle.mqb_seats.specs.Seats.{SeatState, seated}
 use Rattle.mqb_network.specs.Answers.{Answer}
 use Rattle.mqb_network.specs.Changes.{failed_at, note_by, noted, succeeded_at, with_lines}
 use Rattle.mqb_network.specs.Choices.{Choice, Failure, Fails, Well, failure_in}

@@ -7,9 +7,9 @@ use Rattle.mqb_devices.specs.Disk.{View}
 use Rattle.mqb_model.specs.managers.Manager.{Manager}
 use Rattle.mqb_model.specs.managers.Outcomes.{Outcome, failed, lines_after, succeeded}
 use Rattle.mqb_model.specs.records.Record.{Record}
-use Rattle.mqb_moves.specs.Holding.{StaysStored, same_stores, stored_held}
-use Rattle.mqb_moves.specs.Moves.{IsMove}
-use Rattle.mqb_moves.specs.Seats.{IsHeldOn, SeatState, seated}
+use Rattle.mqb_seats.specs.Holding.{StaysStored, same_stores, stored_held}
+use Rattle.mqb_seats.specs.Moves.{IsMove}
+use Rattle.mqb_seats.specs.Seats.{IsHeldOn, SeatState, seated}
 use Rattle.mqb_network.specs.Answers.{Answer, call}
 use Rattle.mqb_network.specs.Changes.{ended, failed_at, succeeded_at, with_lines}
 use Rattle.mqb_network.specs.Choices.{Choice, Failure, Fails, Well, failure_in}

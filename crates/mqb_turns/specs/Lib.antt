@@ -5,3 +5,6 @@ pub mod Turns
 pub mod Starts
 pub mod Sends
 pub mod Passes
+pub use Rattle.mqb_seats.specs.Moves
+pub use Rattle.mqb_seats.specs.Seats
+pub use Rattle.mqb_seats.specs.Pumped

@@ -2,8 +2,8 @@
 use Rattle.std.specs.Prelude.{[], ◌++◌, ◌+◌, ◌≡◌, Bool, IsSome, true, false, List, MatchOption, None, Option, if◌then◌else◌, length, ℕ}
 use Rattle.mqb_devices.specs.Disk.{View}
 use Rattle.mqb_model.specs.calls.hear.Session.{HeardOutcome}
-use Rattle.mqb_moves.specs.Holding.{StaysStored}
-use Rattle.mqb_moves.specs.Seats.{IsHeldOn}
+use Rattle.mqb_seats.specs.Holding.{StaysStored}
+use Rattle.mqb_seats.specs.Seats.{IsHeldOn}
 use Rattle.mqb_network.specs.Choices.{Choice, Failure, Well, choice_behind, failure_in}
 use Rattle.mqb_network.specs.Courses.{Course, Written}
 use Rattle.mqb_network.specs.Delivering.{passed}

@@ -2,8 +2,8 @@
 use Rattle.std.specs.Prelude.{[], ◌++◌, ◌≡◌, Bool, Err, IsSome, IsTrue, List, Ok, Result, length, map, ℕ}
 use Rattle.mqb_devices.specs.Disk.{View}
 use Rattle.mqb_model.specs.calls.pump.Pump.{PumpOutcome, pump}
-use Rattle.mqb_moves.specs.Holding.{StaysStored}
-use Rattle.mqb_moves.specs.Seats.{IsHeldOn, seated}
+use Rattle.mqb_seats.specs.Holding.{StaysStored}
+use Rattle.mqb_seats.specs.Seats.{IsHeldOn, seated}
 use Rattle.mqb_network.specs.Answers.{Answer}
 use Rattle.mqb_network.specs.Changes.{failed_at, noted, succeeded_at}
 use Rattle.mqb_network.specs.Choices.{Choice, Well}

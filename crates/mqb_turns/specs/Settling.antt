@@ -1,6 +1,6 @@
 -- What a call leaves between the managers: the lines of its record join the ledger, and a connection ends where a disk failed.
 use Rattle.std.specs.Prelude.{[], ◌≡◌, Bool, false, if◌then◌else◌, true}
-use Rattle.mqb_moves.specs.Holding.{StaysStored}
+use Rattle.mqb_seats.specs.Holding.{StaysStored}
 use Rattle.mqb_network.specs.Changes.{ended, with_lines}
 use Rattle.mqb_script.specs.declared.managers.Which.{Which}
 use Rattle.mqb_seats.specs.Called.{failure_of}

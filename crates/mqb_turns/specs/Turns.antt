@@ -1,8 +1,8 @@
 -- What an event is to the network of a world, as one manager sees it.
 use Rattle.std.specs.Prelude.{[], ◌≡◌, Bool, IsTrue, None, Ok, length, ℕ}
 use Rattle.mqb_devices.specs.Disk.{View}
-use Rattle.mqb_moves.specs.Holding.{StaysStored}
-use Rattle.mqb_moves.specs.Seats.{IsHeldOn}
+use Rattle.mqb_seats.specs.Holding.{StaysStored}
+use Rattle.mqb_seats.specs.Seats.{IsHeldOn}
 use Rattle.mqb_network.specs.Answers.{Answer}
 use Rattle.mqb_network.specs.Choices.{Choice, Well}
 use Rattle.mqb_network.specs.Events.{Event}

@@ -1,7 +1,7 @@
 //! The calls of one manager with its disk. Each is a turn of the network.
 ghost use Rattle.std.specs.Prelude.{◌≡◌, ◌≤◌, IfOk, length, true};
 ghost use Rattle.mqb_model.specs.records.Applying.{is_roll};
-ghost use Rattle.mqb_moves.specs.Seats.{IsHeldOn};
+ghost use Rattle.mqb_seats.specs.Seats.{IsHeldOn};
 ghost use Rattle.mqb_network.specs.Events as event;
 ghost use Rattle.mqb_traffic.specs.Networks.{index_of};
 ghost use Rattle.mqb_turns.specs.Turns.{IsTurn, answers_to};

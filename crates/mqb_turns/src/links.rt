@@ -1,7 +1,7 @@
 //! The events that call no disk: the connection ends, rows begin anew, a packet is dropped.
 ghost use Rattle.std.specs.Prelude.{◌≡◌, ◌≤◌, false, is_some, true};
 ghost use Rattle.mqb_model.specs.managers.Manager.{is_down};
-ghost use Rattle.mqb_moves.specs.Seats.{seated};
+ghost use Rattle.mqb_seats.specs.Seats.{seated};
 ghost use Rattle.mqb_network.specs.Choices.{Well};
 ghost use Rattle.mqb_network.specs.Events as event;
 ghost use Rattle.mqb_script.specs.declared.managers.Which.{Which};

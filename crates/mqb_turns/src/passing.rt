@@ -1,6 +1,6 @@
 //! How one packet is heard by its receiver, where it still can be.
 ghost use Rattle.std.specs.Prelude.{◌≡◌, IfOk, Ok, Some};
-ghost use Rattle.mqb_moves.specs.Seats.{IsHeldOn};
+ghost use Rattle.mqb_seats.specs.Seats.{IsHeldOn};
 ghost use Rattle.mqb_network.specs.Delivering.{closes};
 ghost use Rattle.mqb_packet.specs.Parts.{seen_packet};
 ghost use Rattle.mqb_packet.specs.Spelled.{IsLent, packet_in};

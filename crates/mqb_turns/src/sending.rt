@@ -1,6 +1,6 @@
 //! How the packets of one manager go: they join the medium, and each is noted.
 ghost use Rattle.std.specs.Prelude.{◌+◌, ◌<◌, ◌^◌, ◌≡◌, IfOk, OnErr, length};
-ghost use Rattle.mqb_moves.specs.Seats.{IsHeldOn};
+ghost use Rattle.mqb_seats.specs.Seats.{IsHeldOn};
 ghost use Rattle.mqb_network.specs.Events as event;
 ghost use Rattle.mqb_network.specs.Sending.{numbers_behind};
 ghost use Rattle.mqb_posts.specs.Posting.{IsWithin};
@@ -13,11 +13,10 @@ use crate::between::{failure_reply, note, part};
 use mqb_base::Memory;
 use mqb_devices::Power;
 use mqb_model::{refusals_change_nothing, refused_is_same};
-use mqb_moves::pumps_are_counted;
 use mqb_outside::Medium;
 use mqb_posts::PostFault;
 use mqb_script::Which;
-use mqb_seats::{Pumped, Seat};
+use mqb_seats::{Pumped, Seat, pumps_are_counted};
 use mqb_traffic::Traffic;
 use mqb_transcript::{Listed, Reply};
 use std::alloc::Global;

@@ -1,7 +1,7 @@
 //! How a call of a disk is armed, and how a manager is started again.
 ghost use Rattle.std.specs.Prelude.{◌≡◌, IfOk, Some};
 ghost use Rattle.mqb_devices.specs.Disk.{Counted};
-ghost use Rattle.mqb_moves.specs.Seats.{IsHeldOn};
+ghost use Rattle.mqb_seats.specs.Seats.{IsHeldOn};
 ghost use Rattle.mqb_turns.specs.Starts.{IsStarted, opened_reply, was_kept};
 ghost use Rattle.mqb_turns.specs.Sides.{side};
 

@@ -6,7 +6,7 @@ use Rattle.mqb_calls.specs.Calls.{IsAnswered}
 use Rattle.mqb_calls.proofs.Answering.{answered_stays, end_cause, fails_cause, is_answered, is_broken, is_not_told, opening_is_told, rose_cause, unanswered_stays}
 use Rattle.mqb_commands.specs.Causes.{DiskFaultHasCause}
 use Rattle.mqb_commands.proofs.Failing.{line_fails}
-use Rattle.mqb_manager.specs.States.{manager_of}
+use Rattle.mqb_commands.specs.States.{manager_of}
 use Rattle.mqb_replies.specs.declared.faults.AnswerFault.{AnswerFault}
 use Rattle.mqb_replies.specs.declared.faults.AnswerFault.TheVariants as fault
 use Rattle.mqb_calls.proofs.calling.call.Goals as goal

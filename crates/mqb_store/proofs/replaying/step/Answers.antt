@@ -4,7 +4,7 @@ use Rattle.std.specs.Prelude.{Err, List, false, ℕ}
 use Rattle.mqb_journal.specs.declared.faults.OpenFault.{OpenFault}
 use Rattle.mqb_journal.specs.declared.faults.OpenFault.TheVariants as opening
 use Rattle.mqb_model.specs.records.Reading.{record_of}
-use Rattle.mqb_records.specs.Unfit.{is_fit}
+use Rattle.mqb_state.specs.Unfit.{is_fit}
 use Rattle.mqb_store.proofs.Read.{IsMade, may_go_on, read_all, read_in, read_more, stands_behind, unfit_from}
 use Rattle.mqb_store.proofs.Steps.{HasEnded, HasGoneOn, same_guid_then, same_fault, stands_at_end, stands_then, unfit_then}
 use Rattle.mqb_journal.specs.States.{ScanState}

@@ -1,6 +1,6 @@
 use Rattle.std.proofs.Common.{refl}
 use Rattle.mqb_model.specs.calls.CreateQueue.{create_queue}
-use Rattle.mqb_moves.specs.Seats.{seated}
+use Rattle.mqb_seats.specs.Seats.{seated}
 use Rattle.mqb_network.specs.Replies as network
 use Rattle.mqb_replies.specs.Replies as replies
 use Rattle.mqb_seats.specs.Called.{alone}

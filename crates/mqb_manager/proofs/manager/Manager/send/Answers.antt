@@ -4,7 +4,7 @@ use Rattle.std.specs.Prelude.{option_copied, option_map}
 use Rattle.mqb_base.specs.declared.ids.MessageId.{MessageId}
 use Rattle.mqb_devices.specs.Disk.{Counted}
 use Rattle.mqb_entries.specs.declared.entry.Entry.{Entry}
-use Rattle.mqb_express.specs.Work.{beside_of}
+use Rattle.mqb_store.specs.Work.{beside_of}
 use Rattle.mqb_model.specs.calls.Send.{send}
 use Rattle.mqb_model.specs.declared.faults.SendFault.{SendFault}
 use Rattle.mqb_model.specs.declared.faults.SendFault.TheVariants as fault

@@ -1,6 +1,6 @@
 use Rattle.std.proofs.Common.{Err, ap, ◌∙◌}
 use Rattle.std.specs.Prelude.{option_copied}
-use Rattle.mqb_express.specs.Work.{beside_of}
+use Rattle.mqb_store.specs.Work.{beside_of}
 use Rattle.mqb_manager.proofs.Written.{cause_rose, fault_call, memory_call, ok_call}
 use Rattle.mqb_manager.proofs.manager.Manager.write.Goals as goal
 

@@ -3,7 +3,7 @@ use Rattle.std.specs.Prelude.{IfOk, OnErr, OnOk, flat_map, not}
 use Rattle.mqb_model.specs.calls.pump.Pump.{pump}
 use Rattle.mqb_model.specs.declared.faults.PumpFault.{PumpFault}
 use Rattle.mqb_model.specs.declared.faults.PumpFault.TheVariants as fault
-use Rattle.mqb_manager.specs.States.{manager_of}
+use Rattle.mqb_moves.specs.States.{manager_of}
 use Rattle.mqb_packet.specs.Plain.{plain_spelling}
 use Rattle.mqb_seats.proofs.Pumping.{pump_spelled, pump_told}
 use Rattle.mqb_seats.proofs.seat.Seat.give_out.Goals as goal

@@ -1,7 +1,7 @@
 use Rattle.std.proofs.Common.{◌≡◌, ◌==◌, Err, Result, not, rules, ap, subst, sym, ◌∙◌, ℕ}
 use Rattle.mqb_journal.specs.Causes.{FaultsAsSaid, open_failed}
 use Rattle.mqb_journal.specs.declared.faults.OpenFault.{OpenFault}
-use Rattle.mqb_manager.specs.States.{ManagerState}
+use Rattle.mqb_moves.specs.States.{ManagerState}
 use Rattle.mqb_journal.specs.declared.faults.OpenFault.TheVariants as fault
 use Rattle.mqb_moves.specs.Restarting.{not_bad}
 use Rattle.mqb_moves.specs.Seats.{SeatState}

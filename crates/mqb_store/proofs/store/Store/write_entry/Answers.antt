@@ -1,7 +1,7 @@
 use Rattle.std.proofs.Common.{◌≡◌, ◌∙◌, ap, subst, sym}
 use Rattle.std.specs.Prelude.{IsSomeAnd, Some, true}
 use Rattle.mqb_devices.specs.Disk.{LeavesOnly}
-use Rattle.mqb_express.specs.Work.{beside_of}
+use Rattle.mqb_state.specs.Work.{beside_of}
 use Rattle.mqb_journal.specs.Carrying.{goes_on_gate}
 use Rattle.mqb_journal.specs.States.{JournalState}
 use Rattle.mqb_model.specs.records.Applying.{fits}
