@@ -1,13 +1,14 @@
 -- A manager that is started again.
 use Rattle.std.proofs.Common.{◌≡◌, ℕ, Bool, true, false, cond, List, [], Ok, refl, sym, ap, subst, ◌∙◌}
 use Rattle.std.proofs.lemmas.List.{append-nil}
-use Rattle.std.specs.Prelude.{is_some, not}
+use Rattle.std.specs.Prelude.{◌+◌, is_some, not}
 use Rattle.mqb_base.specs.declared.ledger.Line.{Line}
 use Rattle.mqb_devices.specs.Disk.{View}
+use Rattle.mqb_journal.specs.States.{JournalState}
 use Rattle.mqb_model.specs.managers.Manager.{Condition, Down, Manager, Up, doubt_of, is_down}
 use Rattle.mqb_model.specs.managers.Restarts.{lines_in_doubt, restarted, unread}
-use Rattle.mqb_moves.specs.Holding.{StaysStored}
-use Rattle.mqb_moves.specs.Seats.{IsHeldOn, SeatState, seated}
+use Rattle.mqb_seats.specs.Holding.{StaysStored}
+use Rattle.mqb_seats.specs.Seats.{IsHeldOn, SeatState, seated}
 use Rattle.mqb_network.specs.Changes.{ended, with_lines}
 use Rattle.mqb_network.specs.Choices as choice
 use Rattle.mqb_network.specs.Courses.{Course, course_from, moved}
@@ -24,7 +25,7 @@ use Rattle.mqb_transcript.specs.declared.replies.Reply.{Reply}
 use Rattle.mqb_transcript.specs.declared.replies.Reply.TheVariants as reply
 use Rattle.mqb_turns.specs.Replies.{told}
 use Rattle.mqb_turns.specs.Settling.{IsNoted, IsParted}
-use Rattle.mqb_turns.specs.Starts.{FailsInStart, IsStarted, opened_reply, was_kept}
+use Rattle.mqb_turns.specs.Starts.{FailsInStart, IsStarted, IsToldByRecords, opened_reply, records_of, was_kept}
 use Rattle.mqb_turns.specs.Sides.{Side, network_at, side}
 use Rattle.mqb_turns.proofs.Turning.{own_at, with_own}
 
@@ -77,6 +78,13 @@ module _ (which : Which) (s s1 t o o1 : SeatState) (u u1 : TrafficState) (y : Si
   held_so : IsHeldOn e t → y.own ≡ t → IsHeldOn e y.own
   held_so held is = subst (IsHeldOn e) (sym is) held
 
+  -- the records of what was started, by those from before the connection ended
+  records_so : (k : ℕ) → records_of t ≡ records_of s1 + k → y.own ≡ t → records_of y.own ≡ records_of s + k
+  records_so k is same = ap records_of same ∙ is ∙ ap (λ (j : JournalState). j.count + k) parted.own.journal
+
+  same_records : records_of t ≡ records_of s1 → y.own ≡ t → records_of y.own ≡ records_of s
+  same_records is same = ap records_of same ∙ is ∙ ap (λ (j : JournalState). j.count) parted.own.journal
+
   opened_same : (was_down : Bool) → was_down ≡ is_down (seated s1) → OpenedSame d e s1 t → IsNoted which (side t o1 u1) y false
       → given ≡ opened_reply was_down y.own.manager.store.lines opened.Same → IsStarted which (side s o u) y d e given
   opened_same true is same noted given_is = record {
@@ -87,6 +95,7 @@ module _ (which : Which) (s s1 t o o1 : SeatState) (u u1 : TrafficState) (y : Si
     sent = refl;
     held = held_so same.held noted.1;
     beside = beside_so noted.2;
+    records = subst (λ (r : Reply). IsToldByRecords r (records_of s) (records_of y.own)) (sym given_is) (same_records same.count noted.1);
     faults = subst (FailsInStart d.faults e.faults) (sym told_lost) same.faults;
   }
     where
@@ -100,6 +109,7 @@ module _ (which : Which) (s s1 t o o1 : SeatState) (u u1 : TrafficState) (y : Si
     sent = refl;
     held = held_so same.held noted.1;
     beside = beside_so noted.2;
+    records = subst (λ (r : Reply). IsToldByRecords r (records_of s) (records_of y.own)) (sym given_is) (same_records same.count noted.1);
     faults = subst (FailsInStart d.faults e.faults) (sym told_opened) same.faults;
   }
     where
@@ -119,6 +129,7 @@ module _ (which : Which) (s s1 t o o1 : SeatState) (u u1 : TrafficState) (y : Si
     sent = refl;
     held = held_so kept.held noted.1;
     beside = beside_so noted.2;
+    records = subst (λ (r : Reply). IsToldByRecords r (records_of s) (records_of y.own)) (sym given_is) (records_so 1 kept.count noted.1);
     faults = kept.faults;
   }
 
@@ -132,6 +143,7 @@ module _ (which : Which) (s s1 t o o1 : SeatState) (u u1 : TrafficState) (y : Si
     sent = refl;
     held = held_so failed.held noted.1;
     beside = beside_so noted.2;
+    records = subst (λ (r : Reply). IsToldByRecords r (records_of s) (records_of y.own)) (sym given_is) tt;
     faults = failed.faults;
   }
 

@@ -1,9 +1,9 @@
 -- What a restart is to the network of a world, as the manager sees it that is started again.
-use Rattle.std.specs.Prelude.{[], ◌≡◌, Bool, IsTrue, List, Ok, false, if◌then◌else◌, true, ℕ}
+use Rattle.std.specs.Prelude.{[], ◌+◌, ◌≡◌, Bool, IsTrue, List, Ok, false, if◌then◌else◌, true, ℕ}
 use Rattle.mqb_base.specs.declared.ledger.Line.{Line}
 use Rattle.mqb_devices.specs.Disk.{View}
-use Rattle.mqb_moves.specs.Holding.{StaysStored}
-use Rattle.mqb_moves.specs.Seats.{IsHeldOn}
+use Rattle.mqb_seats.specs.Holding.{StaysStored}
+use Rattle.mqb_seats.specs.Seats.{IsHeldOn, SeatState}
 use Rattle.mqb_network.specs.Choices.{Choice}
 use Rattle.mqb_network.specs.Events.{Restart}
 use Rattle.mqb_network.specs.Replies as network
@@ -36,6 +36,17 @@ abbrev pub FailsInStart : (before after : ℕ) → network.Reply → Type 0
 FailsInStart before after (network.DiskFailed how) = Rose before after
 FailsInStart before after _ = after ≡ before
 
+-- how many records stand on the disk of a manager, where it is up
+abbrev pub records_of : SeatState → ℕ
+records_of s = s.manager.store.journal.count
+
+-- A start is told by them: one more where the record in doubt was kept, and as many where it was lost, or where there was none.
+abbrev pub IsToldByRecords : Reply → (before after : ℕ) → Type 0
+IsToldByRecords (reply.OpenedKept lines) before after = after ≡ before + 1
+IsToldByRecords reply.OpenedLost before after = after ≡ before
+IsToldByRecords reply.Opened before after = after ≡ before
+IsToldByRecords _ before after = Unit {0}
+
 -- A manager is started again: a choice that may be made comes to the reply and to the network, and the disks are held.
 pub record IsStarted (which : Which) (x y : Side) (d e : View) (given : Reply) : Type 0 where
   pub choice : Choice
@@ -45,4 +56,5 @@ pub record IsStarted (which : Which) (x y : Side) (d e : View) (given : Reply) :
   pub sent : (answers_to which x (Restart (index_of which)) choice).after.sent ≡ []
   pub held : IsHeldOn e y.own
   pub beside : StaysStored x.other y.other
+  pub records : IsToldByRecords given (records_of x.own) (records_of y.own)
   pub faults : FailsInStart d.faults e.faults (answers_to which x (Restart (index_of which)) choice).reply

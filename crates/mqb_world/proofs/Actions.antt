@@ -47,10 +47,10 @@ use Rattle.mqb_transcript.specs.declared.replies.Reply.TheVariants as reply
 use Rattle.mqb_turns.specs.Replies.{told}
 use Rattle.mqb_turns.specs.Sends.{ComesShort, IsPumpTurn, pump_at}
 use Rattle.mqb_turns.specs.Sides.{Side, network_at}
-use Rattle.mqb_turns.specs.Starts.{FailsInStart, IsStarted}
+use Rattle.mqb_turns.specs.Starts.{FailsInStart, IsStarted, records_of}
 use Rattle.mqb_turns.specs.Turns.{IsQuiet, IsTurn, answers_to}
 use Rattle.mqb_world.specs.Acting.{IsActed, IsCallOf, IsOf}
-use Rattle.mqb_world.specs.Disks.{FaultsGo, IsToldSo, LeavesIt, SwitchGoes, Switching, calls_disk_of, failures_alone, failures_of, is_same, switching}
+use Rattle.mqb_world.specs.Disks.{Arms, FaultsGo, IsToldSo, LeavesIt, RecordsGo, Restarts, SwitchGoes, Switching, calls_disk_of, failures_alone, failures_of, is_same, switching}
 use Rattle.mqb_world.proofs.Told.{IsNoDelivery, failures_in_told, faults_so, faults_told, none_delivered}
 
 -- no packet joins the medium
@@ -148,6 +148,28 @@ alone_so : (which : Which) (asked : Event) (stopped : Bool) (before after : ℕ)
     → FaultsGo asked stopped before after (failures_alone which asked given)
 alone_so which asked stopped before after given is go = subst (λ (b : Bool). FaultsGo asked stopped before after (cond b (failures_of given) [])) (sym is) go
 
+-- No switch is asked for anything, so nothing is told of records.
+pub leaves_records : (asks : Switching) (given : Reply) (before after : ℕ) → asks ≡ LeavesIt → RecordsGo asks given before after
+leaves_records asks given before after leaves = subst (λ (s : Switching). RecordsGo s given before after) (sym leaves) tt
+
+call_leaves : (which : Which) (asked : Event) → IsCallOf which asked → switching which asked ≡ LeavesIt
+call_leaves which (event.Queue m plan) is = refl
+call_leaves which (event.Commit m now ops) is = refl
+call_leaves which (event.Send m now recoverable parts) is = refl
+call_leaves which (event.Take m now place) is = refl
+call_leaves which (event.Purge m now place) is = refl
+call_leaves which (event.Tick m now) is = refl
+call_leaves which (event.Roll m count) is = refl
+call_leaves which (event.Connect m now alpha beta) is = refl
+call_leaves which event.Disconnect is = refl
+call_leaves which (event.Pump m now) is = refl
+call_leaves which (event.Deliver k now) is = refl
+call_leaves which (event.Drop k) is = refl
+call_leaves which (event.Flow m now) is = refl
+call_leaves which (event.Resend m) is = refl
+call_leaves which (event.Arm m call mode) is = absurd is
+call_leaves which (event.Restart m pick) is = absurd is
+
 module _ (which : Which) (x y : Side) (asked : Event) (strings : List (List ℕ)) (within : IsWithin strings) (given : Reply) where
   abbrev answers : Choice → Answer
   answers = answers_to which x (event_of asked)
@@ -169,6 +191,7 @@ module _ (which : Which) (x y : Side) (asked : Event) (strings : List (List ℕ)
     faults = alone_so which asked stopped d.faults e.faults given (calls_own which asked is)
         (faults_told asked stopped d.faults e.faults (told (answers t.choice).reply) given t.reply
         (faults_so asked stopped d.faults e.faults (call_says which asked is stopped) (answers t.choice).reply (call_none which (network_at which x) asked is t.choice) t.faults));
+    records = leaves_records (switching which asked) given (records_of x.own) (records_of y.own) (call_leaves which asked is);
   }
 
 -- A pump.
@@ -196,6 +219,7 @@ pump_acted which x y now strings strings_now given d e stopped held t = record {
       (faults_told (event.Pump which now) stopped d.faults e.faults (told (answers_to which x (network.Pump (index_of which) now) t.choice).reply) given t.reply
       (faults_so (event.Pump which now) stopped d.faults e.faults (λ how so. so) (answers_to which x (network.Pump (index_of which) now) t.choice).reply
       (none_delivered (failure_in t.choice o) (pumped (length (network_at which x).notes) o.answer ls) (pump_none (length (network_at which x).notes) o.answer ls)) t.faults));
+  records = tt;
 }
   where
     o : PumpOutcome
@@ -250,6 +274,7 @@ start_acted which x y pick strings within given d e stopped t = record {
   faults = alone_so which (event.Restart which pick) stopped d.faults e.faults given (same_self which)
       (faults_told (event.Restart which pick) stopped d.faults e.faults (told (answers_to which x (network.Restart (index_of which)) t.choice).reply) given t.reply
       (start_faults which pick stopped d.faults e.faults (network_at which x) (index_of which) t.choice t.faults));
+  records = subst (λ (b : Bool). RecordsGo (cond b (Restarts pick) LeavesIt) given (records_of x.own) (records_of y.own)) (sym (same_self which)) t.records;
 }
 
 -- An arming.
@@ -269,6 +294,7 @@ arm_acted which x call mode strings within d e stopped held same = record {
   held = held;
   beside = same_stores x.other;
   faults = same;
+  records = subst (λ (b : Bool). RecordsGo (cond b (Arms call mode) LeavesIt) reply.Armed (records_of x.own) (records_of x.own)) (sym (same_self which)) tt;
 }
 
 -- Events that call no disk.
@@ -277,9 +303,9 @@ module _ (which : Which) (x y : Side) (strings : List (List ℕ)) (within : IsWi
   abbrev n : Network
   n = network_at which x
 
-  quiet_acted : (asked : Event) → may_at n None (event_of asked) Well ≡ true → calls_disk_of which asked ≡ false
+  quiet_acted : (asked : Event) → may_at n None (event_of asked) Well ≡ true → calls_disk_of which asked ≡ false → switching which asked ≡ LeavesIt
       → IsQuiet which x y (step n None (event_of asked) Well) given → IsActed which x y d d stopped asked strings strings given
-  quiet_acted asked may none t = record {
+  quiet_acted asked may none leaves t = record {
     step = record {
       choice = Well;
       may = may;
@@ -292,16 +318,17 @@ module _ (which : Which) (x y : Side) (strings : List (List ℕ)) (within : IsWi
     held = stored_held d x.own y.own t.own held;
     beside = t.beside;
     faults = subst (λ (b : Bool). FaultsGo asked stopped d.faults d.faults (cond b (failures_of given) [])) (sym none) refl;
+    records = leaves_records (switching which asked) given (records_of x.own) (records_of y.own) leaves;
   }
 
   pub disconnect_acted : IsQuiet which x y (step n None (network.Disconnect 0) Well) given → IsActed which x y d d stopped event.Disconnect strings strings given
-  disconnect_acted = quiet_acted event.Disconnect refl refl
+  disconnect_acted = quiet_acted event.Disconnect refl refl refl
 
   pub resend_acted : IsQuiet which x y (step n None (network.Resend (index_of which)) Well) given → IsActed which x y d d stopped (event.Resend which) strings strings given
-  resend_acted = quiet_acted (event.Resend which) refl refl
+  resend_acted = quiet_acted (event.Resend which) refl refl refl
 
   pub drop_acted : (k : ℕ) → IsQuiet which x y (step n None (network.Drop k) Well) given → IsActed which x y d d stopped (event.Drop k) strings strings given
-  drop_acted k = quiet_acted (event.Drop k) refl refl
+  drop_acted k = quiet_acted (event.Drop k) refl refl refl
 
 -- What the event is.
 
@@ -337,24 +364,6 @@ is_call which (event.Flow m now) a b c d e f is = is
 is_call which (event.Resend m) a b c d e f is = absurd (b m refl)
 is_call which (event.Arm m call mode) a b c d e f is = absurd (e m call mode refl)
 is_call which (event.Restart m pick) a b c d e f is = absurd (f m pick refl)
-
-call_leaves : (which : Which) (asked : Event) → IsCallOf which asked → switching which asked ≡ LeavesIt
-call_leaves which (event.Queue m plan) is = refl
-call_leaves which (event.Commit m now ops) is = refl
-call_leaves which (event.Send m now recoverable parts) is = refl
-call_leaves which (event.Take m now place) is = refl
-call_leaves which (event.Purge m now place) is = refl
-call_leaves which (event.Tick m now) is = refl
-call_leaves which (event.Roll m count) is = refl
-call_leaves which (event.Connect m now alpha beta) is = refl
-call_leaves which event.Disconnect is = refl
-call_leaves which (event.Pump m now) is = refl
-call_leaves which (event.Deliver k now) is = refl
-call_leaves which (event.Drop k) is = refl
-call_leaves which (event.Flow m now) is = refl
-call_leaves which (event.Resend m) is = refl
-call_leaves which (event.Arm m call mode) is = absurd is
-call_leaves which (event.Restart m pick) is = absurd is
 
 pub call_switch : (which : Which) (asked : Event) → IsCallOf which asked → (armed : Option (ℕ × Mode)) (s t : Switch) → t ≡ s → SwitchGoes (switching which asked) armed s t
 call_switch which asked is armed s t same = subst (λ (x : Switching). SwitchGoes x armed s t) (sym (call_leaves which asked is)) same

@@ -6,8 +6,8 @@ use Rattle.mqb_base.specs.Same.{same_guid}
 use Rattle.mqb_base.specs.declared.ids.Guid.{Guid}
 use Rattle.mqb_base.specs.declared.ids.Identity.{Identity}
 use Rattle.mqb_devices.specs.Disk.{IsSettled, View}
-use Rattle.mqb_manager.specs.Calls.{Ends, IsCall}
-use Rattle.mqb_manager.specs.States.{IsOnDisk, IsUp, ManagerState, manager_of}
+use Rattle.mqb_moves.specs.Calls.{Ends, IsCall}
+use Rattle.mqb_moves.specs.States.{IsOnDisk, IsUp, ManagerState, manager_of}
 use Rattle.mqb_model.specs.calls.AddPeer.{add_peer, add_peer_refusal}
 use Rattle.mqb_model.specs.declared.faults.AddPeerFault.{AddPeerFault}
 use Rattle.mqb_model.specs.declared.faults.AddPeerFault.TheVariants as fault

@@ -14,9 +14,11 @@ use Rattle.mqb_traffic.specs.Networks.{notes_of}
 use Rattle.mqb_traffic.specs.States.{TrafficState}
 use Rattle.mqb_transcript.specs.declared.replies.Reply.{Reply}
 use Rattle.mqb_turns.specs.Sides.{side}
+use Rattle.mqb_turns.specs.Starts.{records_of}
 use Rattle.mqb_world.specs.Acting.{Happens, IsActed, IsOf}
 use Rattle.mqb_world.specs.Disks.{Arms, FaultsGo, LeavesIt, Restarts, SwitchGoes, Switching, calls_disk_of, failures_alone, failures_of, failures_told, is_same, switching}
 use Rattle.mqb_world.specs.Worlds.{WorldState}
+use Rattle.mqb_world.proofs.Actions.{leaves_records}
 
 not_other : (which : Which) → is_same (other which) which ≡ false
 not_other Alpha = refl
@@ -105,6 +107,8 @@ module _ (a b c d : SeatState) (t u : TrafficState) (asked : Event) (strings str
     beta = stored_held second b d x.beside held;
     alpha_faults = subst (FaultsGo asked first_stopped first.faults first_now.faults) (sym (told_alone (notes_of u) Alpha Alpha asked given is)) x.faults;
     beta_faults = subst (FaultsGo asked second_stopped second.faults second.faults) (sym (told_of_other (notes_of u) Alpha asked given is)) refl;
+    alpha_records = x.records;
+    beta_records = leaves_records (switching Beta asked) given (records_of b) (records_of d) (switch_rests Alpha asked is);
   }
 
   -- Beta acts.
@@ -117,4 +121,6 @@ module _ (a b c d : SeatState) (t u : TrafficState) (asked : Event) (strings str
     beta = x.held;
     alpha_faults = subst (FaultsGo asked first_stopped first.faults first.faults) (sym (told_of_other (notes_of u) Beta asked given is)) refl;
     beta_faults = subst (FaultsGo asked second_stopped second.faults second_now.faults) (sym (told_alone (notes_of u) Beta Beta asked given is)) x.faults;
+    alpha_records = leaves_records (switching Alpha asked) given (records_of a) (records_of c) (switch_rests Beta asked is);
+    beta_records = x.records;
   }

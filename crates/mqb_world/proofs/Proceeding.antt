@@ -124,6 +124,8 @@ module _ (w w_now : WorldState) (strings strings_now : List (List ℕ)) (first f
     beta = beta;
     alpha_faults = faults_as (event.Flow m now) first_stopped (λ how so. so) first.faults first_now.faults (failures_in (network_of w_now).notes (index_of m) 0 given) alpha_fails;
     beta_faults = faults_as (event.Flow m now) second_stopped (λ how so. so) second.faults second_now.faults (failures_in (network_of w_now).notes (index_of m) 1 given) beta_fails;
+    alpha_records = tt;
+    beta_records = tt;
   }
   flow_happens m now (Err f) step alpha beta alpha_fails beta_fails = tt
 
@@ -137,6 +139,8 @@ module _ (w w_now : WorldState) (strings strings_now : List (List ℕ)) (first f
     beta = beta;
     alpha_faults = alpha_same;
     beta_faults = beta_same;
+    alpha_records = tt;
+    beta_records = tt;
   }
   connect_happens m now a b (Err f) step alpha beta alpha_same beta_same = tt
 
@@ -164,6 +168,8 @@ module _ (w w_now : WorldState) (strings strings_now : List (List ℕ)) (first f
       beta = beta;
       alpha_faults = told_by (network_of w).notes (network_of w_now).notes (ap (λ (n : Network). n.notes) same) 0 first_stopped first.faults first_now.faults None alpha_fails;
       beta_faults = told_by (network_of w).notes (network_of w_now).notes (ap (λ (n : Network). n.notes) same) 1 second_stopped second.faults second_now.faults None beta_fails;
+      alpha_records = tt;
+      beta_records = tt;
     }
     delivers_happens packets (Some given) (p, is, some, one) alpha beta alpha_fails beta_fails = record {
       step = subst (λ (q : Option Packet). IsStep (network_of w) q (event_of (event.Deliver k now)) (network_of w_now) strings strings (outcome_reply given)) (sym is)
@@ -172,6 +178,8 @@ module _ (w w_now : WorldState) (strings strings_now : List (List ℕ)) (first f
       beta = beta;
       alpha_faults = told_by (network_of w).notes (network_of w_now).notes one.notes 0 first_stopped first.faults first_now.faults (Some given) alpha_fails;
       beta_faults = told_by (network_of w).notes (network_of w_now).notes one.notes 1 second_stopped second.faults second_now.faults (Some given) beta_fails;
+      alpha_records = tt;
+      beta_records = tt;
     }
 
     -- by what the call answers

@@ -17,7 +17,8 @@ use Rattle.mqb_script.specs.declared.managers.Which.TheVariants.{Alpha, Beta}
 use Rattle.mqb_traffic.specs.Networks.{notes_of}
 use Rattle.mqb_transcript.specs.declared.replies.Reply.{Reply}
 use Rattle.mqb_turns.specs.Sides.{Side, network_at}
-use Rattle.mqb_world.specs.Disks.{FaultsGo, failures_alone, failures_told}
+use Rattle.mqb_turns.specs.Starts.{records_of}
+use Rattle.mqb_world.specs.Disks.{FaultsGo, RecordsGo, failures_alone, failures_told, switching}
 use Rattle.mqb_world.specs.Worlds.{WorldState, network_of}
 
 -- an event is one call of this manager with its disk
@@ -62,6 +63,7 @@ pub record IsActed (which : Which) (x y : Side) (d e : View) (stopped : Bool) (a
   pub held : IsHeldOn e y.own
   pub beside : StaysStored x.other y.other
   pub faults : FaultsGo asked stopped d.faults e.faults (failures_alone which asked given)
+  pub records : RecordsGo (switching which asked) given (records_of x.own) (records_of y.own)
 
 -- What an event makes of a world, its medium and both disks.
 pub record Happens (w w_now : WorldState) (q : Option Packet) (asked : Event) (strings strings_now : List (List ℕ)) (first first_now second second_now : View) (first_stopped second_stopped : Bool) (given : Reply) : Type 0 where
@@ -70,6 +72,8 @@ pub record Happens (w w_now : WorldState) (q : Option Packet) (asked : Event) (s
   pub beta : IsHeldOn second_now w_now.beta
   pub alpha_faults : FaultsGo asked first_stopped first.faults first_now.faults (failures_told (notes_of w_now.traffic) Alpha asked given)
   pub beta_faults : FaultsGo asked second_stopped second.faults second_now.faults (failures_told (notes_of w_now.traffic) Beta asked given)
+  pub alpha_records : RecordsGo (switching Alpha asked) given (records_of w.alpha) (records_of w_now.alpha)
+  pub beta_records : RecordsGo (switching Beta asked) given (records_of w.beta) (records_of w_now.beta)
 
 -- It happens with whatever packets the strings of the medium spell.
 abbrev pub HappensAmong : (w w_now : WorldState) → Event → (strings strings_now : List (List ℕ)) → (first first_now second second_now : View) → (first_stopped second_stopped : Bool) → Reply → Type 0

@@ -15,6 +15,7 @@ use Rattle.mqb_seats.specs.Called.{failure_of, how_by}
 use Rattle.mqb_traffic.specs.Networks.{index_of}
 use Rattle.mqb_transcript.specs.declared.replies.Reply.{Reply}
 use Rattle.mqb_transcript.specs.declared.replies.Reply.TheVariants as reply
+use Rattle.mqb_turns.specs.Starts.{IsToldByRecords}
 
 -- one manager is the other one, or itself
 abbrev pub is_same : Which → Which → Bool
@@ -40,6 +41,13 @@ abbrev pub SwitchGoes : Switching → (armed : Option (ℕ × Mode)) → (before
 SwitchGoes (Arms call mode) armed s t = (armed ≡ Some (call, mode)) × Counted 1 s.arms t.arms × (t.restarts ≡ s.restarts) × (t.last_pick ≡ s.last_pick)
 SwitchGoes (Restarts pick) armed s t = (t.arms ≡ s.arms) × Counted 1 s.restarts t.restarts × (t.last_pick ≡ Some pick)
 SwitchGoes LeavesIt armed s t = t ≡ s
+
+-- Records.
+
+-- A restart is told by how many records stand on the disk of the manager that it leaves up, and no other event speaks of that.
+abbrev pub RecordsGo : Switching → Reply → (before after : ℕ) → Type 0
+RecordsGo (Restarts pick) given before after = IsToldByRecords given before after
+RecordsGo _ given before after = Unit {0}
 
 -- Failures.
 

@@ -6,3 +6,6 @@ pub mod Acting
 pub mod Ordered
 pub mod Sides
 pub mod Flowing
+pub use Rattle.mqb_moves.specs.Seats
+pub use Rattle.mqb_moves.specs.Restarting
+pub use Rattle.mqb_moves.specs.States

@@ -2,7 +2,7 @@
 ghost use Rattle.std.specs.Prelude.{[], ◌∷◌, ◌≡◌, ◌≢◌, ◌<◌, Err, IfOk, OnOk, false, length};
 ghost use Rattle.mqb_devices.specs.Images.{Each};
 ghost use Rattle.mqb_journal.specs.Causes.{FaultsAsSaid};
-ghost use Rattle.mqb_manager.specs.States.{manager_of};
+ghost use Rattle.mqb_moves.specs.States.{manager_of};
 ghost use Rattle.mqb_model.specs.managers.Manager.{new_manager};
 ghost use Rattle.mqb_model.specs.records.Peer.{is_met};
 ghost use Rattle.mqb_moves.specs.Calling.{seat_of};
@@ -13,10 +13,9 @@ ghost use Rattle.mqb_world.specs.Faults.{making_failed};
 use crate::faults::WorldFault;
 use mqb_base::Identity;
 use mqb_devices::Power;
-use mqb_manager::Manager;
 use mqb_model::AddPeerFault;
+use mqb_moves::{Manager, OpenFault};
 use mqb_seats::Seat;
-use mqb_store::OpenFault;
 use std::alloc::Global;
 
 /// A manager with nothing but its identity.

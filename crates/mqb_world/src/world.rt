@@ -5,9 +5,11 @@ ghost use Rattle.mqb_moves.specs.Seats.{IsHeldOn, seated};
 ghost use Rattle.mqb_network.specs.Runs.{Move};
 ghost use Rattle.mqb_outside.specs.Faults.{Rose};
 ghost use Rattle.mqb_runs.specs.Events.{event_of};
+ghost use Rattle.mqb_runs.specs.Guarantees.{AlwaysKeepsGuarantees};
 ghost use Rattle.mqb_script.specs.Formed.{IsFormed};
 ghost use Rattle.mqb_traffic.specs.Networks.{notes_of};
-ghost use Rattle.mqb_world.specs.Disks.{FaultsGo, SwitchGoes, failures_told, switching};
+ghost use Rattle.mqb_turns.specs.Starts.{records_of};
+ghost use Rattle.mqb_world.specs.Disks.{FaultsGo, RecordsGo, SwitchGoes, failures_told, switching};
 ghost use Rattle.mqb_world.specs.Standing.{Applied, Stands};
 ghost use Rattle.mqb_world.specs.Worlds.{seat_at};
 
@@ -18,8 +20,9 @@ use crate::making::make;
 use mqb_base::Line;
 use mqb_devices::Power;
 use mqb_history::{histories_are_orderly, runs_have_histories};
-use mqb_manager::Manager;
+use mqb_moves::Manager;
 use mqb_outside::Medium;
+use mqb_runs::runs_keep_guarantees;
 use mqb_script::{Event, Which};
 use mqb_seats::Seat;
 use mqb_traffic::Traffic;
@@ -102,6 +105,8 @@ impl World {
         ensures applied { (ms : List Move) → Stands self.old (M.strings medium.old) ms →
             Applied ms (event_of event.now) self.new (M.strings medium.old) (M.strings medium.new)
             result }
+        ensures guarantees { (ms : List Move) → Stands self.new (M.strings medium.new) ms →
+            AlwaysKeepsGuarantees ms }
         ensures alpha { OnOk result (IsHeldOn (P.view first.new) self.new.alpha) }
         ensures beta { OnOk result (IsHeldOn (P.view second.new) self.new.beta) }
         ensures alpha_switch { SwitchGoes (switching Which.Alpha event.now) (P.armed first.new)
@@ -114,6 +119,10 @@ impl World {
         ensures beta_faults { IfOk result (λ given. FaultsGo event.now (P.is_stopped second.new)
             (P.view second.old).faults (P.view second.new).faults
             (failures_told (notes_of self.new.traffic) Which.Beta event.now given)) }
+        ensures alpha_records { IfOk result (λ given. RecordsGo (switching Which.Alpha event.now)
+            given (records_of self.old.alpha) (records_of self.new.alpha)) }
+        ensures beta_records { IfOk result (λ given. RecordsGo (switching Which.Beta event.now)
+            given (records_of self.old.beta) (records_of self.new.beta)) }
         ensures alpha_full { result ≡ Err WorldFault.NetFull
             → (P.view first.new).faults ≡ (P.view first.old).faults }
         ensures beta_full { result ≡ Err WorldFault.NetFull
@@ -123,6 +132,7 @@ impl World {
     {
         runs_have_histories();
         histories_are_orderly();
+        runs_keep_guarantees();
         let proceeded = proceed(
             &mut self.alpha,
             &mut self.beta,
