@@ -113,6 +113,8 @@ fn replay_answers_with_ample_memory(rt: HostRuntime) -> Result<(), Fail> {
     Ok(())
 }
 
+const TRIED: &[u8] = b"lines 15 committed 3 put 3 refused 0 expired 0\n";
+
 #[test]
 fn trial_answers_with_ample_memory(rt: HostRuntime) -> Result<(), Fail> {
     let alloc = rt.alloc();
@@ -121,6 +123,6 @@ fn trial_answers_with_ample_memory(rt: HostRuntime) -> Result<(), Fail> {
     let mut second = MemoryDisk::new(alloc, ROOM)?;
     let mut medium = MemoryMedium::new(alloc);
     trial(alloc, 3, &mut out, &mut first, &mut second, &mut medium)?;
-    assert!(rt; out.as_slice() == b"lines 15 committed 3 put 3 refused 0 expired 0\n");
+    assert!(rt; out.as_slice() == TRIED);
     Ok(())
 }
