@@ -15,7 +15,8 @@ folder finds no memory, it ends with a disk fault, as `create` of a `FileDisk` d
 
 The allocations are those of the C library, refused by a library that stands before it, which `cc` makes. It stands outside the gate. MQB names another program.
 """
-import collections, os, pathlib, shutil, subprocess, sys, tempfile
+import collections, os, pathlib, shutil, subprocess, sys, tempfile, threading
+from concurrent.futures import ThreadPoolExecutor
 
 TOP = pathlib.Path(__file__).resolve().parent.parent
 MQB = os.environ.get("MQB", TOP / "crates/mqb/out/mqb")
@@ -110,15 +111,17 @@ class Refusing:
     """A library that refuses one allocation."""
 
     def __init__(self, folder):
-        self.library, self.told = folder / "refusing.so", folder / "told"
+        self.library, self.folder = folder / "refusing.so", folder
         subprocess.run(["cc", "-O1", "-shared", "-fPIC", "-x", "c", "-o", self.library, "-"], input=REFUSING.encode(), check=True)
 
     def run(self, at, words, given):
         """What a command does whose allocation of this number is refused, and how many it made."""
-        self.told.unlink(missing_ok=True)
-        more = {"LD_PRELOAD": str(self.library), "REFUSED": str(at), "REFUSED_TOLD": str(self.told)}
+        told = self.folder / f"told{threading.get_ident()}"
+        told.unlink(missing_ok=True)
+        # the two disks of a replay are large, and are cleared more quickly in large pages
+        more = {"LD_PRELOAD": str(self.library), "REFUSED": str(at), "REFUSED_TOLD": str(told), "GLIBC_TUNABLES": "glibc.malloc.hugetlb=1"}
         done = mqb(*words, input=given, env={**os.environ, **more}, timeout=60)
-        return done, int(self.told.read_text())
+        return done, int(told.read_text())
 
 
 def refuse(refusing, name, words, given, store, fresh):
@@ -134,10 +137,16 @@ def refuse(refusing, name, words, given, store, fresh):
     after = left()
     assert whole.returncode == 0 and count > 0, (name, whole, count)
     lengths, harmless = collections.Counter(), []
-    for at in range(1, (min(count, MOST) if MOST else count) + 1):
+
+    def refused(at):
         again()
         done, _ = refusing.run(at, words, given)
         assert left() in (before, after), (name, at)
+        return at, done
+
+    # runs over one store take turns
+    pool = ThreadPoolExecutor(1 if store else os.cpu_count())
+    for at, done in pool.map(refused, range(1, (min(count, MOST) if MOST else count) + 1)):
         if (done.returncode, done.stdout) == (0, whole.stdout):
             harmless.append(at)
             continue
