@@ -40,7 +40,13 @@ impl Node {
         self.told(committed(&answer, lines))
     }
 
-    pub(crate) fn sent(&mut self, alloc: Global, draft: &Draft, how: bool, now: u32) -> Result<Reply, Fail>
+    pub(crate) fn sent(
+        &mut self,
+        alloc: Global,
+        draft: &Draft,
+        how: bool,
+        now: u32,
+    ) -> Result<Reply, Fail>
         requires { IsKept self.old.disk self.old.manager }
         ensures { OnOk result (IsKept self.new.disk self.new.manager) }
     {
