@@ -1,4 +1,5 @@
-ghost use Rattle.std.specs.Prelude.{◌≡◌, ◌≤◌, ◌<◌, ◌+◌, ◌++◌, ◌↔◌, ◌^◌, Err, length, replicate, IfOk, IsErr, OnOk, OnErr};
+ghost use Rattle.std.specs.Prelude.{◌≡◌, ◌≢◌, ◌≤◌, ◌<◌, ◌+◌, ◌++◌, ◌↔◌, ◌^◌, Err, length, replicate, IfOk, IsErr, IsOk, OnOk, OnErr};
+ghost use Rattle.std.specs.Vec.{vec_capacity};
 ghost use Rattle.mqb_base.specs.Messages.{IsWellFormed};
 ghost use Rattle.mqb_heads.specs.Base.{plain_base};
 ghost use Rattle.mqb_heads.specs.Properties.{FitsProps, plain_props, props_size};
@@ -216,6 +217,8 @@ fn put_room(out: &mut Vec<u8>, size: u32) -> Result<usize, AllocError>
     ensures room { OnOk result (out.new.items ≡ out.old.items ++ replicate size 0) }
     ensures start { IfOk result (λ start. start ≡ length out.old.items) }
     ensures stays { OnErr result (out.new.items ≡ out.old.items) }
+    ensures ready { length out.old.items + size ≤ vec_capacity out.old → IsOk result }
+    ensures grown { vec_capacity out.old ≤ vec_capacity out.new }
 {
     let start = out.len();
     out.resize(start + size as usize, 0)?;
@@ -233,6 +236,11 @@ pub fn put_message(
     ensures put { OnOk result (out.new.items ≡
         out.old.items ++ plain_spelling (packet.User (carried_user message.now carriage.now))) }
     ensures stays { OnErr result (out.new.items ≡ out.old.items) }
+    // Where there was room for its bytes, no memory is taken.
+    ensures ready { length out.old.items + packet_size (packet.User
+        (carried_user message.now carriage.now)) ≤ vec_capacity out.old
+        → result ≢ Err PutFault.Memory }
+    ensures grown { vec_capacity out.old ≤ vec_capacity out.new }
     ensures too_large { (result ≡ Err PutFault.TooLarge) ↔
         (MAX_PACKET < packet_size (packet.User (carried_user message.now carriage.now))) }
 {
