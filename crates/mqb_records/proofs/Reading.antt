@@ -1,7 +1,9 @@
 -- Ops whose packets can all be read are tried as the ops of a record.
-use Rattle.std.proofs.Common.{refl, ap, ◌∙◌, arith}
+use Rattle.std.proofs.Common.{refl, ap, sym, ◌∙◌, arith}
 use Rattle.std.proofs.lemmas.Bool.{and_parts}
 use Rattle.std.proofs.lemmas.Bool.Decides.{nat_tests}
+use Rattle.std.proofs.lemmas.List.{length-map}
+use Rattle.std.specs.List.{cons_option}
 use Rattle.std.specs.Option.{option_map_or}
 use Rattle.std.specs.Prelude.{◌&&◌, ◌+◌, ◌∷◌, ◌≡◌, [], Bool, List, None, Option, Some, cond, false, length, map, nat_le, option_and_then, option_map, suc, true, ◌≤◌, ℕ}
 use Rattle.mqb_base.specs.declared.queues.EntryPlace.TheVariants as place
@@ -9,17 +11,16 @@ use Rattle.mqb_entries.specs.declared.members.OpView.{OpView}
 use Rattle.mqb_entries.specs.declared.members.OpView.TheVariants as view
 use Rattle.mqb_packet.specs.declared.packet.Headers.TheVariants as headers
 use Rattle.mqb_packet.specs.declared.packet.UserPacket.{UserPacket}
-use Rattle.mqb_model.specs.records.Commit.{join_fits, send_made, sends_fit, sends_of, take_fits}
+use Rattle.mqb_model.specs.records.Commit.{sends_fit, sends_of, take_fits}
 use Rattle.mqb_model.specs.records.Packets.{in_transaction, is_sendable}
 use Rattle.mqb_model.specs.records.Reading.{all_some, op_of, user_packet_of}
 use Rattle.mqb_model.specs.records.Record.{RecordOp, Send, Take}
-use Rattle.mqb_model.specs.records.Stepwise.{sends_stepwise, takes_stepwise}
+use Rattle.mqb_model.specs.records.Stepwise.{takes_stepwise}
 use Rattle.mqb_model.specs.rules.Effects.{Effect}
 use Rattle.mqb_model.specs.rules.Takes.{taken}
-use Rattle.mqb_model.specs.state.Resolving.{resolved}
 use Rattle.mqb_model.specs.state.State.{State}
 use Rattle.mqb_model.specs.declared.limits.TheConstants.{MAX_NUMBER}
-use Rattle.mqb_records.specs.Ops.{bytes_fit, packets_fit, send_tried, sends_in, sends_tried, takes_tried}
+use Rattle.mqb_records.specs.Ops.{bytes_fit, packets_fit, packets_shown, takes_tried}
 
 -- the ops that views show
 abbrev pub shown : List OpView → Option (List RecordOp)
@@ -66,50 +67,26 @@ takes_are now e (view.Send bytes ∷ ops) shows h = at (user_packet_of bytes) (s
     at (Some p) None others h = absurd (let none : ⊥ = cc in none)
     at (Some p) (Some rest) others h = others rest refl ∙ ap (λ o. option_map_or (takes_stepwise now e) o None) h
 
-pub sends_are : (now : ℕ) (e : Effect) (ops : List OpView) (shows : List RecordOp) → shown ops ≡ Some shows → sends_tried now e ops ≡ sends_stepwise now e (sends_of shows)
-sends_are now e [] shows h = ap (λ o. option_map_or (λ ops. sends_stepwise now e (sends_of ops)) o None) h
-sends_are now e (view.Take queue id ∷ ops) shows h = at (shown ops) (λ rest is. sends_are now e ops rest is) h
+-- the messages of their packets are those that they send
+pub sends_shown : (ops : List OpView) (shows : List RecordOp) → shown ops ≡ Some shows → map in_transaction (packets_shown ops) ≡ sends_of shows
+sends_shown [] shows h = ap (λ o. option_map_or sends_of o []) h
+sends_shown (view.Take queue id ∷ ops) shows h = at (shown ops) (λ rest is. sends_shown ops rest is) h
   where
-    at : (o : Option (List RecordOp)) → ((rest : List RecordOp) → o ≡ Some rest → sends_tried now e ops ≡ sends_stepwise now e (sends_of rest)) → option_map (λ ops. Take queue id ∷ ops) o ≡ Some shows
-        → sends_tried now e ops ≡ sends_stepwise now e (sends_of shows)
+    at : (o : Option (List RecordOp)) → ((rest : List RecordOp) → o ≡ Some rest → map in_transaction (packets_shown ops) ≡ sends_of rest)
+        → option_map (λ ops. Take queue id ∷ ops) o ≡ Some shows → map in_transaction (packets_shown ops) ≡ sends_of shows
     at None others h = absurd (let none : ⊥ = cc in none)
-    at (Some rest) others h = others rest refl ∙ ap (λ o. option_map_or (λ ops. sends_stepwise now e (sends_of ops)) o None) h
-sends_are now e (view.Send bytes ∷ ops) shows h = at (user_packet_of bytes) (shown ops) (λ p rest is. sends_are now (send_made now e (in_transaction p)) ops rest is) h
+    at (Some rest) others h = others rest refl ∙ ap (λ o. option_map_or sends_of o []) h
+sends_shown (view.Send bytes ∷ ops) shows h = at (user_packet_of bytes) (shown ops) (λ rest is. sends_shown ops rest is) h
   where
-    step : (p : UserPacket) (rest : List RecordOp)
-        → sends_tried now (send_made now e (in_transaction p)) ops ≡ sends_stepwise now (send_made now e (in_transaction p)) (sends_of rest) → (b : Bool)
-        → option_and_then (λ e. sends_tried now e ops) (cond b (Some (send_made now e (in_transaction p))) None)
-        ≡ cond b (sends_stepwise now (send_made now e (in_transaction p)) (sends_of rest)) None
-    step p rest is true = is
-    step p rest is false = refl
-
-    at : (p : Option UserPacket) (o : Option (List RecordOp)) → ((p : UserPacket) (rest : List RecordOp) → o ≡ Some rest
-        → sends_tried now (send_made now e (in_transaction p)) ops ≡ sends_stepwise now (send_made now e (in_transaction p)) (sends_of rest))
+    at : (p : Option UserPacket) (o : Option (List RecordOp)) → ((rest : List RecordOp) → o ≡ Some rest → map in_transaction (packets_shown ops) ≡ sends_of rest)
         → option_and_then (λ op. option_map (λ ops. op ∷ ops) o) (option_map (λ p. Send p) p) ≡ Some shows
-        → option_and_then (λ e. sends_tried now e ops) (option_and_then (λ p. send_tried now e (in_transaction p)) p) ≡ sends_stepwise now e (sends_of shows)
+        → map in_transaction (cons_option p (packets_shown ops)) ≡ sends_of shows
     at None o others h = absurd (let none : ⊥ = cc in none)
     at (Some p) None others h = absurd (let none : ⊥ = cc in none)
-    at (Some p) (Some rest) others h = step p rest (others p rest refl) (join_fits e.state (resolved e.state (in_transaction p).destination) (in_transaction p).destination)
-        ∙ ap (λ o. option_map_or (λ ops. sends_stepwise now e (sends_of ops)) o None) h
+    at (Some p) (Some rest) others h = ap (λ ms. in_transaction p ∷ ms) (others rest refl) ∙ ap (λ o. option_map_or sends_of o []) h
 
-pub sends_count : (ops : List OpView) (shows : List RecordOp) → shown ops ≡ Some shows → sends_in ops ≡ length (sends_of shows)
-sends_count [] shows h = ap (λ o. option_map_or (λ ops. length (sends_of ops)) o 0) h
-sends_count (view.Take queue id ∷ ops) shows h = at (shown ops) (λ rest is. sends_count ops rest is) h
-  where
-    at : (o : Option (List RecordOp)) → ((rest : List RecordOp) → o ≡ Some rest → sends_in ops ≡ length (sends_of rest)) → option_map (λ ops. Take queue id ∷ ops) o ≡ Some shows → sends_in ops ≡ length (sends_of shows)
-    at None others h = absurd (let none : ⊥ = cc in none)
-    at (Some rest) others h = others rest refl ∙ ap (λ o. option_map_or (λ ops. length (sends_of ops)) o 0) h
-sends_count (view.Send bytes ∷ ops) shows h = at (user_packet_of bytes) (shown ops) (λ rest is. sends_count ops rest is) h
-  where
-    one : (n k : ℕ) → n ≡ k → 1 + n ≡ suc k
-    one n k h = omega (arith, h)
-
-    at : (p : Option UserPacket) (o : Option (List RecordOp)) → ((rest : List RecordOp) → o ≡ Some rest → sends_in ops ≡ length (sends_of rest))
-        → option_and_then (λ op. option_map (λ ops. op ∷ ops) o) (option_map (λ p. Send p) p) ≡ Some shows
-        → 1 + sends_in ops ≡ length (sends_of shows)
-    at None o others h = absurd (let none : ⊥ = cc in none)
-    at (Some p) None others h = absurd (let none : ⊥ = cc in none)
-    at (Some p) (Some rest) others h = one (sends_in ops) (length (sends_of rest)) (others rest refl) ∙ ap (λ o. option_map_or (λ ops. length (sends_of ops)) o 0) h
+pub sends_count : (ops : List OpView) (shows : List RecordOp) → shown ops ≡ Some shows → length (packets_shown ops) ≡ length (sends_of shows)
+sends_count ops shows h = sym (length-map (packets_shown ops) in_transaction) ∙ ap length (sends_shown ops shows h)
 
 pub ops_count : (ops : List OpView) (shows : List RecordOp) → shown ops ≡ Some shows → length ops ≡ length shows
 ops_count [] shows h = ap (λ o. option_map_or length o 0) h

@@ -1,12 +1,15 @@
 -- Steps that were tried in turn are a record that fits; and where one does not fit, the record does not.
 use Rattle.std.proofs.Common.{refl, ap, sym, subst, ◌∙◌, arith}
+use Rattle.std.specs.List.{cons_option}
 use Rattle.std.specs.Option.{option_map_or}
 use Rattle.std.specs.Prelude.{◌*◌, ◌+◌, ◌∷◌, ◌≡◌, ◌≤◌, [], Bool, Err, List, None, Ok, OnOk, Option, Result, Some, cond, false, fold, length, option_and_then, option_map, true, ℕ}
 use Rattle.mqb_entries.specs.declared.members.Mark.{Mark}
 use Rattle.mqb_entries.specs.declared.members.OpView.{OpView}
 use Rattle.mqb_entries.specs.declared.members.OpView.TheVariants as view
 use Rattle.mqb_base.specs.declared.ledger.Line.{Line}
+use Rattle.mqb_packet.specs.declared.packet.UserPacket.{UserPacket}
 use Rattle.mqb_model.specs.laws.Stepwise.{StepwiseIsEffect}
+use Rattle.mqb_model.specs.records.Reading.{user_packet_of}
 use Rattle.mqb_model.specs.records.Applying.{fits}
 use Rattle.mqb_model.specs.records.Arrived.{part_fits, part_made}
 use Rattle.mqb_model.specs.records.Commit.{sends_fit, sends_numbered, sends_of}
@@ -19,11 +22,11 @@ use Rattle.mqb_model.specs.rules.Effects.{Effect, begun, joined, without_line}
 use Rattle.mqb_model.specs.rules.Numbers.{numbers_taken}
 use Rattle.mqb_model.specs.state.State.{State}
 use Rattle.mqb_records.specs.Applied.{IsApplied, IsFew}
-use Rattle.mqb_records.specs.Ops.{packets_fit, sends_in, sends_tried, takes_in, takes_tried}
+use Rattle.mqb_records.specs.Ops.{packets_fit, packets_shown, record_shown, sends_tried, takes_in, takes_tried}
 use Rattle.mqb_arrivals.specs.Parts.{IsFewOf, IsPartMade, is_part_fit}
 use Rattle.mqb_records.specs.Unfit.{is_fit}
 use Rattle.mqb_records.proofs.Framing.{joined_begun}
-use Rattle.mqb_records.proofs.Reading.{ops_count, packets_are, sends_are, sends_count, shown, takes_are}
+use Rattle.mqb_records.proofs.Reading.{ops_count, packets_are, sends_count, sends_shown, shown, takes_are}
 use Rattle.mqb_records.proofs.Stepping.{fits_of, part_frames, releases_frame, sends_frame, takes_frame, unfit_of}
 
 -- what was behind other things
@@ -108,9 +111,6 @@ part_unfit law now e mid ns (Some part) h un =
 
 -- Transactions.
 
-abbrev pub record_shown : ℕ → List OpView → Option Record
-record_shown now ops = option_map (λ ops. entry.Commit now ops) (shown ops)
-
 -- ops that fit show ops of a record
 shows : (s : State) (ops : List OpView) → packets_fit s s.next_number ops ≡ true → (ros : List RecordOp) × (shown ops ≡ Some ros) × (sends_fit s s.next_number ros ≡ true)
 shows s ops h = at (shown ops) refl (sym (packets_are s s.next_number ops) ∙ h)
@@ -132,34 +132,34 @@ packets_unfit now s ops h law = at (shown ops) (sym (packets_are s s.next_number
 numbered : (e : Effect) (ros : List RecordOp) (n : ℕ) → n ≡ length (sends_of ros) → without_line e (numbers_taken e.state n) ≡ joined e (sends_numbered e.state ros)
 numbered e ros n h = ap (λ n. without_line e (numbers_taken e.state n)) h ∙ sym (joined_begun e (numbers_taken e.state (length (sends_of ros))))
 
-taken : (now : ℕ) (e first : Effect) (ops : List OpView) (ros : List RecordOp) → shown ops ≡ Some ros → first ≡ without_line e (numbers_taken e.state (sends_in ops))
+taken : (now : ℕ) (e first : Effect) (ops : List OpView) (ros : List RecordOp) → shown ops ≡ Some ros → first ≡ without_line e (numbers_taken e.state (length (packets_shown ops)))
     → takes_tried now first ops ≡ option_map (joined e) (takes_stepwise now (sends_numbered e.state ros) ros)
 taken now e first ops ros is h = takes_are now first ops ros is
-    ∙ (ap (λ x. takes_stepwise now x ros) (h ∙ numbered e ros (sends_in ops) (sends_count ops ros is)) ∙ takes_frame now e (sends_numbered e.state ros) ros)
+    ∙ (ap (λ x. takes_stepwise now x ros) (h ∙ numbered e ros (length (packets_shown ops)) (sends_count ops ros is)) ∙ takes_frame now e (sends_numbered e.state ros) ros)
 
 sent : (now : ℕ) (e y : Effect) (ops : List OpView) (ros : List RecordOp) → shown ops ≡ Some ros
-    → sends_tried now (joined e y) ops ≡ option_map (joined e) (sends_stepwise now y (sends_of ros))
-sent now e y ops ros is = sends_are now (joined e y) ops ros is ∙ sends_frame now e y (sends_of ros)
+    → sends_tried now (joined e y) (packets_shown ops) ≡ option_map (joined e) (sends_stepwise now y (sends_of ros))
+sent now e y ops ros is = ap (sends_stepwise now (joined e y)) (sends_shown ops ros is) ∙ sends_frame now e y (sends_of ros)
 
 tried : (now : ℕ) (s : State) (ros : List RecordOp) → sends_fit s s.next_number ros ≡ true
     → commit_stepwise s now ros ≡ option_and_then (λ e. sends_stepwise now e (sends_of ros)) (takes_stepwise now (sends_numbered s ros) ros)
 tried now s ros fit = ap (λ b. cond b (option_and_then (λ e. sends_stepwise now e (sends_of ros)) (takes_stepwise now (sends_numbered s ros) ros)) None) fit
 
 pub commit_applied : StepwiseIsEffect → (now : ℕ) (e first mid after : Effect) (ops : List OpView) → packets_fit e.state e.state.next_number ops ≡ true
-    → first ≡ without_line e (numbers_taken e.state (sends_in ops)) → takes_tried now first ops ≡ Some mid → sends_tried now mid ops ≡ Some after
+    → first ≡ without_line e (numbers_taken e.state (length (packets_shown ops))) → takes_tried now first ops ≡ Some mid → sends_tried now mid (packets_shown ops) ≡ Some after
     → IsApplied e (record_shown now ops) after
 commit_applied law now e first mid after ops fit h takes sends =
     let r = shows e.state ops fit in
     let ros : List RecordOp = r.0 in
     let a = behind e mid (takes_stepwise now (sends_numbered e.state ros) ros) (sym (taken now e first ops ros r.1 h) ∙ takes) in
-    let b = behind e after (sends_stepwise now a.0 (sends_of ros)) (sym (sent now e a.0 ops ros r.1) ∙ (ap (λ x. sends_tried now x ops) a.2 ∙ sends)) in
+    let b = behind e after (sends_stepwise now a.0 (sends_of ros)) (sym (sent now e a.0 ops ros r.1) ∙ (ap (λ x. sends_tried now x (packets_shown ops)) a.2 ∙ sends)) in
     let f = fits_of law e.state (entry.Commit now ros) b.0
     (tried now e.state ros r.2 ∙ (ap (option_and_then (λ x. sends_stepwise now x (sends_of ros))) a.1 ∙ b.1)) in
     subst (λ (o : Option (List RecordOp)). IsApplied e (option_map (λ ops. entry.Commit now ops) o) after) (sym r.1)
     (f.0, sym b.2 ∙ ap (joined e) (sym f.1))
 
 pub takes_unfit : StepwiseIsEffect → (now : ℕ) (e first : Effect) (ops : List OpView) → packets_fit e.state e.state.next_number ops ≡ true
-    → first ≡ without_line e (numbers_taken e.state (sends_in ops)) → takes_tried now first ops ≡ None → is_fit e.state (record_shown now ops) ≡ false
+    → first ≡ without_line e (numbers_taken e.state (length (packets_shown ops))) → takes_tried now first ops ≡ None → is_fit e.state (record_shown now ops) ≡ false
 takes_unfit law now e first ops fit h takes =
     let r = shows e.state ops fit in
     let ros : List RecordOp = r.0 in
@@ -168,32 +168,37 @@ takes_unfit law now e first ops fit h takes =
     ∙ unfit_of law e.state (entry.Commit now ros) (tried now e.state ros r.2 ∙ ap (option_and_then (λ x. sends_stepwise now x (sends_of ros))) none)
 
 pub sends_unfit : StepwiseIsEffect → (now : ℕ) (e first mid : Effect) (ops : List OpView) → packets_fit e.state e.state.next_number ops ≡ true
-    → first ≡ without_line e (numbers_taken e.state (sends_in ops)) → takes_tried now first ops ≡ Some mid → sends_tried now mid ops ≡ None
+    → first ≡ without_line e (numbers_taken e.state (length (packets_shown ops))) → takes_tried now first ops ≡ Some mid → sends_tried now mid (packets_shown ops) ≡ None
     → is_fit e.state (record_shown now ops) ≡ false
 sends_unfit law now e first mid ops fit h takes sends =
     let r = shows e.state ops fit in
     let ros : List RecordOp = r.0 in
     let a = behind e mid (takes_stepwise now (sends_numbered e.state ros) ros) (sym (taken now e first ops ros r.1 h) ∙ takes) in
-    let none = behind_none e (sends_stepwise now a.0 (sends_of ros)) (sym (sent now e a.0 ops ros r.1) ∙ (ap (λ x. sends_tried now x ops) a.2 ∙ sends)) in
+    let none = behind_none e (sends_stepwise now a.0 (sends_of ros)) (sym (sent now e a.0 ops ros r.1) ∙ (ap (λ x. sends_tried now x (packets_shown ops)) a.2 ∙ sends)) in
     ap (λ o. is_fit e.state (option_map (λ ops. entry.Commit now ops) o)) r.1
     ∙ unfit_of law e.state (entry.Commit now ros)
     (tried now e.state ros r.2 ∙ (ap (option_and_then (λ x. sends_stepwise now x (sends_of ros))) a.1 ∙ none))
 
-ops_in : (ops : List OpView) → sends_in ops + takes_in ops ≡ length ops
-ops_in [] = refl
-ops_in (view.Send bytes ∷ ops) = let is = ops_in ops in omega (arith, is)
-ops_in (view.Take queue id ∷ ops) = let is = ops_in ops in omega (arith, is)
+ops_in : (ops : List OpView) → length (packets_shown ops) + takes_in ops ≤ length ops
+ops_in [] = omega arith
+ops_in (view.Take queue id ∷ ops) = let in_rest = ops_in ops in omega (arith, in_rest)
+ops_in (view.Send bytes ∷ ops) = at (user_packet_of bytes) (ops_in ops)
+  where
+    at : (p : Option UserPacket) → length (packets_shown ops) + takes_in ops ≤ length ops
+        → length (cons_option p (packets_shown ops)) + takes_in ops ≤ length (view.Send bytes ∷ ops)
+    at None in_rest = omega (arith, in_rest)
+    at (Some p) in_rest = omega (arith, in_rest)
 
 pub commit_few : (now : ℕ) (s : State) (ops : List OpView) (before after : ℕ) → packets_fit s s.next_number ops ≡ true
-    → after ≤ before + 3 * takes_in ops + 3 * sends_in ops → IsFew s (record_shown now ops) before after
+    → after ≤ before + 3 * takes_in ops + 3 * length (packets_shown ops) → IsFew s (record_shown now ops) before after
 commit_few now s ops before after fit few =
     let r = shows s ops fit in
-    let whole : sends_in ops + takes_in ops ≡ length r.0 = ops_in ops ∙ ops_count ops r.0 r.1 in
+    let whole : length ops ≡ length r.0 = ops_count ops r.0 r.1 in
     subst (λ (o : Option (List RecordOp)). IsFew s (option_map (λ ops. entry.Commit now ops) o) before after) (sym r.1)
-    (bound (sends_in ops) (takes_in ops) (length r.0) whole few)
+    (bound (length (packets_shown ops)) (takes_in ops) (length ops) (length r.0) (ops_in ops) whole few)
   where
-    bound : (a b c : ℕ) → a + b ≡ c → after ≤ before + 3 * b + 3 * a → after ≤ before + 3 * c
-    bound a b c is few = omega (arith, is, few)
+    bound : (a b c d : ℕ) → a + b ≤ c → c ≡ d → after ≤ before + 3 * b + 3 * a → after ≤ before + 3 * d
+    bound a b c d le is few = omega (arith, le, is, few)
 
 -- Answers of calls.
 

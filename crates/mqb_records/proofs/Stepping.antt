@@ -1,7 +1,7 @@
 -- Steps that are tried one after another, behind other things that were done.
 use Rattle.std.proofs.Common.{refl, ap, sym, ◌∙◌}
 use Rattle.std.specs.Option.{option_map_or}
-use Rattle.std.specs.Prelude.{◌&&◌, ◌+◌, ◌∷◌, ◌≡◌, [], Bool, List, None, Option, Some, cond, false, option_and_then, option_map, true, ℕ}
+use Rattle.std.specs.Prelude.{◌∷◌, ◌≡◌, [], Bool, List, None, Option, Some, cond, false, option_map, true, ℕ}
 use Rattle.mqb_base.specs.declared.heads.TxHead.{TxHead}
 use Rattle.mqb_base.specs.declared.ids.MessageId.{MessageId}
 use Rattle.mqb_base.specs.declared.ledger.Line.TheVariants as line
@@ -10,6 +10,7 @@ use Rattle.mqb_base.specs.declared.queues.EntryPlace.TheVariants as place
 use Rattle.mqb_entries.specs.declared.members.Mark.{Mark}
 use Rattle.mqb_entries.specs.declared.members.OpView.{OpView}
 use Rattle.mqb_entries.specs.declared.members.OpView.TheVariants as view
+use Rattle.mqb_packet.specs.declared.packet.UserPacket.{UserPacket}
 use Rattle.mqb_model.specs.laws.Stepwise.{StepwiseIsEffect}
 use Rattle.mqb_model.specs.records.Applying.{effect_of, fits}
 use Rattle.mqb_model.specs.records.Arrived.{part_made}
@@ -17,6 +18,7 @@ use Rattle.mqb_model.specs.records.Commit.{join_fits, send_made, take_fits}
 use Rattle.mqb_model.specs.records.Decisions.{message_decided}
 use Rattle.mqb_model.specs.records.Offered.{mark_fits, mark_raised}
 use Rattle.mqb_model.specs.records.Record.{Decided, Final, Nothing, OrderAcknowledged, Part, Record, RecordOp, Send, Stored, Take}
+use Rattle.mqb_model.specs.records.Packets.{in_transaction}
 use Rattle.mqb_model.specs.records.Releases.{message_released, release_fits, without_released}
 use Rattle.mqb_model.specs.records.Stepwise.{marks_stepwise, releases_stepwise, sends_stepwise, stepwise, takes_stepwise}
 use Rattle.mqb_model.specs.rules.Effects.{Effect, joined, with_line}
@@ -25,7 +27,7 @@ use Rattle.mqb_model.specs.rules.Sends.{message_sent}
 use Rattle.mqb_model.specs.rules.Takes.{taken}
 use Rattle.mqb_model.specs.state.Resolving.{resolved}
 use Rattle.mqb_model.specs.state.State.{State}
-use Rattle.mqb_records.specs.Ops.{bytes_fit, bytes_tried, packets_fit, sends_tried, takes_tried}
+use Rattle.mqb_records.specs.Ops.{packet_joins, sends_tried, takes_tried}
 use Rattle.mqb_records.proofs.Framing.{joined_again, taken_frames}
 
 -- Steps behind others.
@@ -105,14 +107,7 @@ pub take_step : (now : ℕ) (e f : Effect) (queue : ℕ) (id : MessageId) (rest 
 take_step now e f queue id rest ops are fit is = ap (λ f. takes_tried now f rest) is
     ∙ sym (ap (takes_tried now e) are ∙ ap (λ b. cond b (takes_tried now (taken (place.Queue queue) id now e) rest) None) fit)
 
-pub send_step : (now : ℕ) (e f : Effect) (bytes : List ℕ) (rest ops : List OpView) → ops ≡ view.Send bytes ∷ rest → bytes_tried now e bytes ≡ Some f
-    → sends_tried now f rest ≡ sends_tried now e ops
-send_step now e f bytes rest ops are is = sym (ap (sends_tried now e) are ∙ ap (option_and_then (λ e. sends_tried now e rest)) is)
-
-pub packet_step : (s : State) (n m : ℕ) (bytes : List ℕ) (rest ops : List OpView) → ops ≡ view.Send bytes ∷ rest → bytes_fit s n bytes ≡ true → m ≡ n + 1
-    → packets_fit s m rest ≡ packets_fit s n ops
-packet_step s n m bytes rest ops are fit is = ap (λ m. packets_fit s m rest) is
-    ∙ sym (ap (packets_fit s n) are ∙ ap (λ b. b && packets_fit s (n + 1) rest) fit)
-
-pub packet_stops : (s : State) (n : ℕ) (bytes : List ℕ) (rest ops : List OpView) → ops ≡ view.Send bytes ∷ rest → bytes_fit s n bytes ≡ false → packets_fit s n ops ≡ false
-packet_stops s n bytes rest ops are unfit = ap (packets_fit s n) are ∙ ap (λ b. b && packets_fit s (n + 1) rest) unfit
+pub send_step : (now : ℕ) (e f : Effect) (p : UserPacket) (rest packets : List UserPacket) → packets ≡ p ∷ rest → packet_joins e.state p ≡ true
+    → f ≡ send_made now e (in_transaction p) → sends_tried now f rest ≡ sends_tried now e packets
+send_step now e f p rest packets are fit is = ap (λ f. sends_tried now f rest) is
+    ∙ sym (ap (sends_tried now e) are ∙ ap (λ b. cond b (sends_tried now (send_made now e (in_transaction p)) rest) None) fit)

@@ -1,14 +1,17 @@
 -- The ops of a transaction, as an entry shows them: their packets are bytes.
 use Rattle.std.specs.Option.{option_map_or}
-use Rattle.std.specs.Prelude.{[], ◌&&◌, ◌+◌, ◌∷◌, Bool, List, None, Option, Some, false, if◌then◌else◌, option_and_then, true, ℕ}
-use Rattle.mqb_base.specs.declared.message.Message.{Message}
+use Rattle.std.specs.Prelude.{[], ◌&&◌, ◌+◌, ◌∷◌, Bool, List, None, Option, Some, false, filter_map, if◌then◌else◌, map, option_map, true, ℕ}
 use Rattle.mqb_base.specs.declared.queues.EntryPlace.TheVariants as place
 use Rattle.mqb_entries.specs.declared.members.OpView.{OpView}
 use Rattle.mqb_entries.specs.declared.members.OpView.TheVariants.{Send, Take}
 use Rattle.mqb_packet.specs.declared.packet.Headers.TheVariants as headers
-use Rattle.mqb_model.specs.records.Commit.{join_fits, send_made, take_fits}
+use Rattle.mqb_packet.specs.declared.packet.UserPacket.{UserPacket}
+use Rattle.mqb_model.specs.records.Commit.{join_fits, take_fits}
 use Rattle.mqb_model.specs.records.Packets.{in_transaction, is_sendable}
-use Rattle.mqb_model.specs.records.Reading.{user_packet_of}
+use Rattle.mqb_model.specs.records.Reading.{all_some, op_of, user_packet_of}
+use Rattle.mqb_model.specs.records.Record.{Record}
+use Rattle.mqb_model.specs.records.Record as entry
+use Rattle.mqb_model.specs.records.Stepwise.{sends_stepwise}
 use Rattle.mqb_model.specs.rules.Effects.{Effect}
 use Rattle.mqb_model.specs.rules.Takes.{taken}
 use Rattle.mqb_model.specs.state.Resolving.{resolved}
@@ -24,11 +27,14 @@ packets_fit s number [] = true
 packets_fit s number (Send bytes ∷ ops) = bytes_fit s number bytes && packets_fit s (number + 1) ops
 packets_fit s number (Take queue id ∷ ops) = packets_fit s number ops
 
--- how many ops send
-abbrev pub sends_in : List OpView → ℕ
-sends_in [] = 0
-sends_in (Send bytes ∷ ops) = 1 + sends_in ops
-sends_in (Take queue id ∷ ops) = sends_in ops
+-- the packet of an op that sends one
+abbrev pub packet_shown : OpView → Option UserPacket
+packet_shown (Send bytes) = user_packet_of bytes
+packet_shown (Take queue id) = None
+
+-- those of all sends, in order
+abbrev pub packets_shown : List OpView → List UserPacket
+packets_shown ops = filter_map packet_shown ops
 
 -- how many take
 abbrev pub takes_in : List OpView → ℕ
@@ -44,18 +50,14 @@ takes_tried now e (Take queue id ∷ ops) = if take_fits e.state now (place.Queu
     then takes_tried now (taken (place.Queue queue) id now e) ops
     else None
 
--- a message is sent, where its destination's sequence takes it
-abbrev pub send_tried : ℕ → Effect → Message → Option Effect
-send_tried now e m = if join_fits e.state (resolved e.state m.destination) m.destination
-    then Some (send_made now e m)
-    else None
+-- the message of a packet finds its sequence
+abbrev pub packet_joins : State → UserPacket → Bool
+packet_joins s p = join_fits s (resolved s p.message.destination) p.message.destination
 
--- the message of bytes is
-abbrev pub bytes_tried : ℕ → Effect → List ℕ → Option Effect
-bytes_tried now e bytes = option_and_then (λ p. send_tried now e (in_transaction p)) (user_packet_of bytes)
+-- the messages of packets are sent, where each does after those before it
+abbrev pub sends_tried : ℕ → Effect → List UserPacket → Option Effect
+sends_tried now e packets = sends_stepwise now e (map in_transaction packets)
 
--- the sends are made, where each is
-abbrev pub sends_tried : ℕ → Effect → List OpView → Option Effect
-sends_tried now e [] = Some e
-sends_tried now e (Send bytes ∷ ops) = option_and_then (λ e. sends_tried now e ops) (bytes_tried now e bytes)
-sends_tried now e (Take queue id ∷ ops) = sends_tried now e ops
+-- the record of a transaction, where all its packets are user packets
+abbrev pub record_shown : ℕ → List OpView → Option Record
+record_shown now ops = option_map (λ ops. entry.Commit now ops) (all_some (map op_of ops))

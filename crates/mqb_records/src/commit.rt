@@ -1,13 +1,15 @@
-ghost use Rattle.std.specs.Prelude.{◌*◌, ◌+◌, ◌<◌, ◌≡◌, ◌≤◌, Err, IfOk, None, OnOk, Some, false, option_map, true};
+ghost use Rattle.std.specs.Prelude.{◌*◌, ◌+◌, ◌<◌, ◌≡◌, ◌≤◌, [], Err, IfOk, None, OnOk, Some, false, length, true};
+ghost use Rattle.std.specs.VecDeque.{deque_capacity, deque_len};
 ghost use Rattle.mqb_base.specs.declared.queues.EntryPlace.TheVariants as place;
 ghost use Rattle.mqb_contents.specs.Rooms.{IsGrown};
 ghost use Rattle.mqb_model.specs.declared.limits.TheConstants.{MAX_NUMBER};
-ghost use Rattle.mqb_model.specs.records.Commit.{join_fits, take_fits};
+ghost use Rattle.mqb_model.specs.records.Commit.{join_fits, send_made, take_fits};
 ghost use Rattle.mqb_model.specs.records.Packets.{in_transaction};
+ghost use Rattle.mqb_model.specs.records.Reading.{user_packet_of};
 ghost use Rattle.mqb_model.specs.rules.Sequences.{may_join};
 ghost use Rattle.mqb_model.specs.rules.Takes.{taken};
 ghost use Rattle.mqb_model.specs.state.Resolving.{resolved};
-ghost use Rattle.mqb_records.specs.Ops.{bytes_fit, bytes_tried, packets_fit, send_tried, sends_in, sends_tried, takes_in, takes_tried};
+ghost use Rattle.mqb_records.specs.Ops.{bytes_fit, packet_joins, packets_fit, packets_shown, sends_tried, takes_in, takes_tried};
 ghost use Rattle.mqb_records.specs.Ordered.{IsOrdered};
 ghost use Rattle.mqb_arrivals.specs.declared.faults.RecordFault.TheVariants as fault;
 
@@ -20,68 +22,68 @@ use mqb_entries::{OpView, Ops, PacketSlice};
 use mqb_model::{MAX_ORDINAL, Target};
 use mqb_packet::{Headers, UserPacket};
 use mqb_timeouts::{message_sent, resolved, taken};
+use std::collections::VecDeque;
 
 // The packets.
 
-/// Whether bytes are a user packet that a transaction can send under a number.
-fn bytes_fit(draft: &Draft, number: u32, bytes: &PacketSlice<'_>) -> Result<bool, Memory>
-    ensures { IfOk result (λ fit. fit ≡ bytes_fit draft.now.effect.state number bytes.now) }
+/// An empty list with room for the packet of each op.
+pub(crate) fn room_for_packets(draft: &Draft, ops: &Ops<'_>) -> Result<VecDeque<UserPacket>, Memory>
+    ensures empty { IfOk result (λ packets. packets.items ≡ []) }
+    ensures room { IfOk result (λ packets. length ops.now ≤ deque_capacity packets) }
 {
-    match user_packet_of(draft.alloc(), bytes.as_slice())? {
-        Some(packet) => Ok(is_sendable(draft.contents(), Headers::TxAndSession, number, &packet)),
-        None => Ok(false),
-    }
+    Ok(VecDeque::with_capacity(draft.alloc(), usize::from(ops.len()))?)
 }
 
-/// The number behind that of bytes, which a transaction can send.
+/// The packet that bytes are, which a transaction can send under a number.
 #[tactic(auto, using(crate::proofs::Reading::number_left))]
-fn number_after(draft: &Draft, number: u32, bytes: &PacketSlice<'_>) -> Result<u32, RecordFault>
-    requires { number ≤ MAX_NUMBER + 1 }
+fn sendable_packet(
+    draft: &Draft,
+    number: u32,
+    bytes: &PacketSlice<'_>,
+) -> Result<UserPacket, RecordFault>
+    ensures read { IfOk result (λ packet. user_packet_of bytes.now ≡ Some packet) }
     ensures fit { OnOk result (bytes_fit draft.now.effect.state number bytes.now ≡ true) }
-    ensures number { IfOk result (λ next. next ≡ number + 1) }
-    ensures left { IfOk result (λ next. next ≤ MAX_NUMBER + 1) }
+    ensures left { OnOk result (number ≤ MAX_NUMBER) }
     ensures unfit { result ≡ Err fault.Unfit →
         bytes_fit draft.now.effect.state number bytes.now ≡ false }
 {
-    if !bytes_fit(draft, number, bytes)? {
+    let Some(packet) = user_packet_of(draft.alloc(), bytes.as_slice())? else {
+        return Err(RecordFault::Unfit);
+    };
+    if !is_sendable(draft.contents(), Headers::TxAndSession, number, &packet) {
+        discard(packet);
         return Err(RecordFault::Unfit);
     }
-    Ok(number + 1)
+    Ok(packet)
 }
 
-/// The number behind those of all sends, whose packets fit.
-fn number_behind(draft: &Draft, ops: &Ops<'_>) -> Result<u32, RecordFault>
-    requires { draft.now.effect.state.next_number ≤ MAX_NUMBER + 1 }
+/// Reads the packets of all sends, which fit, one behind another.
+pub(crate) fn read_all(
+    draft: &Draft,
+    ops: &Ops<'_>,
+    packets: &mut VecDeque<UserPacket>,
+) -> Result<(), RecordFault>
+    requires number { draft.now.effect.state.next_number ≤ MAX_NUMBER + 1 }
+    requires empty { packets.old.items ≡ [] }
+    requires room { length ops.now ≤ deque_capacity packets.old }
     ensures fit { OnOk result
         (packets_fit draft.now.effect.state draft.now.effect.state.next_number ops.now ≡ true) }
-    ensures number { IfOk result
-        (λ number. number ≡ draft.now.effect.state.next_number + sends_in ops.now) }
-    ensures left { IfOk result (λ number. number ≤ MAX_NUMBER + 1) }
+    ensures read { OnOk result (packets.new.items ≡ packets_shown ops.now) }
+    ensures count { OnOk result (deque_len packets.new ≡ length (packets_shown ops.now)) }
+    ensures left { OnOk result
+        (draft.now.effect.state.next_number + deque_len packets.new ≤ MAX_NUMBER + 1) }
     ensures unfit { result ≡ Err fault.Unfit →
         packets_fit draft.now.effect.state draft.now.effect.state.next_number ops.now ≡ false }
 {
     let mut number = draft.contents().next_number();
     for op in ops.iter() {
         if let OpView::Send(bytes) = op {
-            number = number_after(draft, number, &bytes)?;
+            let packet = sendable_packet(draft, number, &bytes)?;
+            packets.push_back_reserved(packet);
+            number += 1;
         }
     }
-    Ok(number)
-}
-
-/// How many ops send, whose packets fit.
-pub(crate) fn count_sends(draft: &Draft, ops: &Ops<'_>) -> Result<u32, RecordFault>
-    requires { draft.now.effect.state.next_number ≤ MAX_NUMBER + 1 }
-    ensures fit { OnOk result
-        (packets_fit draft.now.effect.state draft.now.effect.state.next_number ops.now ≡ true) }
-    ensures count { IfOk result (λ count. count ≡ sends_in ops.now) }
-    ensures left { IfOk result
-        (λ count. draft.now.effect.state.next_number + count ≤ MAX_NUMBER + 1) }
-    ensures unfit { result ≡ Err fault.Unfit →
-        packets_fit draft.now.effect.state draft.now.effect.state.next_number ops.now ≡ false }
-{
-    let behind = number_behind(draft, ops)?;
-    Ok(behind - draft.contents().next_number())
+    Ok(())
 }
 
 // The takes.
@@ -158,13 +160,14 @@ fn in_transaction(packet: UserPacket) -> Message
 fn send(draft: &mut Draft, now: u32, packet: UserPacket) -> Result<(), RecordFault>
     requires { IsOrdered draft.old.effect.state }
     ensures ok { OnOk result
-        (send_tried now draft.old.effect (in_transaction packet) ≡ Some draft.new.effect) }
+        (draft.new.effect ≡ send_made now draft.old.effect (in_transaction packet)) }
+    ensures fit { OnOk result (packet_joins draft.old.effect.state packet ≡ true) }
     ensures ordered { OnOk result (IsOrdered draft.new.effect.state) }
     ensures start { draft.new.start ≡ draft.old.start }
     ensures grown { IsGrown draft.old.rooms draft.new.rooms }
     ensures held { OnOk result (draft.new.held ≤ draft.old.held + 3) }
     ensures unfit { result ≡ Err fault.Unfit →
-        send_tried now draft.old.effect (in_transaction packet) ≡ None }
+        packet_joins draft.old.effect.state packet ≡ false }
 {
     if !join_fits(draft.contents(), &packet.message.destination) {
         discard(packet);
@@ -174,37 +177,24 @@ fn send(draft: &mut Draft, now: u32, packet: UserPacket) -> Result<(), RecordFau
     Ok(())
 }
 
-fn send_bytes(draft: &mut Draft, now: u32, bytes: &PacketSlice<'_>) -> Result<(), RecordFault>
+/// Sends the messages of packets, the first first.
+pub(crate) fn send_all(
+    draft: &mut Draft,
+    now: u32,
+    packets: &mut VecDeque<UserPacket>,
+) -> Result<(), RecordFault>
     requires { IsOrdered draft.old.effect.state }
     ensures ok { OnOk result
-        (bytes_tried now draft.old.effect bytes.now ≡ Some draft.new.effect) }
-    ensures ordered { OnOk result (IsOrdered draft.new.effect.state) }
+        (sends_tried now draft.old.effect packets.old.items ≡ Some draft.new.effect) }
     ensures start { draft.new.start ≡ draft.old.start }
     ensures grown { IsGrown draft.old.rooms draft.new.rooms }
-    ensures held { OnOk result (draft.new.held ≤ draft.old.held + 3) }
+    ensures held { OnOk result
+        (draft.new.held ≤ draft.old.held + 3 * length packets.old.items) }
     ensures unfit { result ≡ Err fault.Unfit →
-        bytes_tried now draft.old.effect bytes.now ≡ None }
+        sends_tried now draft.old.effect packets.old.items ≡ None }
 {
-    match user_packet_of(draft.alloc(), bytes.as_slice())? {
-        Some(packet) => send(draft, now, packet),
-        None => Err(RecordFault::Unfit),
-    }
-}
-
-pub(crate) fn send_all(draft: &mut Draft, now: u32, ops: &Ops<'_>) -> Result<(), RecordFault>
-    requires { IsOrdered draft.old.effect.state }
-    ensures ok { OnOk result
-        (sends_tried now draft.old.effect ops.now ≡ Some draft.new.effect) }
-    ensures start { draft.new.start ≡ draft.old.start }
-    ensures grown { IsGrown draft.old.rooms draft.new.rooms }
-    ensures held { OnOk result (draft.new.held ≤ draft.old.held + 3 * sends_in ops.now) }
-    ensures unfit { result ≡ Err fault.Unfit →
-        sends_tried now draft.old.effect ops.now ≡ None }
-{
-    for op in ops.iter() {
-        if let OpView::Send(bytes) = op {
-            send_bytes(draft, now, &bytes)?;
-        }
+    while let Some(packet) = packets.pop_front() {
+        send(draft, now, packet)?;
     }
     Ok(())
 }
