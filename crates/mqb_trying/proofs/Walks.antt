@@ -4,7 +4,7 @@ use Rattle.std.proofs.lemmas.Bool.Decides.{nat_tests}
 use Rattle.std.proofs.lemmas.List.{drop_all}
 use Rattle.std.proofs.lemmas.List.Sums.{sum_by-cons}
 use Rattle.std.specs.List.{list_any}
-use Rattle.std.specs.Prelude.{[], ◌&&◌, ◌+◌, ◌<◌, ◌||◌, ◌∷◌, ◌≡◌, ◌≤◌, Bool, List, None, Option, Some, cond, false, fold, map, max, nat_le, suc, sum_by, true, ℕ}
+use Rattle.std.specs.Prelude.{◌&&◌, ◌+◌, ◌<◌, ◌||◌, ◌∷◌, ◌≡◌, ◌≤◌, Bool, List, None, Option, Some, cond, false, map, max, nat_le, suc, sum_by, true, ℕ}
 use Rattle.mqb_base.specs.declared.message.Message.{Message}
 use Rattle.mqb_model.specs.records.Counting.{commit_size, op_size}
 use Rattle.mqb_trying.specs.declared.notes.PlannedOp.{PlannedOp}
@@ -41,15 +41,6 @@ index_here may least i total ms m front passes left =
 
 pub index_end : (may : ℕ → Message → Bool) (least i : ℕ) (total : Option ℕ) (ms : List Message) → length ms ≤ i → index_from may least i (drop i ms) ≡ total → None ≡ total
 index_end may least i total ms past left = sym (ap (index_from may least i) (drop_all i ms past)) ∙ left
-
--- Members that are left of a fold.
-
-pub fold_more : {X Y : Type 0} (f : Y → X → Y) (i : ℕ) (y next total : Y) (xs : List X) (x : X) → drop i xs ≡ x ∷ drop (i + 1) xs → next ≡ f y x
-    → fold f y (drop i xs) ≡ total → fold f next (drop (i + 1) xs) ≡ total
-fold_more f i y next total xs x front step left = ap (λ z. fold f z (drop (i + 1) xs)) step ∙ sym (ap (fold f y) front) ∙ left
-
-pub fold_end : {X Y : Type 0} (f : Y → X → Y) (i : ℕ) (y total : Y) (xs : List X) → length xs ≤ i → fold f y (drop i xs) ≡ total → y ≡ total
-fold_end f i y total xs past left = sym (ap (fold f y) (drop_all i xs past)) ∙ left
 
 -- How many bytes ops have.
 

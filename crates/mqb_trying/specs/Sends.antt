@@ -1,6 +1,6 @@
 -- Where the next message that is sent goes.
 use Rattle.std.specs.Option.{option_map_or}
-use Rattle.std.specs.Prelude.{[], ◌&&◌, ◌++◌, ◌+◌, ◌==◌, ◌∷◌, ◌≤◌, Err, List, None, Ok, Option, Result, Some, filter, fold, if◌then◌else◌, length, nat_le, nat_lt, not, option_and_then, option_map, ℕ}
+use Rattle.std.specs.Prelude.{[], ◌&&◌, ◌++◌, ◌+◌, ◌==◌, ◌∷◌, ◌≤◌, Bool, Err, List, None, Ok, Option, Result, Some, filter, fold, if◌then◌else◌, length, nat_le, nat_lt, not, option_and_then, option_map, ℕ}
 use Rattle.mqb_base.specs.Same.{same_name}
 use Rattle.mqb_base.specs.declared.draft.Parts.{Parts}
 use Rattle.mqb_base.specs.declared.ids.Guid.{Guid}
@@ -14,7 +14,6 @@ use Rattle.mqb_orders.specs.Rows.{Row}
 use Rattle.mqb_queue.specs.Lists.{count}
 use Rattle.mqb_queue.specs.Places.{Queue, numbered}
 use Rattle.mqb_model.specs.calls.Messages.{message_of}
-use Rattle.mqb_model.specs.declared.answers.Done.{Done}
 use Rattle.mqb_model.specs.declared.answers.Done.TheVariants as done
 use Rattle.mqb_model.specs.declared.faults.OpFault.{OpFault}
 use Rattle.mqb_model.specs.declared.faults.OpFault.TheVariants as op_fault
@@ -52,9 +51,13 @@ put_route puts number q = put_by q.plan (count q.lists) puts number
 abbrev pub end_of : Row → SequenceId × ℕ
 end_of r = (r.sequence, r.committed)
 
+-- an end is of a sequence to a destination at a peer
+abbrev pub leads_to : ℕ → QueueName → SequenceEnd → Bool
+leads_to peer destination e = e.peer == peer && same_name e.destination destination
+
 -- how far the last sequence to a destination at a peer has come, where it had come so far before one was taken to an end
 abbrev pub end_with : ℕ → QueueName → Option (SequenceId × ℕ) → SequenceEnd → Option (SequenceId × ℕ)
-end_with peer destination last e = if e.peer == peer && same_name e.destination destination then Some (e.sequence, e.number) else last
+end_with peer destination last e = if leads_to peer destination e then Some (e.sequence, e.number) else last
 
 -- how far it has come, where there is one
 abbrev pub last_end : State → List SequenceEnd → ℕ → QueueName → Option (SequenceId × ℕ)

@@ -5,7 +5,7 @@ ghost use Rattle.mqb_model.specs.state.Resolving.{guid_at};
 ghost use Rattle.mqb_model.specs.state.Rows.{last_sequence};
 ghost use Rattle.mqb_queue.specs.Places.{numbered};
 ghost use Rattle.mqb_trying.specs.Notes.{IsWritable};
-ghost use Rattle.mqb_trying.specs.Sends.{CanGo, count_in, end_of, end_with, last_end, next_route, peer_route, put_by, put_route, route_to, sent_by, target_of, try_send, with_join, with_put, with_route};
+ghost use Rattle.mqb_trying.specs.Sends.{CanGo, count_in, end_of, last_end, leads_to, next_route, peer_route, put_by, put_route, route_to, sent_by, target_of, try_send, with_join, with_put, with_route};
 ghost use Rattle.mqb_trying.specs.Trying.{IsRefusedBy, at_op};
 ghost use Rattle.mqb_trying.specs.declared.notes.PlannedOp.TheVariants as planned;
 
@@ -63,23 +63,14 @@ fn last_row(contents: &Contents, peer: u32, destination: &QueueName) -> Option<(
     Some((row.sequence, row.committed))
 }
 
-/// How far it is known that a sequence has come, where the last one to a destination at a peer had come so far before this end.
-fn end_with(
-    last: Option<(SequenceId, u32)>,
-    end: &SequenceEnd,
-    peer: u32,
-    destination: &QueueName,
-) -> Option<(SequenceId, u32)>
-    ensures { result ≡ end_with peer destination.now last end.now }
+/// The end is of a sequence to this destination at this peer.
+fn leads_to(end: &SequenceEnd, peer: u32, destination: &QueueName) -> bool
+    ensures { result ≡ leads_to peer destination.now end.now }
 {
-    if end.peer == peer && same_name(&end.destination, destination) {
-        Some((end.sequence, end.number))
-    } else {
-        last
-    }
+    end.peer == peer && same_name(&end.destination, destination)
 }
 
-/// How far the last sequence to a destination at a peer has come.
+/// How far the last sequence to a destination at a peer has come: the last end that leads there says it, or else its last row.
 fn last_end(
     contents: &Contents,
     ends: &[SequenceEnd],
@@ -88,11 +79,12 @@ fn last_end(
 ) -> Option<(SequenceId, u32)>
     ensures { result ≡ last_end contents.now.lists ends.now peer destination.now }
 {
-    let mut last = last_row(contents, peer, destination);
-    for end in ends {
-        last = end_with(last, end, peer, destination);
+    for end in ends.iter().rev() {
+        if leads_to(end, peer, destination) {
+            return Some((end.sequence, end.number));
+        }
     }
-    last
+    last_row(contents, peer, destination)
 }
 
 impl Notes {
