@@ -1,6 +1,5 @@
 -- All ops are noted as they are tried, and the whole is refused alike.
-use Rattle.std.proofs.Common.{refl, ap, ap₂, sym, subst, ◌∙◌, length}
-use Rattle.std.proofs.lemmas.Option.{none-some}
+use Rattle.std.proofs.Common.{refl, ap, ap₂, sym, subst, ◌∙◌}
 use Rattle.std.specs.List.{list_any}
 use Rattle.std.specs.Prelude.{[], ◌+◌, ◌||◌, ◌∷◌, ◌≡◌, Bool, Err, List, None, Ok, Option, Result, Some, cond, map, nat_lt, ℕ}
 use Rattle.mqb_base.specs.declared.draft.Op.{Op}
@@ -20,7 +19,7 @@ use Rattle.mqb_model.specs.state.State.{State}
 use Rattle.mqb_trying.specs.declared.notes.PlannedOp.{PlannedOp}
 use Rattle.mqb_trying.specs.declared.notes.PlannedOp.TheVariants.{Send, Take}
 use Rattle.mqb_trying.specs.Notes.{Noted, record_op}
-use Rattle.mqb_trying.specs.Trying.{IsRefusedBy, at_op, is_large, large_ops, try_all, try_op, unless, whole_fault}
+use Rattle.mqb_trying.specs.Trying.{IsRefusedBy, at_op, is_large, try_all, try_op, unless, whole_fault}
 use Rattle.mqb_trying.proofs.Following.{Agrees, Follows}
 use Rattle.mqb_trying.proofs.SendsAgree.{sends_agree}
 use Rattle.mqb_trying.proofs.TakesAgree.{takes_agree}

@@ -1,6 +1,6 @@
 -- What a trial that was made has.
-use Rattle.std.proofs.Common.{refl, ap, ap₂, sym, subst, ◌∙◌, arith, length}
-use Rattle.std.specs.Prelude.{◌≡◌, ◌≤◌, Err, List, None, Ok, Option, Result, Some, map, option_map, true, ℕ}
+use Rattle.std.proofs.Common.{ap, ap₂, sym, subst, ◌∙◌, arith, length}
+use Rattle.std.specs.Prelude.{◌≡◌, ◌≤◌, Err, List, None, Ok, Result, Some, map, option_map, true, ℕ}
 use Rattle.std.specs.Result.{IsOkAnd}
 use Rattle.mqb_base.specs.declared.draft.Op.{Op}
 use Rattle.mqb_entries.specs.SpelledEntries.{Fits, spelled}
@@ -25,8 +25,8 @@ use Rattle.mqb_trying.specs.Notes.{Noted, nothing_noted, record_op}
 use Rattle.mqb_trying.specs.Trials.{Planned, op_view, planned}
 use Rattle.mqb_trying.specs.Trying.{IsRefusedBy, count_refusal, tried, try_all, whole_fault}
 use Rattle.mqb_trying.proofs.Agreeing.{all_agree, followed, refused_by, whole_agrees}
-use Rattle.mqb_trying.proofs.Finishing.{entry_len, few_ops, fits_is, record_read, spellable, tried_is}
-use Rattle.mqb_trying.proofs.Following.{Agrees, Follows, follows_first}
+use Rattle.mqb_trying.proofs.Finishing.{entry_len, few_ops, fits_is, spellable, tried_is}
+use Rattle.mqb_trying.proofs.Following.{Follows, follows_first}
 use Rattle.mqb_trying.specs.Trying as trying
 
 -- A fault of an op refuses the whole.

@@ -4,16 +4,15 @@ use Rattle.std.proofs.lemmas.List.{length-map}
 use Rattle.std.proofs.lemmas.List.Concat.{flat_map-cons}
 use Rattle.std.proofs.lemmas.List.Sums.{sum_by-cons}
 use Rattle.std.specs.List.{AllByRecursion, flat_map}
-use Rattle.std.specs.Prelude.{[], ◌+◌, ◌++◌, ◌<◌, ◌^◌, ◌∷◌, ◌≡◌, ◌≤◌, List, None, Ok, Option, Some, map, option_and_then, option_map, sum_by, true, ℕ}
+use Rattle.std.specs.Prelude.{[], ◌++◌, ◌<◌, ◌^◌, ◌∷◌, ◌≡◌, ◌≤◌, List, None, Ok, Option, Some, map, option_and_then, option_map, sum_by, true, ℕ}
 use Rattle.std.specs.Result.{result_ok}
 use Rattle.mqb_base.specs.declared.draft.Op.{Op}
-use Rattle.mqb_entries.specs.Spelled.{spelled_id, spelled_op}
+use Rattle.mqb_entries.specs.Spelled.{spelled_op}
 use Rattle.mqb_entries.specs.SpelledEntries.{Fits, spelled}
 use Rattle.mqb_entries.specs.declared.entry.Entry.TheVariants as form
 use Rattle.mqb_entries.specs.declared.members.OpView.{OpView}
 use Rattle.mqb_fields.specs.Reading.{◌>>=◌}
 use Rattle.mqb_fields.specs.Writing.{bytes_of}
-use Rattle.mqb_packet.specs.Parts.{packet_of as parts_in}
 use Rattle.mqb_heads.specs.declared.base.TheConstants.{MAX_PACKET}
 use Rattle.mqb_base.specs.declared.ids.Guid.{Guid}
 use Rattle.mqb_base.specs.declared.message.Message.{Message}
@@ -24,7 +23,6 @@ use Rattle.mqb_packet.specs.declared.packet.Packet.{Packet}
 use Rattle.mqb_packet.specs.declared.packet.Packet.TheVariants as packet
 use Rattle.mqb_packet.specs.declared.packet.UserPacket.{UserPacket}
 use Rattle.mqb_model.specs.calls.Commit.{Trial, commit, commit_tried, trial_of, try_ops, whole_refusal}
-use Rattle.mqb_model.specs.declared.answers.Done.{Done}
 use Rattle.mqb_model.specs.declared.faults.CommitFault.{CommitFault}
 use Rattle.mqb_model.specs.laws.Fitting.{IsFitting, IsSpelled, RecordsAreSpelled, RecordsFit}
 use Rattle.mqb_model.specs.managers.Manager.{Manager, unlinked}

@@ -1,8 +1,7 @@
 -- What is noted follows what is tried by the definitions.
-use Rattle.std.proofs.Common.{refl, ap, sym, subst, ◌∙◌, arith, length}
+use Rattle.std.proofs.Common.{refl, ap, sym, subst, arith}
 use Rattle.std.proofs.lemmas.Bool.{eqb-true}
 use Rattle.std.proofs.lemmas.List.Elements.{recursion_from_All}
-use Rattle.std.proofs.lemmas.Option.{none-some}
 use Rattle.std.specs.List.{AllByRecursion, last_or}
 use Rattle.std.specs.Option.{option_map_or}
 use Rattle.std.specs.Prelude.{[], ◌+◌, ◌<◌, ◌==◌, ◌∷◌, ◌≡◌, All, AllPairs, Bool, Err, List, None, Ok, Option, Result, Some, cond, false, filter, is_some, map, option_map, suc, true, ℕ}
@@ -14,7 +13,6 @@ use Rattle.mqb_queue.specs.Lists.{Lists, count}
 use Rattle.mqb_queue.specs.Places.{Places, changed_at, lists_at, with_lists}
 use Rattle.mqb_queue.proofs.Others.{one_place}
 use Rattle.mqb_model.specs.calls.Commit.{Trial, trial_of}
-use Rattle.mqb_model.specs.declared.faults.OpFault.{OpFault}
 use Rattle.mqb_model.specs.state.State.{State}
 use Rattle.mqb_model.specs.state.Valid.{IsGivenOrdinal, IsValidState}
 use Rattle.mqb_trying.specs.Notes.{Noted, nothing_noted, record_op}

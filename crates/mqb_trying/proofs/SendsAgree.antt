@@ -6,7 +6,7 @@ use Rattle.std.proofs.lemmas.List.Elements.{filter-append}
 use Rattle.std.proofs.lemmas.Option.{none-some, same_Some}
 use Rattle.std.specs.List.{last_or}
 use Rattle.std.specs.Option.{option_map_or}
-use Rattle.std.specs.Prelude.{[], ◌&&◌, ◌++◌, ◌+◌, ◌==◌, ◌||◌, ◌∷◌, ◌≡◌, Bool, Err, List, None, Ok, Option, Result, Some, cond, false, filter, fold, is_some, map, nat_le, nat_lt, not, option_and_then, option_map, true, unwrap_or, ℕ}
+use Rattle.std.specs.Prelude.{[], ◌++◌, ◌+◌, ◌==◌, ◌||◌, ◌∷◌, ◌≡◌, Bool, Err, List, None, Ok, Option, Result, Some, cond, false, filter, fold, is_some, map, nat_le, nat_lt, not, option_and_then, option_map, true, unwrap_or, ℕ}
 use Rattle.mqb_base.specs.declared.draft.Op.TheVariants as asked
 use Rattle.mqb_base.specs.declared.draft.Parts.{Parts}
 use Rattle.mqb_base.specs.declared.ids.Guid.{Guid}
@@ -50,9 +50,9 @@ use Rattle.mqb_trying.specs.declared.notes.SequenceEnd.{SequenceEnd}
 use Rattle.mqb_trying.specs.Notes.{Noted, packet_of, record_op}
 use Rattle.mqb_trying.specs.Sends.{count_in, end_of, end_with, last_end, next_message, peer_route, put_route, route_to, sent_by, try_send, unless_full, with_send}
 use Rattle.mqb_trying.proofs.Ends.{IsLast, Rise, changed_there, ends_changed, ends_pushed, last_splits, of, ordinal_of, ordinals_stay, rise_more}
-use Rattle.mqb_trying.proofs.Following.{Agrees, Follows, changed_lists, durable, queue_at}
+use Rattle.mqb_trying.proofs.Following.{Agrees, Follows, changed_lists, queue_at}
 use Rattle.mqb_trying.proofs.Left.{left_in}
-use Rattle.mqb_trying.proofs.Names.{guid_same, join_names, lead_same, names, place_names, plan, plan_same}
+use Rattle.mqb_trying.proofs.Names.{guid_same, lead_same, names, place_names, plan, plan_same}
 
 fold_push : {X Y : Type 0} (f : Y → X → Y) (y : Y) (xs : List X) (x : X) → fold f y (xs ++ x ∷ []) ≡ f (fold f y xs) x
 fold_push f y [] x = refl

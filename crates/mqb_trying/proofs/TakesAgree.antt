@@ -4,12 +4,10 @@ use Rattle.std.proofs.lemmas.Bool.{eqb-true, true≢false}
 use Rattle.std.proofs.lemmas.List.{map-append}
 use Rattle.std.proofs.lemmas.Option.{none-some, same_Some}
 use Rattle.std.specs.Option.{option_map_or}
-use Rattle.std.specs.Prelude.{[], ◌++◌, ◌+◌, ◌==◌, ◌∷◌, ◌≡◌, Bool, Err, List, None, Ok, Option, Result, Some, cond, false, map, option_and_then, option_map, remove, slice_get, true, ℕ}
+use Rattle.std.specs.Prelude.{[], ◌++◌, ◌==◌, ◌∷◌, ◌≡◌, Bool, Err, List, None, Ok, Option, Some, cond, false, option_and_then, option_map, remove, slice_get, true, ℕ}
 use Rattle.mqb_base.specs.declared.draft.Op.TheVariants as asked
 use Rattle.mqb_base.specs.declared.message.Lane.TheVariants as lane
-use Rattle.mqb_base.specs.declared.message.Message.{Message}
 use Rattle.mqb_base.specs.declared.queues.EntryPlace.TheVariants as place
-use Rattle.mqb_base.specs.declared.queues.QueuePlan.{QueuePlan}
 use Rattle.mqb_fields.specs.Reading.{◌>>=◌}
 use Rattle.mqb_queue.specs.First.{first_index, is_free}
 use Rattle.mqb_queue.specs.Lists.{Lists}
@@ -17,7 +15,6 @@ use Rattle.mqb_queue.specs.Lists as lists
 use Rattle.mqb_queue.specs.Places.{Queue, numbered}
 use Rattle.mqb_model.specs.calls.Commit.{Trial, first_free, try_op}
 use Rattle.mqb_model.specs.calls.Commit as commit
-use Rattle.mqb_model.specs.declared.faults.OpFault.{OpFault}
 use Rattle.mqb_model.specs.declared.faults.OpFault.TheVariants as op_fault
 use Rattle.mqb_model.specs.declared.answers.Done.TheVariants as done
 use Rattle.mqb_model.specs.records.Record as entry

@@ -1,5 +1,5 @@
 -- Loops that try ops and spell them.
-use Rattle.std.proofs.Common.{refl, ap, sym, subst, ◌∙◌, append_assoc, drop, get_or, length, take}
+use Rattle.std.proofs.Common.{ap, sym, subst, ◌∙◌, append_assoc, drop, get_or, length, take}
 use Rattle.std.proofs.lemmas.List.{append-nil, drop_all, map-append, take_more}
 use Rattle.std.proofs.lemmas.List.Elements.{All-push}
 use Rattle.std.specs.Prelude.{[], ◌+◌, ◌++◌, ◌<◌, ◌∷◌, ◌≡◌, ◌≤◌, All, Err, List, Ok, Result, map, ℕ}

@@ -1,6 +1,5 @@
 -- A trial as contracts see it: the ops of its record as an entry shows them, and what becomes of each.
-use Rattle.std.specs.Global.{Vec}
-use Rattle.std.specs.Prelude.{◌<◌, ◌^◌, List, length, map, ℕ}
+use Rattle.std.specs.Prelude.{◌<◌, ◌^◌, List, length, map}
 use Rattle.mqb_entries.specs.declared.members.OpView.{OpView}
 use Rattle.mqb_entries.specs.declared.members.OpView.TheVariants as view
 use Rattle.mqb_model.specs.calls.Commit.{Trial}

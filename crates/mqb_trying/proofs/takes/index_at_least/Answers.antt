@@ -1,5 +1,5 @@
-use Rattle.std.proofs.Common.{◌≡◌, ◌∙◌, Bool, ap, ap₂, sym, false, true}
-use Rattle.std.specs.Prelude.{◌&&◌, nat_le}
+use Rattle.std.proofs.Common.{◌∙◌, sym}
+use Rattle.std.specs.Prelude.{nat_le}
 use Rattle.mqb_trying.specs.Takes.{index_from, may_take}
 use Rattle.mqb_trying.proofs.Walks.{both_fail, first_fails, front_read, index_more}
 use Rattle.mqb_trying.proofs.takes.index_at_least.Goals.{else-may_take-via-then-may_take+else-message-least, else-may_take-via-else-may_take}

@@ -1,4 +1,4 @@
-use Rattle.std.proofs.Common.{◌≡◌, ◌∙◌, Bool, ap, cond, sym, arith}
+use Rattle.std.proofs.Common.{◌∙◌, Bool, ap, cond, sym, arith}
 use Rattle.std.specs.Prelude.{max}
 use Rattle.mqb_trying.specs.Takes.{may_take, top_from}
 use Rattle.mqb_trying.proofs.Walks.{front_read, top_end, top_more}

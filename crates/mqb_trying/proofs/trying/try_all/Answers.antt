@@ -1,4 +1,4 @@
-use Rattle.std.proofs.Common.{◌≡◌, ◌∙◌, ◌+◌, ap, arith, length}
+use Rattle.std.proofs.Common.{arith}
 use Rattle.mqb_trying.specs.Notes.{nothing_noted}
 use Rattle.mqb_trying.specs.Trying.{try_all}
 use Rattle.mqb_trying.proofs.Walked.{all_more}

@@ -1,7 +1,6 @@
-use Rattle.std.proofs.Common.{◌≡◌, ◌∙◌, None, Result, subst, sym}
+use Rattle.std.proofs.Common.{◌∙◌, subst, sym}
 use Rattle.std.proofs.lemmas.Result.{err_from_is_err_and}
 use Rattle.std.specs.Prelude.{IfErr}
-use Rattle.mqb_model.specs.declared.faults.CommitFault.{CommitFault}
 use Rattle.mqb_trying.specs.Notes.{nothing_noted}
 use Rattle.mqb_trying.specs.Trying.{IsRefusedBy, tried, try_all}
 use Rattle.mqb_trying.proofs.Finished.{fits_too, is_refusal, op_refuses, planned_is, read_too, size_too, whole_refuses}
