@@ -1,5 +1,5 @@
 //! What is noted of the ops that were tried.
-ghost use Rattle.std.specs.Prelude.{[], ◌++◌, ◌∷◌, ◌≡◌, All, OnOk};
+ghost use Rattle.std.specs.Prelude.{[], ◌++◌, ◌∷◌, ◌≡◌, All, IfOk, OnOk};
 ghost use Rattle.mqb_trying.specs.Notes.{IsWritable, nothing_noted};
 
 use mqb_base::{Guid, Memory, Message, MessageId, QueueName, SequenceId};
@@ -81,19 +81,19 @@ impl Model for Notes {
 }
 
 impl Notes {
-    /// Nothing was tried yet.
-    pub(crate) fn new(alloc: Global, contents: &Contents) -> Notes
-        ensures { result ≡ nothing_noted contents.now.lists }
+    /// Nothing was tried yet. There is room for this many ops, and for what becomes of them.
+    pub(crate) fn new(alloc: Global, contents: &Contents, count: usize) -> Result<Notes, Memory>
+        ensures { IfOk result (λ notes. notes ≡ nothing_noted contents.now.lists) }
     {
-        Notes {
+        Ok(Notes {
             takes: Vec::new(alloc),
             puts: Vec::new(alloc),
             ends: Vec::new(alloc),
             next_number: contents.next_number(),
             next_ordinal: contents.next_ordinal(),
-            ops: Vec::new(alloc),
-            done: Vec::new(alloc),
-        }
+            ops: Vec::with_capacity(alloc, count)?,
+            done: Vec::with_capacity(alloc, count)?,
+        })
     }
 }
 

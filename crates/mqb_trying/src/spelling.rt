@@ -98,7 +98,7 @@ fn spell_ops(alloc: Global, ops: &[PlannedOp]) -> Result<Vec<SpelledOp>, Memory>
         map shown spelled.items ≡ map op_view (map record_op ops.now)) }
     ensures short { IfOk result (λ spelled. All IsShort spelled.items) }
 {
-    let mut spelled = Vec::new(alloc);
+    let mut spelled = Vec::with_capacity(alloc, ops.len())?;
     for op in ops {
         spelled.push(spell_op(alloc, op)?)?;
     }

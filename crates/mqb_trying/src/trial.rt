@@ -50,7 +50,7 @@ fn views_of(alloc: Global, ops: &[SpelledOp]) -> Result<Vec<OpView<'_>>, Memory>
     requires { All IsShort ops.now }
     ensures { IfOk result (λ views. views.items ≡ map shown ops.now) }
 {
-    let mut views = Vec::new(alloc);
+    let mut views = Vec::with_capacity(alloc, ops.len())?;
     for op in ops {
         views.push(view_of(op))?;
     }

@@ -65,7 +65,7 @@ fn try_all(alloc: Global, contents: &Contents, ops: &[Op], now: u32) -> Result<N
     ensures refused { IfErr result (IsRefusedBy (try_all contents.now.lists now 0
         (nothing_noted contents.now.lists) ops.now)) }
 {
-    let mut notes = Notes::new(alloc, contents);
+    let mut notes = Notes::new(alloc, contents, ops.len())?;
     for index in 0..ops.len() {
         notes.try_op(contents, now, index as u32, &ops[index])?;
     }
