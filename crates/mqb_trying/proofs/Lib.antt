@@ -1,6 +1,7 @@
 pub mod Names
 pub mod Left
 pub mod Ends
+pub mod NotedEnds
 pub mod Following
 pub mod TakesAgree
 pub mod SendsAgree

@@ -6,7 +6,7 @@ use Rattle.std.proofs.lemmas.List.Elements.{filter-append}
 use Rattle.std.proofs.lemmas.Option.{none-some, same_Some}
 use Rattle.std.specs.List.{last_or}
 use Rattle.std.specs.Option.{option_map_or}
-use Rattle.std.specs.Prelude.{[], ◌++◌, ◌+◌, ◌==◌, ◌||◌, ◌∷◌, ◌≡◌, Bool, Err, List, None, Ok, Option, Result, Some, cond, false, filter, fold, is_some, map, nat_le, nat_lt, not, option_and_then, option_map, true, unwrap_or, ℕ}
+use Rattle.std.specs.Prelude.{[], ◌++◌, ◌+◌, ◌==◌, ◌||◌, ◌∷◌, ◌≡◌, Bool, Err, List, None, Ok, Option, Result, Some, cond, false, filter, is_some, map, nat_le, nat_lt, not, option_and_then, option_map, true, unwrap_or, ℕ}
 use Rattle.mqb_base.specs.declared.draft.Op.TheVariants as asked
 use Rattle.mqb_base.specs.declared.draft.Parts.{Parts}
 use Rattle.mqb_base.specs.declared.ids.Guid.{Guid}
@@ -48,20 +48,12 @@ use Rattle.mqb_trying.specs.declared.notes.Route.{Route}
 use Rattle.mqb_trying.specs.declared.notes.Route.TheVariants.{Begin, Join, Put}
 use Rattle.mqb_trying.specs.declared.notes.SequenceEnd.{SequenceEnd}
 use Rattle.mqb_trying.specs.Notes.{Noted, packet_of, record_op}
-use Rattle.mqb_trying.specs.Sends.{count_in, end_of, end_with, last_end, next_message, peer_route, put_route, route_to, sent_by, try_send, unless_full, with_send}
+use Rattle.mqb_trying.specs.Sends.{count_in, end_of, last_end, next_message, peer_route, put_route, route_to, sent_by, try_send, unless_full, with_end, with_send}
 use Rattle.mqb_trying.proofs.Ends.{IsLast, Rise, changed_there, ends_changed, ends_pushed, last_splits, of, ordinal_of, ordinals_stay, rise_more}
 use Rattle.mqb_trying.proofs.Following.{Agrees, Follows, changed_lists, queue_at}
 use Rattle.mqb_trying.proofs.Left.{left_in}
+use Rattle.mqb_trying.proofs.NotedEnds.{last_more}
 use Rattle.mqb_trying.proofs.Names.{guid_same, lead_same, names, place_names, plan, plan_same}
-
-fold_push : {X Y : Type 0} (f : Y → X → Y) (y : Y) (xs : List X) (x : X) → fold f y (xs ++ x ∷ []) ≡ f (fold f y xs) x
-fold_push f y [] x = refl
-fold_push f y (z ∷ xs) x = fold_push f (f y z) xs x
-
--- one end more
-last_more : (s : State) (ends : List SequenceEnd) (e : SequenceEnd) (key : OutKey)
-    → last_end s (ends ++ e ∷ []) key.peer key.destination ≡ end_with key.peer key.destination (last_end s ends key.peer key.destination) e
-last_more s ends e key = fold_push (end_with key.peer key.destination) (option_map end_of (last_sequence s key.peer key.destination)) ends e
 
 -- one message more in a queue
 count_more : (number other : ℕ) (puts : List ℕ) → count_in other (puts ++ number ∷ []) ≡ count_in other puts + cond (number == other) 1 0
@@ -201,7 +193,7 @@ module _ (s : State) (now : ℕ) (n : Noted) (t : Trial) (h : Follows s n t) (p 
   -- a sequence came to an end
   ended : (k : ℕ) (e : SequenceEnd) (after : List Row) (key : OutKey) → e.peer ≡ k → e.destination ≡ d
       → option_map end_of (last_or None (filter (of key) after)) ≡ cond (same_out_key (own k) key) (Some (e.sequence, e.number)) (option_map end_of (last_or None (filter (of key) x.outs)))
-      → option_map end_of (last_or None (filter (of key) after)) ≡ last_end s (n.ends ++ e ∷ []) key.peer key.destination
+      → option_map end_of (last_or None (filter (of key) after)) ≡ last_end s (with_end n.ends e) key.peer key.destination
   ended k e after key peer destination same = same
       ∙ ap₂ (λ (b : Bool) (o : Option _). cond b (Some (e.sequence, e.number)) o)
       (ap₂ (λ (peer : ℕ) (destination : QueueName). same_out_key (record { peer = peer; destination = destination }) key) (sym peer) (sym destination)) (h.ends key)
@@ -228,7 +220,7 @@ module _ (s : State) (now : ℕ) (n : Noted) (t : Trial) (h : Follows s n t) (p 
       join_follows = subst (λ y. Follows s (sent_by s n now told (Join k row.sequence (row.committed + 1))) (commit.with_send t (AtPeer k) m y (done.Sent m.id row.sequence (row.committed + 1))))
           (sym join_is)
           (send_follows (AtPeer k) (record n {
-            ends = n.ends ++ e ∷ [];
+            ends = with_end n.ends e;
             done = n.done ++ done.Sent told.id row.sequence (row.committed + 1) ∷ [];
           }) joined (done.Sent m.id row.sequence (row.committed + 1)) (record {
             leads = h.leads;
@@ -261,7 +253,7 @@ module _ (s : State) (now : ℕ) (n : Noted) (t : Trial) (h : Follows s n t) (p 
       begin_follows : Follows s (sent_by s n now told (Begin k)) (commit.with_joined t now m k fresh)
       begin_follows = subst (λ y. Follows s (sent_by s n now told (Begin k)) (commit.with_send t (AtPeer k) m y (done.Sent m.id fresh.sequence 1))) (sym begin_is)
           (send_follows (AtPeer k) (record n {
-            ends = n.ends ++ e ∷ [];
+            ends = with_end n.ends e;
             next_ordinal = n.next_ordinal + 1;
             done = n.done ++ done.Sent told.id (record { ordinal = n.next_ordinal; stamp = now }) 1 ∷ [];
           }) begun (done.Sent m.id fresh.sequence 1) (record {

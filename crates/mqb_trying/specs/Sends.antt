@@ -1,6 +1,6 @@
 -- Where the next message that is sent goes.
 use Rattle.std.specs.Option.{option_map_or}
-use Rattle.std.specs.Prelude.{[], ◌&&◌, ◌++◌, ◌+◌, ◌==◌, ◌∷◌, ◌≤◌, Bool, Err, List, None, Ok, Option, Result, Some, filter, fold, if◌then◌else◌, length, nat_le, nat_lt, not, option_and_then, option_map, ℕ}
+use Rattle.std.specs.Prelude.{[], ◌&&◌, ◌++◌, ◌+◌, ◌-◌, ◌==◌, ◌∷◌, ◌≤◌, Bool, Err, List, None, Ok, Option, Result, Some, false, filter, fold, if◌then◌else◌, length, nat_le, nat_lt, not, option_and_then, option_map, set, slice_get, ℕ}
 use Rattle.mqb_base.specs.Same.{same_name}
 use Rattle.mqb_base.specs.declared.draft.Parts.{Parts}
 use Rattle.mqb_base.specs.declared.ids.Guid.{Guid}
@@ -108,10 +108,18 @@ CanGo n _ = Unit {0}
 abbrev pub with_put : Noted → ℕ → Message → Noted
 with_put n queue m = record n { puts = n.puts ++ queue ∷ []; done = n.done ++ done.Put m.id ∷ [] }
 
+-- the last end leads to a destination at a peer
+abbrev pub last_leads_to : ℕ → QueueName → List SequenceEnd → Bool
+last_leads_to peer destination ends = option_map_or (leads_to peer destination) (slice_get ends (length ends - 1)) false
+
+-- a sequence came to an end: it stands in the place of the last one, where that leads to the same
+abbrev pub with_end : List SequenceEnd → SequenceEnd → List SequenceEnd
+with_end ends e = if last_leads_to e.peer e.destination ends then set ends (length ends - 1) e else ends ++ e ∷ []
+
 -- a message joined a sequence under a number
 abbrev pub with_join : Noted → ℕ → Message → SequenceId → ℕ → Noted
 with_join n peer m sequence number = record n {
-  ends = n.ends ++ record { peer = peer; destination = m.destination; sequence = sequence; number = number } ∷ [];
+  ends = with_end n.ends (record { peer = peer; destination = m.destination; sequence = sequence; number = number });
   done = n.done ++ done.Sent m.id sequence number ∷ [];
 }
 

@@ -5,7 +5,7 @@ ghost use Rattle.mqb_model.specs.state.Resolving.{guid_at};
 ghost use Rattle.mqb_model.specs.state.Rows.{last_sequence};
 ghost use Rattle.mqb_queue.specs.Places.{numbered};
 ghost use Rattle.mqb_trying.specs.Notes.{IsWritable};
-ghost use Rattle.mqb_trying.specs.Sends.{CanGo, count_in, end_of, last_end, leads_to, next_route, peer_route, put_by, put_route, route_to, sent_by, target_of, try_send, with_join, with_put, with_route};
+ghost use Rattle.mqb_trying.specs.Sends.{CanGo, count_in, end_of, last_end, last_leads_to, leads_to, next_route, peer_route, put_by, put_route, route_to, sent_by, target_of, try_send, with_end, with_join, with_put, with_route};
 ghost use Rattle.mqb_trying.specs.Trying.{IsRefusedBy, at_op};
 ghost use Rattle.mqb_trying.specs.declared.notes.PlannedOp.TheVariants as planned;
 
@@ -146,6 +146,48 @@ fn guid_at(contents: &Contents, target: Target) -> Guid
     }
 }
 
+/// The last end leads to this destination at this peer.
+fn last_leads_to(ends: &[SequenceEnd], peer: u32, destination: &QueueName) -> bool
+    ensures { result ≡ last_leads_to peer destination.now ends.now }
+{
+    match ends.last() {
+        Some(end) => leads_to(end, peer, destination),
+        None => false,
+    }
+}
+
+/// A sequence comes to a number. Messages in a row to one destination have one end.
+fn note_end(
+    ends: &mut Vec<SequenceEnd>,
+    peer: u32,
+    destination: &QueueName,
+    sequence: SequenceId,
+    number: u32,
+) -> Result<(), Memory>
+    ensures { OnOk result (ends.new.items ≡ with_end ends.old.items (record {
+      peer = peer;
+      destination = destination.now;
+      sequence = sequence;
+      number = number;
+    })) }
+{
+    if last_leads_to(ends, peer, destination) {
+        let Some(last) = ends.last_mut() else {
+            unreachable!();
+        };
+        last.sequence = sequence;
+        last.number = number;
+        return Ok(());
+    }
+    ends.push(SequenceEnd {
+        peer,
+        destination: destination.clone()?,
+        sequence,
+        number,
+    })?;
+    Ok(())
+}
+
 impl Notes {
     /// A message joins a sequence under a number.
     fn note_join(
@@ -158,12 +200,7 @@ impl Notes {
         ensures { OnOk result (self.new ≡
             with_join self.old peer message.now sequence number) }
     {
-        self.ends.push(SequenceEnd {
-            peer,
-            destination: message.destination.clone()?,
-            sequence,
-            number,
-        })?;
+        note_end(&mut self.ends, peer, &message.destination, sequence, number)?;
         self.done.push(Done::Sent {
             id: message.id,
             sequence,
