@@ -51,6 +51,18 @@ packet_counted to now c head = at c.tx
     at None = refl
     at (Some tx) = refl
 
+-- so its spelling has them, where spellings have the sizes of their packets
+pub one_counted : ((p : Packet) → length (plain_spelling p) ≡ packet_size p) → (to : Guid) (now : ℕ) (given : Candidate × SessionHead)
+    → length (plain_spelling (packet_for to now given)) ≡ candidate_size given.0
+one_counted sized to now given = sized (packet_for to now given) ∙ packet_counted to now given.0 given.1
+
+-- with their headers candidates have as many
+pub heads_counted : (session : one_end.State) (cs : List Candidate) → sum_by (λ given. candidate_size given.0) (with_heads session cs) ≡ sum_by candidate_size cs
+heads_counted session [] = refl
+heads_counted session (c ∷ cs) =
+    let more = sum_by-cons {X = Candidate × SessionHead} (λ given. candidate_size given.0) (c, head_for session c) (with_heads (session_after session c) cs) in
+    omega (arith, more, sum_by-cons candidate_size c cs, heads_counted (session_after session c) cs)
+
 pub all_counted : ((p : Packet) → length (plain_spelling p) ≡ packet_size p) → (to : Guid) (now : ℕ) (session : one_end.State) (cs : List Candidate)
     → length (flat_map (λ given. plain_spelling (packet_for to now given)) (with_heads session cs)) ≡ sum_by candidate_size cs
 all_counted sized to now session [] = refl

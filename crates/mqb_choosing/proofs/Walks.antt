@@ -1,19 +1,21 @@
 -- Loops over what was chosen.
-use Rattle.std.proofs.Common.{◌≡◌, ℕ, zero, suc, ◌+◌, ◌<◌, ◌≤◌, List, [], ◌∷◌, ◌++◌, length, take, drop, map, get_or, Option, Some, None, refl, sym, ap, subst, ◌∙◌, arith, append_assoc}
-use Rattle.std.proofs.lemmas.List.{length-append, take-append-le}
+use Rattle.std.proofs.Common.{◌≡◌, ℕ, zero, suc, ◌+◌, ◌<◌, ◌≤◌, List, [], ◌∷◌, ◌++◌, length, drop, map, get_or, Option, Some, None, refl, sym, ap, subst, ◌∙◌, arith, append_assoc}
+use Rattle.std.proofs.lemmas.List.{length-append}
 use Rattle.std.proofs.lemmas.List.Elements.{All-cons}
+use Rattle.std.proofs.lemmas.List.Sums.{sum_by-cons}
 use Rattle.std.proofs.lemmas.Option.{none-some, same_Some}
 use Rattle.std.specs.List.{AllByRecursion, cons_option, enumerate_from, flat_map}
-use Rattle.std.specs.Prelude.{All, IsSomeAnd, filter_map, fold, max, option_map, slice_get}
+use Rattle.std.specs.Prelude.{All, IsSomeAnd, filter_map, fold, max, option_map, slice_get, sum_by}
 use Rattle.mqb_base.specs.declared.heads.SessionHead.{SessionHead}
 use Rattle.mqb_base.specs.declared.message.Message.{Message}
 use Rattle.mqb_entries.specs.declared.members.Mark.{Mark}
 use Rattle.mqb_orders.specs.Rows.{Row}
 use Rattle.mqb_model.specs.calls.pump.Candidates.{Candidate}
+use Rattle.mqb_model.specs.calls.pump.Choosing.{candidate_size}
 use Rattle.mqb_model.specs.calls.pump.Pump.{greatest_sent, mark_for, number_of_row}
 use Rattle.mqb_model.specs.state.State.{State}
 use Rattle.mqb_choosing.specs.declared.choice.Choice.{Choice}
-use Rattle.mqb_choosing.specs.Choices.{IsSendable, IsThere, coming_from, message_at, origin_of, shown, shown_in}
+use Rattle.mqb_choosing.specs.Choices.{IsSendable, IsThere, bytes_in, coming_from, message_at, origin_of, shown, shown_in}
 use Rattle.mqb_choosing.specs.Marks.{greatest_chosen, rising_mark}
 use Rattle.mqb_choosing.proofs.Left.{front_is, got_is}
 
@@ -107,12 +109,33 @@ all_more s P choices i x front here behind = subst (λ (cs : List Choice). All P
     at None here = absurd here
     at (Some given) here = All-cons P given (shown_in s (drop (i + 1) choices)) here behind
 
-pub longer : (s : State) (spell : Candidate × SessionHead → List ℕ) (x : Choice) (start : ℕ) (now new : List ℕ) → start ≤ length now
-    → IsSomeAnd (shown s x) (λ given. new ≡ now ++ spell given) → (start ≤ length new) × (take start new ≡ take start now)
-longer s spell x start now new within added = at (shown s x) added
+-- Where there is room for those that are left, there is for the next one,
+pub one_has_room : (s : State) (choices : List Choice) (i : ℕ) (x : Choice) (n room : ℕ) → drop i choices ≡ x ∷ drop (i + 1) choices → IsThere s x
+    → n + bytes_in s (drop i choices) ≤ room → IsSomeAnd (shown s x) (λ given. n + candidate_size given.0 ≤ room)
+one_has_room s choices i x n room front there enough = at (shown s x) there (subst (λ (cs : List Choice). n + bytes_in s cs ≤ room) front enough)
   where
-    at : (o : Option (Candidate × SessionHead)) → IsSomeAnd o (λ given. new ≡ now ++ spell given) → (start ≤ length new) × (take start new ≡ take start now)
-    at None added = absurd added
-    at (Some given) added =
+    behind : List (Candidate × SessionHead)
+    behind = shown_in s (drop (i + 1) choices)
+
+    at : (o : Option (Candidate × SessionHead)) → IsSomeAnd o (λ given. IsSendable given.0) → n + sum_by (λ given. candidate_size given.0) (cons_option o behind) ≤ room
+        → IsSomeAnd o (λ given. n + candidate_size given.0 ≤ room)
+    at None there enough = absurd there
+    at (Some given) there enough = let more = sum_by-cons (λ given. candidate_size given.0) given behind in omega (arith, more, enough)
+
+-- and then for those behind it.
+pub rest_has_room : (s : State) (spell : Candidate × SessionHead → List ℕ) (choices : List Choice) (i : ℕ) (x : Choice) (now new : List ℕ) (room : ℕ)
+    → ((given : Candidate × SessionHead) → length (spell given) ≡ candidate_size given.0) → drop i choices ≡ x ∷ drop (i + 1) choices
+    → IsSomeAnd (shown s x) (λ given. new ≡ now ++ spell given) → length now + bytes_in s (drop i choices) ≤ room → length new + bytes_in s (drop (i + 1) choices) ≤ room
+rest_has_room s spell choices i x now new room sized front added enough = at (shown s x) added (subst (λ (cs : List Choice). length now + bytes_in s cs ≤ room) front enough)
+  where
+    behind : List (Candidate × SessionHead)
+    behind = shown_in s (drop (i + 1) choices)
+
+    at : (o : Option (Candidate × SessionHead)) → IsSomeAnd o (λ given. new ≡ now ++ spell given) → length now + sum_by (λ given. candidate_size given.0) (cons_option o behind) ≤ room
+        → length new + bytes_in s (drop (i + 1) choices) ≤ room
+    at None added enough = absurd added
+    at (Some given) added enough =
+        let more = sum_by-cons (λ given. candidate_size given.0) given behind in
         let long : length new ≡ length now + length (spell given) = ap length added ∙ length-append now (spell given) in
-        (omega (arith, long, within), ap (take start) added ∙ take-append-le start now (spell given) within)
+        let size = sized given in
+        omega (arith, more, long, size, enough)

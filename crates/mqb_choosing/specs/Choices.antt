@@ -1,5 +1,5 @@
 -- What a packet that goes is, seen over a state.
-use Rattle.std.specs.Prelude.{None, Option, Some, All, IsSomeAnd, List, false, filter_map, option_and_then, option_map, slice_get, is_some, true, ◌≡◌}
+use Rattle.std.specs.Prelude.{None, Option, Some, All, IsSomeAnd, List, false, filter_map, option_and_then, option_map, slice_get, sum_by, is_some, true, ◌≡◌, ℕ}
 use Rattle.mqb_base.specs.declared.heads.SessionHead.{SessionHead}
 use Rattle.mqb_base.specs.declared.heads.TxHead.{TxHead}
 use Rattle.mqb_base.specs.declared.message.Lane.{Lane}
@@ -12,7 +12,7 @@ use Rattle.mqb_plain.specs.Lists.{messages_of}
 use Rattle.mqb_plain.specs.Plain.{outgoing_in}
 use Rattle.mqb_session.specs.declared.heads.Kind.{Kind}
 use Rattle.mqb_model.specs.calls.pump.Candidates.{Candidate}
-use Rattle.mqb_model.specs.calls.pump.Choosing.{headers_for, kind_of}
+use Rattle.mqb_model.specs.calls.pump.Choosing.{candidate_size, headers_for, kind_of}
 use Rattle.mqb_model.specs.managers.Beside as beside
 use Rattle.mqb_model.specs.state.State.{State}
 use Rattle.mqb_model.specs.state.Valid.{IsCarried}
@@ -57,6 +57,10 @@ shown s choice = option_map (λ m. (coming_from choice.origin m, choice.head)) (
 -- the packets that go
 abbrev pub shown_in : State → List Choice → List (Candidate × SessionHead)
 shown_in s choices = filter_map (shown s) choices
+
+-- how many bytes their packets have
+abbrev pub bytes_in : State → List Choice → ℕ
+bytes_in s choices = sum_by (λ given. candidate_size given.0) (shown_in s choices)
 
 -- A candidate can be carried with its headers, and is transactional exactly where it is of a stream.
 pub record IsSendable (c : Candidate) : Type 0 where

@@ -4,7 +4,7 @@ ghost use Rattle.mqb_model.specs.calls.pump.Choosing.{candidate_size, session_be
 ghost use Rattle.mqb_model.specs.managers.Valid.{IsExpressValid};
 ghost use Rattle.mqb_model.specs.state.Valid.{IsCarried, IsValidState};
 ghost use Rattle.mqb_packet.specs.Plain.{message_size};
-ghost use Rattle.mqb_choosing.specs.Choices.{AreSendable, CanGo, IsThere, coming_from, message_at, shown_in};
+ghost use Rattle.mqb_choosing.specs.Choices.{AreSendable, CanGo, IsThere, bytes_in, coming_from, message_at, shown_in};
 ghost use Rattle.mqb_choosing.specs.Going.{Offers, any_waits, candidates_to, chosen_to, known, nothing_chosen, offered, takes};
 
 use crate::choice::{Choice, Origin};
@@ -184,6 +184,7 @@ pub fn choose(
         session_behind session (chosen_to contents.now.lists session cursors.now owes.now now peer)) }
     ensures bytes { IfOk result (λ c. c.bytes ≡ sum_by candidate_size
         (chosen_to contents.now.lists session cursors.now owes.now now peer)) }
+    ensures room { IfOk result (λ c. c.bytes ≡ bytes_in contents.now.lists c.choices) }
 
     // Whether anything could go.
     ensures any { IfOk result (λ c. any_waits c ≡ not (length

@@ -13,6 +13,7 @@ mod Offered
 mod Quiet
 mod Spelled
 mod Sent
+mod Raised
 mod Recorded
 mod Readable
 mod Heard

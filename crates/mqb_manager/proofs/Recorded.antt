@@ -3,9 +3,9 @@ use Rattle.std.proofs.Common.{arith, refl, sym, ap, subst, ◌∙◌, ◌<◌}
 use Rattle.std.proofs.lemmas.Bool.Decides.{nat_tests}
 use Rattle.std.proofs.lemmas.List.Elements.{All-map}
 use Rattle.std.proofs.lemmas.Option.{slice_get_within}
-use Rattle.std.proofs.Math.Seq.{take-append_seam}
-use Rattle.std.specs.Prelude.{◌++◌, ◌==◌, ◌≡◌, ◌≤◌, All, Bool, Err, IfSome, IsSomeAnd, List, None, Ok, Option, Result, Some, false, flat_map, fold, if◌then◌else◌, length, map, slice_get, take, true, ℕ}
+use Rattle.std.specs.Prelude.{◌+◌, ◌++◌, ◌==◌, ◌≡◌, ◌≤◌, All, Bool, Err, IfSome, IsSomeAnd, List, None, Ok, Option, Result, Some, false, flat_map, fold, if◌then◌else◌, length, map, slice_get, sum_by, true, ℕ}
 use Rattle.mqb_base.specs.declared.heads.SessionHead.{SessionHead}
+use Rattle.mqb_base.specs.declared.ids.Guid.{Guid}
 use Rattle.mqb_base.specs.declared.ids.Identity.{Identity}
 use Rattle.mqb_devices.specs.Disk.{Counted, View}
 use Rattle.mqb_entries.specs.declared.entry.Entry.TheVariants as form
@@ -14,11 +14,12 @@ use Rattle.mqb_packet.specs.Plain.{plain_spelling}
 use Rattle.mqb_packet.specs.Values.{IsPacket}
 use Rattle.mqb_plain.specs.Plain.{PlainLists}
 use Rattle.mqb_session.specs.State as one_end
-use Rattle.mqb_choosing.specs.Choices.{shown_in}
+use Rattle.mqb_choosing.specs.Choices.{IsThere, bytes_in, shown_in}
+use Rattle.mqb_choosing.specs.declared.choice.Choice.{Choice}
 use Rattle.mqb_choosing.specs.Going.{Going, candidates_to, known}
 use Rattle.mqb_choosing.specs.Noting.{AreNextSent}
 use Rattle.mqb_model.specs.calls.pump.Candidates.{Candidate, candidates}
-use Rattle.mqb_model.specs.calls.pump.Choosing.{chosen, with_heads}
+use Rattle.mqb_model.specs.calls.pump.Choosing.{candidate_size, chosen, with_heads}
 use Rattle.mqb_model.specs.calls.pump.Pump.{PumpOutcome, marks_for, offered_entry, origin_of, packet_for, pump, sending_all, settled}
 use Rattle.mqb_model.specs.declared.faults.PumpFault.{PumpFault}
 use Rattle.mqb_model.specs.declared.faults.PumpFault.TheVariants as fault
@@ -53,13 +54,9 @@ use Rattle.mqb_manager.proofs.Conditions.{up_condition}
 use Rattle.mqb_manager.proofs.Going.{form_is, sent_call, sent_manager, state_is, unsent_call}
 use Rattle.mqb_manager.proofs.Noted.{can_note_all}
 use Rattle.mqb_manager.proofs.Offered.{rows_raised, rows_valid}
+use Rattle.mqb_manager.proofs.Raised.{all_shown_stay, all_there_stay}
 use Rattle.mqb_manager.proofs.Sent.{IsPeer, known_is}
 use Rattle.mqb_manager.proofs.Spelled.{candidates_are, marks_small, sent_shown, spelled_all, with_heads_of}
-
--- Bytes to the peer are taken back.
-
-pub cut_back : (before bytes : List ℕ) (n : ℕ) → n ≡ length before → take n (before ++ bytes) ≡ before
-cut_back before bytes n is = ap (λ (k : ℕ). take k (before ++ bytes)) is ∙ take-append_seam before bytes
 
 -- The marks' record, where one rises.
 
@@ -108,6 +105,30 @@ plain_stays s marks = at (length marks == 0)
     at : (b : Bool) → (recorded s (if b then None else Some (entry.Offered marks))).plain ≡ s.plain
     at true = refl
     at false = ap (λ (t : State). t.plain) (rows_raised s marks).state
+
+peers_stay : (s : State) (marks : List Mark) → (recorded s (if length marks == 0 then None else Some (entry.Offered marks))).peers ≡ s.peers
+peers_stay s marks = at (length marks == 0)
+  where
+    at : (b : Bool) → (recorded s (if b then None else Some (entry.Offered marks))).peers ≡ s.peers
+    at true = refl
+    at false = ap (λ (t : State). t.peers) (rows_raised s marks).state
+
+-- what was chosen stands where it stood
+shown_stays : (s : State) (marks : List Mark) (choices : List Choice)
+    → shown_in (recorded s (if length marks == 0 then None else Some (entry.Offered marks))) choices ≡ shown_in s choices
+shown_stays s marks choices = at (length marks == 0)
+  where
+    at : (b : Bool) → shown_in (recorded s (if b then None else Some (entry.Offered marks))) choices ≡ shown_in s choices
+    at true = refl
+    at false = all_shown_stay s marks choices
+
+there_stays : (s : State) (marks : List Mark) (choices : List Choice) → All (IsThere s) choices
+    → All (IsThere (recorded s (if length marks == 0 then None else Some (entry.Offered marks)))) choices
+there_stays s marks choices there = at (length marks == 0)
+  where
+    at : (b : Bool) → All (IsThere (recorded s (if b then None else Some (entry.Offered marks)))) choices
+    at true = there
+    at false = all_there_stay s marks choices there
 
 stays_valid : (m : ManagerState) (marks : List Mark) → AppliedIsValid → IsUp m → IsValidManager (manager_of m)
     → IfSome (if length marks == 0 then None else Some (entry.Offered marks)) (λ r. fits m.store.state r ≡ true)
@@ -241,12 +262,29 @@ module _ (m : ManagerState) (session : one_end.State) (now k : ℕ) (g : Going) 
         → All (λ given. IsPacket (packet_for x.to.guid now given)) (shown_in m.store.state g.choices)
     fit_target fits = subst (λ (o : Option Identity). IsSomeAnd o (λ to. All (λ given. IsPacket (packet_for to.guid now given)) (shown_in m.store.state g.choices))) x.here fits
 
-    -- they are taken back
-    pub taken_back : (before after : List ℕ) (n : ℕ) → n ≡ length before
-        → IsSomeAnd (slice_get m.store.state.peers k) (λ to. after ≡ before ++ flat_map (λ given. plain_spelling (packet_for to.guid now given)) (shown_in m.store.state g.choices))
-        → take n after ≡ before
-    taken_back before after n is put = ap (take n) (to_target before after put)
-        ∙ cut_back before (flat_map (λ given. plain_spelling (packet_for x.to.guid now given)) (shown_in m.store.state g.choices)) n is
+    -- Behind the record of the marks what was chosen can be put.
+
+    after : Written (Ok tt) → n.store.state ≡ recorded m.store.state (if length marks == 0 then None else Some (entry.Offered marks))
+    after call = state_is d e m n (offered_form marks) call ∙ ap (recorded m.store.state) change
+
+    pub peers_then : Written (Ok tt) → n.store.state.peers ≡ m.store.state.peers
+    peers_then call = ap (λ (t : State). t.peers) (after call) ∙ peers_stay m.store.state marks
+
+    pub shown_then : Written (Ok tt) → shown_in n.store.state g.choices ≡ shown_in m.store.state g.choices
+    shown_then call = ap (λ (t : State). shown_in t g.choices) (after call) ∙ shown_stays m.store.state marks g.choices
+
+    pub there_then : Written (Ok tt) → All (IsThere n.store.state) g.choices
+    there_then call = subst (λ (t : State). All (IsThere t) g.choices) (sym (after call)) (there_stays m.store.state marks g.choices planned.there)
+
+    pub room_then : (before room : ℕ) → Written (Ok tt) → before + g.bytes ≤ room → before + bytes_in n.store.state g.choices ≤ room
+    room_then before room call enough = subst (λ (size : ℕ). before + size ≤ room)
+        (planned.bytes ∙ sym (ap (λ (given : List (Candidate × SessionHead)). sum_by (λ given. candidate_size given.0) given) (shown_then call))) enough
+
+    pub of_before : (P : Guid → List (Candidate × SessionHead) → Type 0) → Written (Ok tt)
+        → IsSomeAnd (slice_get n.store.state.peers k) (λ to. P to.guid (shown_in n.store.state g.choices))
+        → IsSomeAnd (slice_get m.store.state.peers k) (λ to. P to.guid (shown_in m.store.state g.choices))
+    of_before P call put = subst (λ (given : List (Candidate × SessionHead)). IsSomeAnd (slice_get m.store.state.peers k) (λ to. P to.guid given)) (shown_then call)
+        (subst (λ (peers : List Identity). IsSomeAnd (slice_get peers k) (λ to. P to.guid (shown_in n.store.state g.choices))) (peers_then call) put)
 
     pub sent_pumped : (kept : Type 0) (N : ManagerState) (before after : List ℕ) (count : ℕ) → Written (Ok tt) → model_laws.CallsLeaveStore
         → N ≡ with_sent n k g cursors owes → count ≡ length g.choices

@@ -1,7 +1,7 @@
 //! The call `pump`: which packets go, and what is known once they went.
 //!
-//! Their bytes are made before the disk is called, since that takes memory. Where a mark rises it is recorded, and only then do the packets go: where it was
-//! not, they are taken back. What is noted behind the record takes no memory.
+//! Room for their bytes is made before the disk is called, since that takes memory. Where a mark rises it is recorded, and only then are the packets spelled.
+//! That, and what is noted behind it, takes no memory.
 ghost use Rattle.std.specs.Prelude.{[], ◌∷◌, ◌++◌, ◌<◌, ◌≡◌, ◌≤◌, ◌==◌, All, Err, IfSome, None, OnErr, OnOk, Some, flat_map, length, nat_lt, not};
 ghost use Rattle.mqb_choosing.specs.Going.{any_waits};
 ghost use Rattle.mqb_devices.specs.Disk.{Counted};
@@ -132,19 +132,16 @@ impl Manager {
         applied_is_valid();
         sent_are_next();
         self.is_valid();
-        let start = out.len();
         let count = sending.choices.as_slice().len() as u32;
-        match self.put_chosen(&sending, now, out) {
+        match self.prepare_chosen(&sending, out) {
             Err(_) => Err(PumpFault::Memory),
             Ok(marks) => match self.write_marks(disk, &marks) {
                 Ok(()) => {
+                    self.put_chosen(&sending, now, out);
                     self.note_chosen(sending);
                     Ok(count)
                 }
-                Err(fault) => {
-                    out.truncate(start);
-                    Err(pump_fault(fault))
-                }
+                Err(fault) => Err(pump_fault(fault)),
             },
         }
     }

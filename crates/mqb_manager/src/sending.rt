@@ -1,6 +1,7 @@
-//! What goes to a peer: it is planned, its bytes are made, its marks are written, and then it is noted.
-ghost use Rattle.std.specs.Prelude.{◌++◌, ◌<◌, ◌≡◌, ◌≤◌, ◌==◌, All, Err, IfOk, IfSome, IsSomeAnd, None, OnErr, OnOk, Some, flat_map, fold, length, map, not, slice_get};
-ghost use Rattle.mqb_choosing.specs.Choices.{IsThere, origin_of, shown_in};
+//! What goes to a peer: it is planned, room is made for its bytes, its marks are written, its bytes are made, and then it is noted.
+ghost use Rattle.std.specs.Prelude.{◌+◌, ◌++◌, ◌<◌, ◌≡◌, ◌≤◌, ◌==◌, All, Err, IfOk, IfSome, IsSomeAnd, None, OnOk, Some, flat_map, fold, length, map, not, slice_get};
+ghost use Rattle.std.specs.Vec.{vec_capacity};
+ghost use Rattle.mqb_choosing.specs.Choices.{IsThere, bytes_in, origin_of, shown_in};
 ghost use Rattle.mqb_choosing.specs.Going.{any_waits};
 ghost use Rattle.mqb_devices.specs.Disk.{Counted};
 ghost use Rattle.mqb_store.specs.Noting as noting;
@@ -24,7 +25,7 @@ use mqb_devices::Disk;
 use mqb_entries::Mark;
 use mqb_model::PumpFault;
 use mqb_session::Session;
-use mqb_steps::{Sending, offered_entry, plan_sending, put_sending};
+use mqb_steps::{Sending, offered_entry, plan_sending, prepare_sending, put_sending};
 use mqb_store::{ExpressWork, Store, WriteFault};
 
 pub(crate) fn pump_fault(fault: WriteFault) -> PumpFault
@@ -93,29 +94,40 @@ impl Manager {
         )
     }
 
-    /// Adds the bytes of packets, and answers the marks that rise.
-    pub(crate) fn put_chosen(
+    /// The marks that rise, once there is room for the packets' bytes.
+    pub(crate) fn prepare_chosen(
         &self,
         sending: &Sending,
-        now: u32,
         out: &mut Vec<u8>,
     ) -> Result<Vec<Mark>, Memory>
-        requires peer { sending.now.peer < length self.now.store.state.peers }
-        requires there { All (IsThere self.now.store.state) sending.now.choices.choices }
+        requires { All (IsThere self.now.store.state) sending.now.choices.choices }
         ensures marks { IfOk result (λ marks. marks.items ≡ marks_for self.now.store.state
             (map (λ given. given.0) (shown_in self.now.store.state sending.now.choices.choices))) }
-        ensures put { OnOk result (IsSomeAnd (slice_get self.now.store.state.peers sending.now.peer)
-            (λ to. out.new.items ≡ out.old.items ++
-            flat_map (λ given. plain_spelling (packet_for to.guid now given))
-            (shown_in self.now.store.state sending.now.choices.choices))) }
-        ensures fits { OnOk result (IsSomeAnd (slice_get self.now.store.state.peers sending.now.peer)
-            (λ to. All (λ given. IsPacket (packet_for to.guid now given))
-            (shown_in self.now.store.state sending.now.choices.choices))) }
-        ensures stays { OnErr result (out.new.items ≡ out.old.items) }
+        ensures room { OnOk result
+            (length out.new.items + sending.now.choices.bytes ≤ vec_capacity out.new) }
+        ensures stays { out.new.items ≡ out.old.items }
     {
         let alloc = *self.cursors.allocator();
         let contents = self.store.state().contents();
-        put_sending(alloc, contents, sending, now, out)
+        prepare_sending(alloc, contents, sending, out)
+    }
+
+    /// Adds the packets' bytes, for which there is room.
+    pub(crate) fn put_chosen(&self, sending: &Sending, now: u32, out: &mut Vec<u8>)
+        requires peer { sending.now.peer < length self.now.store.state.peers }
+        requires there { All (IsThere self.now.store.state) sending.now.choices.choices }
+        requires room { length out.old.items
+            + bytes_in self.now.store.state sending.now.choices.choices ≤ vec_capacity out.old }
+        ensures put { IsSomeAnd (slice_get self.now.store.state.peers sending.now.peer)
+            (λ to. out.new.items ≡ out.old.items ++
+            flat_map (λ given. plain_spelling (packet_for to.guid now given))
+            (shown_in self.now.store.state sending.now.choices.choices)) }
+        ensures fits { IsSomeAnd (slice_get self.now.store.state.peers sending.now.peer)
+            (λ to. All (λ given. IsPacket (packet_for to.guid now given))
+            (shown_in self.now.store.state sending.now.choices.choices)) }
+    {
+        let contents = self.store.state().contents();
+        put_sending(contents, sending, now, out);
     }
 
     /// Writes the marks that rise, where one does.

@@ -4,7 +4,7 @@ use Rattle.mqb_entries.specs.declared.entry.Entry.{Entry}
 use Rattle.mqb_entries.specs.declared.entry.Entry.TheVariants as form
 use Rattle.mqb_entries.specs.declared.members.Mark.{Mark}
 use Rattle.mqb_session.specs.State as one_end
-use Rattle.mqb_choosing.specs.Choices.{IsThere, shown_in}
+use Rattle.mqb_choosing.specs.Choices.{IsThere, bytes_in, shown_in}
 use Rattle.mqb_choosing.specs.Going.{Going, chosen_to, known}
 use Rattle.mqb_model.specs.calls.pump.Choosing.{session_behind, with_heads}
 use Rattle.mqb_model.specs.calls.pump.Pump.{settled}
@@ -20,5 +20,6 @@ pub record IsPlanned (s : State) (session : one_end.State) (numbers : List ℕ) 
   pub there : All (IsThere s) g.choices
   pub packets : shown_in s g.choices ≡ with_heads session (chosen_to s session numbers marks now k)
   pub count : length g.choices ≡ length (chosen_to s session numbers marks now k)
+  pub bytes : g.bytes ≡ bytes_in s g.choices
   pub behind : g.session ≡ session_behind session (chosen_to s session numbers marks now k)
   pub settled : known session cursors owes ≡ settled (known session numbers marks) (chosen_to s session numbers marks now k)

@@ -11,4 +11,6 @@ mod values;
 
 pub use drafts::ops_fit;
 pub use rows::{make_room, mark, rewind};
-pub use sending::{Sending, offered_entry, plan_sending, put_sending, set_up_packet};
+pub use sending::{
+    Sending, offered_entry, plan_sending, prepare_sending, put_sending, set_up_packet,
+};

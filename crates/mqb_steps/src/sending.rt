@@ -1,6 +1,7 @@
 //! What goes to a peer: it is planned, and its bytes are made.
-ghost use Rattle.std.specs.Prelude.{[], ◌&&◌, ◌++◌, ◌<◌, ◌≡◌, ◌≤◌, ◌==◌, All, IfOk, IsSomeAnd, OnErr, OnOk, false, flat_map, length, map, not, slice_get};
-ghost use Rattle.mqb_choosing.specs.Choices.{IsThere, shown_in};
+ghost use Rattle.std.specs.Prelude.{[], ◌&&◌, ◌+◌, ◌++◌, ◌<◌, ◌≡◌, ◌≤◌, ◌==◌, All, IfOk, IsSomeAnd, OnOk, false, flat_map, length, map, not, slice_get};
+ghost use Rattle.std.specs.Vec.{vec_capacity};
+ghost use Rattle.mqb_choosing.specs.Choices.{IsThere, bytes_in, shown_in};
 ghost use Rattle.mqb_choosing.specs.Going.{any_waits, candidates_to, known};
 ghost use Rattle.mqb_heads.specs.declared.base.TheConstants.{MAX_PACKET};
 ghost use Rattle.mqb_model.specs.Lists.{grown};
@@ -137,29 +138,39 @@ fn guid_at(contents: &Contents, peer: u32) -> Guid
     }
 }
 
-/// Adds the bytes of the packets that go, and answers the marks that rise. Where memory is short, `out` is as it was.
-pub fn put_sending(
+/// The marks that rise where these packets go, once `out` has room for their bytes.
+pub fn prepare_sending(
     alloc: Global,
     contents: &Contents,
     sending: &Sending,
-    now: u32,
     out: &mut Vec<u8>,
 ) -> Result<Vec<Mark>, Memory>
-    requires peer { sending.now.peer < length contents.now.lists.peers }
-    requires there { All (IsThere contents.now.lists) sending.now.choices.choices }
+    requires { All (IsThere contents.now.lists) sending.now.choices.choices }
     ensures marks { IfOk result (λ marks. marks.items ≡ marks_for contents.now.lists
         (map (λ given. given.0) (shown_in contents.now.lists sending.now.choices.choices))) }
-    ensures put { OnOk result (IsSomeAnd (slice_get contents.now.lists.peers sending.now.peer)
+    ensures room { OnOk result
+        (length out.new.items + sending.now.choices.bytes ≤ vec_capacity out.new) }
+    ensures stays { out.new.items ≡ out.old.items }
+{
+    let marks = marks_for(alloc, contents, &sending.choices)?;
+    out.reserve(sending.choices.bytes())?;
+    Ok(marks)
+}
+
+/// Adds the bytes of the packets that go, where there is room for them. It takes no memory.
+pub fn put_sending(contents: &Contents, sending: &Sending, now: u32, out: &mut Vec<u8>)
+    requires peer { sending.now.peer < length contents.now.lists.peers }
+    requires there { All (IsThere contents.now.lists) sending.now.choices.choices }
+    requires room { length out.old.items
+        + bytes_in contents.now.lists sending.now.choices.choices ≤ vec_capacity out.old }
+    ensures put { IsSomeAnd (slice_get contents.now.lists.peers sending.now.peer)
         (λ to. out.new.items ≡ out.old.items ++
         flat_map (λ given. plain_spelling (packet_for to.guid now given))
-        (shown_in contents.now.lists sending.now.choices.choices))) }
-    ensures fits { OnOk result (IsSomeAnd (slice_get contents.now.lists.peers sending.now.peer)
+        (shown_in contents.now.lists sending.now.choices.choices)) }
+    ensures fits { IsSomeAnd (slice_get contents.now.lists.peers sending.now.peer)
         (λ to. All (λ given. IsPacket (packet_for to.guid now given))
-        (shown_in contents.now.lists sending.now.choices.choices))) }
-    ensures stays { OnErr result (out.new.items ≡ out.old.items) }
+        (shown_in contents.now.lists sending.now.choices.choices)) }
 {
     let to = guid_at(contents, sending.peer);
-    let marks = marks_for(alloc, contents, &sending.choices)?;
-    put_choices(contents, &sending.choices, to, now, out)?;
-    Ok(marks)
+    put_choices(contents, &sending.choices, to, now, out);
 }

@@ -1,14 +1,16 @@
-use Rattle.std.proofs.Common.{◌≡◌, ◌∙◌, List, ap, map, subst}
+use Rattle.std.proofs.Common.{◌≡◌, ◌∙◌, List, ap, map, subst, sym}
 use Rattle.std.proofs.lemmas.List.Elements.{All-from_recursion}
+use Rattle.std.specs.Prelude.{sum_by}
 use Rattle.mqb_base.specs.declared.heads.SessionHead.{SessionHead}
 use Rattle.mqb_session.specs.State as one_end
 use Rattle.mqb_model.specs.calls.pump.Candidates.{Candidate}
-use Rattle.mqb_model.specs.calls.pump.Choosing.{chosen, with_heads}
+use Rattle.mqb_model.specs.calls.pump.Choosing.{candidate_size, chosen, with_heads}
 use Rattle.mqb_model.specs.state.State.{State}
 use Rattle.mqb_choosing.specs.Choices.{IsSendable, IsThere, shown}
 use Rattle.mqb_choosing.specs.Going.{Going, Offers, candidates_to, known, nothing_chosen}
 use Rattle.mqb_choosing.proofs.Ended.{Ended, all_shown, as_many, each_shown, ended, headed, waiting_sendable}
 use Rattle.mqb_choosing.proofs.Sendable.{heads_sendable, valid_sendable}
+use Rattle.mqb_choosing.proofs.Settled.{heads_counted}
 use Rattle.mqb_choosing.proofs.choosing.choose.Goals as goal
 
 pub offer_all-requires-clause-sendable : goal.offer_all-requires-clause-sendable
@@ -63,6 +65,16 @@ returns-clause-bytes c =
     let s = c.args.contents.now.lists in
     let cs : List Candidate = candidates_to s (known c.args.session c.args.cursors.now c.args.owes.now) c.args.now c.args.peer in
     (the_end s c.args.session c.new-choices.result c.offer_all.new.self cs c.new-choices.ensures c.in_ok-offer_all.ensures).bytes
+
+pub returns-clause-room : goal.returns-clause-room
+returns-clause-room c =
+    let s = c.args.contents.now.lists in
+    let cs : List Candidate = candidates_to s (known c.args.session c.args.cursors.now c.args.owes.now) c.args.now c.args.peer in
+    let end = the_end s c.args.session c.new-choices.result c.offer_all.new.self cs c.new-choices.ensures c.in_ok-offer_all.ensures in
+    end.bytes
+    ∙ sym (heads_counted c.args.session (chosen c.args.session 0 0 cs))
+    ∙ sym (ap (λ (given : List (Candidate × SessionHead)). sum_by (λ given. candidate_size given.0) given)
+    (all_shown (shown s) c.offer_all.new.self.choices (with_heads c.args.session (chosen c.args.session 0 0 cs)) end.packets))
 
 pub returns-clause-any : goal.returns-clause-any
 returns-clause-any c =

@@ -1,19 +1,27 @@
-use Rattle.std.proofs.Common.{◌≡◌, ◌++◌, ◌<◌, ◌∙◌, ◌≤◌, ℕ, List, length, take, get_or, ap, subst, sym, arith}
+use Rattle.std.proofs.Common.{◌≡◌, ◌++◌, ◌<◌, ◌∙◌, ◌≤◌, ℕ, List, length, get_or, ap, subst, sym, arith}
 use Rattle.std.proofs.lemmas.List.{append-nil, drop_all}
 use Rattle.std.proofs.lemmas.List.Elements.{All-nil}
 use Rattle.std.specs.List.{All, flat_map}
+use Rattle.std.specs.Vec.{vec_capacity}
 use Rattle.mqb_base.specs.declared.heads.SessionHead.{SessionHead}
 use Rattle.mqb_model.specs.calls.pump.Candidates.{Candidate}
 use Rattle.mqb_packet.specs.Plain.{plain_spelling}
 use Rattle.mqb_packet.specs.Values.{IsPacket}
 use Rattle.mqb_model.specs.calls.pump.Pump.{packet_for}
 use Rattle.mqb_choosing.specs.declared.choice.Choice.{Choice}
-use Rattle.mqb_choosing.specs.Choices.{shown_in}
-use Rattle.mqb_choosing.proofs.Walks.{all_more, front_read, longer, text_more}
+use Rattle.mqb_choosing.specs.Choices.{IsThere, shown_in}
+use Rattle.mqb_choosing.proofs.Settled.{one_counted}
+use Rattle.mqb_choosing.proofs.Walks.{all_more, front_read, one_has_room, rest_has_room, text_more}
 use Rattle.mqb_choosing.proofs.spelling.put_choices.Goals as goal
 
-pub returns-in-Err-clause-stays : goal.returns-in-Err-clause-stays
-returns-in-Err-clause-stays c = c.truncate.ensures.items ∙ ap (take c.len-start.result) c.in-Err.ensures.stays ∙ c.loop-choice.invariant.front
+pub put_choice-requires-clause-room : goal.put_choice-requires-clause-room
+put_choice-requires-clause-room c =
+    let choices : List Choice = c.args.choices.now.choices in
+    let x : Choice = c.choice-item.result in
+    let within : c.loop-choice.choice-index < length choices = omega (arith, c.loop-choice-test.true, ap length c.as_slice-choice-items.ensures) in
+    let is : x ≡ get_or choices c.loop-choice.choice-index x = c.choice-item.is ∙ ap (λ (cs : List Choice). get_or cs c.loop-choice.choice-index x) c.as_slice-choice-items.ensures in
+    one_has_room c.args.contents.now.lists choices c.loop-choice.choice-index x (length c.loop-choice.out.items) (vec_capacity c.loop-choice.out)
+    (front_read choices c.loop-choice.choice-index x within is) (subst (IsThere c.args.contents.now.lists) (sym is) (c.requires.there c.loop-choice.choice-index x within)) c.loop-choice.invariant.room
 
 pub loop-choice-preserved : goal.loop-choice-preserved
 loop-choice-preserved c =
@@ -23,14 +31,15 @@ loop-choice-preserved c =
     let x : Choice = c.choice-item.result in
     let within : c.loop-choice.choice-index < length choices = omega (arith, c.loop-choice-test.true, ap length c.as_slice-choice-items.ensures) in
     let is : x ≡ get_or choices c.loop-choice.choice-index x = c.choice-item.is ∙ ap (λ (cs : List Choice). get_or cs c.loop-choice.choice-index x) c.as_slice-choice-items.ensures in
-    let more = longer s spell x c.len-start.result c.loop-choice.out.items c.put_choice.new.out.items c.loop-choice.invariant.start c.in_default.ensures.put in
+    let front = front_read choices c.loop-choice.choice-index x within is in
+    let enough = rest_has_room s spell choices c.loop-choice.choice-index x c.loop-choice.out.items c.put_choice.new.out.items (vec_capacity c.loop-choice.out)
+    (one_counted c.plain_size.ensures c.args.to c.args.now) front c.put_choice.ensures.put c.loop-choice.invariant.room in
     record {
-      start = more.0;
-      front = more.1 ∙ c.loop-choice.invariant.front;
+      room = omega (arith, enough, c.put_choice.ensures.grown);
       text = text_more s spell choices c.loop-choice.choice-index x c.loop-choice.out.items c.put_choice.new.out.items
-          (c.args.out.now.items ++ flat_map spell (shown_in s choices)) (front_read choices c.loop-choice.choice-index x within is) c.in_default.ensures.put c.loop-choice.invariant.text;
+          (c.args.out.now.items ++ flat_map spell (shown_in s choices)) front c.put_choice.ensures.put c.loop-choice.invariant.text;
       fits = λ behind. c.loop-choice.invariant.fits (all_more s (λ given. IsPacket (packet_for c.args.to c.args.now given)) choices c.loop-choice.choice-index x
-          (front_read choices c.loop-choice.choice-index x within is) c.in_default.ensures.fits behind);
+          front c.put_choice.ensures.fits behind);
     }
 
 pub returns-clause-put : goal.returns-clause-put

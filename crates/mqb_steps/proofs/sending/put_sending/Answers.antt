@@ -17,10 +17,10 @@ pub returns-clause-put : goal.returns-clause-put
 returns-clause-put c =
     put_to (slice_get c.args.contents.now.lists.peers c.args.sending.now.peer) c.guid_at-to.result
     (λ (to : Guid). c.put_choices.new.out.items ≡ c.args.out.now.items ++ flat_map (λ given. plain_spelling (packet_for to c.args.now given))
-    (shown_in c.args.contents.now.lists c.args.sending.now.choices.choices)) c.guid_at-to.ensures c.in_ok-put_choices.ensures.put
+    (shown_in c.args.contents.now.lists c.args.sending.now.choices.choices)) c.guid_at-to.ensures c.put_choices.ensures.put
 
 pub returns-clause-fits : goal.returns-clause-fits
 returns-clause-fits c =
     put_to (slice_get c.args.contents.now.lists.peers c.args.sending.now.peer) c.guid_at-to.result
     (λ (to : Guid). All (λ given. IsPacket (packet_for to c.args.now given)) (shown_in c.args.contents.now.lists c.args.sending.now.choices.choices))
-    c.guid_at-to.ensures c.in_ok-put_choices.ensures.fits
+    c.guid_at-to.ensures c.put_choices.ensures.fits
