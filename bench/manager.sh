@@ -7,22 +7,25 @@
 #   processor's own are emptied before each call, so that what is called is as far away with 10 messages as with 50,000.
 # FOLDER is where the files stand, which decides what a sync costs.
 #
-# Seen in seven runs of the proved program that kept their processor (chrt -f 10), on a machine with five times as many busy programs as processors:
-#   memory, 1 op       6 to 8 hundredths of the raw loop (a commit took 3.6 to 4.4 microseconds, the raw loop 0.27 to 0.32)
-#   memory, 64 ops     5 to 6 (330 to 390 microseconds, and 18 to 22)
-#   file, 1 op         90 to 104 (115 to 146 microseconds, and 108 to 147)
-#   file, 64 ops       34 to 45 (520 to 690 microseconds, and 188 to 299)
-# So the raw loop is reached in a file by transactions of one message. In one of 64 a manager computes 4 to 5 microseconds for a message (it tries the op,
-# spells the record, reads it again, makes it, and frames it), which is more than the four calls of a file whose syncs are that quick. Where a sync took 2
-# milliseconds it was 91. Up to a third of it are page faults, since malloc gives back the memory of a record and takes it anew: with
-# GLIBC_TUNABLES=glibc.malloc.trim_threshold=4000000000:glibc.malloc.mmap_threshold=4000000000 in memory 210 to 280 microseconds.
+# Seen in runs of the proved program that kept their processor (chrt -f 10 taskset -c 3), on a machine with three times as many busy programs as processors
+# and a host that gave it now half of its processors and now all (so in ranges):
+#   memory, 1 op       5 to 10 hundredths of the raw loop (a commit took 4.0 to 7.9 microseconds, the raw loop 0.40 to 0.49)
+#   memory, 64 ops     5 to 9 (326 to 568 microseconds, and 29 to 32)
+#   file, 1 op         90 to 98 (140 to 192 microseconds, and 127 to 174)
+#   file, 64 ops       36 to 49 (500 to 770 microseconds, and 244 to 299)
+# So the raw loop is reached in a file by transactions of one message. In one of 64 a manager computes 5 to 9 microseconds for a message (it tries the op,
+# spells the record, reads it again, makes it, and frames it), more than a quarter of them moves of messages from function to function, which is more than
+# the four calls of a file whose syncs are that quick. Where each sync waits besides (a library that is loaded before the program's makes it), it was 74
+# hundredths with half a millisecond, 86 with one, 88 with two. Before a transaction's packets were read once, and its last sequence was looked for from
+# the back, 64 ops in memory were 5 to 6.
 #
-# In three of these runs, in hundredths of a packet with 10 messages kept, with 1,000 and with 50,000 messages:
-#   pumped                   89 to 122, 99 to 113 (4.8 to 5.7 microseconds)
-#   heard                    91 to 108, 93 to 111 (9.9 to 12)
-#   acknowledgement heard    74 to 106, 85 to 95 (43 to 58; it releases ten messages)
-# So packets do not grow with what is kept. Where the caches were left as they are, a packet with 10 messages was pumped in 0.4 microseconds, heard in 3.5,
-# and acknowledged in 4.8, and with 50,000, which stand in no near cache, it cost 676 to 885, 172 to 242 and 271 to 322 hundredths of that.
+# In five of these runs, in hundredths of a packet with 10 messages kept, with 1,000 and with 50,000 messages:
+#   pumped                   81 to 108, 91 to 126 (3.9 to 4.7 microseconds)
+#   heard                    73 to 107, 78 to 112 (8.7 to 12)
+#   acknowledgement heard    72 to 105, 74 to 109 (35 to 48; it releases ten messages)
+# So packets do not grow with what is kept. On another machine, where the caches were left as they are, a packet with 10 messages was pumped in 0.4
+# microseconds, heard in 3.5, and acknowledged in 4.8, and with 50,000, which stand in no near cache, it cost 676 to 885, 172 to 242 and 271 to 322 hundredths
+# of that.
 #
 # On a busy machine a program that may be interrupted says little: six such runs said 54 to 108 for one op in a file, 12 to 91 for 64.
 #
