@@ -8,8 +8,8 @@ store must list what it listed before, or what the whole run leaves. It prints, 
 the others how many had each number of printed bytes.
 
 Seen: of 20 allocations of a session 18 ended with status 10 and nothing printed, of 63 of an order 61 (26 behind nothing, 34 behind the set-up's 604 bytes, one behind
-all 820), of 130 of a commit 120, of 64 of a take 62, of 47 of a list 45, of 233 of a replay 218, of 27,160 of a replay of 200 orders 26,433 (fronts of more
-than 200 lengths, up to 24,980 bytes; twenty minutes by four processes on a busy machine). Each of the others grows a list of words, which std's `collect` gathers:
+all 820), of 121 of a commit 111, of 60 of a take 58, of 43 of a list 41, of 229 of a replay 214; and before a transaction's packets were read once, of 27,160 of a
+replay of 200 orders 26,433 (fronts of more than 200 lengths, up to 24,980 bytes; twenty minutes by four processes on a busy machine). Each of the others grows a list of words, which std's `collect` gathers:
 it asks for room by a hint and, where that is refused, once more for room for one, which takes as much here. The words of a command line are gathered by `main`, for
 the file, and by `run`, and so are those of an op of a commit; those of a line of a script once. `init` is not among the commands: where the name of its
 folder finds no memory, it ends with a disk fault, as `create` of a `FileDisk` does.
