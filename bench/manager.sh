@@ -14,16 +14,17 @@
 #   file, 1 op         89 to 98 (133 to 192 microseconds, and 124 to 174)
 #   file, 64 ops       36 to 49 (500 to 770 microseconds, and 213 to 329)
 # So the raw loop is reached in a file by transactions of one message. In one of 64 a manager computes 5 to 9 microseconds for a message (it tries the op,
-# spells the record, reads it again, makes it, and frames it), more than a quarter of them moves of messages from function to function, which is more than
-# the four calls of a file whose syncs are that quick. Where each sync waits besides (a library that is loaded before the program's makes it), it was 74
-# hundredths with half a millisecond, 86 with one, 88 to 90 with two, 95 with four. Before a transaction's packets were read once, and its last sequence was looked for from
-# the back, 64 ops in memory were 5 to 6.
+# spells the record, reads it again, makes it, and frames it), which is more than the four calls of a file whose syncs are that quick. Of the samples of one
+# profile some 27 % were in memmove, which copies bodies and records as well as moving values; its callers were not told apart. Where each sync waits besides
+# (a library that is loaded before the program's makes it; one or two runs each), it was 74 hundredths with half a millisecond, 86 and 87 with one, 88 and 90
+# with two, 95 and 96 with four, 97 with eight. Before a transaction's packets were read once, and its last sequence was looked for from the back, 64 ops in
+# memory were 5 to 6 on another machine; the two programs were not run side by side.
 #
 # In nine of these runs, in hundredths of a packet with 10 messages kept, with 1,000 and with 50,000 messages:
 #   pumped                   81 to 108, 91 to 126 (3.8 to 4.7 microseconds)
 #   heard                    73 to 107, 78 to 112 (8.7 to 12)
 #   acknowledgement heard    72 to 105, 74 to 109 (35 to 48; it releases ten messages)
-# (in one, while which the machine slowed down, 104, 104 and 93, and 142, 152 and 128).
+# (one of the nine was free to change its processor; in a tenth it was 104, 104 and 93, and 142, 152 and 128, of which the cause was not looked for).
 # So packets do not grow with what is kept. On another machine, where the caches were left as they are, a packet with 10 messages was pumped in 0.4
 # microseconds, heard in 3.5, and acknowledged in 4.8, and with 50,000, which stand in no near cache, it cost 676 to 885, 172 to 242 and 271 to 322 hundredths
 # of that.
