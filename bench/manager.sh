@@ -9,7 +9,7 @@
 #
 # Seen in runs of the proved program that kept their processor (chrt -f 10 taskset -c 3), on a machine with three times as many busy programs as processors
 # and a host that gave it now half of its processors and now all (so in ranges):
-#   memory, 1 op       5 to 10 hundredths of the raw loop (a commit took 4.0 to 7.9 microseconds, the raw loop 0.40 to 0.49)
+#   memory, 1 op       5 to 10 hundredths of the raw loop (a commit took 4.0 to 8.9 microseconds, the raw loop 0.34 to 0.49)
 #   memory, 64 ops     5 to 9 (326 to 568 microseconds, and 29 to 32)
 #   file, 1 op         89 to 98 (133 to 192 microseconds, and 124 to 174)
 #   file, 64 ops       36 to 49 (500 to 770 microseconds, and 213 to 329)
@@ -20,11 +20,11 @@
 # with two, 95 and 96 with four, 97 with eight. Before a transaction's packets were read once, and its last sequence was looked for from the back, 64 ops in
 # memory were 5 to 6 on another machine; the two programs were not run side by side.
 #
-# In nine of these runs, in hundredths of a packet with 10 messages kept, with 1,000 and with 50,000 messages:
+# In eight runs, in hundredths of a packet with 10 messages kept, with 1,000 and with 50,000 messages:
 #   pumped                   81 to 108, 91 to 126 (3.8 to 4.7 microseconds)
 #   heard                    73 to 107, 78 to 112 (8.7 to 12)
 #   acknowledgement heard    72 to 105, 74 to 109 (35 to 48; it releases ten messages)
-# (one of the nine was free to change its processor; in a tenth it was 104, 104 and 93, and 142, 152 and 128, of which the cause was not looked for).
+# (one of the eight was free to change its processor; in a ninth it was 104, 104 and 93, and 142, 152 and 128, of which the cause was not looked for).
 # So packets do not grow with what is kept. On another machine, where the caches were left as they are, a packet with 10 messages was pumped in 0.4
 # microseconds, heard in 3.5, and acknowledged in 4.8, and with 50,000, which stand in no near cache, it cost 676 to 885, 172 to 242 and 271 to 322 hundredths
 # of that.
