@@ -8,7 +8,7 @@ work=$(mktemp -d)
 folder=${FOLDER:-$work}
 trap 'rm -rf "$work" "$folder/raw.store" "$folder/journal.store"' EXIT
 git -C "$top" archive HEAD crates crates.txt HANDLES | tar -x -C "$work"
-for name in mqb_base mqb_outside mqb_fields mqb_devices mqb_disk mqb_journal; do # what rt has kept of them is not proved again
+for name in mqb_base mqb_outside mqb_fields mqb_disk mqb_journal; do # what rt has kept of them is not proved again
   [ ! -d "$top/crates/$name/out" ] || cp -a "$top/crates/$name/out" "$work/crates/$name/"
 done
 crate=$work/crates/mqb_bench
@@ -19,6 +19,6 @@ cp "$top/bench/journal/append_all.txt" "$crate/proofs/fill/append_all/Invariants
 cp "$top/bench/journal/appended.txt" "$crate/proofs/fill/append_all/Answers.antt"
 cp "$top/bench/journal/scan_all.txt" "$crate/proofs/fill/scan_all/Invariants.antt"
 touch "$crate/proofs/Lib.antt"
-echo 'mqb_bench: mqb_base mqb_devices mqb_disk mqb_journal thiserror' >> "$work/crates.txt"
+echo 'mqb_bench: mqb_base mqb_outside mqb_disk mqb_journal thiserror' >> "$work/crates.txt"
 cd "$crate"
 rt run

@@ -2,8 +2,8 @@
 use Rattle.std.proofs.Common.{◌≡◌, ◌+◌, ℕ, List, Option, Some, None, length, inl, inr, refl, arith}
 use Rattle.std.specs.Prelude.{IfSome}
 use Rattle.mqb_connections.specs.Asked.{AsksForEach, AsksOnce, RoseBy}
-use Rattle.mqb_devices.specs.Disk.{Counted}
-use Rattle.mqb_devices.specs.Net.{Ended}
+use Rattle.mqb_outside.specs.Disk.{Counted}
+use Rattle.mqb_outside.specs.Net.{Ended}
 use Rattle.mqb_words.specs.declared.commands.Command.{Command}
 use Rattle.mqb_words.specs.declared.commands.Command.TheVariants as command
 use Rattle.mqb.specs.Runs.{Asks}

@@ -3,15 +3,15 @@ use Rattle.std.proofs.Common.{◌≡◌, ◌⊎◌, ◌∙◌, ◌<◌, [], ℕ,
 use Rattle.mqb_base.specs.declared.ids.Identity.{Identity}
 use Rattle.mqb_answers.specs.declared.told.CallEnd.{CallEnd}
 use Rattle.mqb_answers.specs.declared.told.CallEnd.TheVariants as call
-use Rattle.mqb_calls.specs.Calls.{Calls, CallsAt, status_of}
+use Rattle.mqb_commands.specs.Called.{Calls, CallsAt, status_of}
 use Rattle.mqb_commands.specs.Opened.{IsNotOpened}
 use Rattle.mqb_commands.specs.Said.{Inits, Lists, Makes}
 use Rattle.mqb_connections.specs.Probed.{CompletesProbe, ProbesStore}
 use Rattle.mqb_connections.specs.Pushed.{CompletesPush}
 use Rattle.mqb_connections.specs.Served as served
 use Rattle.mqb_connections.specs.Statuses.{IsFaultless, probe_status}
-use Rattle.mqb_devices.specs.Disk.{View}
-use Rattle.mqb_devices.specs.Net.{Ended}
+use Rattle.mqb_outside.specs.Disk.{View}
+use Rattle.mqb_outside.specs.Net.{Ended}
 use Rattle.mqb_outside.specs.Faults.{Rose}
 use Rattle.mqb_replay.specs.Completeness.{CompletesTrial, FitMedium, HoldsScript, IsDoneOr}
 use Rattle.mqb_replay.specs.Completeness as replay
@@ -21,12 +21,12 @@ use Rattle.mqb_replay.specs.Faults as playing
 use Rattle.mqb_replay.specs.declared.faults.ReplayFault.{ReplayFault}
 use Rattle.mqb_script.specs.Script.{script_of}
 use Rattle.mqb_script.specs.declared.events.Event.{Event}
-use Rattle.mqb_serve_laws.specs.Serving.{Answer}
+use Rattle.mqb_serving.specs.Serving.{Answer}
 use Rattle.mqb_serving.specs.declared.faults.ConnFault.TheVariants as fault
-use Rattle.mqb_show.specs.Shown.{Shows}
-use Rattle.mqb_status.specs.Outputs.{ReadFaultHasCause, Says, Tells, WriteFaultHasCause}
-use Rattle.mqb_status.specs.declared.status.Status.{Status}
-use Rattle.mqb_status.specs.declared.status.Status.TheVariants as status
+use Rattle.mqb_commands.specs.Shown.{Shows}
+use Rattle.mqb_commands.specs.Outputs.{ReadFaultHasCause, Says, Tells, WriteFaultHasCause}
+use Rattle.mqb_commands.specs.declared.status.Status.{Status}
+use Rattle.mqb_commands.specs.declared.status.Status.TheVariants as status
 use Rattle.mqb_transcript.specs.Generator.{generated}
 use Rattle.mqb_words.specs.declared.commands.Call as words
 use Rattle.mqb_words.specs.declared.commands.Command.{Command}

@@ -3,8 +3,8 @@ use Rattle.std.proofs.Common.{◌≡◌, Some, refl, sym, subst, ℕ}
 use Rattle.mqb_commands.specs.Causes.{DiskFaultHasCause}
 use Rattle.mqb_outside.specs.Faults.{Rose}
 use Rattle.mqb_replay.specs.Devices.{Devices}
-use Rattle.mqb_status.specs.declared.status.Status.{Status}
-use Rattle.mqb_status.specs.declared.status.Status.TheVariants as status
+use Rattle.mqb_commands.specs.declared.status.Status.{Status}
+use Rattle.mqb_commands.specs.declared.status.Status.TheVariants as status
 use Rattle.mqb_words.specs.declared.commands.Command.{Command}
 use Rattle.mqb.specs.Runs.{DiskCause, IsDiskFaultOf}
 

@@ -1,6 +1,6 @@
 -- A disk without bytes has none after a call that failed.
 use Rattle.std.proofs.Common.{[], ◌≡◌, ◌+◌, ◌≤◌, arith, inl, length, max, refl, ℕ}
-use Rattle.mqb_devices.specs.Images.{Follows, MayBeCut, Torn}
+use Rattle.mqb_outside.specs.Images.{Follows, MayBeCut, Torn}
 
 longest : (n at len : ℕ) → n ≤ max n (at + len)
 longest n at len = omega arith

@@ -3,16 +3,16 @@ use Rattle.std.proofs.Common.{inl, inr, ℕ, List, Option, sym, subst}
 use Rattle.mqb_base.specs.declared.ids.Identity.{Identity}
 use Rattle.mqb_answers.specs.declared.told.CallEnd.{CallEnd}
 use Rattle.mqb_answers.specs.declared.told.CallEnd.TheVariants as call
-use Rattle.mqb_calls.specs.Calls.{Calls, status_of}
+use Rattle.mqb_commands.specs.Called.{Calls, status_of}
 use Rattle.mqb_commands.specs.Causes.{DiskFaultHasCause}
 use Rattle.mqb_commands.specs.Opened.{IsNotOpened}
 use Rattle.mqb_commands.specs.Said.{Inits, Lists, Makes}
 use Rattle.mqb_connections.specs.Causes.{IsProbeEnd, NetFaultHasCause}
-use Rattle.mqb_devices.specs.Disk.{View}
-use Rattle.mqb_show.specs.Shown.{Shows}
-use Rattle.mqb_status.specs.Outputs.{IsFaultLine, IsPlain, ReadFaultHasCause, Tells}
-use Rattle.mqb_status.specs.declared.status.Status.{Status}
-use Rattle.mqb_status.specs.declared.status.Status.TheVariants as status
+use Rattle.mqb_outside.specs.Disk.{View}
+use Rattle.mqb_commands.specs.Shown.{Shows}
+use Rattle.mqb_commands.specs.Outputs.{IsFaultLine, IsPlain, ReadFaultHasCause, Tells}
+use Rattle.mqb_commands.specs.declared.status.Status.{Status}
+use Rattle.mqb_commands.specs.declared.status.Status.TheVariants as status
 use Rattle.mqb_words.specs.declared.commands.Command.{Command}
 use Rattle.mqb_words.specs.declared.commands.Call as words
 use Rattle.mqb.specs.Runs.{IsDiskFaultOf, IsQuiet, UsageHasCause}

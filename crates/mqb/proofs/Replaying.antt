@@ -9,8 +9,8 @@ use Rattle.mqb_replay.specs.Replays.{Ends, EndsSo, HasFailed, Replays, Tells}
 use Rattle.mqb_replay.specs.Trials.{EndsTrial, Tries, TriesLines}
 use Rattle.mqb_replay.specs.declared.faults.ReplayFault.{ReplayFault}
 use Rattle.mqb_replay.specs.declared.faults.ReplayFault.TheVariants as fault
-use Rattle.mqb_status.specs.Outputs.{ReadFaultHasCause, WriteFaultHasCause}
-use Rattle.mqb_status.specs.declared.status.Status.{Status}
+use Rattle.mqb_commands.specs.Outputs.{ReadFaultHasCause, WriteFaultHasCause}
+use Rattle.mqb_commands.specs.declared.status.Status.{Status}
 use Rattle.mqb_words.specs.declared.commands.Command.{Command}
 use Rattle.mqb_words.specs.declared.commands.Command.TheVariants as command
 use Rattle.mqb.specs.Runs.{DiskCause, Does, IsDiskFaultOf, Outside, UsageHasCause}

@@ -1,7 +1,7 @@
 -- What each command comes to where no device fails and its store is sound.
 use Rattle.std.specs.Prelude.{[], ◌≡◌, ◌⊎◌, List, None, Ok, Option, Some, ℕ}
-use Rattle.mqb_devices.specs.Disk.{View}
-use Rattle.mqb_devices.specs.Images.{Each}
+use Rattle.mqb_outside.specs.Disk.{View}
+use Rattle.mqb_outside.specs.Images.{Each}
 use Rattle.mqb_outside.specs.Faults.{Rose}
 use Rattle.mqb_replay.specs.Completeness.{FitMedium, HoldsScript}
 use Rattle.mqb_replay.specs.Devices.{Devices}
@@ -9,8 +9,8 @@ use Rattle.mqb_replay.specs.Replays.{AreEmpty}
 use Rattle.mqb_script.specs.Script.{script_of}
 use Rattle.mqb_script.specs.declared.events.Event.{Event}
 use Rattle.mqb_serving.specs.declared.faults.PeerFault.{PeerFault}
-use Rattle.mqb_status.specs.declared.status.Status.{Status}
-use Rattle.mqb_status.specs.declared.status.Status.TheVariants as status
+use Rattle.mqb_commands.specs.declared.status.Status.{Status}
+use Rattle.mqb_commands.specs.declared.status.Status.TheVariants as status
 use Rattle.mqb_store_laws.specs.Faults.{IsBadStore}
 use Rattle.mqb_transcript.specs.Generator.{generated}
 use Rattle.mqb_words.specs.declared.commands.Command.{Command}

@@ -1,3 +1,4 @@
 pub mod Completeness
 pub mod Disks
 pub mod Runs
+pub mod lemmas

@@ -1,24 +1,24 @@
 -- What the program does, by what the words of its command line ask for.
 use Rattle.std.specs.Prelude.{◌≡◌, ◌⊎◌, List, None, Option, Result, Some, codes, ℕ}
-use Rattle.mqb_calls.specs.Calls.{CallsAt}
+use Rattle.mqb_commands.specs.Called.{CallsAt}
 use Rattle.mqb_commands.specs.Helps.{help_text, version_text}
 use Rattle.mqb_commands.specs.Said.{Inits, Lists, Makes}
 use Rattle.mqb_connections.specs.Asked.{AsksForEach, AsksOnce}
 use Rattle.mqb_connections.specs.Probed.{ProbesStore}
 use Rattle.mqb_connections.specs.Pushed.{PushesStore}
 use Rattle.mqb_connections.specs.Served.{Nets, ServesFrom}
-use Rattle.mqb_devices.specs.Disk.{View}
-use Rattle.mqb_devices.specs.Net.{Ended}
+use Rattle.mqb_outside.specs.Disk.{View}
+use Rattle.mqb_outside.specs.Net.{Ended}
 use Rattle.mqb_outside.specs.Faults.{Rose}
 use Rattle.mqb_replay.specs.Devices.{Devices}
 use Rattle.mqb_replay.specs.Faults.{status_of}
 use Rattle.mqb_replay.specs.Replays.{HasFailed, Replays}
 use Rattle.mqb_replay.specs.Trials.{Tries}
 use Rattle.mqb_replay.specs.declared.faults.ReplayFault.{ReplayFault}
-use Rattle.mqb_show.specs.Shown.{Shows}
-use Rattle.mqb_status.specs.Outputs.{Says, Tells}
-use Rattle.mqb_status.specs.declared.status.Status.{Status}
-use Rattle.mqb_status.specs.declared.status.Status.TheVariants as status
+use Rattle.mqb_commands.specs.Shown.{Shows}
+use Rattle.mqb_commands.specs.Outputs.{Says, Tells}
+use Rattle.mqb_commands.specs.declared.status.Status.{Status}
+use Rattle.mqb_commands.specs.declared.status.Status.TheVariants as status
 use Rattle.mqb_words.specs.declared.commands.Command.{Command}
 use Rattle.mqb_words.specs.declared.commands.Command.TheVariants as command
 

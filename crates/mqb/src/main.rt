@@ -6,11 +6,10 @@ mod run;
 mod saying;
 
 use mqb_base::Memory;
-use mqb_devices::{Disk, Power};
+use mqb_commands::Status;
 use mqb_disk::{FileDisk, MemoryDisk};
 use mqb_net::{PORT, SystemClock, TcpNet};
-use mqb_outside::{MemoryMedium, StdSink, StdSource};
-use mqb_status::Status;
+use mqb_outside::{Disk, MemoryMedium, Power, StdSink, StdSource};
 use mqb_words::{Command, WordsFault, command_of};
 use no_disk::NoDisk;
 use run::run;

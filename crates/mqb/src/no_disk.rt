@@ -1,10 +1,10 @@
 ghost use Rattle.std.specs.Prelude.{◌≡◌};
-ghost use Rattle.mqb_devices.specs.Disk.{Counted};
+ghost use Rattle.mqb_outside.specs.Disk.{Counted};
 ghost use Rattle.mqb_outside.specs.Faults.{Rose};
 ghost use Rattle.mqb.specs.Disks.{no_disk_view};
 
 use mqb_base::Failed;
-use mqb_devices::{Disk, Mode, Pick, Power};
+use mqb_outside::{Disk, Mode, Pick, Power};
 
 /// A disk that is not there: each call fails.
 #[derive(Debug, Drop)]
@@ -42,7 +42,8 @@ impl NoDisk {
 }
 
 impl Disk for NoDisk {
-    ghost use Rattle.mqb.specs.Disks.{no_disk_view, no_disk_lawful};
+    ghost use Rattle.mqb.specs.Disks.{no_disk_view};
+    ghost use Rattle.mqb.specs.lemmas.Disks.{no_disk_lawful};
 
     ghost view = { no_disk_view };
 

@@ -4,18 +4,15 @@ ghost use Rattle.mqb.specs.Completeness.{Completes};
 ghost use Rattle.mqb.specs.Runs.{Asks, DiskCause, Does, IsDiskFaultOf, IsUnread, NetCause, Runs, UsageHasCause};
 ghost use Rattle.mqb_connections.specs.Causes.{NetFaultHasCause};
 ghost use Rattle.mqb_replay.specs.Devices.{devices};
-ghost use Rattle.mqb_status.specs.Outputs.{ReadFaultHasCause, WriteFaultHasCause};
+ghost use Rattle.mqb_commands.specs.Outputs.{ReadFaultHasCause, WriteFaultHasCause};
 ghost use Rattle.mqb_words.specs.Formed.{IsFormed};
 ghost use Rattle.mqb_words.specs.Words.{command_of};
 
 use crate::saying::{say_called, say_formatted, say_listed, say_made};
-use mqb_commands::{help, version};
+use mqb_commands::{Status, help, show, tell, version};
 use mqb_connections::{probe, push, serve};
-use mqb_devices::{Clock, Disk, Net, Power};
-use mqb_outside::{Medium, Sink, Source};
+use mqb_outside::{Clock, Disk, Medium, Net, Power, Sink, Source};
 use mqb_replay::{replay, status_of, trial};
-use mqb_show::show;
-use mqb_status::{Status, tell};
 use mqb_words::{Command, WordsFault, command_of};
 use std::alloc::Global;
 

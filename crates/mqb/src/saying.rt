@@ -1,16 +1,15 @@
 //! The commands that make one answer: it is made whole, and written.
 ghost use Rattle.std.specs.Prelude.{◌≢◌, ◌≤◌};
-ghost use Rattle.mqb_calls.specs.Calls.{CallsAt};
+ghost use Rattle.mqb_commands.specs.Called.{CallsAt};
 ghost use Rattle.mqb_commands.specs.Causes.{DiskFaultHasCause};
 ghost use Rattle.mqb_commands.specs.Said.{Inits, Lists, Makes};
-ghost use Rattle.mqb_devices.specs.Disk.{Counted};
-ghost use Rattle.mqb_status.specs.Outputs.{Says, WriteFaultHasCause};
+ghost use Rattle.mqb_outside.specs.Disk.{Counted};
+ghost use Rattle.mqb_commands.specs.Outputs.{Says, WriteFaultHasCause};
 ghost use Rattle.mqb_words.specs.Formed.{IsFormedCall};
 
 use mqb_base::Identity;
-use mqb_devices::{Clock, Disk};
-use mqb_outside::Sink;
-use mqb_status::Status;
+use mqb_commands::Status;
+use mqb_outside::{Clock, Disk, Sink};
 use mqb_words::Call;
 use std::alloc::Global;
 
@@ -76,6 +75,6 @@ pub(crate) fn say_called<K: Sink, D: Disk, C: Clock>(
     ensures disk { DiskFaultHasCause (D.view disk.old).faults (D.view disk.new).faults result }
     ensures asked { Counted 1 (C.asked clock.old) (C.asked clock.new) }
 {
-    let answer = mqb_calls::call(alloc, disk, clock, call);
+    let answer = mqb_commands::call(alloc, disk, clock, call);
     answer.write(out)
 }

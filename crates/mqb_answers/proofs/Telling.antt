@@ -13,7 +13,7 @@ use Rattle.mqb_answers.specs.declared.told.Told.{Told}
 use Rattle.mqb_answers.specs.Texts.{hosts_of}
 use Rattle.mqb_base.specs.declared.ids.Identity.{Identity}
 use Rattle.mqb_base.specs.declared.ledger.Line.{Line}
-use Rattle.mqb_devices.specs.Disk.{Counted, View}
+use Rattle.mqb_outside.specs.Disk.{Counted, View}
 use Rattle.mqb_manager.specs.Calls.{Ends, IsCall}
 use Rattle.mqb_manager.specs.States.{ManagerState, manager_of}
 use Rattle.mqb_model.specs.managers.Outcomes.{Outcome, lines_after}

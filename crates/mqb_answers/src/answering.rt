@@ -8,8 +8,8 @@ ghost use Rattle.mqb_words.specs.Formed.{IsFormedCall};
 
 use crate::calls;
 use crate::told::CallEnd;
-use mqb_devices::Disk;
 use mqb_manager::Manager;
+use mqb_outside::Disk;
 use mqb_replies::AnswerFault;
 use mqb_words::Call;
 use std::alloc::Global;

@@ -22,8 +22,8 @@ use crate::told::{
     take_told, tick_told,
 };
 use mqb_base::{Draft, Identity, Op, Place, QueuePlan};
-use mqb_devices::Disk;
 use mqb_manager::Manager;
+use mqb_outside::Disk;
 use mqb_replies::AnswerFault;
 use std::alloc::Global;
 

@@ -8,3 +8,6 @@ pub mod Ended
 pub mod Walks
 pub mod Settled
 pub mod Noted
+pub mod Rests
+pub mod OwedRows
+mod Drafted

@@ -2,3 +2,5 @@ pub mod Choices
 pub mod Going
 pub mod Marks
 pub mod Noting
+pub mod Owed
+pub mod Plans

@@ -1,12 +1,12 @@
 -- What is said of a store that is not opened.
 use Rattle.std.proofs.Common.{◌≡◌, ◌<◌, ℕ, List, [], Result, Err, length, refl, sym, subst, ◌∙◌, inl, inr}
-use Rattle.mqb_devices.specs.Disk.{OnlyReads, View}
-use Rattle.mqb_status.specs.Outputs.{IsFaultLine}
-use Rattle.mqb_status.specs.Texts.{fault_text}
-use Rattle.mqb_status.specs.declared.status.Status.{Status}
-use Rattle.mqb_status.specs.declared.status.Status.TheVariants as status
+use Rattle.mqb_outside.specs.Disk.{OnlyReads, View}
+use Rattle.mqb_commands.specs.Outputs.{IsFaultLine}
+use Rattle.mqb_commands.specs.Texts.{fault_text}
+use Rattle.mqb_commands.specs.declared.status.Status.{Status}
+use Rattle.mqb_commands.specs.declared.status.Status.TheVariants as status
 use Rattle.mqb_base.specs.declared.ids.Identity.{Identity}
-use Rattle.mqb_devices.specs.Images.{Each}
+use Rattle.mqb_outside.specs.Images.{Each}
 use Rattle.mqb_journal.specs.Causes.{FaultsAsSaid, open_failed}
 use Rattle.mqb_journal.specs.declared.faults.OpenFault.{OpenFault}
 use Rattle.mqb_journal.specs.declared.faults.OpenFault.TheVariants as opening

@@ -1,1 +1,6 @@
 pub mod Failing
+pub mod Answering
+pub mod TextLines
+pub mod Going
+pub mod Inputs
+pub mod Ending

@@ -3,8 +3,8 @@ use Rattle.std.specs.Prelude.{Bool, false, true, ℕ}
 use Rattle.mqb_journal.specs.declared.faults.OpenFault.{OpenFault}
 use Rattle.mqb_journal.specs.declared.faults.OpenFault.TheVariants as opening
 use Rattle.mqb_outside.specs.Faults.{Rose}
-use Rattle.mqb_status.specs.declared.status.Status.{Status}
-use Rattle.mqb_status.specs.declared.status.Status.TheVariants as status
+use Rattle.mqb_commands.specs.declared.status.Status.{Status}
+use Rattle.mqb_commands.specs.declared.status.Status.TheVariants as status
 
 -- the end that a fault of opening is
 abbrev pub open_status : OpenFault → Status

@@ -2,6 +2,13 @@ pub mod Causes
 pub mod Opened
 pub mod Helps
 pub mod Said
-pub use Rattle.mqb_manager.specs.Calls
-pub use Rattle.mqb_manager.specs.Keeping
-pub use Rattle.mqb_manager.specs.States
+pub mod Called
+pub mod Exits
+pub mod Texts
+pub mod Outputs
+pub mod lemmas
+pub mod Lines
+pub mod Cuts
+pub mod Viewing
+pub mod Shown
+pub mod Showing

@@ -1,15 +1,15 @@
 -- The manager as which a store is opened, and why one is not.
 use Rattle.std.specs.Prelude.{◌≡◌, IfSome, Option, ℕ}
-use Rattle.mqb_devices.specs.Disk.{OnlyReads, View}
-use Rattle.mqb_devices.specs.Images.{Each}
+use Rattle.mqb_outside.specs.Disk.{OnlyReads, View}
+use Rattle.mqb_outside.specs.Images.{Each}
 use Rattle.mqb_outside.specs.Faults.{Rose}
 use Rattle.mqb_manager.specs.States.{IsOnDisk, IsUp, ManagerState, manager_of}
 use Rattle.mqb_model.specs.managers.Manager.{unlinked}
 use Rattle.mqb_model.specs.state.Durable.{durable}
 use Rattle.mqb_store_laws.specs.Faults.{IsBadStore}
 use Rattle.mqb_store_laws.specs.Images.{OpensTo}
-use Rattle.mqb_status.specs.declared.status.Status.{Status}
-use Rattle.mqb_status.specs.declared.status.Status.TheVariants as status
+use Rattle.mqb_commands.specs.declared.status.Status.{Status}
+use Rattle.mqb_commands.specs.declared.status.Status.TheVariants as status
 
 -- The disk is a store that opens to this manager, which is up and not linked.
 pub record OpensAs (d : View) (m : ManagerState) : Type 0 where

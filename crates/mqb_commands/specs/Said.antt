@@ -1,15 +1,15 @@
 -- What each command says, how it ends, and what the disk is left as.
 use Rattle.std.specs.Prelude.{[], ◌<◌, ◌≡◌, ◌⊎◌, List, codes, length, ℕ}
 use Rattle.mqb_base.specs.declared.ids.Identity.{Identity}
-use Rattle.mqb_devices.specs.Disk.{IsSettled, OnlyReads, View}
-use Rattle.mqb_devices.specs.Images.{Each}
+use Rattle.mqb_outside.specs.Disk.{IsSettled, OnlyReads, View}
+use Rattle.mqb_outside.specs.Images.{Each}
 use Rattle.mqb_listing.specs.Listing.{listing}
 use Rattle.mqb_manager.specs.States.{IsOnDisk, IsUp, ManagerState, manager_of}
 use Rattle.mqb_model.specs.managers.Manager.{new_manager}
 use Rattle.mqb_outside.specs.Faults.{Rose}
-use Rattle.mqb_status.specs.Texts.{fault_text}
-use Rattle.mqb_status.specs.declared.status.Status.{Status}
-use Rattle.mqb_status.specs.declared.status.Status.TheVariants as status
+use Rattle.mqb_commands.specs.Texts.{fault_text}
+use Rattle.mqb_commands.specs.declared.status.Status.{Status}
+use Rattle.mqb_commands.specs.declared.status.Status.TheVariants as status
 use Rattle.mqb_transcript.specs.Generator.{generated}
 use Rattle.mqb_commands.specs.Opened.{IsNotOpened, OpensAs}
 

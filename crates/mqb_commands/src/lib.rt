@@ -1,15 +1,33 @@
-//! The commands of a store but for connections, and those that only print: what each says, how it ends, and what the disk is left as.
+//! The commands of the program but for connections and replays: what each says, how it ends, and what the disk is left as.
 //!
-//! A command answers its whole text, which is written in one place. Of the definitions, `Opened` has what a store is opened as, and `Said` what each
-//! command says.
+//! A store is opened, formatted or listed, or its manager called at one moment of a clock; a command answers its whole text, which is written in one place.
+//! The packets of an input are shown as they come, a line for each, and no more than one packet is kept. How the program ends and what it says of a fault
+//! stand here too.
+//!
+//! Of the definitions, `Opened` has what a store is opened as, `Said` what each command says, `Called` what a call says, and `Shown` what is shown.
 #![tactic(auto)]
 
+mod answer;
+mod calling;
+mod faults;
 mod helping;
+mod lines;
 mod listing;
 mod making;
 mod opening;
+mod output;
+mod showing;
+mod shown_faults;
+mod status;
+mod viewer;
 
+pub use answer::Answer;
+pub use calling::call;
+pub use faults::{append_fault, put_end};
 pub use helping::{help, version};
 pub use listing::list;
 pub use making::{init, make};
 pub use opening::open;
+pub use output::{tell, write_all};
+pub use showing::show;
+pub use status::Status;

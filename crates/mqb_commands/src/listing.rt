@@ -2,10 +2,10 @@ ghost use Rattle.mqb_commands.specs.Causes.{DiskFaultHasCause};
 ghost use Rattle.mqb_commands.specs.Said.{Lists};
 
 use crate::opening::open;
+use crate::{Answer, Status};
 use mqb_base::Memory;
-use mqb_devices::Disk;
 use mqb_listing::print;
-use mqb_status::{Answer, Status};
+use mqb_outside::Disk;
 use std::alloc::Global;
 
 /// What the manager of a store holds.

@@ -3,10 +3,10 @@ ghost use Rattle.mqb_commands.specs.Causes.{DiskFaultHasCause};
 ghost use Rattle.mqb_commands.specs.Said.{Inits, Makes};
 
 use crate::opening::open_status;
+use crate::{Answer, Status};
 use mqb_base::{Identity, Memory};
-use mqb_devices::Disk;
 use mqb_manager::Manager;
-use mqb_status::{Answer, Status};
+use mqb_outside::Disk;
 use mqb_transcript::make_script;
 use std::alloc::Global;
 

@@ -1,13 +1,13 @@
 ghost use Rattle.std.specs.Prelude.{◌≡◌, IfErr, IfOk};
-ghost use Rattle.mqb_devices.specs.Disk.{OnlyReads};
+ghost use Rattle.mqb_outside.specs.Disk.{OnlyReads};
 ghost use Rattle.mqb_commands.specs.Opened.{IsNotOpened, OpensAs};
 ghost use Rattle.mqb_journal.specs.Causes.{FaultsAsSaid};
 ghost use Rattle.mqb_commands.specs.Causes.{is_disk_fault, open_status};
 ghost use Rattle.mqb_manager.specs.States.{IsOnDisk};
 
-use mqb_devices::Disk;
+use crate::Status;
 use mqb_manager::{Manager, OpenFault};
-use mqb_status::Status;
+use mqb_outside::Disk;
 use std::alloc::Global;
 
 /// The end that a fault of opening is.

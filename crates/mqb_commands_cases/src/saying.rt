@@ -2,10 +2,10 @@
 ghost use Rattle.mqb_words.specs.Formed.{IsFormed};
 
 use mqb_base::Failed;
-use mqb_devices::{Clock, Disk, FixedClock};
+use mqb_commands::{Answer, Status};
 use mqb_disk::MemoryDisk;
+use mqb_outside::{Clock, Disk, FixedClock};
 use mqb_sample_stores::{ALPHAS, NOW, call, command, init, list, store};
-use mqb_status::{Answer, Status};
 use mqb_words::Command;
 use std::alloc::Global;
 use std::test::Fail;

@@ -1,7 +1,7 @@
 //! Packets that are shown.
+use mqb_commands::show;
 use mqb_outside::{MemorySink, MemorySource, Sink, Source};
 use mqb_sample_stores::{ACK, ALPHA, BETA, ORDER, PARAMETERS, establish};
-use mqb_show::show;
 use std::alloc::Global;
 use std::test::Fail;
 

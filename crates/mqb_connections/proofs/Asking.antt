@@ -2,8 +2,8 @@
 use Rattle.std.proofs.Common.{◌≡◌, ◌+◌, ◌≤◌, ℕ, List, [], ◌∷◌, ◌++◌, length, Option, Some, None, sym, subst, arith, length-append}
 use Rattle.std.specs.Option.{option_map}
 use Rattle.std.specs.Prelude.{IfSome}
-use Rattle.mqb_devices.specs.Disk.{Counted}
-use Rattle.mqb_devices.specs.Net.{Ended}
+use Rattle.mqb_outside.specs.Disk.{Counted}
+use Rattle.mqb_outside.specs.Net.{Ended}
 use Rattle.mqb_connections.specs.Asked.{AsksForEach, RoseBy}
 
 -- a count that stays

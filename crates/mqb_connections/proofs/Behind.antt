@@ -4,7 +4,7 @@ use Rattle.std.proofs.lemmas.List.{map-append}
 use Rattle.std.specs.List.{AllByRecursion}
 use Rattle.std.specs.Option.{option_map}
 use Rattle.std.specs.Prelude.{map}
-use Rattle.mqb_devices.specs.Net.{Ended}
+use Rattle.mqb_outside.specs.Net.{Ended}
 use Rattle.mqb_manager.specs.States.{ManagerState}
 use Rattle.mqb_model.specs.declared.answers.Role.{Role}
 use Rattle.mqb_connections.specs.Served.{with_last}

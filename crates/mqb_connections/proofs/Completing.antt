@@ -1,12 +1,12 @@
 -- What ends a command that serves the connections of a store before all are served.
 use Rattle.std.proofs.Common.{◌≡◌, ℕ, List, Option, Some, None, Err, inl, inr, refl, sym, subst}
 use Rattle.mqb_commands.specs.Causes.{DiskFaultHasCause}
-use Rattle.mqb_devices.specs.Disk.{View}
+use Rattle.mqb_outside.specs.Disk.{View}
 use Rattle.mqb_outside.specs.Faults.{Rose}
-use Rattle.mqb_serve_laws.specs.Serving.{Answer}
-use Rattle.mqb_status.specs.Outputs.{WriteFaultHasCause}
-use Rattle.mqb_status.specs.declared.status.Status.{Status}
-use Rattle.mqb_status.specs.declared.status.Status.TheVariants as status
+use Rattle.mqb_serving.specs.Serving.{Answer}
+use Rattle.mqb_commands.specs.Outputs.{WriteFaultHasCause}
+use Rattle.mqb_commands.specs.declared.status.Status.{Status}
+use Rattle.mqb_commands.specs.declared.status.Status.TheVariants as status
 use Rattle.mqb_connections.specs.Causes.{NetFaultHasCause}
 use Rattle.mqb_connections.specs.Served.{Completes, EndsServing}
 use Rattle.mqb_connections.specs.Told.{TellsEnd, TellsNetFault}

@@ -1,9 +1,9 @@
 -- How the commands end that serve connections.
 use Rattle.std.proofs.Common.{ℕ, List, Option}
 use Rattle.std.specs.Prelude.{Err, IfErr, Ok, Result}
-use Rattle.mqb_serve_laws.specs.Serving.{Answer}
-use Rattle.mqb_status.specs.declared.status.Status.{Status}
-use Rattle.mqb_status.specs.declared.status.Status.TheVariants as status
+use Rattle.mqb_serving.specs.Serving.{Answer}
+use Rattle.mqb_commands.specs.declared.status.Status.{Status}
+use Rattle.mqb_commands.specs.declared.status.Status.TheVariants as status
 use Rattle.mqb_connections.specs.Causes.{IsNetEnd}
 use Rattle.mqb_connections.specs.Told.{TellsEnd, TellsNetFault}
 

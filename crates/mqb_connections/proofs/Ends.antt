@@ -5,10 +5,10 @@ use Rattle.std.specs.Option.{option_map}
 use Rattle.mqb_commands.specs.Causes.{DiskFaultHasCause}
 use Rattle.mqb_journal.specs.Causes.{FaultsAsSaid}
 use Rattle.mqb_outside.specs.Faults.{Rose}
-use Rattle.mqb_serve_laws.specs.Serving.{Answer, is_disk_fault, is_read_fault, is_write_fault}
+use Rattle.mqb_serving.specs.Serving.{Answer, is_disk_fault, is_read_fault, is_write_fault}
 use Rattle.mqb_serving.specs.declared.faults.ConnFault.TheVariants as fault
-use Rattle.mqb_status.specs.declared.status.Status.{Status}
-use Rattle.mqb_status.specs.declared.status.Status.TheVariants as status
+use Rattle.mqb_commands.specs.declared.status.Status.{Status}
+use Rattle.mqb_commands.specs.declared.status.Status.TheVariants as status
 use Rattle.mqb_connections.specs.Causes.{is_lost}
 use Rattle.mqb_connections.specs.Statuses.{probe_status}
 use Rattle.mqb_connections.specs.Told.{GoesOn, TellsEnd}

@@ -1,8 +1,8 @@
 -- From the disk before a store was opened to the disk behind that.
-use Rattle.mqb_devices.specs.Disk.{OnlyReads, View}
+use Rattle.mqb_outside.specs.Disk.{OnlyReads, View}
 use Rattle.mqb_manager.specs.Keeping.{KeepsDisk}
 use Rattle.mqb_manager.specs.States.{ManagerState}
-use Rattle.mqb_store_laws.specs.Carrying.{on_read}
+use Rattle.mqb_store_laws.specs.lemmas.Carrying.{on_read}
 
 -- Opening only reads, so the disk stands for the manager still.
 pub opened_keeps : (d f : View) (m : ManagerState) → OnlyReads d f → KeepsDisk d f m m

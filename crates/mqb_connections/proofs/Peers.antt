@@ -1,16 +1,16 @@
 -- Connections that peers make, one more behind those that were served.
 use Rattle.std.proofs.Common.{◌≡◌, ◌≢◌, ◌+◌, ◌≤◌, inl, inr, ℕ, List, [], ◌∷◌, ◌++◌, length, Option, Some, None, Result, Ok, Err, refl, sym, ap, subst, ◌∙◌, append-nil, length-append, arith}
 use Rattle.std.specs.Prelude.{IfErr}
-use Rattle.mqb_devices.specs.Net.{Ended}
+use Rattle.mqb_outside.specs.Net.{Ended}
 use Rattle.mqb_manager.specs.States.{ManagerState}
 use Rattle.mqb_model.specs.declared.answers.Role.TheVariants as role
 use Rattle.mqb_outside.specs.Faults.{Rose}
 use Rattle.mqb_outside.specs.Told.{Took}
-use Rattle.mqb_serve_laws.specs.Serving.{Answer}
+use Rattle.mqb_serving.specs.Serving.{Answer}
 use Rattle.mqb_serving.specs.declared.faults.ConnFault.TheVariants as fault
-use Rattle.mqb_status.specs.lemmas.Taking.{took_none, took_then}
-use Rattle.mqb_status.specs.declared.status.Status.{Status}
-use Rattle.mqb_status.specs.declared.status.Status.TheVariants as status
+use Rattle.mqb_commands.specs.lemmas.Taking.{took_none, took_then}
+use Rattle.mqb_commands.specs.declared.status.Status.{Status}
+use Rattle.mqb_commands.specs.declared.status.Status.TheVariants as status
 use Rattle.mqb_connections.specs.Served.{EndsServing, ServesPeers, end_of, with_last}
 use Rattle.mqb_connections.specs.Told.{GoesOn, TellsEnd, TellsNetFault}
 use Rattle.mqb_connections.specs.Visits.{AreFinished, IsNext, Visit, Visits, end_line, lines_from}

@@ -1,16 +1,17 @@
 -- How a probe ends, from the disk before its store was opened.
 use Rattle.std.proofs.Common.{◌≡◌, ◌≢◌, inl, ℕ, List, Option, Err, Ok, sym, subst}
 use Rattle.mqb_commands.specs.Opened.{IsMoment, OpensAs}
-use Rattle.mqb_devices.specs.Disk.{OnlyReads, View}
+use Rattle.mqb_outside.specs.Disk.{OnlyReads, View}
 use Rattle.mqb_journal.specs.Causes.{FaultsAsSaid}
-use Rattle.mqb_manager.specs.Keeping.{KeepsDisk, keeping_goes_on}
+use Rattle.mqb_manager.specs.Keeping.{KeepsDisk}
+use Rattle.mqb_manager.specs.lemmas.Keeping.{keeping_goes_on}
 use Rattle.mqb_manager.specs.States.{IsUp, ManagerState, manager_of}
 use Rattle.mqb_model.specs.declared.answers.Role.TheVariants as role
 use Rattle.mqb_outside.specs.Faults.{Rose}
-use Rattle.mqb_serve_laws.specs.Serving.{Answer, Serves, ServesWhole, is_disk_fault, is_read_fault, is_write_fault}
+use Rattle.mqb_serving.specs.Serving.{Answer, Serves, ServesWhole, is_disk_fault, is_read_fault, is_write_fault}
 use Rattle.mqb_serving.specs.declared.faults.ConnFault.TheVariants as fault
-use Rattle.mqb_status.specs.Outputs.{ReadFaultHasCause, WriteFaultHasCause}
-use Rattle.mqb_status.specs.declared.status.Status.{Status}
+use Rattle.mqb_commands.specs.Outputs.{ReadFaultHasCause, WriteFaultHasCause}
+use Rattle.mqb_commands.specs.declared.status.Status.{Status}
 use Rattle.mqb_connections.proofs.Opening.{opened_keeps}
 use Rattle.mqb_connections.specs.Causes.{IsProbeEnd}
 use Rattle.mqb_connections.specs.Probed.{CompletesProbe, ProbesStore}

@@ -3,17 +3,18 @@ use Rattle.std.proofs.Common.{◌≡◌, ◌≢◌, ◌⊎◌, inl, inr, ℕ, Li
 use Rattle.std.specs.Prelude.{codes}
 use Rattle.mqb_commands.specs.Causes.{DiskFaultHasCause}
 use Rattle.mqb_commands.specs.Opened.{OpensAs}
-use Rattle.mqb_devices.specs.Disk.{OnlyReads, View}
-use Rattle.mqb_devices.specs.Runs.{reads_then}
+use Rattle.mqb_outside.specs.Disk.{OnlyReads, View}
+use Rattle.mqb_outside.specs.lemmas.Runs.{reads_then}
 use Rattle.mqb_journal.specs.Causes.{FaultsAsSaid}
-use Rattle.mqb_manager.specs.Keeping.{KeepsDisk, keeping_goes_on}
+use Rattle.mqb_manager.specs.Keeping.{KeepsDisk}
+use Rattle.mqb_manager.specs.lemmas.Keeping.{keeping_goes_on}
 use Rattle.mqb_manager.specs.States.{IsUp, ManagerState}
 use Rattle.mqb_outside.specs.Faults.{Rose}
-use Rattle.mqb_serve_laws.specs.Serving.{Answer, is_disk_fault}
+use Rattle.mqb_serving.specs.Serving.{Answer, is_disk_fault}
 use Rattle.mqb_serving.specs.declared.faults.ConnFault.TheVariants as fault
-use Rattle.mqb_status.specs.Outputs.{IsPlain, Tells, WriteFaultHasCause}
-use Rattle.mqb_status.specs.declared.status.Status.{Status}
-use Rattle.mqb_status.specs.declared.status.Status.TheVariants as status
+use Rattle.mqb_commands.specs.Outputs.{IsPlain, Tells, WriteFaultHasCause}
+use Rattle.mqb_commands.specs.declared.status.Status.{Status}
+use Rattle.mqb_commands.specs.declared.status.Status.TheVariants as status
 use Rattle.mqb_connections.proofs.Opening.{opened_keeps}
 use Rattle.mqb_connections.proofs.Unopened.{unopened_disk, unopened_faultless, unopened_net, unopened_net_end}
 use Rattle.mqb_connections.specs.Causes.{IsNetEnd, NetFaultHasCause, is_lost}

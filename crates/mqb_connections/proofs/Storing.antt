@@ -1,12 +1,13 @@
 -- What a store that was opened serves.
 use Rattle.std.proofs.Common.{◌≢◌, ℕ, List, Option}
 use Rattle.mqb_commands.specs.Opened.{OpensAs}
-use Rattle.mqb_devices.specs.Disk.{OnlyReads, View}
-use Rattle.mqb_devices.specs.Net.{Ended}
-use Rattle.mqb_manager.specs.Keeping.{KeepsDisk, keeping_goes_on}
+use Rattle.mqb_outside.specs.Disk.{OnlyReads, View}
+use Rattle.mqb_outside.specs.Net.{Ended}
+use Rattle.mqb_manager.specs.Keeping.{KeepsDisk}
+use Rattle.mqb_manager.specs.lemmas.Keeping.{keeping_goes_on}
 use Rattle.mqb_manager.specs.States.{IsUp, ManagerState}
-use Rattle.mqb_status.specs.declared.status.Status.{Status}
-use Rattle.mqb_status.specs.declared.status.Status.TheVariants as status
+use Rattle.mqb_commands.specs.declared.status.Status.{Status}
+use Rattle.mqb_commands.specs.declared.status.Status.TheVariants as status
 use Rattle.mqb_connections.specs.Served.{ServesPeers, ServesStore}
 use Rattle.mqb_connections.proofs.Opening.{opened_keeps}
 

@@ -2,12 +2,12 @@
 use Rattle.std.proofs.Common.{ℕ, inr, refl}
 use Rattle.mqb_commands.specs.Causes.{DiskFaultHasCause}
 use Rattle.mqb_commands.specs.Opened.{IsNotOpened}
-use Rattle.mqb_devices.specs.Disk.{View}
-use Rattle.mqb_devices.specs.Images.{Each}
+use Rattle.mqb_outside.specs.Disk.{View}
+use Rattle.mqb_outside.specs.Images.{Each}
 use Rattle.mqb_outside.specs.Faults.{Rose}
-use Rattle.mqb_status.specs.Outputs.{ReadFaultHasCause, WriteFaultHasCause}
-use Rattle.mqb_status.specs.declared.status.Status.{Status}
-use Rattle.mqb_status.specs.declared.status.Status.TheVariants as status
+use Rattle.mqb_commands.specs.Outputs.{ReadFaultHasCause, WriteFaultHasCause}
+use Rattle.mqb_commands.specs.declared.status.Status.{Status}
+use Rattle.mqb_commands.specs.declared.status.Status.TheVariants as status
 use Rattle.mqb_store_laws.specs.Faults.{IsBadStore}
 use Rattle.mqb_connections.specs.Causes.{IsNetEnd, IsProbeEnd, NetFaultHasCause}
 use Rattle.mqb_connections.specs.Served.{Completes}

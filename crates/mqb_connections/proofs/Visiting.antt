@@ -5,7 +5,7 @@ use Rattle.mqb_commands.specs.Opened.{IsMoment}
 use Rattle.mqb_journal.specs.Causes.{FaultsAsSaid}
 use Rattle.mqb_manager.specs.States.{ManagerState, manager_of}
 use Rattle.mqb_model.specs.declared.answers.Role.{Role}
-use Rattle.mqb_serve_laws.specs.Serving.{Serves, ServesWhole, is_read_fault, is_write_fault}
+use Rattle.mqb_serving.specs.Serving.{Serves, ServesWhole, is_read_fault, is_write_fault}
 use Rattle.mqb_connections.specs.Visits.{IsVisit, Visit}
 
 pub is_visit : (asks : Role) (steady : Option ℕ) (m : ManagerState) (v : Visit) (held sent : Option (List ℕ)) (r w : ℕ)

@@ -1,6 +1,6 @@
 -- How often a command asks the clock.
 use Rattle.std.specs.Prelude.{◌+◌, ◌≡◌, ◌≤◌, ◌⊎◌, IfSome, List, Option, length, max, min, ℕ}
-use Rattle.mqb_devices.specs.Net.{Ended}
+use Rattle.mqb_outside.specs.Net.{Ended}
 use Rattle.mqb_outside.specs.Faults.{END}
 
 -- a count rose by n, or as far as its end

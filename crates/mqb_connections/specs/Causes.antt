@@ -2,8 +2,8 @@
 use Rattle.std.specs.Prelude.{Bool, false, true}
 use Rattle.mqb_serving.specs.declared.faults.ConnFault.{ConnFault}
 use Rattle.mqb_serving.specs.declared.faults.ConnFault.TheVariants as fault
-use Rattle.mqb_status.specs.declared.status.Status.{Status}
-use Rattle.mqb_status.specs.declared.status.Status.TheVariants as status
+use Rattle.mqb_commands.specs.declared.status.Status.{Status}
+use Rattle.mqb_commands.specs.declared.status.Status.TheVariants as status
 
 -- the program ends with a net fault only by this cause
 abbrev pub NetFaultHasCause : Type 0 → Status → Type 0

@@ -1,16 +1,16 @@
 -- How `probe` ends: one connection over the input and the output.
 use Rattle.std.specs.Prelude.{◌≡◌, ◌≢◌, ◌⊎◌, Err, List, Option, ℕ}
 use Rattle.mqb_commands.specs.Opened.{IsMoment, IsNotOpened, OpensAs}
-use Rattle.mqb_devices.specs.Disk.{View}
-use Rattle.mqb_devices.specs.Images.{Each}
+use Rattle.mqb_outside.specs.Disk.{View}
+use Rattle.mqb_outside.specs.Images.{Each}
 use Rattle.mqb_journal.specs.Causes.{FaultsAsSaid}
 use Rattle.mqb_manager.specs.Keeping.{KeepsDisk}
 use Rattle.mqb_manager.specs.States.{IsUp, ManagerState, manager_of}
 use Rattle.mqb_model.specs.declared.answers.Role.TheVariants as role
 use Rattle.mqb_outside.specs.Faults.{Rose}
-use Rattle.mqb_serve_laws.specs.Serving.{Answer, Serves, ServesWhole, is_disk_fault}
+use Rattle.mqb_serving.specs.Serving.{Answer, Serves, ServesWhole, is_disk_fault}
 use Rattle.mqb_serving.specs.declared.faults.ConnFault.TheVariants as fault
-use Rattle.mqb_status.specs.declared.status.Status.{Status}
+use Rattle.mqb_commands.specs.declared.status.Status.{Status}
 use Rattle.mqb_store_laws.specs.Faults.{IsBadStore}
 use Rattle.mqb_connections.specs.Statuses.{IsFaultless, probe_status}
 

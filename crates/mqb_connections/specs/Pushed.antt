@@ -3,19 +3,19 @@ use Rattle.std.specs.Prelude.{◌≡◌, ◌≢◌, ◌⊎◌, Err, IsSome, List
 use Rattle.mqb_base.specs.declared.ids.Identity.{Identity}
 use Rattle.mqb_base.specs.Same.{same_ignoring_case}
 use Rattle.mqb_commands.specs.Opened.{OpensAs}
-use Rattle.mqb_devices.specs.Disk.{OnlyReads, View}
-use Rattle.mqb_devices.specs.Images.{Each}
-use Rattle.mqb_devices.specs.Net.{Ended}
+use Rattle.mqb_outside.specs.Disk.{OnlyReads, View}
+use Rattle.mqb_outside.specs.Images.{Each}
+use Rattle.mqb_outside.specs.Net.{Ended}
 use Rattle.mqb_journal.specs.Causes.{FaultsAsSaid}
 use Rattle.mqb_manager.specs.Keeping.{KeepsDisk}
 use Rattle.mqb_manager.specs.States.{IsUp, ManagerState}
 use Rattle.mqb_model.specs.declared.answers.Role.TheVariants as role
 use Rattle.mqb_outside.specs.Faults.{Rose}
-use Rattle.mqb_serve_laws.specs.Serving.{Answer, is_disk_fault}
+use Rattle.mqb_serving.specs.Serving.{Answer, is_disk_fault}
 use Rattle.mqb_serving.specs.declared.faults.ConnFault.TheVariants as fault
-use Rattle.mqb_status.specs.Outputs.{Tells}
-use Rattle.mqb_status.specs.declared.status.Status.{Status}
-use Rattle.mqb_status.specs.declared.status.Status.TheVariants as status
+use Rattle.mqb_commands.specs.Outputs.{Tells}
+use Rattle.mqb_commands.specs.declared.status.Status.{Status}
+use Rattle.mqb_commands.specs.declared.status.Status.TheVariants as status
 use Rattle.mqb_store_laws.specs.Faults.{IsBadStore}
 use Rattle.mqb_connections.specs.Causes.{is_lost}
 use Rattle.mqb_connections.specs.Served.{IsUnopened, IsUntouched, Nets}

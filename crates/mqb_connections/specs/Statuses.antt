@@ -1,9 +1,9 @@
 -- How the program ends by the end of its one connection.
 use Rattle.std.specs.Prelude.{Err, Ok}
-use Rattle.mqb_serve_laws.specs.Serving.{Answer}
+use Rattle.mqb_serving.specs.Serving.{Answer}
 use Rattle.mqb_serving.specs.declared.faults.ConnFault.TheVariants as fault
-use Rattle.mqb_status.specs.declared.status.Status.{Status}
-use Rattle.mqb_status.specs.declared.status.Status.TheVariants as status
+use Rattle.mqb_commands.specs.declared.status.Status.{Status}
+use Rattle.mqb_commands.specs.declared.status.Status.TheVariants as status
 
 abbrev pub push_status : Answer → Status
 push_status (Ok done) = status.Done

@@ -1,12 +1,12 @@
 -- What is written of one connection, and whether the program goes on behind it.
 use Rattle.std.specs.Prelude.{[], ◌≡◌, Err, List, Ok, Option, Result, ℕ}
 use Rattle.mqb_outside.specs.Told.{Took}
-use Rattle.mqb_serve_laws.specs.Serving.{Answer}
+use Rattle.mqb_serving.specs.Serving.{Answer}
 use Rattle.mqb_serving.specs.declared.faults.ConnFault.TheVariants as fault
-use Rattle.mqb_status.specs.Outputs.{TookFront}
-use Rattle.mqb_status.specs.Texts.{fault_text}
-use Rattle.mqb_status.specs.declared.status.Status.{Status}
-use Rattle.mqb_status.specs.declared.status.Status.TheVariants as status
+use Rattle.mqb_commands.specs.Outputs.{TookFront}
+use Rattle.mqb_commands.specs.Texts.{fault_text}
+use Rattle.mqb_commands.specs.declared.status.Status.{Status}
+use Rattle.mqb_commands.specs.declared.status.Status.TheVariants as status
 use Rattle.mqb_connections.specs.Visits.{end_line}
 
 -- it ended well or by its peer, or a half of it failed

@@ -2,13 +2,13 @@
 use Rattle.std.specs.Fmt.{decimal}
 use Rattle.std.specs.Prelude.{[], ◌+◌, ◌++◌, ◌∷◌, ◌≡◌, Err, IfSome, List, Option, codes, map, option_map, ℕ}
 use Rattle.mqb_commands.specs.Opened.{IsMoment}
-use Rattle.mqb_devices.specs.Net.{Ended}
+use Rattle.mqb_outside.specs.Net.{Ended}
 use Rattle.mqb_journal.specs.Causes.{FaultsAsSaid}
 use Rattle.mqb_manager.specs.States.{ManagerState, manager_of}
 use Rattle.mqb_model.specs.declared.answers.Role.{Role}
-use Rattle.mqb_serve_laws.specs.Serving.{Answer, Serves, ServesWhole, is_read_fault, is_write_fault}
+use Rattle.mqb_serving.specs.Serving.{Answer, Serves, ServesWhole, is_read_fault, is_write_fault}
 use Rattle.mqb_serving.specs.declared.faults.ConnFault.TheVariants as fault
-use Rattle.mqb_status.specs.Texts.{end_text}
+use Rattle.mqb_commands.specs.Texts.{end_text}
 
 -- a connection that was served and taken back: its moment, what the net tells of it, how it ended, and the manager behind it
 pub record Visit : Type 0 where

@@ -5,8 +5,8 @@ ghost use Rattle.mqb_connections.specs.Visits.{end_line, said_line};
 ghost use Rattle.mqb_transcript.specs.Printing.{wrote};
 
 use mqb_base::Memory;
+use mqb_commands::put_end;
 use mqb_serving::ConnFault;
-use mqb_status::put_end;
 use mqb_transcript::Printer;
 use std::alloc::Global;
 

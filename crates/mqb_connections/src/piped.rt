@@ -1,8 +1,7 @@
 ghost use Rattle.std.specs.Prelude.{[], ◌∷◌, ◌≡◌, None, IfOk, OnErr};
 
 use mqb_base::Failed;
-use mqb_devices::Conn;
-use mqb_outside::{Sink, Source};
+use mqb_outside::{Conn, Sink, Source};
 
 /// A connection over an input and an output.
 #[derive(Drop)]

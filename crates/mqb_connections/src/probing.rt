@@ -8,18 +8,16 @@ ghost use Rattle.mqb_connections.specs.Statuses.{probe_status};
 ghost use Rattle.mqb_journal.specs.Causes.{FaultsAsSaid};
 ghost use Rattle.mqb_manager.specs.Keeping.{KeepsDisk};
 ghost use Rattle.mqb_manager.specs.States.{IsOnDisk, IsUp, manager_of};
-ghost use Rattle.mqb_serve_laws.specs.Serving.{Serves, ServesWhole, is_disk_fault, is_read_fault, is_write_fault};
-ghost use Rattle.mqb_status.specs.Outputs.{ReadFaultHasCause, WriteFaultHasCause};
+ghost use Rattle.mqb_serving.specs.Serving.{Serves, ServesWhole, is_disk_fault, is_read_fault, is_write_fault};
+ghost use Rattle.mqb_commands.specs.Outputs.{ReadFaultHasCause, WriteFaultHasCause};
 
 use crate::piped::Piped;
-use mqb_commands::open;
-use mqb_devices::{Clock, Disk};
+use mqb_commands::{Status, open};
 use mqb_manager::Manager;
 use mqb_model::Role;
-use mqb_outside::{Sink, Source};
+use mqb_outside::{Clock, Disk, Sink, Source};
 use mqb_serve::serve_one;
 use mqb_serving::ConnFault;
-use mqb_status::Status;
 use std::alloc::Global;
 
 /// How the program ends by the end of the connection of a probe.

@@ -10,19 +10,17 @@ ghost use Rattle.mqb_journal.specs.Causes.{FaultsAsSaid};
 ghost use Rattle.mqb_manager.specs.Keeping.{KeepsDisk};
 ghost use Rattle.mqb_manager.specs.States.{IsOnDisk, IsUp};
 ghost use Rattle.mqb_outside.specs.Faults.{HasCause, Rose};
-ghost use Rattle.mqb_serve_laws.specs.Serving.{is_disk_fault};
-ghost use Rattle.mqb_status.specs.Outputs.{WriteFaultHasCause};
+ghost use Rattle.mqb_serving.specs.Serving.{is_disk_fault};
+ghost use Rattle.mqb_commands.specs.Outputs.{WriteFaultHasCause};
 
 use crate::lines::end_line;
 use mqb_base::{Failed, Memory};
-use mqb_commands::open;
-use mqb_devices::{Clock, Disk, Net};
+use mqb_commands::{Answer, Status, open, write_all};
 use mqb_manager::Manager;
 use mqb_model::Role;
-use mqb_outside::Sink;
+use mqb_outside::{Clock, Disk, Net, Sink};
 use mqb_serve::serve_one;
 use mqb_serving::ConnFault;
-use mqb_status::{Answer, Status, write_all};
 use std::alloc::Global;
 
 /// Writes the line of a connection that ended, and says how the program ends, where it does.

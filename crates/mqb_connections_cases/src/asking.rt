@@ -1,10 +1,9 @@
 //! The commands, of which nothing is said here. So a test that calls them over forms in memory has nothing to carry, and nothing to prove of a manager.
 use mqb_base::{Memory, Name};
+use mqb_commands::Status;
 use mqb_connections::{probe, push, serve};
-use mqb_devices::{Clock, Disk, FixedClock, Net};
-use mqb_outside::{Sink, Source};
+use mqb_outside::{Clock, Disk, FixedClock, Net, Sink, Source};
 use mqb_sample_stores::{NOW, list};
-use mqb_status::Status;
 use std::alloc::Global;
 
 /// Probes a store.

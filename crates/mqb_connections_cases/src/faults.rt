@@ -2,8 +2,8 @@
 use crate::orders::{IS_ACKNOWLEDGED, IS_OFFERED, NOTHING_CAME, ONE_CAME, WAITS, answers, order};
 use crate::pieces::Coming;
 use crate::runs::{Run, pushed, served};
+use mqb_commands::Status;
 use mqb_sample_stores::{BETAS, ORDERS, store};
-use mqb_status::Status;
 use std::test::Fail;
 
 /// As many bytes come at once to who serves. So the third of five pieces has the end of the set-up, and the last is empty.

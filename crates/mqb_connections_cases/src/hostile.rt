@@ -3,11 +3,11 @@ use crate::orders::{NOTHING_CAME, asking, order};
 use crate::pieces::Coming;
 use crate::runs::served;
 use mqb_base::Cause;
+use mqb_commands::Status;
 use mqb_disk::MemoryDisk;
 use mqb_fields::{HeadFault, HeadKind};
 use mqb_sample_stores::{BETAS, ORDER, store};
 use mqb_serving::PeerFault;
-use mqb_status::Status;
 use std::alloc::Global;
 use std::test::Fail;
 

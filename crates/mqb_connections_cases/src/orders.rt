@@ -2,9 +2,9 @@
 use crate::pieces::Coming;
 use crate::runs::{pushed, served};
 use mqb_base::Memory;
+use mqb_commands::Status;
 use mqb_sample_stores::{ACK, ALPHA, BETA, BETAS, ORDER, ORDERS, PARAMETERS, establish, store};
 use mqb_serving::PeerFault;
-use mqb_status::Status;
 use std::alloc::Global;
 use std::test::Fail;
 

@@ -2,10 +2,10 @@
 use crate::pieces::Coming;
 use crate::runs::served;
 use mqb_base::{Cause, Memory};
+use mqb_commands::Status;
 use mqb_fields::{HeadFault, HeadKind};
 use mqb_sample_stores::{ACK, ALPHA, ALPHAS, BETA, ORDER, PARAMETERS, establish, refused, store};
 use mqb_serving::PeerFault;
-use mqb_status::Status;
 use std::alloc::Global;
 use std::test::Fail;
 

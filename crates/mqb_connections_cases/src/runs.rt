@@ -2,10 +2,9 @@
 use crate::asking::{holds, probes, pushes};
 use crate::pieces::{Coming, Pieces};
 use mqb_base::{Bytes, Memory, Name};
-use mqb_devices::{ConnPlan, MemoryNet};
+use mqb_commands::Status;
 use mqb_disk::MemoryDisk;
-use mqb_outside::MemorySink;
-use mqb_status::Status;
+use mqb_outside::{ConnPlan, MemoryNet, MemorySink};
 use std::alloc::Global;
 use std::test::Fail;
 

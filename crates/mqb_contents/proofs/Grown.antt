@@ -15,12 +15,12 @@ use Rattle.mqb_queue.specs.Lists.{ListRooms}
 use Rattle.mqb_queue.specs.Places.{PlaceRooms, QueueRooms, numbered, rooms_at, with_numbered, with_rooms}
 use Rattle.mqb_queue.proofs.Lens.{is_there, numbered_is}
 use Rattle.mqb_contents.specs.Changes.{rooms_after, rooms_redone}
-use Rattle.mqb_waiting.specs.Ends.{without_last}
+use Rattle.mqb_tables.specs.Ends.{without_last}
 use Rattle.mqb_contents.specs.Rooms.{ArePlacesGrown, IsGrown, StateRooms, place_room}
-use Rattle.mqb_waiting.specs.Rooms.{AreMembersGrown, MemberRooms}
+use Rattle.mqb_tables.specs.Rooms.{AreMembersGrown, MemberRooms}
 use Rattle.mqb_contents.specs.declared.change.Change.{Change}
 use Rattle.mqb_contents.specs.declared.change.Change.TheVariants as change
-use Rattle.mqb_waiting.proofs.Members.{get-set, get-set_other, length-without_last}
+use Rattle.mqb_tables.proofs.Members.{get-set, get-set_other, length-without_last}
 
 pub places_refl : (r : PlaceRooms) → ArePlacesGrown r r
 places_refl r = record { rooms = λ at kind. omega arith; count = refl; more = omega arith }

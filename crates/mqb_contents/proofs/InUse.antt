@@ -15,15 +15,15 @@ use Rattle.mqb_orders.specs.declared.rows.OutRow.{OutRow}
 use Rattle.mqb_tables.specs.Keys.{HasKey, same_out_key}
 use Rattle.mqb_tables.proofs.Keyed.{key_of_number}
 use Rattle.mqb_tables.proofs.Names.{same_out_key_is, same_out_key_refl}
-use Rattle.mqb_waiting.specs.Ends.{last_of, without_last}
+use Rattle.mqb_tables.specs.Ends.{last_of, without_last}
 use Rattle.mqb_contents.specs.Rooms.{OutRooms}
-use Rattle.mqb_waiting.specs.Rooms.{MemberRooms}
+use Rattle.mqb_tables.specs.Rooms.{MemberRooms}
 use Rattle.mqb_contents.specs.Seen.{room_of, with_keys}
-use Rattle.mqb_waiting.specs.Seen.{seen_members}
+use Rattle.mqb_tables.specs.Seen.{seen_members}
 use Rattle.mqb_tables.specs.Tables.{HaveOwnOrdinals, LeadsTo, LeadsToLast}
 use Rattle.mqb_tables.proofs.Lasts.{last_is_there, last_pushed, last_tagged, last_there}
-use Rattle.mqb_waiting.proofs.Lens.{changed}
-use Rattle.mqb_waiting.proofs.Members.{set_same, without_last_pushed}
+use Rattle.mqb_tables.proofs.Lens.{changed}
+use Rattle.mqb_tables.proofs.Members.{set_same, without_last_pushed}
 
 abbrev pub InUse : Type 0 → Type 0
 InUse S = IndexMap OutKey ℕ S

@@ -20,14 +20,14 @@ use Rattle.mqb_queue.specs.Lists.{Lists, inserted, messages_in, without}
 use Rattle.mqb_queue.specs.Places.{Places, Queue, QueueRooms, lists_at, new_queue, no_queue_room}
 use Rattle.mqb_model.specs.state.State.{State}
 use Rattle.mqb_contents.specs.Changes.{Can, HasRoom, changed, held, held_back, inverse, lists_after, rooms_after}
-use Rattle.mqb_waiting.specs.Ends.{last_else, last_of, without_last}
+use Rattle.mqb_tables.specs.Ends.{last_else, last_of, without_last}
 use Rattle.mqb_contents.specs.Rooms.{StateRooms}
 use Rattle.mqb_contents.specs.Rows.{CanKeep, IsBegun, KeepsCommitted, begun_row, deciding, keeping, marks_of, with_marks}
-use Rattle.mqb_waiting.specs.Waits.{CanWait}
+use Rattle.mqb_tables.specs.Waits.{CanWait}
 use Rattle.mqb_contents.specs.declared.change.Change.{Change}
 use Rattle.mqb_contents.specs.declared.change.Change.TheVariants as change
 use Rattle.mqb_contents.specs.declared.marks.RowMarks.{RowMarks}
-use Rattle.mqb_waiting.proofs.Members.{at_some, changed_back, insert-remove, pushed_without_last, remove-insert, there, without_last_else, without_last_pushed}
+use Rattle.mqb_tables.proofs.Members.{at_some, changed_back, insert-remove, pushed_without_last, remove-insert, there, without_last_else, without_last_pushed}
 use Rattle.mqb_contents.proofs.Places.{place_back}
 
 abbrev Whole : Type 0

@@ -7,7 +7,7 @@ use Rattle.mqb_base.specs.Same.{same_ignoring_case}
 use Rattle.mqb_base.specs.declared.queues.QueuePlan.{QueuePlan}
 use Rattle.mqb_queue.proofs.Positions.{passes_none}
 use Rattle.mqb_queue.specs.Places.{NamesDiffer, Queue, found, new_queue}
-use Rattle.mqb_waiting.specs.Ends.{last_of, without_last}
+use Rattle.mqb_tables.specs.Ends.{last_of, without_last}
 
 pub last_name : (queues : List Queue) (plan : QueuePlan) → NamesDiffer queues → last_of queues ≡ Some (new_queue plan) → found (without_last queues) plan.name ≡ None
 last_name queues plan differ last =

@@ -16,7 +16,7 @@ use Rattle.mqb_queue.specs.Lists.{ListRooms, Lists, messages_in, room_for, room_
 use Rattle.mqb_queue.specs.Places.{PlaceRooms, Places, Queue, QueueRooms, lists_at, numbered, rooms_at, with_more_room, with_rooms}
 use Rattle.mqb_contents.specs.Rooms.{ArePlacesGrown, place_room}
 use Rattle.mqb_contents.proofs.Grown.{one_place_grown, places_refl}
-use Rattle.mqb_waiting.proofs.Members.{there}
+use Rattle.mqb_tables.proofs.Members.{there}
 
 abbrev Kept : Type 0
 Kept = WithRooms Places PlaceRooms

@@ -14,9 +14,9 @@ use Rattle.mqb_queue.proofs.Positions.{none_passes, position_behind, position_jo
 use Rattle.mqb_tables.specs.Keys.{HasKey, same_in_key}
 use Rattle.mqb_tables.proofs.Keyed.{key_of_number}
 use Rattle.mqb_tables.proofs.Names.{same_in_key_is, same_in_key_refl}
-use Rattle.mqb_waiting.specs.Ends.{without_last}
+use Rattle.mqb_tables.specs.Ends.{without_last}
 use Rattle.mqb_tables.specs.Tables.{LeadsToSource}
-use Rattle.mqb_waiting.proofs.Members.{all_at, set_same}
+use Rattle.mqb_tables.proofs.Members.{all_at, set_same}
 
 abbrev pub Sources : Type 0 → Type 0
 Sources S = IndexMap InKey ℕ S

@@ -13,11 +13,11 @@ use Rattle.mqb_model.specs.rules.Takes.{message_at}
 use Rattle.mqb_model.specs.state.Places.{with_place, with_plain, without_at}
 use Rattle.mqb_model.specs.state.State.{State}
 use Rattle.mqb_tables.specs.Keys.{HasKey, in_key, out_key, same_in_key, same_out_key}
-use Rattle.mqb_waiting.specs.Ends.{last_else, last_of, without_last}
+use Rattle.mqb_tables.specs.Ends.{last_else, last_of, without_last}
 use Rattle.mqb_contents.specs.Rooms.{StateRooms, kept_room, place_room}
-use Rattle.mqb_waiting.specs.Rooms.{plain_room}
+use Rattle.mqb_tables.specs.Rooms.{plain_room}
 use Rattle.mqb_contents.specs.Rows.{CanKeep, IsBegun, KeepsCommitted, begun_row, deciding, keeping, kept_count, marks_of, with_in, with_marks, with_out}
-use Rattle.mqb_waiting.specs.Waits.{CanWait, plain_count}
+use Rattle.mqb_tables.specs.Waits.{CanWait, plain_count}
 use Rattle.mqb_contents.specs.Seen.{counters_of}
 use Rattle.mqb_contents.specs.declared.change.Change.{Change}
 use Rattle.mqb_contents.specs.declared.change.Change.TheVariants as change

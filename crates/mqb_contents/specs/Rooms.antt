@@ -10,7 +10,7 @@ use Rattle.mqb_plain.specs.Plain as plain
 use Rattle.mqb_queue.specs.Lists as lists
 use Rattle.mqb_queue.specs.Places.{PlaceRooms, no_rooms, rooms_at}
 use Rattle.mqb_tables.specs.Keys.{AreKeysKept, same_in_key, same_out_key}
-use Rattle.mqb_waiting.specs.Rooms.{AreMembersGrown, MemberRooms, member_room, no_members}
+use Rattle.mqb_tables.specs.Rooms.{AreMembersGrown, MemberRooms, member_room, no_members}
 
 -- of the places, of the list of peers, of the plain messages that wait for each of them, and of the rows; and the keys of the tables of rows
 pub record StateRooms : Type 0 where

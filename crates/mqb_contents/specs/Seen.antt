@@ -11,7 +11,7 @@ use Rattle.mqb_queue.specs.Places.{PlaceRooms, Places}
 use Rattle.mqb_model.specs.declared.limits.TheConstants.{MAX_PEERS, MAX_QUEUES}
 use Rattle.mqb_model.specs.state.State.{State}
 use Rattle.mqb_contents.specs.Rooms.{InRooms, OutRooms, StateRooms}
-use Rattle.mqb_waiting.specs.Rooms.{MemberRooms}
+use Rattle.mqb_tables.specs.Rooms.{MemberRooms}
 use Rattle.mqb_contents.specs.declared.counters.Counters.{Counters}
 
 -- outgoing rows and their rooms, with the keys of their table

@@ -17,7 +17,7 @@ use mqb_model::{FIRST_EXPRESS, MAX_ROLL};
 use mqb_orders::{InKey, InRow, OutKey, OutRow};
 use mqb_plain::PlainOut;
 use mqb_queue::Queues;
-use mqb_waiting::PlainOuts;
+use mqb_tables::PlainOuts;
 use std::alloc::Global;
 use std::marker::Model;
 

@@ -1,7 +1,7 @@
 ghost use Rattle.std.specs.Prelude.{◌≡◌, ◌<◌, ◌≤◌, [], ◌∷◌, ◌++◌, IfSome, IsSomeAnd, OnOk, Some, length, false, position, slice_get};
 ghost use Rattle.std.specs.Option.{option_map_or};
 ghost use Rattle.mqb_base.specs.declared.roomed.TheConstants.{MAX_MEMBERS};
-ghost use Rattle.mqb_waiting.specs.Ends.{last_of, without_last};
+ghost use Rattle.mqb_tables.specs.Ends.{last_of, without_last};
 ghost use Rattle.mqb_contents.specs.Rows.{deciding};
 ghost use Rattle.mqb_tables.specs.Tables.{LeadsToSource};
 ghost use Rattle.mqb_model.specs.Lists.{with_changed};

@@ -1,7 +1,7 @@
 ghost use Rattle.std.specs.Prelude.{◌≡◌, ◌+◌, ◌<◌, ◌^◌, IfSome, IsSomeAnd, length, option_and_then, position, slice_get};
 ghost use Rattle.mqb_base.specs.Same.{same_guid};
 ghost use Rattle.mqb_contents.specs.Rows.{unless_full};
-ghost use Rattle.mqb_waiting.specs.Waits.{plain_count};
+ghost use Rattle.mqb_tables.specs.Waits.{plain_count};
 ghost use Rattle.mqb_model.specs.rules.Purges.{count_at};
 ghost use Rattle.mqb_model.specs.rules.Sequences.{sequence_in_use};
 ghost use Rattle.mqb_model.specs.state.Resolving.{peer_known};

@@ -1,8 +1,8 @@
 ghost use Rattle.std.specs.Prelude.{◌≡◌, ◌<◌, ◌≤◌, [], ◌∷◌, ◌++◌, All, IsSomeAnd, IfSome, None, OnOk, Some, filter, insert, length, map, option_and_then, remove, slice_get};
 ghost use Rattle.mqb_base.specs.declared.roomed.TheConstants.{MAX_MEMBERS};
-ghost use Rattle.mqb_waiting.specs.Ends.{last_of, without_last};
+ghost use Rattle.mqb_tables.specs.Ends.{last_of, without_last};
 ghost use Rattle.mqb_contents.specs.Rooms.{kept_room};
-ghost use Rattle.mqb_waiting.specs.Rooms.{AreMembersGrown, no_members};
+ghost use Rattle.mqb_tables.specs.Rooms.{AreMembersGrown, no_members};
 ghost use Rattle.mqb_contents.specs.Seen.{room_of};
 ghost use Rattle.mqb_contents.specs.Rows.{CanKeep, IsBegun, KeepsCommitted, begun_row, keeping, kept_count, marks_of, with_marks};
 ghost use Rattle.mqb_tables.specs.Tables.{LeadsTo, LeadsToLast};
@@ -41,7 +41,7 @@ impl Model for OutRows {
     ghost use Rattle.mqb_tables.specs.Tables.{AreNumbered, LeadsToLast};
     ghost use Rattle.mqb_contents.specs.Rows.{KeepsCommitted};
     ghost use Rattle.mqb_contents.specs.Seen.{room_of, with_keys};
-    ghost use Rattle.mqb_waiting.specs.Seen.{seen_members};
+    ghost use Rattle.mqb_tables.specs.Seen.{seen_members};
     ghost use Rattle.mqb_orders.specs.Rows.{Row, row_of};
 
     ghost Value = { WithRooms (List Row) OutRooms };

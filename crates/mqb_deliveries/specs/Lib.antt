@@ -4,10 +4,4 @@ pub mod Delivers
 pub mod Flows
 pub mod Courses
 pub mod Peers
-pub mod Unsent
-pub mod Delivered
-pub mod Flowing
-pub mod Flowed
-pub mod Coming
-pub mod SettingUp
-pub mod Connected
+pub mod lemmas

@@ -3,14 +3,15 @@ use Rattle.std.proofs.Common.{◌≡◌, inl, inr, ℕ, ◌≤◌, true, List, [
 use Rattle.std.specs.List.{All}
 use Rattle.std.proofs.lemmas.List.{map-append, reverse-append, take-append-le, drop-append-le, drop_at, take_all}
 use Rattle.std.proofs.lemmas.List.Elements.{All-head, All-tail, All-push, All-weaker}
-use Rattle.mqb_devices.specs.Images.{Each, Torn, MayBeCut, Follows}
-use Rattle.mqb_devices.specs.Disk.{Unchanged, Elapses, OnlyReads}
-use Rattle.mqb_devices.specs.Steps.{written_torn, nothing_torn}
-use Rattle.mqb_devices.specs.Runs.{reads_once}
+use Rattle.mqb_outside.specs.Images.{Each, Torn, MayBeCut, Follows}
+use Rattle.mqb_outside.specs.Disk.{Unchanged, Elapses, OnlyReads}
+use Rattle.mqb_outside.specs.lemmas.Steps.{written_torn, nothing_torn}
+use Rattle.mqb_outside.specs.lemmas.Runs.{reads_once}
 use Rattle.mqb_disk.specs.declared.trace_disk.Call.{Call}
 use Rattle.mqb_disk.specs.declared.trace_disk.Call.TheVariants as call
-use Rattle.mqb_disk.specs.TraceViews.{is_left, view_of, lawful_of}
-use Rattle.mqb_devices.specs.declared.disk.TheConstants.{MAX_DISK}
+use Rattle.mqb_disk.specs.TraceViews.{view_of}
+use Rattle.mqb_disk.specs.lemmas.TraceViews.{is_left, lawful_of}
+use Rattle.mqb_outside.specs.declared.disk.TheConstants.{MAX_DISK}
 use Rattle.mqb_disk.specs.History.{Event, Wrote, WasCut, Synced, end_of, fits, event_of, history, held, ImageAt, reaches_within}
 
 same_event : (bytes more : List ℕ) (one : Call) → fits (length bytes) one → event_of (bytes ++ more) one ≡ event_of bytes one

@@ -2,10 +2,10 @@
 use Rattle.std.proofs.Common.{◌≡◌, inl, inr, ◌⊎◌, ℕ, ◌+◌, ◌/◌, ◌≤◌, Bool, true, false, nat_le, if◌then◌else◌, List, [], ◌∷◌, ◌++◌, length, take, drop, refl, sym, subst, arith}
 use Rattle.std.proofs.lemmas.Bool.{leb-true}
 use Rattle.std.proofs.lemmas.List.{length-take, length-replicate}
-use Rattle.mqb_devices.specs.declared.power.Pick.{Pick}
-use Rattle.mqb_devices.specs.declared.power.Pick.TheVariants.{Old, New, Half, Ones}
-use Rattle.mqb_devices.specs.Images.{Follows, Written, Torn, IsCut, MayBeCut}
-use Rattle.mqb_devices.specs.Steps.{written_torn, nothing_torn}
+use Rattle.mqb_outside.specs.declared.power.Pick.{Pick}
+use Rattle.mqb_outside.specs.declared.power.Pick.TheVariants.{Old, New, Half, Ones}
+use Rattle.mqb_outside.specs.Images.{Follows, Written, Torn, IsCut, MayBeCut}
+use Rattle.mqb_outside.specs.lemmas.Steps.{written_torn, nothing_torn}
 use Rattle.mqb_disk.specs.Picks.{begun, stands, left_of, left_by}
 use Rattle.mqb_disk.specs.Changes.{Step, Left}
 use Rattle.mqb_disk.specs.declared.change.Change.{Change}

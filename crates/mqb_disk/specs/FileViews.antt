@@ -1,6 +1,5 @@
-use Rattle.std.specs.Prelude.{Bool, false, cond, None}
-use Rattle.std.proofs.Common.{subst}
-use Rattle.mqb_devices.specs.Disk.{View, Lawful}
+use Rattle.std.specs.Prelude.{false, None}
+use Rattle.mqb_outside.specs.Disk.{View}
 use Rattle.mqb_disk.specs.declared.file_disk.FileDisk.{FileDisk}
 
 -- what a disk in a file tells: its calls and its faults alone
@@ -14,14 +13,4 @@ file_view d = record {
   calls = d.calls;
   faults = d.faults;
   switch = record { arms = 0; restarts = 0; last_pick = None };
-}
-
-pub file_lawful : (d : FileDisk) → Lawful (file_view d)
-file_lawful d = record {
-  one = λ a b none other. absurd none;
-  is_left = λ c none. none;
-  only_now = λ c none. none;
-  counts_now = λ keeps t le c none. none;
-  tells = λ keeps. absurd (subst (λ (b : Bool). cond b ⊥ (Unit {0})) keeps tt);
-  bound = λ c none. absurd none;
 }

@@ -7,3 +7,4 @@ pub mod Views
 pub mod History
 pub mod TraceViews
 pub mod FileViews
+pub mod lemmas

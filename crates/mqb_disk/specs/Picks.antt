@@ -1,6 +1,6 @@
 use Rattle.std.specs.Prelude.{ℕ, ◌+◌, ◌/◌, ◌≤◌, List, [], ◌∷◌, ◌++◌, length, take, drop, replicate, Bool, true, false, nat_le, if◌then◌else◌}
-use Rattle.mqb_devices.specs.declared.power.Pick.{Pick}
-use Rattle.mqb_devices.specs.declared.power.Pick.TheVariants.{Old, New, Half, Ones}
+use Rattle.mqb_outside.specs.declared.power.Pick.{Pick}
+use Rattle.mqb_outside.specs.declared.power.Pick.TheVariants.{Old, New, Half, Ones}
 use Rattle.mqb_disk.specs.declared.change.Change.{Change}
 use Rattle.mqb_disk.specs.declared.change.Change.TheVariants.{Wrote, Cut}
 

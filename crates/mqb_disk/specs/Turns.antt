@@ -1,6 +1,6 @@
 use Rattle.std.specs.Prelude.{ℕ, ◌-◌, nat_le, Bool, true, false, Option, Some, None, if◌then◌else◌}
-use Rattle.mqb_devices.specs.declared.power.Mode.{Mode}
-use Rattle.mqb_devices.specs.declared.power.Mode.TheVariants.{Stop, Fail}
+use Rattle.mqb_outside.specs.declared.power.Mode.{Mode}
+use Rattle.mqb_outside.specs.declared.power.Mode.TheVariants.{Stop, Fail}
 use Rattle.mqb_disk.specs.declared.switch.Turn.{Turn}
 use Rattle.mqb_disk.specs.declared.switch.Turn.TheVariants.{Works, Fails, Stops}
 

@@ -1,8 +1,7 @@
-use Rattle.std.specs.Prelude.{◌≡◌, ◌⊎◌, ℕ, ◌<◌, ◌≤◌, List, Bool, false, cond, vec_len, length}
-use Rattle.std.proofs.Common.{inl, sym, ◌∙◌, subst, arith}
-use Rattle.mqb_devices.specs.Disk.{View, Lawful}
-use Rattle.mqb_devices.specs.declared.power.Pick.{Pick}
-use Rattle.mqb_disk.specs.Changes.{Left, left_within}
+use Rattle.std.specs.Prelude.{◌≡◌, ◌⊎◌, ℕ, ◌<◌, ◌≤◌, List, false, vec_len}
+use Rattle.mqb_outside.specs.Disk.{View}
+use Rattle.mqb_outside.specs.declared.power.Pick.{Pick}
+use Rattle.mqb_disk.specs.Changes.{Left}
 use Rattle.mqb_disk.specs.Extent.{Extent, standing}
 use Rattle.mqb_disk.specs.Picks.{left_by}
 use Rattle.mqb_disk.specs.Turns.{Power}
@@ -22,17 +21,6 @@ memory_view d = record {
   calls = d.switch.calls;
   faults = d.switch.faults;
   switch = record { arms = d.switch.arms; restarts = d.switch.restarts; last_pick = d.switch.last_pick };
-}
-
--- past moments are not told
-pub memory_lawful : (d : MemoryDisk) → Lawful (memory_view d)
-memory_lawful d = record {
-  one = λ a b is other. is ∙ sym other;
-  is_left = λ c is. inl is;
-  only_now = λ c none. absurd none;
-  counts_now = λ keeps t le c left. absurd (subst (λ (b : Bool). cond b ⊥ (Unit {0})) keeps tt);
-  tells = λ keeps. absurd (subst (λ (b : Bool). cond b ⊥ (Unit {0})) keeps tt);
-  bound = λ c left. (let fits : length c ≤ d.current.room = left_within d.current.room d.changes.items d.safe.contents d.current.contents c d.fit d.safe_within d.within left in omega (arith, fits, d.bounded));
 }
 
 -- what it keeps

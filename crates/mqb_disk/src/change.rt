@@ -4,7 +4,7 @@ ghost use Rattle.mqb_disk.specs.Extent.{standing};
 ghost use Rattle.mqb_disk.specs.Picks.{begun, stands, reached, left_of, left_by, lies_within};
 
 use crate::image::Image;
-use mqb_devices::Pick;
+use mqb_outside::Pick;
 
 /// What was done to a disk and is not synced.
 #[derive(Clone, Copy, Debug, PartialEq, Eq)]

@@ -1,9 +1,9 @@
 ghost use Rattle.std.specs.Prelude.{◌≡◌, ◌+◌, ◌^◌, ◌<◌, ◌≤◌, Ok, IfOk, OnOk, length};
 ghost use Rattle.mqb_outside.specs.Faults.{HasCause};
-ghost use Rattle.mqb_devices.specs.Disk.{Counted};
+ghost use Rattle.mqb_outside.specs.Disk.{Counted};
 
 use mqb_base::Failed;
-use mqb_devices::{Disk, MAX_DISK};
+use mqb_outside::{Disk, MAX_DISK};
 use std::fs::{self, File, OpenOptions};
 use std::io;
 use std::os::unix::fs::FileExt;
@@ -107,7 +107,8 @@ fn written(file: &File, at: u64, bytes: &[u8]) -> io::Result<()>
 }
 
 impl Disk for FileDisk {
-    ghost use Rattle.mqb_disk.specs.FileViews.{file_view, file_lawful};
+    ghost use Rattle.mqb_disk.specs.FileViews.{file_view};
+    ghost use Rattle.mqb_disk.specs.lemmas.FileViews.{file_lawful};
 
     ghost view = { file_view };
 

@@ -1,5 +1,5 @@
 ghost use Rattle.std.specs.Prelude.{◌≡◌, ◌+◌, ◌≤◌, ℕ, [], length, take, drop, replicate, IfOk, ◌++◌};
-ghost use Rattle.mqb_devices.specs.Images.{Written};
+ghost use Rattle.mqb_outside.specs.Images.{Written};
 ghost use Rattle.mqb_disk.specs.Extent.{Extent, standing};
 
 use mqb_base::Memory;

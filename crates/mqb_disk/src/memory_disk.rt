@@ -1,7 +1,7 @@
 ghost use Rattle.std.specs.Prelude.{◌≡◌, ◌+◌, ◌≤◌, ◌<◌, ◌^◌, ◌↔◌, [], ◌∷◌, ◌++◌, length, take, min, IfOk, vec_len, vec_capacity, false, None, true, IsTrue};
-ghost use Rattle.mqb_devices.specs.Images.{Written, IsCut};
-ghost use Rattle.mqb_devices.specs.Disk.{IsSettled};
-ghost use Rattle.mqb_devices.specs.declared.disk.TheConstants.{MAX_DISK};
+ghost use Rattle.mqb_outside.specs.Images.{Written, IsCut};
+ghost use Rattle.mqb_outside.specs.Disk.{IsSettled};
+ghost use Rattle.mqb_outside.specs.declared.disk.TheConstants.{MAX_DISK};
 ghost use Rattle.mqb_disk.specs.Picks.{lies_within};
 ghost use Rattle.mqb_disk.specs.declared.memory_disk.TheConstants.{MAX_CHANGES};
 ghost use Rattle.std.specs.List.{All};
@@ -10,7 +10,7 @@ use crate::change::{Change, replay};
 use crate::image::Image;
 use crate::switch::{PowerSwitch, Turn};
 use mqb_base::{Failed, Memory};
-use mqb_devices::{Disk, MAX_DISK, Mode, Pick, Power};
+use mqb_outside::{Disk, MAX_DISK, Mode, Pick, Power};
 use std::alloc::Global;
 
 /// How many ranges a disk in memory keeps between two syncs.
@@ -126,10 +126,11 @@ impl MemoryDisk {
 impl Disk for MemoryDisk {
     ghost use Rattle.std.specs.Prelude.{◌≢◌, drop, IsOk, OnOk, OnErr};
     ghost use Rattle.mqb_outside.specs.Faults.{HasCause};
-    ghost use Rattle.mqb_devices.specs.Images.{Each, Same, Follows, Torn, MayBeCut};
-    ghost use Rattle.mqb_devices.specs.Disk.{OnlyReads, Elapses, Counted};
+    ghost use Rattle.mqb_outside.specs.Images.{Each, Same, Follows, Torn, MayBeCut};
+    ghost use Rattle.mqb_outside.specs.Disk.{OnlyReads, Elapses, Counted};
     ghost use Rattle.mqb_disk.specs.Turns.{turn_of, after_turn};
-    ghost use Rattle.mqb_disk.specs.Views.{memory_view, memory_lawful, stored, changes_of, contents, power_of, room, noted, Takes};
+    ghost use Rattle.mqb_disk.specs.Views.{memory_view, stored, changes_of, contents, power_of, room, noted, Takes};
+    ghost use Rattle.mqb_disk.specs.lemmas.Views.{memory_lawful};
     ghost use Rattle.mqb_disk.specs.declared.change.Change.TheVariants.{Wrote, Cut};
 
     ghost view = { memory_view };
@@ -302,8 +303,8 @@ impl Power for MemoryDisk {
     ghost is_stopped = { λ d. d.switch.stopped };
 
     ghost use Rattle.std.specs.Prelude.{refl, Some};
-    ghost use Rattle.mqb_devices.specs.Images.{Each};
-    ghost use Rattle.mqb_devices.specs.Disk.{Unchanged, Elapses, Counted};
+    ghost use Rattle.mqb_outside.specs.Images.{Each};
+    ghost use Rattle.mqb_outside.specs.Disk.{Unchanged, Elapses, Counted};
     ghost use Rattle.mqb_disk.specs.Turns.{after_restart};
     ghost use Rattle.mqb_disk.specs.Views.{memory_view, stored, power_of, room, noted, left_after};
 

@@ -1,8 +1,8 @@
 ghost use Rattle.std.specs.Prelude.{◌≡◌, ◌≤◌, Some, None, true, false};
 ghost use Rattle.mqb_outside.specs.Faults.{Rose};
-ghost use Rattle.mqb_devices.specs.Disk.{Counted};
+ghost use Rattle.mqb_outside.specs.Disk.{Counted};
 
-use mqb_devices::{Mode, Pick};
+use mqb_outside::{Mode, Pick};
 
 /// What comes of a device call.
 #[derive(Clone, Copy, Debug, PartialEq, Eq)]

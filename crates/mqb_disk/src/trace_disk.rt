@@ -1,13 +1,13 @@
 ghost use Rattle.std.specs.Prelude.{◌≡◌, ◌+◌, ◌-◌, ◌≤◌, ◌<◌, [], ◌∷◌, ◌++◌, length, min, IfOk, OnOk, OnErr, IsTrue, vec_len, vec_capacity};
-ghost use Rattle.mqb_devices.specs.Disk.{IsSettled};
+ghost use Rattle.mqb_outside.specs.Disk.{IsSettled};
 ghost use Rattle.mqb_outside.specs.Faults.{Rose};
 ghost use Rattle.std.specs.List.{All};
 ghost use Rattle.mqb_disk.specs.History.{fits, held, history, reaches_within};
-ghost use Rattle.mqb_devices.specs.declared.disk.TheConstants.{MAX_DISK};
+ghost use Rattle.mqb_outside.specs.declared.disk.TheConstants.{MAX_DISK};
 
 use crate::image::Image;
 use mqb_base::{Failed, Memory};
-use mqb_devices::{Disk, MAX_DISK};
+use mqb_outside::{Disk, MAX_DISK};
 use std::alloc::Global;
 
 /// A call that changed a disk. The bytes of a write stand among those of all writes, from `from` on.
@@ -146,11 +146,12 @@ impl TraceDisk {
 
 impl Disk for TraceDisk {
     ghost use Rattle.std.specs.Prelude.{◌↔◌, ◌^◌, take, drop, IsOk};
-    ghost use Rattle.mqb_devices.specs.Images.{Each, Same, Follows, Written, Torn, IsCut, MayBeCut};
-    ghost use Rattle.mqb_devices.specs.Disk.{OnlyReads, Elapses, Counted};
+    ghost use Rattle.mqb_outside.specs.Images.{Each, Same, Follows, Written, Torn, IsCut, MayBeCut};
+    ghost use Rattle.mqb_outside.specs.Disk.{OnlyReads, Elapses, Counted};
     ghost use Rattle.mqb_outside.specs.Faults.{HasCause};
     ghost use Rattle.mqb_disk.specs.History.{Wrote as wrote, WasCut as was_cut, Synced as was_synced};
-    ghost use Rattle.mqb_disk.specs.TraceViews.{trace_view, trace_lawful, history_of, written_of, reads_of, room, bytes_left, calls_left, Keeps, Lists, Uses};
+    ghost use Rattle.mqb_disk.specs.TraceViews.{trace_view, history_of, written_of, reads_of, room, bytes_left, calls_left, Keeps, Lists, Uses};
+    ghost use Rattle.mqb_disk.specs.lemmas.TraceViews.{trace_lawful};
 
     ghost view = { trace_view };
 

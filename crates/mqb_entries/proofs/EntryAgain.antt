@@ -10,8 +10,10 @@ use Rattle.mqb_entries.specs.Fields.{field, outside, u8_at, u32_at}
 use Rattle.mqb_entries.specs.Spelled.{spelled_packet, IsWord, IsPacket}
 use Rattle.mqb_entries.specs.SpelledEntries.{spelled_place, spelled_part, IsPlace, IsPart}
 use Rattle.mqb_entries.specs.Entries.{queue_in, place_at, heard_at, acknowledged_at, part_at}
-use Rattle.mqb_entries.specs.Formats.{IsBytes, Took, IsFormat, bind_gives, ok_same, rest_again, both_moved, map_again, field_gives, pair_format, seen, behind}
-use Rattle.mqb_entries.specs.FieldFormats.{number_format, four_bytes, u8_format, u32_format, packet_format, chosen, Spans, spans, spans_both, took_of, byte_is, outside_apart}
+use Rattle.mqb_entries.specs.Formats.{IsBytes, Took, IsFormat, seen, behind}
+use Rattle.mqb_entries.specs.lemmas.Formats.{bind_gives, ok_same, rest_again, both_moved, map_again, field_gives, pair_format}
+use Rattle.mqb_entries.specs.FieldFormats.{Spans}
+use Rattle.mqb_entries.specs.lemmas.FieldFormats.{number_format, four_bytes, u8_format, u32_format, packet_format, chosen, spans, spans_both, took_of, byte_is, outside_apart}
 use Rattle.mqb_entries.proofs.EntryFormats.{Fault, pair_seen}
 
 -- what a reader made of what it read

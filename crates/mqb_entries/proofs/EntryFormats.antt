@@ -13,9 +13,11 @@ use Rattle.mqb_entries.specs.Lists.{many, count_at}
 use Rattle.mqb_entries.specs.Spelled.{spelled_guid, spelled_name, spelled_flag, spelled_public}
 use Rattle.mqb_entries.specs.SpelledEntries.{spelled_identity, spelled_queue, spelled_ops, spelled_marks, spelled_numbers, IsFew, IsFull, AreOps, AreMarks, AreNumbers, IsIdentity, IsQueue}
 use Rattle.mqb_entries.specs.Entries.{identity_at, queue_at, few_at, numbers_at}
-use Rattle.mqb_entries.specs.Formats.{IsBytes, Took, IsFormat, bind_gives, bind_assoc, bind_same, rest_again, both_moved, bytes_stay, map_format, pair_format, test_format, many_format, read_same, seen, behind}
-use Rattle.mqb_entries.specs.FieldFormats.{u8_format, u16_format, u32_format, address_format, guid_format, name_format, flag_format, public_format, Spans, spans, spans_both, took_of}
-use Rattle.mqb_entries.specs.MemberFormats.{op_format, mark_format}
+use Rattle.mqb_entries.specs.Formats.{IsBytes, Took, IsFormat, seen, behind}
+use Rattle.mqb_entries.specs.lemmas.Formats.{bind_gives, bind_assoc, bind_same, rest_again, both_moved, bytes_stay, map_format, pair_format, test_format, many_format, read_same}
+use Rattle.mqb_entries.specs.FieldFormats.{Spans}
+use Rattle.mqb_entries.specs.lemmas.FieldFormats.{u8_format, u16_format, u32_format, address_format, guid_format, name_format, flag_format, public_format, spans, spans_both, took_of}
+use Rattle.mqb_entries.specs.lemmas.MemberFormats.{op_format, mark_format}
 use Rattle.mqb_entries.specs.Members.{op_at, mark_at}
 use Rattle.mqb_entries.specs.declared.limits.TheConstants.{MAX_FEW, MAX_ROLL}
 

@@ -20,8 +20,10 @@ use Rattle.mqb_entries.specs.Kinds.{kinds, code_of}
 use Rattle.mqb_entries.specs.Spelled.{spelled_id, spelled_packet, IsWord, IsPacket, IsId}
 use Rattle.mqb_entries.specs.SpelledEntries.{spelled_ops, spelled_numbers, spelled_place, spelled_part, kind_of, spelled_fields, spelled, AreOps, AreNumbers, IsPlace, IsPart, IsEntry, Fits}
 use Rattle.mqb_entries.specs.Entries.{identity_at, queue_at, few_at, numbers_at, place_at, part_at, arrived_at, taken_at, fields_at, kind_in, kind_at, entry_of}
-use Rattle.mqb_entries.specs.Formats.{IsBytes, IsFormat, bind_gives, bind_same, ok_same, rest_again, map_again, pair_format, seen, behind}
-use Rattle.mqb_entries.specs.FieldFormats.{u8_format, u32_format, id_format, packet_format, chosen, Spans, spans, spans_both, outside_apart}
+use Rattle.mqb_entries.specs.Formats.{IsBytes, IsFormat, seen, behind}
+use Rattle.mqb_entries.specs.lemmas.Formats.{bind_gives, bind_same, ok_same, rest_again, map_again, pair_format}
+use Rattle.mqb_entries.specs.FieldFormats.{Spans}
+use Rattle.mqb_entries.specs.lemmas.FieldFormats.{u8_format, u32_format, id_format, packet_format, chosen, spans, spans_both, outside_apart}
 use Rattle.mqb_entries.proofs.ListFormats.{nothing_left}
 use Rattle.mqb_entries.proofs.EntryFormats.{Fault, pair_seen, text_same, three_joined, identity_format, queue_format, full_format, ops_format, marks_format, numbers_format}
 use Rattle.mqb_entries.proofs.EntryAgain.{IsMade, made, read_one, place_format, part_format}

@@ -9,7 +9,8 @@ use Rattle.mqb_entries.specs.declared.lists.Form.{Form}
 use Rattle.mqb_entries.specs.declared.lists.Form.TheVariants.{Spelled}
 use Rattle.mqb_entries.specs.Forms.{listed, IsList}
 use Rattle.mqb_entries.specs.Lists.{many, passed, start, members_of, AreSpelled}
-use Rattle.mqb_entries.specs.Formats.{IsBytes, IsFormat, bind_gives, ok_same, rest_again, many_format}
+use Rattle.mqb_entries.specs.Formats.{IsBytes, IsFormat}
+use Rattle.mqb_entries.specs.lemmas.Formats.{bind_gives, ok_same, rest_again, many_format}
 
 -- lists
 abbrev ended : {X : Type 0} → List X × Reading → Result Reading EntryFault

@@ -7,6 +7,6 @@ pub mod Spelled
 pub mod SpelledEntries
 pub mod Formats
 pub mod FieldFormats
-pub mod MemberFormats
 pub mod Forms
 pub mod Writing
+pub mod lemmas

@@ -86,7 +86,7 @@ fn put_take(out: &mut Vec<u8>, queue: u32, id: &MessageId)
 }
 
 impl<'a> Member for OpView<'a> {
-    ghost use Rattle.mqb_entries.specs.MemberFormats.{op_format};
+    ghost use Rattle.mqb_entries.specs.lemmas.MemberFormats.{op_format};
     ghost use Rattle.mqb_entries.specs.Members.{op_at};
     ghost use Rattle.mqb_entries.specs.Spelled.{IsOp, spelled_op};
 
@@ -140,7 +140,7 @@ impl<'a> ReadMember<'a> for OpView<'a> {
 }
 
 impl Member for Mark {
-    ghost use Rattle.mqb_entries.specs.MemberFormats.{mark_format};
+    ghost use Rattle.mqb_entries.specs.lemmas.MemberFormats.{mark_format};
     ghost use Rattle.mqb_entries.specs.Members.{mark_at};
     ghost use Rattle.mqb_entries.specs.Spelled.{IsMark, spelled_mark};
 
@@ -177,7 +177,7 @@ impl<'a> ReadMember<'a> for Mark {
 
 impl Member for u32 {
     ghost use Rattle.mqb_fields.specs.Writing.{bytes_of};
-    ghost use Rattle.mqb_entries.specs.FieldFormats.{u32_format};
+    ghost use Rattle.mqb_entries.specs.lemmas.FieldFormats.{u32_format};
     ghost use Rattle.mqb_entries.specs.Fields.{u32_at};
     ghost use Rattle.mqb_entries.specs.Spelled.{IsWord};
 

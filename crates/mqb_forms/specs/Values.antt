@@ -8,10 +8,10 @@ use Rattle.mqb_base.specs.declared.queues.Place.TheVariants.{Queue, JournalOf, D
 use Rattle.mqb_base.specs.Names.{name_fault}
 use Rattle.mqb_base.specs.Same.{same_bytes}
 use Rattle.mqb_fields.specs.Reading.{◌>>=◌}
-use Rattle.mqb_devices.specs.declared.power.Mode.{Mode}
-use Rattle.mqb_devices.specs.declared.power.Mode.TheVariants.{Stop, Fail}
-use Rattle.mqb_devices.specs.declared.power.Pick.{Pick}
-use Rattle.mqb_devices.specs.declared.power.Pick.TheVariants.{Old, New, Half, Ones}
+use Rattle.mqb_outside.specs.declared.power.Mode.{Mode}
+use Rattle.mqb_outside.specs.declared.power.Mode.TheVariants.{Stop, Fail}
+use Rattle.mqb_outside.specs.declared.power.Pick.{Pick}
+use Rattle.mqb_outside.specs.declared.power.Pick.TheVariants.{Old, New, Half, Ones}
 use Rattle.mqb_forms.specs.declared.faults.LineKind.{LineKind}
 use Rattle.mqb_forms.specs.declared.faults.LineKind.TheVariants.{Value}
 use Rattle.mqb_forms.specs.Faults.{only_if}

@@ -6,7 +6,7 @@ ghost use Rattle.mqb_forms.specs.Values.{moment_of, packet_of, quota_of, priorit
 use crate::faults::{LineFault, LineKind};
 use crate::words::{is_word, number_in};
 use mqb_base::{Guid, MAX_PRIORITY, Name, NameError, Place};
-use mqb_devices::{Mode, Pick};
+use mqb_outside::{Mode, Pick};
 use std::alloc::Global;
 use uuid::Uuid;
 

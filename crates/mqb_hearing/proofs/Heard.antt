@@ -6,7 +6,7 @@ use Rattle.mqb_base.specs.declared.answers.Memory.{Memory}
 use Rattle.mqb_base.specs.declared.heads.SessionHead.{SessionHead}
 use Rattle.mqb_base.specs.declared.heard.Cause.{Cause}
 use Rattle.mqb_base.specs.declared.heard.Cause.TheVariants as cause
-use Rattle.mqb_express.specs.Work.{beside_of}
+use Rattle.mqb_timeouts.specs.Work.{beside_of}
 use Rattle.mqb_packet.specs.Parts.{seen_packet}
 use Rattle.mqb_packet.specs.Spelled.{packet_in}
 use Rattle.mqb_packet.specs.declared.lent.PacketView.{PacketView}

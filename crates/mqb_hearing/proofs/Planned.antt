@@ -5,9 +5,9 @@ use Rattle.mqb_base.specs.declared.answers.Memory.{Memory}
 use Rattle.mqb_base.specs.declared.class.Class.{Class}
 use Rattle.mqb_base.specs.declared.heard.Heard.{Heard}
 use Rattle.mqb_base.specs.declared.message.Message.{Message}
-use Rattle.mqb_express.specs.declared.work.ExpressWork.{ExpressWork}
-use Rattle.mqb_express.specs.declared.work.ExpressWork.TheVariants as work
-use Rattle.mqb_express.specs.Work.{beside_of}
+use Rattle.mqb_timeouts.specs.declared.work.ExpressWork.{ExpressWork}
+use Rattle.mqb_timeouts.specs.declared.work.ExpressWork.TheVariants as work
+use Rattle.mqb_timeouts.specs.Work.{beside_of}
 use Rattle.mqb_session.specs.Sending.{noted_stored}
 use Rattle.mqb_session.specs.State as one_end
 use Rattle.mqb_model.specs.calls.hear.Hear.{listening}

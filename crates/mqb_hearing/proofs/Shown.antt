@@ -17,7 +17,7 @@ use Rattle.mqb_packet.specs.declared.lent.UserView.{UserView}
 use Rattle.mqb_packet.specs.declared.packet.Packet.{Packet}
 use Rattle.mqb_packet.specs.declared.packet.Packet.TheVariants as packet
 use Rattle.mqb_packet.specs.declared.packet.UserPacket.{UserPacket}
-use Rattle.mqb_packet_laws.specs.ReadPackets.{IsReadOf}
+use Rattle.mqb_packet.specs.ReadPackets.{IsReadOf}
 use Rattle.mqb_setup.specs.Widths.{IsSessionHead}
 use Rattle.mqb_model.specs.calls.hear.Hear.{IsHead}
 use Rattle.mqb_model.specs.records.Reading.{as_user, user_packet_of}

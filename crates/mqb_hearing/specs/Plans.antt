@@ -1,7 +1,7 @@
 -- What a manager makes of a packet, as a plan.
 use Rattle.std.specs.Prelude.{[], ◌≡◌, IfOk, IsSomeAnd, None, Ok, Option, Result, Some, is_some, ℕ}
 use Rattle.mqb_base.specs.declared.answers.Memory.{Memory}
-use Rattle.mqb_express.specs.Work.{beside_of}
+use Rattle.mqb_timeouts.specs.Work.{beside_of}
 use Rattle.mqb_packet.specs.Parts.{seen_packet}
 use Rattle.mqb_packet.specs.Spelled.{packet_in}
 use Rattle.mqb_packet.specs.declared.lent.PacketView.{PacketView}

@@ -1,7 +1,7 @@
 ghost use Rattle.std.specs.Option.{option_map_or};
 ghost use Rattle.std.specs.Prelude.{[], ◌<◌, ◌≡◌, IfOk, IfSome, Ok, OnOk, Some, false, is_some, true};
 ghost use Rattle.mqb_base.specs.Same.{same_guid};
-ghost use Rattle.mqb_express.specs.Work.{beside_of};
+ghost use Rattle.mqb_timeouts.specs.Work.{beside_of};
 ghost use Rattle.mqb_model.specs.calls.hear.Hear.{hear_behind, hear_linked, hear_user};
 ghost use Rattle.mqb_model.specs.calls.hear.Session.{by_session, hear_set_up, is_foreign, set_up_answer, user_heard};
 ghost use Rattle.mqb_model.specs.managers.Beside.{beside_done};
@@ -24,10 +24,10 @@ use crate::lent::LentPacket;
 use crate::listener::Listener;
 use mqb_base::{Cause, Guid, Heard, Memory, SessionHead};
 use mqb_contents::Contents;
-use mqb_express::ExpressWork;
 use mqb_model::{calls_keep_valid, records_are_read, records_fit};
 use mqb_packet::{PacketView, UserView};
 use mqb_session::{HeadHeard, Phase, Session};
+use mqb_timeouts::ExpressWork;
 use std::alloc::Global;
 
 /// A packet without a session header acknowledges nothing, and is never in order.

@@ -11,8 +11,9 @@ ghost use Rattle.mqb_packet.specs.declared.packet.Packet.TheVariants as packet;
 
 use mqb_base::{Class, Delivery, Guid, Memory, Message, MessageId, QueueName, SessionHead, TxHead};
 use mqb_entries::PacketSlice;
-use mqb_packet::{Packet, PacketView, UserView, each_view_spells_a_packet, to_owned};
-use mqb_packet_laws::read_is_written;
+use mqb_packet::{
+    Packet, PacketView, UserView, each_view_spells_a_packet, read_is_written, to_owned,
+};
 use std::alloc::Global;
 use std::marker::Model;
 

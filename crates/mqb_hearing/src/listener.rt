@@ -14,8 +14,8 @@ use crate::hearing::Hearing;
 use mqb_base::{Class, Heard, Memory, Message};
 use mqb_contents::Contents;
 use mqb_entries::ArrivedPart;
-use mqb_express::ExpressWork;
 use mqb_session::Session;
+use mqb_timeouts::ExpressWork;
 use std::alloc::{AllocError, Global};
 use std::marker::Model;
 

@@ -11,9 +11,9 @@ use crate::listener::Listener;
 use mqb_base::{Class, Heard, Memory};
 use mqb_contents::Contents;
 use mqb_entries::ArrivedPart;
-use mqb_express::is_for_order_layer;
 use mqb_fate::OrderAck;
 use mqb_orders::OutRow;
+use mqb_rules::is_for_order_layer;
 
 fn may_acknowledge(contents: &Contents, packet: &LentPacket<'_>) -> bool
     ensures { result ≡ may_acknowledge contents.now.lists packet.now.message }

@@ -10,7 +10,7 @@ use crate::order_acks::acknowledged_in;
 use crate::refusals::{is_final, refusal_of, storing_refusal};
 use mqb_base::{Class, Heard, Memory, Message};
 use mqb_entries::ArrivedPart;
-use mqb_express::is_for_order_layer;
+use mqb_rules::is_for_order_layer;
 
 fn express_answer(message: &Message, refusal: Option<Class>) -> Heard
     ensures { result ≡ express_answer message.now refusal }

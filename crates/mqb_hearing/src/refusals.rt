@@ -6,8 +6,8 @@ ghost use Rattle.mqb_model.specs.rules.Arrivals.{refusal_of, storing_refusal};
 use crate::lent::LentPacket;
 use mqb_base::{Class, Delivery};
 use mqb_contents::Contents;
-use mqb_express::{is_for_order_layer, resolved, target_refusal};
 use mqb_fate::is_final_class;
+use mqb_rules::{is_for_order_layer, resolved, target_refusal};
 
 /// Why the arrival of a packet's message is refused.
 pub(crate) fn refusal_of(contents: &Contents, packet: &LentPacket<'_>) -> Option<Class>

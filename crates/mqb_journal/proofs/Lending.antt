@@ -3,8 +3,8 @@ use Rattle.std.proofs.Common.{◌≡◌, ℕ, ◌+◌, List, [], ◌∷◌, ◌+
 use Rattle.std.proofs.lemmas.List.{take-append-drop, append-nil, take_at}
 use Rattle.std.proofs.lemmas.List.Elements.{All-push, All-nil}
 use Rattle.mqb_base.specs.declared.ids.Guid.{Guid}
-use Rattle.mqb_devices.specs.Images.{Each}
-use Rattle.mqb_devices.specs.Disk.{View, OnlyReads}
+use Rattle.mqb_outside.specs.Images.{Each}
+use Rattle.mqb_outside.specs.Disk.{View, OnlyReads}
 use Rattle.mqb_journal.specs.Store.{IsFront, IsSmall, header, chain}
 use Rattle.mqb_journal.specs.Scan.{IsClosedAt, HasNext}
 use Rattle.mqb_journal.specs.States.{ScanState, begun, ended}

@@ -4,12 +4,12 @@ use Rattle.std.specs.List.{All}
 use Rattle.mqb_fields.specs.Writing.{bytes_of}
 use Rattle.std.proofs.lemmas.List.{append-nil}
 use Rattle.std.proofs.lemmas.List.Elements.{All-push}
-use Rattle.mqb_devices.specs.Images.{Written}
-use Rattle.mqb_devices.specs.Disk.{View, IsSettled, LeavesOnly, Lawful}
-use Rattle.mqb_devices.specs.Runs.{started, weaker}
+use Rattle.mqb_outside.specs.Images.{Written}
+use Rattle.mqb_outside.specs.Disk.{View, IsSettled, LeavesOnly, Lawful}
+use Rattle.mqb_outside.specs.lemmas.Runs.{started, weaker}
 use Rattle.mqb_journal.specs.States.{JournalState}
 use Rattle.mqb_journal.specs.Journals.{GoesOn}
-use Rattle.mqb_journal.specs.Carrying.{goes_on_stands}
+use Rattle.mqb_journal.specs.lemmas.Carrying.{goes_on_stands}
 use Rattle.mqb_journal.specs.Gates.{HasRecord, ClosedOrWhole}
 use Rattle.mqb_journal.specs.Store.{IsFront, IsSmall, header, framed, chain, HasClosedGate, IsBeforeOrAfter}
 

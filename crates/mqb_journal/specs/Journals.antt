@@ -1,7 +1,7 @@
 use Rattle.std.specs.Prelude.{◌≡◌, ℕ, ◌+◌, List, ◌++◌, length, true, false, Result, Ok, Err}
 use Rattle.std.specs.List.{All}
-use Rattle.mqb_devices.specs.Images.{Each}
-use Rattle.mqb_devices.specs.Disk.{View}
+use Rattle.mqb_outside.specs.Images.{Each}
+use Rattle.mqb_outside.specs.Disk.{View}
 use Rattle.mqb_journal.specs.Store.{IsFront, IsSmall, HasClosedGate, chain}
 use Rattle.mqb_journal.specs.Scan.{BeginsWith, IsClosedAt}
 use Rattle.mqb_journal.specs.States.{JournalState, ScanState}

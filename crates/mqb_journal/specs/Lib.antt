@@ -4,5 +4,5 @@ pub mod Scan
 pub mod States
 pub mod Causes
 pub mod Journals
-pub mod Carrying
 pub mod Next
+pub mod lemmas

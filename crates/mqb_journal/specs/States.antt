@@ -1,5 +1,5 @@
 use Rattle.std.specs.Prelude.{◌≡◌, ℕ, ◌+◌, ◌<◌, ◌≤◌, Bool, true, false, List, length}
-use Rattle.mqb_devices.specs.declared.disk.TheConstants.{MAX_DISK}
+use Rattle.mqb_outside.specs.declared.disk.TheConstants.{MAX_DISK}
 use Rattle.mqb_journal.specs.declared.limits.TheConstants.{MAX_RECORD}
 use Rattle.mqb_base.specs.declared.ids.Guid.{Guid}
 

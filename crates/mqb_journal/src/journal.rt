@@ -1,9 +1,9 @@
 ghost use Rattle.std.specs.Prelude.{◌≡◌, ◌≢◌, ◌↔◌, ◌+◌, ◌<◌, ◌≤◌, ℕ, List, [], ◌∷◌, ◌++◌, length, vec_capacity, true, false, Err, IfOk, OnOk, OnErr};
 ghost use Rattle.mqb_fields.specs.Writing.{bytes_of};
 ghost use Rattle.mqb_outside.specs.Faults.{Rose};
-ghost use Rattle.mqb_devices.specs.Images.{Each};
-ghost use Rattle.mqb_devices.specs.Disk.{IsSettled, LeavesOnly, OnlyReads, Counted};
-ghost use Rattle.mqb_devices.specs.declared.disk.TheConstants.{MAX_DISK};
+ghost use Rattle.mqb_outside.specs.Images.{Each};
+ghost use Rattle.mqb_outside.specs.Disk.{IsSettled, LeavesOnly, OnlyReads, Counted};
+ghost use Rattle.mqb_outside.specs.declared.disk.TheConstants.{MAX_DISK};
 ghost use Rattle.mqb_journal.specs.Store.{IsSmall, IsBeforeOrAfter};
 ghost use Rattle.mqb_journal.specs.States.{appended};
 ghost use Rattle.mqb_journal.specs.Scan.{HasNoHeader};
@@ -16,7 +16,7 @@ use crate::limits::{FIRST_BLOCK, HEADER, MAX_RECORD, MIN_STORE};
 use crate::reading::{header_at, reserve};
 use crate::scan::Scan;
 use mqb_base::{Guid, Memory};
-use mqb_devices::Disk;
+use mqb_outside::Disk;
 use std::alloc::Global;
 use std::marker::Model;
 
@@ -33,7 +33,7 @@ pub struct Journal {
 
 impl Model for Journal {
     ghost use Rattle.std.specs.Prelude.{◌<◌, ◌≤◌, vec_capacity};
-    ghost use Rattle.mqb_devices.specs.declared.disk.TheConstants.{MAX_DISK};
+    ghost use Rattle.mqb_outside.specs.declared.disk.TheConstants.{MAX_DISK};
     ghost use Rattle.mqb_journal.specs.States.{JournalState};
 
     ghost Value = { JournalState };

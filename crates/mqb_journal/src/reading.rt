@@ -2,9 +2,9 @@ ghost use Rattle.std.specs.Prelude.{◌≡◌, ◌≢◌, ◌+◌, ◌<◌, ◌�
 ghost use Rattle.mqb_fields.specs.Reading.{number_of};
 ghost use Rattle.mqb_fields.specs.Writing.{bytes_of};
 ghost use Rattle.mqb_outside.specs.Faults.{HasCause};
-ghost use Rattle.mqb_devices.specs.Images.{Each};
-ghost use Rattle.mqb_devices.specs.Disk.{OnlyReads};
-ghost use Rattle.mqb_devices.specs.declared.disk.TheConstants.{MAX_DISK};
+ghost use Rattle.mqb_outside.specs.Images.{Each};
+ghost use Rattle.mqb_outside.specs.Disk.{OnlyReads};
+ghost use Rattle.mqb_outside.specs.declared.disk.TheConstants.{MAX_DISK};
 ghost use Rattle.mqb_journal.specs.Store.{MAGIC, header, IsSmall};
 ghost use Rattle.mqb_journal.specs.Scan.{HasNext, IsClosedAt, IsBadAt};
 ghost use Rattle.mqb_journal.specs.Causes.{FaultsAsSaid, scan_failed};
@@ -13,7 +13,7 @@ use crate::faults::ScanFault;
 use crate::header::guid_of;
 use crate::limits::MAX_RECORD;
 use mqb_base::{Failed, Guid, Memory};
-use mqb_devices::Disk;
+use mqb_outside::Disk;
 use std::alloc::Global;
 
 #[tactic(auto, using(crate::proofs::Scans::read_byte))]

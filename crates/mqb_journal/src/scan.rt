@@ -1,7 +1,7 @@
 ghost use Rattle.std.specs.Prelude.{◌≡◌, ◌<◌, ◌≤◌, ℕ, List, [], ◌∷◌, ◌++◌, length, take, vec_len, true, false, None, Err, IfOk, IfSome, OnOk};
-ghost use Rattle.mqb_devices.specs.Images.{Each};
-ghost use Rattle.mqb_devices.specs.Disk.{OnlyReads};
-ghost use Rattle.mqb_devices.specs.declared.disk.TheConstants.{MAX_DISK};
+ghost use Rattle.mqb_outside.specs.Images.{Each};
+ghost use Rattle.mqb_outside.specs.Disk.{OnlyReads};
+ghost use Rattle.mqb_outside.specs.declared.disk.TheConstants.{MAX_DISK};
 ghost use Rattle.mqb_journal.specs.States.{begun, advanced, ended, finished};
 ghost use Rattle.mqb_journal.specs.Scan.{HasNext, IsClosedAt, IsBadAt};
 ghost use Rattle.mqb_journal.specs.Causes.{FaultsAsSaid, scan_failed};
@@ -11,7 +11,7 @@ use crate::journal::Journal;
 use crate::limits::{HEADER, MAX_RECORD};
 use crate::reading::read_next;
 use mqb_base::Guid;
-use mqb_devices::Disk;
+use mqb_outside::Disk;
 use std::alloc::Global;
 use std::marker::Model;
 
@@ -34,7 +34,7 @@ pub struct Scan {
 
 impl Model for Scan {
     ghost use Rattle.std.specs.Prelude.{◌≡◌, ◌<◌, ◌≤◌, take, vec_len};
-    ghost use Rattle.mqb_devices.specs.declared.disk.TheConstants.{MAX_DISK};
+    ghost use Rattle.mqb_outside.specs.declared.disk.TheConstants.{MAX_DISK};
     ghost use Rattle.mqb_journal.specs.declared.limits.TheConstants.{MAX_RECORD};
     ghost use Rattle.mqb_journal.specs.States.{ScanState, IsWithin};
 

@@ -12,7 +12,7 @@ use Rattle.mqb_entries.specs.declared.entry.Entry.TheVariants as form
 use Rattle.mqb_entries.specs.declared.entry.IdentityView.{IdentityView}
 use Rattle.mqb_fields.specs.Writing.{bytes_of}
 use Rattle.mqb_model.specs.calls.AddPeer.{add_peer, add_peer_refusal}
-use Rattle.mqb_devices.specs.Disk.{Lawful, View}
+use Rattle.mqb_outside.specs.Disk.{Lawful, View}
 use Rattle.mqb_model.specs.declared.faults.AddPeerFault.{AddPeerFault}
 use Rattle.mqb_model.specs.declared.faults.AddPeerFault.TheVariants as fault
 use Rattle.mqb_model.specs.declared.limits.TheConstants.{MAX_PEERS, MAX_RECORD}

@@ -1,7 +1,7 @@
 -- A call of a manager, by what it writes.
 use Rattle.std.proofs.Common.{inl, inr, refl, sym, ap, subst, ◌∙◌, arith}
 use Rattle.std.specs.Prelude.{◌≡◌, ◌≤◌, Err, IfSome, IsSome, IsSomeAnd, None, false, Ok, OnOk, Option, Result, Some, length, option_map, true}
-use Rattle.mqb_devices.specs.Disk.{Lawful, View}
+use Rattle.mqb_outside.specs.Disk.{Lawful, View}
 use Rattle.mqb_entries.specs.SpelledEntries.{Fits, spelled}
 use Rattle.mqb_entries.specs.declared.entry.Entry.{Entry}
 use Rattle.mqb_model.specs.declared.limits.TheConstants.{MAX_RECORD}
@@ -20,11 +20,11 @@ use Rattle.mqb_outside.specs.Faults.{Rose}
 use Rattle.mqb_store.specs.Writing.{CanWrite, change_in}
 use Rattle.mqb_store.specs.declared.faults.WriteFault.{WriteFault}
 use Rattle.mqb_store.specs.declared.faults.WriteFault.TheVariants as fault
-use Rattle.mqb_store_laws.specs.Carrying.{quiet_opens}
+use Rattle.mqb_store_laws.specs.lemmas.Carrying.{quiet_opens}
 use Rattle.mqb_manager.specs.Calls.{Ends, IsCall}
 use Rattle.mqb_manager.specs.States.{IsOnDisk, IsSame, IsUp, ManagerState, manager_of}
 use Rattle.mqb_manager.specs.Writing.{IsReady, answered, outcome_by}
-use Rattle.mqb_steps.proofs.Rests.{grown_whole}
+use Rattle.mqb_choosing.proofs.Rests.{grown_whole}
 
 -- A call that is not refused.
 

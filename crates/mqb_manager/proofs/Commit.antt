@@ -3,7 +3,7 @@ use Rattle.std.proofs.Common.{refl, sym, ap, subst, ◌∙◌}
 use Rattle.std.specs.Prelude.{[], ◌+◌, ◌∷◌, ◌≡◌, ◌≤◌, All, Bool, Err, IfSome, IsSome, List, None, Ok, OnOk, Option, Result, Some, false, if◌then◌else◌, length, nat_lt, true, ◌==◌, ℕ}
 use Rattle.std.specs.Result.{IsOkAnd}
 use Rattle.mqb_base.specs.declared.draft.Op.{Op}
-use Rattle.mqb_devices.specs.Disk.{Lawful, View}
+use Rattle.mqb_outside.specs.Disk.{Lawful, View}
 use Rattle.mqb_entries.specs.SpelledEntries.{Fits, spelled}
 use Rattle.mqb_entries.specs.declared.entry.Entry.TheVariants as form
 use Rattle.mqb_fields.specs.Reading.{◌>>=◌}

@@ -10,7 +10,7 @@ use Rattle.mqb_entries.specs.declared.entry.Entry.TheVariants as form
 use Rattle.mqb_entries.specs.declared.entry.QueueView.{QueueView}
 use Rattle.mqb_fields.specs.Writing.{bytes_of}
 use Rattle.mqb_model.specs.calls.CreateQueue.{create_queue, create_refusal}
-use Rattle.mqb_devices.specs.Disk.{Lawful, View}
+use Rattle.mqb_outside.specs.Disk.{Lawful, View}
 use Rattle.mqb_model.specs.declared.faults.CreateFault.{CreateFault}
 use Rattle.mqb_model.specs.declared.faults.CreateFault.TheVariants as fault
 use Rattle.mqb_model.specs.declared.limits.TheConstants.{MAX_QUEUES, MAX_RECORD}

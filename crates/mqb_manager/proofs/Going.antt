@@ -4,7 +4,7 @@ use Rattle.std.specs.Option.{option_map_or}
 use Rattle.std.specs.Prelude.{◌+◌, ◌==◌, ◌≡◌, Bool, Err, IsSome, List, None, Ok, Option, Result, Some, false, fold, if◌then◌else◌, length, map, true, ℕ}
 use Rattle.mqb_base.specs.declared.heads.SessionHead.{SessionHead}
 use Rattle.mqb_base.specs.declared.ids.Guid.{Guid}
-use Rattle.mqb_devices.specs.Disk.{LeavesOnly, View}
+use Rattle.mqb_outside.specs.Disk.{LeavesOnly, View}
 use Rattle.mqb_entries.specs.declared.entry.Entry.{Entry}
 use Rattle.mqb_entries.specs.declared.entry.Entry.TheVariants as form
 use Rattle.mqb_entries.specs.declared.members.Mark.{Mark}
@@ -30,11 +30,11 @@ use Rattle.mqb_model.specs.state.State.{State}
 use Rattle.mqb_store.specs.Writing.{change_in}
 use Rattle.mqb_store.specs.declared.faults.WriteFault.{WriteFault}
 use Rattle.mqb_store.specs.declared.faults.WriteFault.TheVariants as write
-use Rattle.mqb_store_laws.specs.Carrying.{on_beside}
+use Rattle.mqb_store_laws.specs.lemmas.Carrying.{on_beside}
 use Rattle.mqb_store_laws.specs.Images.{Opens}
 use Rattle.mqb_manager.specs.Calls.{Ends, IsCall, Succeeds}
 use Rattle.mqb_manager.specs.Pumps.{pump_fault, sent_as, with_sent}
-use Rattle.mqb_steps.specs.Plans.{offered_form}
+use Rattle.mqb_choosing.specs.Plans.{offered_form}
 use Rattle.mqb_manager.specs.States.{IsUp, ManagerState, condition_of, manager_of}
 use Rattle.mqb_manager.specs.Writing.{write_of}
 use Rattle.mqb_manager.proofs.Conditions.{down_is, up_from}

@@ -2,7 +2,7 @@
 use Rattle.std.proofs.Common.{inl, inr, refl, sym, ap, subst, ◌∙◌, length}
 use Rattle.std.specs.Option.{option_map_or}
 use Rattle.std.specs.Prelude.{[], ◌+◌, ◌≡◌, ◌≤◌, Bool, Err, IfSome, IsSome, IsSomeAnd, List, None, Ok, Option, Some, cond, false, is_some, option_map, true, ℕ}
-use Rattle.mqb_devices.specs.Disk.{Lawful, LeavesOnly, View}
+use Rattle.mqb_outside.specs.Disk.{Lawful, LeavesOnly, View}
 use Rattle.mqb_entries.specs.SpelledEntries.{Fits, spelled}
 use Rattle.mqb_entries.specs.declared.entry.Entry.{Entry}
 use Rattle.mqb_store.specs.Work.{beside_of}
@@ -36,15 +36,15 @@ use Rattle.mqb_store.specs.States as stores
 use Rattle.mqb_store.specs.States.{IsSameStore, StoreState}
 use Rattle.mqb_store.specs.Writing.{CanWrite, LeavesStore, change_in, written}
 use Rattle.mqb_manager.specs.Calls.{IsCall}
-use Rattle.mqb_steps.specs.Marks.{marked}
+use Rattle.mqb_choosing.specs.Owed.{marked}
 use Rattle.mqb_manager.specs.Seen.{seen}
 use Rattle.mqb_manager.specs.States.{IsUp, ManagerState, condition_of, manager_of}
 use Rattle.mqb_store_laws.specs.Images.{Opens}
 use Rattle.mqb_store.specs.Together.{LeavesValid}
 use Rattle.mqb_manager.proofs.Calls.{change_is}
 use Rattle.mqb_manager.proofs.Conditions.{up_condition}
-use Rattle.mqb_steps.proofs.Marks.{marked_grown}
-use Rattle.mqb_steps.proofs.Rests.{grown_again, no_more}
+use Rattle.mqb_choosing.proofs.OwedRows.{marked_grown}
+use Rattle.mqb_choosing.proofs.Rests.{grown_again, no_more}
 use Rattle.mqb_manager.proofs.Written.{IsBroken, IsStored}
 use Rattle.mqb_manager.proofs.Written as writes
 

@@ -27,7 +27,7 @@ use Rattle.mqb_manager.specs.Seen.{seen}
 use Rattle.mqb_manager.specs.States.{ManagerState, condition_of, manager_of}
 use Rattle.mqb_manager.proofs.Calls.{stays_same, unless_none, unless_some}
 use Rattle.mqb_manager.proofs.Conditions.{down_is}
-use Rattle.mqb_steps.proofs.Rests.{anew_grown, anew_length, grown_again, grown_whole, within}
+use Rattle.mqb_choosing.proofs.Rests.{anew_grown, anew_length, grown_again, grown_whole, within}
 
 -- A manager whose store stays, by what it is.
 quiet : {A : Type 0} (m n : ManagerState) (o : Outcome A) → o.entry ≡ None → n.store.lines ≡ m.store.lines → n.store.journal ≡ m.store.journal

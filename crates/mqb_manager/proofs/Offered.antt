@@ -13,7 +13,7 @@ use Rattle.mqb_model.specs.records.Offered.{mark_raised, with_offered}
 use Rattle.mqb_model.specs.state.Rows.{has_ordinal}
 use Rattle.mqb_model.specs.state.State.{State}
 use Rattle.mqb_model.specs.state.Valid.{IsValidState}
-use Rattle.mqb_steps.proofs.Rests.{grown_length}
+use Rattle.mqb_choosing.proofs.Rests.{grown_length}
 
 -- The same but for the outgoing rows, of which there are as many.
 pub record DiffersInRows (s t : State) : Type 0 where

@@ -2,8 +2,8 @@
 use Rattle.std.proofs.Common.{arith, inl, inr, refl, sym, ap, subst, ◌∙◌}
 use Rattle.std.specs.Option.{option_map_or}
 use Rattle.std.specs.Prelude.{◌+◌, ◌≡◌, ◌⊎◌, Bool, Err, List, None, Ok, Option, Result, Some, false, length, ℕ}
-use Rattle.mqb_devices.specs.Disk.{Lawful, View}
-use Rattle.mqb_devices.specs.Images.{Each}
+use Rattle.mqb_outside.specs.Disk.{Lawful, View}
+use Rattle.mqb_outside.specs.Images.{Each}
 use Rattle.mqb_packet.specs.declared.packet.Packet.{Packet}
 use Rattle.mqb_session.specs.State as one_end
 use Rattle.mqb_model.specs.calls.pump.Pump.{sending_one}
@@ -15,12 +15,12 @@ use Rattle.mqb_model.specs.records.Applying.{lines_of}
 use Rattle.mqb_model.specs.records.Reading.{record_of}
 use Rattle.mqb_model.specs.records.Record.{Record}
 use Rattle.mqb_store.specs.States.{IsSameStore, IsStoredOn, StoreState}
-use Rattle.mqb_store_laws.specs.Carrying.{quiet_opens}
+use Rattle.mqb_store_laws.specs.lemmas.Carrying.{quiet_opens}
 use Rattle.mqb_store_laws.specs.Images.{Opens}
 use Rattle.mqb_manager.specs.Calls.{Ends, IsCall}
 use Rattle.mqb_manager.specs.Quiet.{IsQuiet}
 use Rattle.mqb_manager.specs.States.{ManagerState, manager_of}
-use Rattle.mqb_steps.proofs.Rests.{grown_whole}
+use Rattle.mqb_choosing.proofs.Rests.{grown_whole}
 
 abbrev fault_or : {V E : Type 0} → Result V E → E → E
 fault_or (Err e) d = e

@@ -15,7 +15,7 @@ use Rattle.mqb_packet.specs.declared.lent.UserView.{UserView}
 use Rattle.mqb_packet.specs.declared.packet.Packet.{Packet}
 use Rattle.mqb_packet.specs.declared.packet.Packet.TheVariants as packet
 use Rattle.mqb_packet.specs.declared.packet.UserPacket.{UserPacket}
-use Rattle.mqb_packet_laws.specs.ReadPackets.{IsReadOf}
+use Rattle.mqb_packet.specs.ReadPackets.{IsReadOf}
 use Rattle.mqb_setup.specs.Widths.{IsSessionHead}
 
 -- what is known of packets that were read

@@ -7,7 +7,7 @@ use Rattle.std.specs.Prelude.{◌+◌, ◌++◌, ◌==◌, ◌≡◌, ◌≤◌,
 use Rattle.mqb_base.specs.declared.heads.SessionHead.{SessionHead}
 use Rattle.mqb_base.specs.declared.ids.Guid.{Guid}
 use Rattle.mqb_base.specs.declared.ids.Identity.{Identity}
-use Rattle.mqb_devices.specs.Disk.{Counted, View}
+use Rattle.mqb_outside.specs.Disk.{Counted, View}
 use Rattle.mqb_entries.specs.declared.entry.Entry.TheVariants as form
 use Rattle.mqb_entries.specs.declared.members.Mark.{Mark}
 use Rattle.mqb_packet.specs.Plain.{plain_spelling}
@@ -43,7 +43,7 @@ use Rattle.mqb_store.specs.Writing.{CanWrite, change_in}
 use Rattle.mqb_store.specs.declared.faults.WriteFault.{WriteFault}
 use Rattle.mqb_store.specs.declared.faults.WriteFault.TheVariants as write
 use Rattle.mqb_manager.specs.Calls.{IsCall}
-use Rattle.mqb_steps.specs.Plans.{offered_form}
+use Rattle.mqb_choosing.specs.Plans.{offered_form}
 use Rattle.mqb_manager.specs.Pumps.{CanNoteAll, ComesToSend, IsPlanned, IsPumped, going_to, pump_fault, sent_as, with_sent}
 use Rattle.mqb_manager.specs.States.{IsOnDisk, IsUp, ManagerState, manager_of}
 use Rattle.mqb_manager.specs.Writing.{IsReady, write_of}

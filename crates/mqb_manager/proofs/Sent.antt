@@ -4,7 +4,7 @@ use Rattle.std.proofs.lemmas.List.{append-nil}
 use Rattle.std.proofs.lemmas.List.Elements.{All-cons, All-nil}
 use Rattle.std.specs.Prelude.{[], ◌&&◌, ◌++◌, ◌<◌, ◌==◌, ◌≡◌, All, Err, IfSome, IsSomeAnd, List, None, Ok, OnErr, OnOk, Option, Result, Some, false, flat_map, length, not, slice_get, true, ℕ}
 use Rattle.mqb_base.specs.declared.ids.Identity.{Identity}
-use Rattle.mqb_devices.specs.Disk.{Counted, Lawful, View}
+use Rattle.mqb_outside.specs.Disk.{Counted, Lawful, View}
 use Rattle.mqb_packet.specs.Plain.{plain_spelling}
 use Rattle.mqb_packet.specs.Values.{IsPacket}
 use Rattle.mqb_packet.specs.declared.packet.Packet.{Packet}

@@ -3,7 +3,7 @@ use Rattle.std.proofs.Common.{refl, ap, arith}
 use Rattle.std.proofs.lemmas.Bool.Decides.{nat_tests}
 use Rattle.std.specs.Prelude.{◌≡◌, Err, None, Ok, Some, false, if◌then◌else◌, true, ℕ}
 use Rattle.mqb_entries.specs.declared.entry.Entry.TheVariants as form
-use Rattle.mqb_devices.specs.Disk.{Lawful, View}
+use Rattle.mqb_outside.specs.Disk.{Lawful, View}
 use Rattle.mqb_entries.specs.SpelledEntries.{IsFull}
 use Rattle.mqb_model.specs.laws.Durable.{CallsLeaveStore}
 use Rattle.mqb_model.specs.laws.Fitting.{RecordsFit}

@@ -7,7 +7,7 @@ use Rattle.mqb_base.specs.declared.message.Lane.TheVariants as lane
 use Rattle.mqb_base.specs.declared.message.Message.{Message}
 use Rattle.mqb_base.specs.declared.queues.EntryPlace.{EntryPlace}
 use Rattle.mqb_base.specs.declared.queues.Place.{Place}
-use Rattle.mqb_devices.specs.Disk.{Lawful, View}
+use Rattle.mqb_outside.specs.Disk.{Lawful, View}
 use Rattle.mqb_model.specs.calls.Purge.{purge, purge_at, purge_refusal, purging}
 use Rattle.mqb_model.specs.calls.SetRoll.{store_refusal}
 use Rattle.mqb_model.specs.calls.Take.{first_in, take_at, take_message, take_position, take_refusal, taking}

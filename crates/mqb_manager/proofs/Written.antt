@@ -2,8 +2,8 @@
 use Rattle.std.proofs.Common.{inl, inr, refl, sym, ap, subst, ◌∙◌, length}
 use Rattle.std.specs.Option.{option_map_or}
 use Rattle.std.specs.Prelude.{[], ◌+◌, ◌≡◌, Bool, Err, IfSome, IsSome, IsSomeAnd, List, None, Ok, Option, Result, Some, false, true, ℕ}
-use Rattle.mqb_devices.specs.Disk.{IsSettled, Lawful, LeavesOnly, View}
-use Rattle.mqb_devices.specs.Images.{Each}
+use Rattle.mqb_outside.specs.Disk.{IsSettled, Lawful, LeavesOnly, View}
+use Rattle.mqb_outside.specs.Images.{Each}
 use Rattle.mqb_entries.specs.declared.entry.Entry.{Entry}
 use Rattle.mqb_journal.specs.Causes.{FaultsAsSaid}
 use Rattle.mqb_journal.specs.States.{JournalState}
@@ -22,14 +22,14 @@ use Rattle.mqb_store.specs.States.{IsSameStore, IsStoredOn, StoreState}
 use Rattle.mqb_store.specs.Writing.{CanWrite, change_in, lines_then, write_failed, written}
 use Rattle.mqb_store.specs.declared.faults.WriteFault.{WriteFault}
 use Rattle.mqb_store.specs.declared.faults.WriteFault.TheVariants as fault
-use Rattle.mqb_store_laws.specs.Carrying.{on_with_room, quiet_opens}
+use Rattle.mqb_store_laws.specs.lemmas.Carrying.{on_with_room, quiet_opens}
 use Rattle.mqb_store_laws.specs.Images.{IsOn, Opens}
 use Rattle.mqb_manager.specs.Calls.{IsCall}
 use Rattle.mqb_manager.specs.Seen.{seen}
 use Rattle.mqb_manager.specs.States.{ManagerState, condition_of, manager_of}
 use Rattle.mqb_manager.specs.Writing.{IsReady, write_of}
 use Rattle.mqb_manager.proofs.Conditions.{down_condition, up_condition}
-use Rattle.mqb_steps.proofs.Rests.{grown_again, no_more}
+use Rattle.mqb_choosing.proofs.Rests.{grown_again, no_more}
 
 -- What a store answers of a write that went well.
 pub record IsStored (d e : View) (w x : StoreState) (entry : Option Entry) (b : Beside) : Type 0 where

@@ -1,8 +1,8 @@
 -- How a call of a manager ends, and what it leaves on the disk.
 use Rattle.std.specs.Option.{option_map_or}
 use Rattle.std.specs.Prelude.{◌+◌, ◌≡◌, ◌⊎◌, Err, IsSome, Result}
-use Rattle.mqb_devices.specs.Disk.{IsSettled, LeavesOnly, View}
-use Rattle.mqb_devices.specs.Images.{Each}
+use Rattle.mqb_outside.specs.Disk.{IsSettled, LeavesOnly, View}
+use Rattle.mqb_outside.specs.Images.{Each}
 use Rattle.mqb_model.specs.managers.Outcomes.{Outcome, failed, succeeded}
 use Rattle.mqb_model.specs.records.Applying.{lines_of}
 use Rattle.mqb_model.specs.records.Reading.{record_of}

@@ -5,3 +5,4 @@ pub mod Writing
 pub mod Quiet
 pub mod Pumps
 pub mod Keeping
+pub mod lemmas

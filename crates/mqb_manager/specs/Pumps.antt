@@ -1,7 +1,7 @@
 -- How a pump goes, step by step.
 use Rattle.std.specs.Prelude.{[], ◌++◌, ◌∷◌, ◌≡◌, All, Bool, Err, IfSome, IsSomeAnd, List, None, OnErr, OnOk, Result, Some, flat_map, fold, map, slice_get, ℕ}
 use Rattle.mqb_base.specs.declared.heads.SessionHead.{SessionHead}
-use Rattle.mqb_devices.specs.Disk.{Counted, View}
+use Rattle.mqb_outside.specs.Disk.{Counted, View}
 use Rattle.mqb_packet.specs.Plain.{plain_spelling}
 use Rattle.mqb_packet.specs.Values.{IsPacket}
 use Rattle.mqb_session.specs.State as one_end
@@ -17,7 +17,7 @@ use Rattle.mqb_model.specs.managers.Beside.{Origin, noted}
 use Rattle.mqb_model.specs.state.State.{State}
 use Rattle.mqb_store.specs.declared.faults.WriteFault.{WriteFault}
 use Rattle.mqb_store.specs.declared.faults.WriteFault.TheVariants as write
-use Rattle.mqb_steps.specs.Plans as plans
+use Rattle.mqb_choosing.specs.Plans as plans
 use Rattle.mqb_manager.specs.Calls.{IsCall}
 use Rattle.mqb_manager.specs.Seen.{seen}
 use Rattle.mqb_manager.specs.States.{IsOnDisk, IsUp, ManagerState, manager_of}

@@ -1,6 +1,6 @@
 -- What is seen of a manager, and the manager of the definitions that it is.
 use Rattle.std.specs.Prelude.{◌≡◌, Bool, List, Option, cond, ℕ}
-use Rattle.mqb_devices.specs.Disk.{View}
+use Rattle.mqb_outside.specs.Disk.{View}
 use Rattle.mqb_model.specs.managers.Manager.{Condition, Down, Manager, Up}
 use Rattle.mqb_model.specs.records.Reading.{record_of}
 use Rattle.mqb_session.specs.State as one_end

@@ -1,6 +1,6 @@
 -- How an entry is written, where there is one, with what is done beside it, and what that comes to.
 use Rattle.std.specs.Prelude.{[], Err, IfSome, Ok, Option, Result, is_some}
-use Rattle.mqb_devices.specs.Disk.{View}
+use Rattle.mqb_outside.specs.Disk.{View}
 use Rattle.mqb_entries.specs.declared.entry.Entry.{Entry}
 use Rattle.mqb_model.specs.laws.Keeping.{StaysValid}
 use Rattle.mqb_model.specs.managers.Beside.{Beside}

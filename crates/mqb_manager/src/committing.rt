@@ -1,5 +1,5 @@
 ghost use Rattle.std.specs.Prelude.{◌≡◌, Err, IfSome, None, OnOk, Some};
-ghost use Rattle.mqb_devices.specs.Disk.{Counted};
+ghost use Rattle.mqb_outside.specs.Disk.{Counted};
 ghost use Rattle.mqb_entries.specs.declared.entry.Entry.TheVariants as form;
 ghost use Rattle.mqb_manager.specs.Calls.{IsCall};
 ghost use Rattle.mqb_manager.specs.States.{IsOnDisk, IsUp, manager_of};
@@ -10,10 +10,10 @@ ghost use Rattle.mqb_model.specs.managers.Beside.{Nothing};
 use crate::manager::Manager;
 use crate::writing::{answer, calls_can_be_written};
 use mqb_base::Op;
-use mqb_devices::Disk;
+use mqb_choosing::ops_fit;
 use mqb_entries::{Entry, Ops};
 use mqb_model::{CommitFault, Committed};
-use mqb_steps::ops_fit;
+use mqb_outside::Disk;
 use mqb_store::{ExpressWork, WriteFault};
 use mqb_trying::{Trial, try_ops};
 

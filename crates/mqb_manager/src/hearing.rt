@@ -1,6 +1,6 @@
 //! How a packet is heard: a plan is made, what arrived is written, and then the connection is as planned.
 ghost use Rattle.std.specs.Prelude.{◌≡◌, ◌<◌, All, Err, IfSome, None, OnOk, Some};
-ghost use Rattle.mqb_devices.specs.Disk.{Counted};
+ghost use Rattle.mqb_outside.specs.Disk.{Counted};
 ghost use Rattle.mqb_hearing.specs.Plans.{ShowsReadable, outcome_of};
 ghost use Rattle.mqb_manager.specs.Calls.{IsCall};
 ghost use Rattle.mqb_manager.specs.States.{IsOnDisk, IsUp, manager_of};
@@ -15,12 +15,11 @@ ghost use Rattle.mqb_packet.specs.declared.packet.Packet.{Packet};
 use crate::manager::Manager;
 use crate::writing::calls_can_be_written;
 use mqb_base::Heard;
-use mqb_devices::Disk;
+use mqb_choosing::{make_room, mark};
 use mqb_hearing::Hearing;
 use mqb_model::HearFault;
-use mqb_packet::{PacketView, each_view_spells_a_packet};
-use mqb_packet_laws::read_is_written;
-use mqb_steps::{make_room, mark};
+use mqb_outside::Disk;
+use mqb_packet::{PacketView, each_view_spells_a_packet, read_is_written};
 use mqb_store::WriteFault;
 
 fn are_bytes(bytes: &[u8])

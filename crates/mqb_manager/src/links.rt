@@ -6,11 +6,11 @@ ghost use Rattle.mqb_model.specs.calls.Link.{link, resend, session_for, unlink};
 
 use crate::manager::Manager;
 use crate::readers::linked_peer;
+use mqb_choosing::rewind;
 use mqb_model::{
     LinkFault, Role, linked_is_valid, refused_is_same, resent_is_valid, unlinked_is_valid,
 };
 use mqb_session::Session;
-use mqb_steps::rewind;
 use mqb_store::State;
 
 /// The end of a session that begins, where its peer is there.

@@ -1,6 +1,6 @@
 ghost use Rattle.std.specs.Prelude.{[], ◌≡◌, ◌≢◌, ◌<◌, Err, IfOk, List, OnOk, false, length, ℕ};
-ghost use Rattle.mqb_devices.specs.Disk.{Counted, IsSettled, OnlyReads};
-ghost use Rattle.mqb_devices.specs.Images.{Each};
+ghost use Rattle.mqb_outside.specs.Disk.{Counted, IsSettled, OnlyReads};
+ghost use Rattle.mqb_outside.specs.Images.{Each};
 ghost use Rattle.mqb_journal.specs.Causes.{FaultsAsSaid, open_failed};
 ghost use Rattle.mqb_model.specs.managers.Manager.{new_manager, unlinked};
 ghost use Rattle.mqb_model.specs.managers.Valid.{IsValidManager};
@@ -10,8 +10,8 @@ ghost use Rattle.mqb_store_laws.specs.Faults.{IsBadStore};
 ghost use Rattle.mqb_store_laws.specs.Images.{HasLastLines, OpensTo};
 
 use mqb_base::Identity;
-use mqb_devices::Disk;
 use mqb_model::{new_is_valid, restarted_is_valid};
+use mqb_outside::Disk;
 use mqb_session::Session;
 use mqb_store::{OpenFault, Store};
 use std::alloc::Global;

@@ -1,5 +1,5 @@
 ghost use Rattle.std.specs.Prelude.{◌<◌, ◌≡◌, ◌≤◌, All, Err, IfSome, None, OnOk, length};
-ghost use Rattle.mqb_devices.specs.Disk.{Counted};
+ghost use Rattle.mqb_outside.specs.Disk.{Counted};
 ghost use Rattle.mqb_entries.specs.SpelledEntries.{spelled};
 ghost use Rattle.mqb_entries.specs.declared.entry.Entry.TheVariants as form;
 ghost use Rattle.mqb_manager.specs.Calls.{IsCall};
@@ -12,9 +12,9 @@ ghost use Rattle.mqb_names.specs.Values.{IsName};
 use crate::manager::Manager;
 use crate::writing::{answer, calls_can_be_written};
 use mqb_base::Identity;
-use mqb_devices::Disk;
 use mqb_entries::{Entry, IdentityView, NameSlice};
 use mqb_model::{AddPeerFault, MAX_PEERS};
+use mqb_outside::Disk;
 use mqb_store::{ExpressWork, peer_there};
 
 fn bytes_fit(bytes: &[u8])

@@ -4,7 +4,7 @@
 //! That, and what is noted behind it, takes no memory.
 ghost use Rattle.std.specs.Prelude.{[], ◌∷◌, ◌++◌, ◌<◌, ◌≡◌, ◌≤◌, ◌==◌, All, Err, IfSome, None, OnErr, OnOk, Some, flat_map, length, nat_lt, not};
 ghost use Rattle.mqb_choosing.specs.Going.{any_waits};
-ghost use Rattle.mqb_devices.specs.Disk.{Counted};
+ghost use Rattle.mqb_outside.specs.Disk.{Counted};
 ghost use Rattle.mqb_heads.specs.declared.base.TheConstants.{MAX_PACKET};
 ghost use Rattle.mqb_manager.specs.Calls.{IsCall};
 ghost use Rattle.mqb_manager.specs.Quiet.{IsQuiet};
@@ -24,13 +24,12 @@ use crate::manager::Manager;
 use crate::readers::linked_peer;
 use crate::sending::pump_fault;
 use crate::writing::calls_can_be_written;
-use mqb_choosing::sent_are_next;
-use mqb_devices::Disk;
+use mqb_choosing::{Sending, sent_are_next, set_up_packet};
 use mqb_model::{PumpFault, applied_is_valid};
+use mqb_outside::Disk;
 use mqb_packet::{Packet, PutFault, put_packet};
 use mqb_session::{Kind, Phase, Session};
 use mqb_setup::Internal;
-use mqb_steps::{Sending, set_up_packet};
 
 fn is_ready(session: &Session) -> bool
     ensures { result ≡ is_ready session.now.phase }

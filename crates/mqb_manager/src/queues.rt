@@ -1,5 +1,5 @@
 ghost use Rattle.std.specs.Prelude.{◌≡◌, ◌≤◌, Err, IfSome, None, OnOk, length};
-ghost use Rattle.mqb_devices.specs.Disk.{Counted};
+ghost use Rattle.mqb_outside.specs.Disk.{Counted};
 ghost use Rattle.mqb_entries.specs.SpelledEntries.{spelled};
 ghost use Rattle.mqb_entries.specs.declared.entry.Entry.TheVariants as form;
 ghost use Rattle.mqb_manager.specs.Calls.{IsCall};
@@ -12,9 +12,9 @@ ghost use Rattle.mqb_model.specs.records.Reading.{plan_of};
 use crate::manager::Manager;
 use crate::writing::{answer, calls_can_be_written};
 use mqb_base::QueuePlan;
-use mqb_devices::Disk;
 use mqb_entries::{Entry, NameSlice, QueueView};
 use mqb_model::{CreateFault, MAX_QUEUES};
+use mqb_outside::Disk;
 use mqb_store::{ExpressWork, queue_there};
 
 /// A queue as an entry shows it.

@@ -1,5 +1,5 @@
 ghost use Rattle.std.specs.Prelude.{◌≡◌, Err, IfSome, None, OnOk, true};
-ghost use Rattle.mqb_devices.specs.Disk.{Counted};
+ghost use Rattle.mqb_outside.specs.Disk.{Counted};
 ghost use Rattle.mqb_manager.specs.Calls.{IsCall};
 ghost use Rattle.mqb_manager.specs.States.{IsOnDisk, IsUp, manager_of};
 ghost use Rattle.mqb_model.specs.calls.SetRoll.{set_roll};
@@ -7,9 +7,9 @@ ghost use Rattle.mqb_model.specs.records.Applying.{is_roll};
 
 use crate::manager::Manager;
 use crate::writing::{answer, calls_can_be_written};
-use mqb_devices::Disk;
 use mqb_entries::Entry;
 use mqb_model::StoreFault;
+use mqb_outside::Disk;
 use mqb_store::ExpressWork;
 
 impl Manager {

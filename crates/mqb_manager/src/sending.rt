@@ -3,7 +3,7 @@ ghost use Rattle.std.specs.Prelude.{◌+◌, ◌++◌, ◌<◌, ◌≡◌, ◌�
 ghost use Rattle.std.specs.Vec.{vec_capacity};
 ghost use Rattle.mqb_choosing.specs.Choices.{IsThere, bytes_in, origin_of, shown_in};
 ghost use Rattle.mqb_choosing.specs.Going.{any_waits};
-ghost use Rattle.mqb_devices.specs.Disk.{Counted};
+ghost use Rattle.mqb_outside.specs.Disk.{Counted};
 ghost use Rattle.mqb_store.specs.Noting as noting;
 ghost use Rattle.mqb_manager.specs.Calls.{IsCall};
 ghost use Rattle.mqb_manager.specs.Pumps.{CanNoteAll, IsPlanned, pump_fault, sent_as, waiting_for, with_sent};
@@ -16,16 +16,17 @@ ghost use Rattle.mqb_model.specs.managers.Beside.{noted};
 ghost use Rattle.mqb_model.specs.managers.Valid.{IsValidManager};
 ghost use Rattle.mqb_packet.specs.Plain.{plain_spelling};
 ghost use Rattle.mqb_packet.specs.Values.{IsPacket};
-ghost use Rattle.mqb_steps.specs.Plans.{offered_form};
+ghost use Rattle.mqb_choosing.specs.Plans.{offered_form};
 
 use crate::manager::Manager;
 use mqb_base::{Lane, Memory};
-use mqb_choosing::{Choices, Origin};
-use mqb_devices::Disk;
+use mqb_choosing::{
+    Choices, Origin, Sending, offered_entry, plan_sending, prepare_sending, put_sending,
+};
 use mqb_entries::Mark;
 use mqb_model::PumpFault;
+use mqb_outside::Disk;
 use mqb_session::Session;
-use mqb_steps::{Sending, offered_entry, plan_sending, prepare_sending, put_sending};
 use mqb_store::{ExpressWork, Store, WriteFault};
 
 pub(crate) fn pump_fault(fault: WriteFault) -> PumpFault

@@ -1,5 +1,5 @@
 ghost use Rattle.std.specs.Prelude.{◌≡◌, Err, IfSome, None, OnOk};
-ghost use Rattle.mqb_devices.specs.Disk.{Counted};
+ghost use Rattle.mqb_outside.specs.Disk.{Counted};
 ghost use Rattle.mqb_manager.specs.Calls.{IsCall};
 ghost use Rattle.mqb_manager.specs.States.{IsOnDisk, IsUp, manager_of};
 ghost use Rattle.mqb_model.specs.calls.Send.{send};
@@ -7,8 +7,8 @@ ghost use Rattle.mqb_model.specs.calls.Send.{send};
 use crate::manager::Manager;
 use crate::writing::{answer, calls_can_be_written};
 use mqb_base::{Draft, MessageId};
-use mqb_devices::Disk;
 use mqb_model::SendFault;
+use mqb_outside::Disk;
 use mqb_plans::{Sending, plan_send};
 
 impl Manager {

@@ -1,6 +1,6 @@
 //! How messages leave places without being sent: each call makes a plan, and has it written.
 ghost use Rattle.std.specs.Prelude.{◌≡◌, Err, IfSome, None, OnOk};
-ghost use Rattle.mqb_devices.specs.Disk.{Counted};
+ghost use Rattle.mqb_outside.specs.Disk.{Counted};
 ghost use Rattle.mqb_manager.specs.Calls.{IsCall};
 ghost use Rattle.mqb_manager.specs.States.{IsOnDisk, IsUp, manager_of};
 ghost use Rattle.mqb_model.specs.calls.Purge.{purge};
@@ -10,8 +10,8 @@ ghost use Rattle.mqb_model.specs.calls.Tick.{tick};
 use crate::manager::Manager;
 use crate::writing::answer;
 use mqb_base::{Message, Place};
-use mqb_devices::Disk;
 use mqb_model::{PurgeFault, StoreFault, TakeFault, Ticked};
+use mqb_outside::Disk;
 use mqb_plans::{plan_purge, plan_take, plan_tick};
 
 impl Manager {

@@ -1,6 +1,6 @@
 //! A record is written and what a connection knows is kept, or forgotten where the disk failed.
 ghost use Rattle.std.specs.Prelude.{◌≡◌, Err, IfSome, None, OnOk, option_copied};
-ghost use Rattle.mqb_devices.specs.Disk.{Counted};
+ghost use Rattle.mqb_outside.specs.Disk.{Counted};
 ghost use Rattle.mqb_store.specs.Work.{beside_of};
 ghost use Rattle.mqb_manager.specs.Calls.{IsCall};
 ghost use Rattle.mqb_manager.specs.States.{manager_of};
@@ -11,9 +11,9 @@ ghost use Rattle.mqb_model.specs.laws.Keeping.{CallsKeepValid};
 ghost use Rattle.mqb_model.specs.managers.Valid.{IsValidManager};
 
 use crate::manager::Manager;
-use mqb_devices::Disk;
 use mqb_entries::Entry;
 use mqb_model::{calls_keep_valid, calls_leave_store, records_are_spelled, records_fit};
+use mqb_outside::Disk;
 use mqb_store::{ExpressWork, WriteFault};
 
 /// What holds of the calls of a valid manager, by which each of them can be written.

@@ -1,8 +1,8 @@
 //! What a manager answers, as replies.
 use crate::nodes::Node;
 use mqb_base::{Line, Memory};
-use mqb_devices::Power;
 use mqb_model::{CommitFault, Committed, HearFault, PumpFault};
+use mqb_outside::Power;
 use mqb_replies::{AnswerFault, commit_reply};
 use mqb_transcript::{Listed, Reply};
 use std::alloc::Global;

@@ -5,8 +5,8 @@ ghost use Rattle.mqb_manager_cases.specs.Kept.{IsKept};
 use crate::answers::committed;
 use crate::nodes::Node;
 use mqb_base::{Draft, Identity, Op, Place};
-use mqb_devices::{Mode, Pick};
 use mqb_model::AddPeerFault;
+use mqb_outside::{Mode, Pick};
 use mqb_replies::{
     AnswerFault, create_reply, purge_reply, roll_reply, send_reply, take_reply, tick_reply,
 };

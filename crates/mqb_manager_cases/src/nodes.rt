@@ -7,7 +7,6 @@ ghost use Rattle.mqb_model.specs.records.Applying.{is_roll};
 ghost use Rattle.mqb_packet.specs.Spelled.{IsLent};
 
 use mqb_base::{Draft, Heard, Identity, Message, MessageId, Op, Place, QueuePlan};
-use mqb_devices::{Mode, Pick, Power};
 use mqb_disk::MemoryDisk;
 use mqb_journal::OpenFault;
 use mqb_manager::Manager;
@@ -15,6 +14,7 @@ use mqb_model::{
     AddPeerFault, CommitFault, Committed, CreateFault, HearFault, LinkFault, PumpFault, PurgeFault,
     Role, SendFault, StoreFault, TakeFault, Ticked,
 };
+use mqb_outside::{Mode, Pick, Power};
 use mqb_packet::PacketView;
 use std::alloc::Global;
 use std::mem::replace;

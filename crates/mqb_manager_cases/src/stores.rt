@@ -3,10 +3,10 @@ ghost use Rattle.std.specs.Prelude.{◌≤◌};
 
 use crate::worlds::hosts;
 use mqb_base::{Failed, Identity};
-use mqb_devices::Disk;
 use mqb_disk::{MemoryDisk, TraceDisk};
 use mqb_journal::OpenFault;
 use mqb_manager::Manager;
+use mqb_outside::Disk;
 use std::alloc::Global;
 use std::test::Fail;
 

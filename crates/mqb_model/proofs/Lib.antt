@@ -51,3 +51,5 @@ mod Cores
 mod Trying
 mod Transacting
 mod Sent
+pub mod Packets
+pub mod Entries

@@ -7,3 +7,5 @@ pub mod managers
 pub mod calls
 pub mod runs
 pub mod laws
+pub mod Typed
+pub mod Reading

@@ -1,12 +1,14 @@
 //! What one manager keeps, what a record does to it, and what each call answers: definitions, the types of answers, and laws of them.
 //!
-//! Each function stands for a law: its contract is the law, and its body is empty.
+//! Each function stands for a law: its contract is the law, and its body is empty. Laws of records say besides what an entry is read as: it tells of names
+//! that are names, and of messages that can be carried. So a state stays valid by it where it fits.
 #![tactic(auto)]
 
 mod answers;
 mod faults;
 mod laws;
 mod limits;
+mod record_laws;
 mod runs;
 mod target;
 
@@ -26,6 +28,7 @@ pub use limits::{
     FIRST_EXPRESS, MAX_EXPRESS, MAX_NUMBER, MAX_OPS, MAX_ORDINAL, MAX_PACKETS, MAX_PEERS,
     MAX_PUMP_BYTES, MAX_QUEUES, MAX_RECORD, MAX_RELEASED, MAX_ROLL,
 };
+pub use record_laws::{entries_are_read, packets_are_read};
 pub use runs::{
     one_expires, one_is_committed, one_is_dropped, one_is_express, one_is_in_doubt, one_is_put,
     one_is_refused, one_is_released, one_is_taken, one_is_unseen, one_rolls,

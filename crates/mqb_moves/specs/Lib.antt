@@ -4,7 +4,7 @@ pub mod Never
 pub mod Downs
 pub mod Counting
 pub mod Calling
-pub mod Restarting
 pub mod Holding
 pub use Rattle.mqb_manager.specs.States
 pub use Rattle.mqb_manager.specs.Calls
+pub mod lemmas

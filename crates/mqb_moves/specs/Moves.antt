@@ -1,6 +1,6 @@
 -- Calls of a manager with its disk, as moves of its network.
 use Rattle.std.specs.Prelude.{◌≡◌, IsSome, MatchOption, None, Option, Some}
-use Rattle.mqb_devices.specs.Disk.{View}
+use Rattle.mqb_outside.specs.Disk.{View}
 use Rattle.mqb_model.specs.managers.Manager.{Manager}
 use Rattle.mqb_model.specs.managers.Outcomes.{Outcome, failed, succeeded}
 use Rattle.mqb_network.specs.Choices.{Choice, Failure, Fails, Well}

@@ -1,7 +1,7 @@
 -- A manager with its disk in a network: what is held of it, and what the disk has.
 use Rattle.std.specs.Prelude.{◌≡◌, Bool, false, if◌then◌else◌, length, true}
-use Rattle.mqb_devices.specs.Disk.{IsSettled, View}
-use Rattle.mqb_devices.specs.Images.{Each}
+use Rattle.mqb_outside.specs.Disk.{IsSettled, View}
+use Rattle.mqb_outside.specs.Images.{Each}
 use Rattle.mqb_manager.specs.States.{IsOnDisk, ManagerState, manager_of}
 use Rattle.mqb_model.specs.managers.Manager.{Manager, doubt_of, is_down}
 use Rattle.mqb_model.specs.managers.Restarts.{unread}

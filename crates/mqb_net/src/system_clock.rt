@@ -1,6 +1,6 @@
 ghost use Rattle.std.specs.Prelude.{None};
 
-use mqb_devices::Clock;
+use mqb_outside::Clock;
 use std::time::{SystemTime, UNIX_EPOCH};
 
 /// The clock of the operating system.

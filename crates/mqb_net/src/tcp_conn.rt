@@ -3,8 +3,7 @@ ghost use Rattle.mqb_outside.specs.Faults.{HasCause};
 ghost use Rattle.mqb_net.specs.Tcp.{IsFaultless};
 
 use mqb_base::Failed;
-use mqb_devices::Conn;
-use mqb_outside::{Sink, Source};
+use mqb_outside::{Conn, Sink, Source};
 use std::io::{self, Read, Write};
 use std::net::TcpStream;
 use std::time::Duration;

@@ -4,7 +4,7 @@ ghost use Rattle.mqb_net.specs.Tcp.{IsFaultless, faults_of, lost_by};
 
 use crate::tcp_conn::{MAX_WAIT, TcpConn};
 use mqb_base::Failed;
-use mqb_devices::Net;
+use mqb_outside::Net;
 use std::io;
 use std::net::{Ipv4Addr, SocketAddr, SocketAddrV4, TcpListener, TcpStream};
 use std::time::Duration;

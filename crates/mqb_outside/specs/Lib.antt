@@ -4,3 +4,10 @@ pub mod Strings
 pub mod Plans
 pub mod Counting
 pub mod Forms
+pub mod Images
+pub mod Disk
+pub mod Net
+pub mod ConnPlans
+pub mod Conns
+pub mod NetPlans
+pub mod lemmas

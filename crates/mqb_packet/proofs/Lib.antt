@@ -2,3 +2,15 @@ pub mod Behind
 pub mod LabelUnits
 pub mod PacketAgain
 pub mod WellFormed
+pub mod Steps
+pub mod Fields
+pub mod Bases
+pub mod Sessions
+pub mod Users
+pub mod Properties
+pub mod Packets
+pub mod DirectNames
+pub mod Bytes
+pub mod ReadNames
+pub mod HeadersRead
+pub mod Written

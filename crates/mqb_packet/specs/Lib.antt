@@ -3,3 +3,7 @@ pub mod Spelled
 pub mod Plain
 pub mod Values
 pub mod lemmas
+pub mod Forms
+pub mod Grammar
+pub mod DirectNames
+pub mod ReadPackets

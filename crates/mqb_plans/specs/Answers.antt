@@ -1,5 +1,5 @@
 -- The plan that each answer is.
-use Rattle.mqb_express.specs.Work.{beside_of}
+use Rattle.mqb_timeouts.specs.Work.{beside_of}
 use Rattle.mqb_plans.specs.Calls.{purging, taking, ticking}
 use Rattle.mqb_plans.specs.Plans.{Plan}
 use Rattle.mqb_plans.specs.declared.purging.Purging.{Purging}

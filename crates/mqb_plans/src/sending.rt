@@ -16,10 +16,11 @@ use crate::spelling::SentRecord;
 use crate::values::draft_fits;
 use mqb_base::{Draft, Guid, Memory, Message, MessageId};
 use mqb_contents::Contents;
-use mqb_express::{ExpressWork, resolved};
 use mqb_model::{
     SendFault, Target, calls_keep_valid, calls_leave_store, records_are_read, records_fit,
 };
+use mqb_rules::resolved;
+use mqb_timeouts::ExpressWork;
 use std::alloc::Global;
 
 /// A message that is to be sent: a recoverable one by its record, and an express one without.

@@ -1,6 +1,6 @@
 ghost use Rattle.std.specs.Prelude.{◌≡◌, ◌≤◌, IfErr, IfOk, IfSome, Some, length, option_map};
 ghost use Rattle.mqb_entries.specs.SpelledEntries.{Fits, spelled};
-ghost use Rattle.mqb_express.specs.Work.{beside_of};
+ghost use Rattle.mqb_timeouts.specs.Work.{beside_of};
 ghost use Rattle.mqb_model.specs.calls.Take.{take_message};
 ghost use Rattle.mqb_model.specs.declared.limits.TheConstants.{MAX_RECORD};
 ghost use Rattle.mqb_model.specs.records.Reading.{record_in};
@@ -10,8 +10,9 @@ ghost use Rattle.mqb_plans.specs.Plans.{CanWrite, ComesTo, KeepsStore, KeepsVali
 use mqb_base::{EntryPlace, Lane, Message, Place};
 use mqb_contents::Contents;
 use mqb_entries::Entry;
-use mqb_express::{ExpressWork, copy_at};
 use mqb_model::{TakeFault, calls_keep_valid, calls_leave_store, records_are_read, records_fit};
+use mqb_rules::copy_at;
+use mqb_timeouts::ExpressWork;
 
 /// A message that is to be taken: a durable one by an entry, and an express one without.
 #[derive(Debug, Drop)]

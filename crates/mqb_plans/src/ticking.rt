@@ -1,6 +1,6 @@
 ghost use Rattle.std.specs.Prelude.{◌≡◌, ◌≤◌, IfSome, Some, length, option_map};
 ghost use Rattle.mqb_entries.specs.SpelledEntries.{Fits, spelled};
-ghost use Rattle.mqb_express.specs.Work.{beside_of};
+ghost use Rattle.mqb_timeouts.specs.Work.{beside_of};
 ghost use Rattle.mqb_model.specs.calls.Tick.{due_counts, tick};
 ghost use Rattle.mqb_model.specs.declared.limits.TheConstants.{MAX_RECORD};
 ghost use Rattle.mqb_model.specs.records.Reading.{record_in};
@@ -11,8 +11,8 @@ ghost use Rattle.mqb_plans.specs.Plans.{CanWrite, ComesTo, KeepsStore, KeepsVali
 use crate::due::{durable_due, express_due};
 use mqb_contents::Contents;
 use mqb_entries::Entry;
-use mqb_express::ExpressWork;
 use mqb_model::{Ticked, calls_keep_valid, calls_leave_store, records_are_read, records_fit};
+use mqb_timeouts::ExpressWork;
 
 /// What is due is to leave: durable messages by an entry, and then the express ones.
 #[derive(Debug, Drop)]

@@ -21,7 +21,7 @@ use mqb_drafts::Draft;
 use mqb_entries::{OpView, Ops, PacketSlice};
 use mqb_model::{MAX_ORDINAL, Target};
 use mqb_packet::{Headers, UserPacket};
-use mqb_timeouts::{message_sent, resolved, taken};
+use mqb_rules::{message_sent, resolved, taken};
 use std::collections::VecDeque;
 
 // The packets.

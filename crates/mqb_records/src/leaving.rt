@@ -8,7 +8,8 @@ ghost use Rattle.mqb_arrivals.specs.declared.faults.RecordFault.TheVariants as f
 use mqb_arrivals::RecordFault;
 use mqb_base::{EntryPlace, Lane, MessageId};
 use mqb_drafts::Draft;
-use mqb_timeouts::{lane_ticked, purged, rows_expired, taken};
+use mqb_rules::{purged, taken};
+use mqb_timeouts::{lane_ticked, rows_expired};
 
 /// Tries the record Taken.
 #[tactic(auto, using(crate::proofs::Framing::taken_whole))]

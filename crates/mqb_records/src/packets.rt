@@ -10,7 +10,7 @@ use mqb_base::{Delivery, Guid, Message};
 use mqb_contents::Contents;
 use mqb_model::{MAX_NUMBER, Target};
 use mqb_packet::{Headers, UserPacket, message_size};
-use mqb_timeouts::resolved;
+use mqb_rules::resolved;
 
 fn is_recoverable(delivery: Delivery) -> bool
     ensures { result ≡ is_recoverable delivery }

@@ -19,7 +19,7 @@ use mqb_drafts::Draft;
 use mqb_entries::PacketSlice;
 use mqb_model::Target;
 use mqb_packet::Headers;
-use mqb_timeouts::{plain_sent, resolved};
+use mqb_rules::{plain_sent, resolved};
 
 fn is_here(target: Target) -> bool
     ensures { result ≡ is_here target }

@@ -1,7 +1,7 @@
 -- A script is played over managers that were just made: what was counted before counts too.
 use Rattle.std.proofs.Common.{◌≡◌, List, [], Option, refl, subst, ap, ℕ, inl, inr, sym}
 use Rattle.std.specs.Prelude.{Err, Ok, Result}
-use Rattle.mqb_devices.specs.Disk.{Switch, View}
+use Rattle.mqb_outside.specs.Disk.{Switch, View}
 use Rattle.mqb_network.specs.Runs.{beginning}
 use Rattle.mqb_runs.specs.Hosts.{hosts}
 use Rattle.mqb_run_laws.specs.Continuing.{RunsContinue}

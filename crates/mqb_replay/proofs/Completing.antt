@@ -3,8 +3,8 @@ use Rattle.std.proofs.Common.{◌≡◌, ◌+◌, ◌<◌, ◌≤◌, ◌⊎◌,
 use Rattle.std.proofs.lemmas.List.{map-append}
 use Rattle.std.proofs.lemmas.List.Sums.{sum_by-append, sum_by-cons}
 use Rattle.std.specs.Prelude.{Err, IsTrue, Ok, Result, map}
-use Rattle.mqb_devices.specs.Disk.{View}
-use Rattle.mqb_devices.specs.Images.{Each}
+use Rattle.mqb_outside.specs.Disk.{View}
+use Rattle.mqb_outside.specs.Images.{Each}
 use Rattle.mqb_network.specs.Choices.{Well}
 use Rattle.mqb_network.specs.Courses.{Course}
 use Rattle.mqb_network.specs.Events as network
@@ -15,7 +15,7 @@ use Rattle.mqb_outside.specs.Told.{Gave}
 use Rattle.mqb_packet.specs.Plain.{plain_spelling}
 use Rattle.mqb_packet.specs.declared.packet.Packet.{Packet}
 use Rattle.mqb_posts.specs.declared.posting.TheConstants.{MAX_MEDIUM}
-use Rattle.mqb_run_laws.specs.Growing.{course_one, run_one}
+use Rattle.mqb_run_laws.specs.lemmas.Growing.{course_one, run_one}
 use Rattle.mqb_runs.specs.Events.{event_of}
 use Rattle.mqb_runs.specs.Hosts.{hosts}
 use Rattle.mqb_runs.specs.Runs.{Played, lines_of, moves_of}

@@ -3,8 +3,8 @@ use Rattle.std.proofs.Common.{◌≡◌, ◌+◌, ◌≤◌, Bool, List, [], ◌
 use Rattle.std.proofs.lemmas.List.Sums.{sum_by-append}
 use Rattle.std.specs.Prelude.{Option, count_by, nat_le}
 use Rattle.std.proofs.lemmas.Bool.Decides.{nat_tests}
-use Rattle.mqb_devices.specs.Disk.{Counted, Switch}
-use Rattle.mqb_devices.specs.declared.power.Mode.{Mode}
+use Rattle.mqb_outside.specs.Disk.{Counted, Switch}
+use Rattle.mqb_outside.specs.declared.power.Mode.{Mode}
 use Rattle.mqb_network.specs.Choices.{Failure}
 use Rattle.mqb_outside.specs.Faults.{END}
 use Rattle.mqb_script.specs.declared.events.Event.{Event}

@@ -10,8 +10,8 @@ use Rattle.mqb_runs.specs.Runs.{IsRunOf, Played, course_of}
 use Rattle.mqb_runs.specs.Texts.{end_lines, reply_lines, text_of}
 use Rattle.mqb_script.specs.declared.events.Event.{Event}
 use Rattle.mqb_script.specs.declared.managers.Which.TheVariants.{Alpha, Beta}
-use Rattle.mqb_status.specs.Outputs.{TookFront}
-use Rattle.mqb_status.specs.lemmas.Taking.{front_then, took_none, took_then}
+use Rattle.mqb_commands.specs.Outputs.{TookFront}
+use Rattle.mqb_commands.specs.lemmas.Taking.{front_then, took_none, took_then}
 use Rattle.mqb_world.specs.Standing.{Stands}
 use Rattle.mqb_world.specs.Worlds.{WorldState, network_of}
 use Rattle.mqb_replay.specs.Devices.{Devices}

@@ -6,8 +6,8 @@ use Rattle.mqb_run_laws.specs.Continuing.{Continues, RunsContinue}
 use Rattle.mqb_runs.specs.Runs.{IsRunOf, Played, course_of}
 use Rattle.mqb_runs.specs.Texts.{end_lines, reply_line, reply_lines, text_of}
 use Rattle.mqb_script.specs.declared.events.Event.{Event}
-use Rattle.mqb_status.specs.Outputs.{TookFront}
-use Rattle.mqb_status.specs.lemmas.Taking.{front_more, front_none}
+use Rattle.mqb_commands.specs.Outputs.{TookFront}
+use Rattle.mqb_commands.specs.lemmas.Taking.{front_more, front_none}
 use Rattle.mqb_replay.specs.Replays.{IsFront}
 
 -- a text that was taken is a front of itself

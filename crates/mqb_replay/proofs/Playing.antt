@@ -1,6 +1,6 @@
 -- What stands behind a run, and what it goes on to.
 use Rattle.std.proofs.Common.{◌≡◌, Bool, List, [], ◌∷◌, ◌++◌, None, cond, false, refl, sym, ap, subst, true, ◌∙◌, Some, ℕ}
-use Rattle.mqb_devices.specs.Disk.{View}
+use Rattle.mqb_outside.specs.Disk.{View}
 use Rattle.mqb_model.specs.managers.Manager.{Condition, Down, Manager, Up, doubt_of, is_down}
 use Rattle.mqb_model.specs.state.Durable.{durable}
 use Rattle.mqb_world.specs.States.{manager_of}
@@ -10,7 +10,7 @@ use Rattle.mqb_world.specs.Seats.{IsHeldOn, SeatState, seated}
 use Rattle.mqb_network.specs.Courses.{Course}
 use Rattle.mqb_network.specs.Network.{Network, Note, manager_at}
 use Rattle.mqb_network.specs.Runs.{after_run, beginning, moved_on}
-use Rattle.mqb_run_laws.specs.Growing.{course_one}
+use Rattle.mqb_run_laws.specs.lemmas.Growing.{course_one}
 use Rattle.mqb_runs.specs.Events.{event_of}
 use Rattle.mqb_runs.specs.Guarantees.{RunsKeepGuarantees}
 use Rattle.mqb_runs.specs.Hosts.{hosts}
@@ -19,7 +19,7 @@ use Rattle.mqb_runs.specs.Texts.{reply_lines}
 use Rattle.mqb_script.specs.declared.events.Event.{Event}
 use Rattle.mqb_script.specs.declared.managers.Which.{Which}
 use Rattle.mqb_script.specs.declared.managers.Which.TheVariants.{Alpha, Beta}
-use Rattle.mqb_store_laws.specs.Carrying.{opens_now}
+use Rattle.mqb_store_laws.specs.lemmas.Carrying.{opens_now}
 use Rattle.mqb_store_laws.specs.Images.{Opens}
 use Rattle.mqb_traffic.specs.Networks.{notes_of}
 use Rattle.mqb_transcript.specs.Texts.{printed}

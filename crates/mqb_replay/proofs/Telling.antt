@@ -7,9 +7,9 @@ use Rattle.mqb_script.specs.Reading.{ReadCause, ReadsScript}
 use Rattle.mqb_script.specs.declared.events.Event.{Event}
 use Rattle.mqb_script.specs.declared.faults.ScriptFault.{ScriptFault}
 use Rattle.mqb_script.specs.declared.faults.ScriptFault.TheVariants as script
-use Rattle.mqb_status.specs.Outputs.{TookFront}
-use Rattle.mqb_status.specs.Texts.{fault_text}
-use Rattle.mqb_status.specs.declared.status.Status.{Status}
+use Rattle.mqb_commands.specs.Outputs.{TookFront}
+use Rattle.mqb_commands.specs.Texts.{fault_text}
+use Rattle.mqb_commands.specs.declared.status.Status.{Status}
 use Rattle.mqb_replay.specs.Devices.{Devices}
 use Rattle.mqb_replay.specs.Faults.{fault_status, script_fault}
 use Rattle.mqb_replay.specs.Replays.{Ends, EndsSo, IsScript, IsUntouched, PlaysWhole, Tells}

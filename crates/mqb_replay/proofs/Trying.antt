@@ -1,7 +1,7 @@
 -- A script that is made is read, unless memory runs out.
 use Rattle.std.proofs.Common.{◌≡◌, ◌≤◌, List, [], Option, Some, append-nil, arith, length, refl, sym, ap, subst, ◌∙◌, ℕ}
 use Rattle.std.specs.Prelude.{Err, Ok, Result}
-use Rattle.mqb_made_scripts.specs.Made.{IsMade}
+use Rattle.mqb_script.specs.Made.{IsMade}
 use Rattle.mqb_outside.specs.Faults.{Rose}
 use Rattle.mqb_script.specs.Reading.{MOST_LINES, ReadCause, ReadsScript, line_count}
 use Rattle.mqb_script.specs.Script.{script_of}

@@ -1,7 +1,7 @@
 -- What becomes of a script in one of its lines.
 use Rattle.std.proofs.Common.{◌≡◌, ◌⊎◌, List, [], ◌∷◌, ◌++◌, Option, Some, append-nil, append_assoc, inl, inr, refl, sym, ap, subst, ◌∙◌, ℕ}
 use Rattle.std.specs.Prelude.{Err, Ok, Result}
-use Rattle.mqb_devices.specs.Disk.{Switch, View}
+use Rattle.mqb_outside.specs.Disk.{Switch, View}
 use Rattle.mqb_network.specs.Runs.{Move}
 use Rattle.mqb_outside.specs.Told.{Took}
 use Rattle.mqb_posts.specs.Posting.{HasFront, IsCutOff}
@@ -15,8 +15,8 @@ use Rattle.mqb_script.specs.declared.events.Event.{Event}
 use Rattle.mqb_script.specs.declared.events.Event.TheVariants as event
 use Rattle.mqb_script.specs.declared.managers.Which.{Which}
 use Rattle.mqb_script.specs.declared.managers.Which.TheVariants.{Alpha, Beta}
-use Rattle.mqb_status.specs.Outputs.{TookFront}
-use Rattle.mqb_status.specs.lemmas.Taking.{front_more, front_then, took_then}
+use Rattle.mqb_commands.specs.Outputs.{TookFront}
+use Rattle.mqb_commands.specs.lemmas.Taking.{front_more, front_then, took_then}
 use Rattle.mqb_transcript.specs.Texts.{printed}
 use Rattle.mqb_transcript.specs.declared.replies.Reply.{Reply}
 use Rattle.mqb_world.specs.Disks.{LeavesIt, SwitchGoes, switching}

@@ -1,6 +1,6 @@
 -- What a replay works on beside its input and its output.
 use Rattle.std.specs.Prelude.{List, ℕ}
-use Rattle.mqb_devices.specs.Disk.{View}
+use Rattle.mqb_outside.specs.Disk.{View}
 
 -- The strings of the medium, and the two disks.
 pub record Devices : Type 1 where

@@ -1,7 +1,7 @@
 -- What a run makes of the disk of a manager.
 use Rattle.std.specs.Prelude.{[], ◌+◌, ◌∷◌, ◌≡◌, ◌≤◌, ◌⊎◌, Bool, List, count_by, false, length, max, min, true, ℕ}
-use Rattle.mqb_devices.specs.Disk.{Switch, View}
-use Rattle.mqb_devices.specs.Images.{Each}
+use Rattle.mqb_outside.specs.Disk.{Switch, View}
+use Rattle.mqb_outside.specs.Images.{Each}
 use Rattle.mqb_journal.specs.States.{JournalState}
 use Rattle.mqb_model.specs.managers.Manager.{Manager, doubt_of}
 use Rattle.mqb_model.specs.state.Durable.{durable}

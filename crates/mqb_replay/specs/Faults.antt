@@ -3,8 +3,8 @@ use Rattle.std.specs.Prelude.{◌≡◌, ◌⊎◌, Err, Ok, Result, ℕ}
 use Rattle.mqb_outside.specs.Faults.{Rose}
 use Rattle.mqb_script.specs.declared.faults.ScriptFault.{ScriptFault}
 use Rattle.mqb_script.specs.declared.faults.ScriptFault.TheVariants as script
-use Rattle.mqb_status.specs.declared.status.Status.{Status}
-use Rattle.mqb_status.specs.declared.status.Status.TheVariants as status
+use Rattle.mqb_commands.specs.declared.status.Status.{Status}
+use Rattle.mqb_commands.specs.declared.status.Status.TheVariants as status
 use Rattle.mqb_world.specs.declared.faults.WorldFault.{WorldFault}
 use Rattle.mqb_world.specs.declared.faults.WorldFault.TheVariants as world
 use Rattle.mqb_replay.specs.declared.faults.ReplayFault.{ReplayFault}

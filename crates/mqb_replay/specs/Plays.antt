@@ -1,7 +1,7 @@
 -- What becomes of the lines of a script that are played.
 use Rattle.std.specs.Prelude.{[], ◌++◌, ◌∷◌, ◌≡◌, ◌≤◌, ◌⊎◌, Bool, Err, List, Ok, Option, Result, Some, map, take, ℕ}
-use Rattle.mqb_devices.specs.Disk.{Switch, View}
-use Rattle.mqb_devices.specs.declared.power.Mode.{Mode}
+use Rattle.mqb_outside.specs.Disk.{Switch, View}
+use Rattle.mqb_outside.specs.declared.power.Mode.{Mode}
 use Rattle.mqb_world.specs.Seats.{IsHeldOn, SeatState}
 use Rattle.mqb_network.specs.Network.{Note, manager_at}
 use Rattle.mqb_network.specs.Runs.{Move, beginning}
@@ -18,7 +18,7 @@ use Rattle.mqb_runs.specs.Texts.{reply_lines}
 use Rattle.mqb_script.specs.declared.events.Event.{Event}
 use Rattle.mqb_script.specs.declared.managers.Which.{Which}
 use Rattle.mqb_script.specs.declared.managers.Which.TheVariants.{Alpha, Beta}
-use Rattle.mqb_status.specs.Outputs.{TookFront}
+use Rattle.mqb_commands.specs.Outputs.{TookFront}
 use Rattle.mqb_traffic.specs.Networks.{index_of, notes_of}
 use Rattle.mqb_transcript.specs.Texts.{printed}
 use Rattle.mqb_transcript.specs.declared.replies.Reply.{Reply}

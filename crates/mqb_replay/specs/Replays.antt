@@ -1,6 +1,6 @@
 -- What becomes of the input of a replay.
 use Rattle.std.specs.Prelude.{[], ◌++◌, ◌<◌, ◌∷◌, ◌≡◌, ◌≤◌, ◌⊎◌, Err, IfSome, List, Ok, Option, Result, length, ℕ}
-use Rattle.mqb_devices.specs.Images.{Each}
+use Rattle.mqb_outside.specs.Images.{Each}
 use Rattle.mqb_forms.specs.declared.faults.LineKind.{LineKind}
 use Rattle.mqb_outside.specs.Faults.{Rose}
 use Rattle.mqb_outside.specs.Told.{Gave, Took}
@@ -10,8 +10,8 @@ use Rattle.mqb_runs.specs.Texts.{reply_lines, text_of}
 use Rattle.mqb_script.specs.Reading.{LONGEST, MOST_LINES, line_count}
 use Rattle.mqb_script.specs.Script.{script_of}
 use Rattle.mqb_script.specs.declared.events.Event.{Event}
-use Rattle.mqb_status.specs.Outputs.{TookFront}
-use Rattle.mqb_status.specs.Texts.{fault_text}
+use Rattle.mqb_commands.specs.Outputs.{TookFront}
+use Rattle.mqb_commands.specs.Texts.{fault_text}
 use Rattle.mqb_world.specs.Worlds.{WorldState}
 use Rattle.mqb_replay.specs.Devices.{Devices}
 use Rattle.mqb_replay.specs.Disks.{IsUnswitched}

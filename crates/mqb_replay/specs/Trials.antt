@@ -7,7 +7,7 @@ use Rattle.mqb_outside.specs.Told.{Took}
 use Rattle.mqb_runs.specs.Runs.{course_of}
 use Rattle.mqb_script.specs.Script.{script_of}
 use Rattle.mqb_script.specs.declared.events.Event.{Event}
-use Rattle.mqb_status.specs.Outputs.{TookFront}
+use Rattle.mqb_commands.specs.Outputs.{TookFront}
 use Rattle.mqb_transcript.specs.Generator.{generated}
 use Rattle.mqb_replay.specs.Devices.{Devices}
 use Rattle.mqb_replay.specs.Plays.{IsFull, IsPlayed, IsShort}

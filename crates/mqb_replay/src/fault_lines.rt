@@ -4,8 +4,8 @@ ghost use Rattle.mqb_replay.specs.Faults.{TellCause};
 ghost use Rattle.mqb_replay.specs.Replays.{Tells};
 
 use crate::faults::ReplayFault;
+use mqb_commands::{append_fault, write_all};
 use mqb_outside::Sink;
-use mqb_status::{append_fault, write_all};
 use std::alloc::Global;
 
 /// Writes the line of a fault, where it has one, and says how the replay ended.

@@ -3,9 +3,9 @@ ghost use Rattle.std.specs.Prelude.{◌≡◌};
 ghost use Rattle.mqb_replay.specs.Faults.{fault_status, status_of};
 
 use mqb_base::{Failed, Memory};
+use mqb_commands::Status;
 use mqb_forms::LineKind;
 use mqb_script::ScriptFault;
-use mqb_status::Status;
 use mqb_world::WorldFault;
 use std::alloc::AllocError;
 use thiserror::Error;

@@ -14,12 +14,11 @@ ghost use Rattle.mqb_replay.specs.Replays.{PlaysLines, PlaysWhole, StartsEmpty};
 use crate::faults::ReplayFault;
 use crate::turns::turn;
 use mqb_base::Memory;
-use mqb_devices::Power;
-use mqb_outside::{Medium, Sink};
+use mqb_commands::write_all;
+use mqb_outside::{Medium, Power, Sink};
 use mqb_run_laws::runs_continue;
 use mqb_runs::runs_keep_guarantees;
 use mqb_script::{Event, Which};
-use mqb_status::write_all;
 use mqb_world::{World, hosts};
 use std::alloc::Global;
 

@@ -8,8 +8,7 @@ ghost use Rattle.mqb_replay.specs.Replays.{EndsSo, Replays, StartsEmpty};
 use crate::fault_lines::tell;
 use crate::faults::ReplayFault;
 use crate::plays::play;
-use mqb_devices::Power;
-use mqb_outside::{Medium, Sink, Source};
+use mqb_outside::{Medium, Power, Sink, Source};
 use mqb_script::read_script;
 use std::alloc::Global;
 

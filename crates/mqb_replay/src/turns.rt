@@ -12,10 +12,9 @@ ghost use Rattle.mqb_replay.specs.Plays.{Turned, Wrote};
 
 use crate::faults::ReplayFault;
 use mqb_base::Identity;
-use mqb_devices::Power;
-use mqb_outside::{Medium, Sink};
+use mqb_commands::write_all;
+use mqb_outside::{Medium, Power, Sink};
 use mqb_script::Event;
-use mqb_status::write_all;
 use mqb_transcript::{Reply, print_reply};
 use mqb_world::World;
 use std::alloc::Global;

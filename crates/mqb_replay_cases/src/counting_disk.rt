@@ -1,5 +1,5 @@
 use mqb_base::Failed;
-use mqb_devices::{Disk, Mode, Pick, Power};
+use mqb_outside::{Disk, Mode, Pick, Power};
 
 /// A disk that counts how often it was read.
 #[derive(Debug, Drop)]

@@ -15,7 +15,6 @@ mod sends;
 mod takes;
 
 pub use arrivals::{arrive, refusal_of, storing_refusal, target_refusal};
-pub use mqb_drafts::Draft;
 pub use notices::meets;
 pub use purges::purged;
 pub use resolving::{is_for_order_layer, queue_named, resolved};

@@ -5,7 +5,7 @@ use Rattle.std.specs.List.{list_any}
 use Rattle.std.specs.Prelude.{Ok, if◌then◌else◌, is_some, slice_get, unwrap_or}
 use Rattle.mqb_base.specs.declared.ids.Identity.{Identity}
 use Rattle.mqb_deliveries.specs.Peers.{KnowEachOther}
-use Rattle.mqb_deliveries.specs.SettingUp.{apart_as, sets_up}
+use Rattle.mqb_deliveries.specs.lemmas.SettingUp.{apart_as, sets_up}
 use Rattle.mqb_history.specs.Orderly.{IsOrderly}
 use Rattle.mqb_model.specs.managers.Manager.{Manager, is_down}
 use Rattle.mqb_network.specs.Answers.{only}

@@ -1,2 +1,3 @@
 pub mod Continuing
 pub mod Growing
+pub mod lemmas

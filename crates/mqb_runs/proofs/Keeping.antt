@@ -13,7 +13,7 @@ use Rattle.mqb_history.specs.Ledger.{AlwaysExactlyOnceTold}
 use Rattle.mqb_history.specs.Pumps.{NotesTellPumps}
 use Rattle.mqb_runs.specs.Guarantees.{KeepsGuarantees, RunsKeepGuarantees}
 use Rattle.mqb_runs.specs.Hosts.{hosts}
-use Rattle.mqb_runs.specs.Orderly.{hosts_apart}
+use Rattle.mqb_runs.specs.lemmas.Orderly.{hosts_apart}
 
 -- the first moves of a run are one
 pub run_before : (c : Course) (ms ns : List Move) → IsRunFrom c (ms ++ ns) → IsRunFrom c ms

@@ -1,9 +1,9 @@
 pub mod Hosts
 pub mod Events
 pub mod Runs
-pub mod Orderly
 pub mod Texts
 pub mod Guarantees
 pub use Rattle.mqb_turns.specs.Replies
 pub use Rattle.mqb_turns.specs.Passes
 pub use Rattle.mqb_turns.specs.Pumped
+pub mod lemmas

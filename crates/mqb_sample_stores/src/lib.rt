@@ -4,6 +4,6 @@
 mod packets;
 mod stores;
 
-pub use mqb_calls::{call, init, list};
+pub use mqb_commands::{call, init, list};
 pub use packets::{ACK, ALPHA, BETA, ORDER, PARAMETERS, establish, refused};
 pub use stores::{ALPHAS, BETAS, NOW, ORDERS, command, store};

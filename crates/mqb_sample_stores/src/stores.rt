@@ -3,10 +3,9 @@ ghost use Rattle.std.specs.Prelude.{IfOk};
 ghost use Rattle.mqb_words.specs.Formed.{IsFormed};
 
 use mqb_base::Memory;
-use mqb_calls::{call, init};
-use mqb_devices::{Disk, FixedClock};
+use mqb_commands::{Status, call, init};
 use mqb_disk::MemoryDisk;
-use mqb_status::Status;
+use mqb_outside::{Disk, FixedClock};
 use mqb_words::{Command, WordsFault, command_of};
 use std::alloc::Global;
 

@@ -8,3 +8,8 @@ pub mod Fields
 pub mod WordsBack
 pub mod StepsBack
 pub mod Spelled
+mod MadeReading
+mod Making
+mod Bounding
+mod Sizing
+mod Whole

@@ -9,8 +9,8 @@ use Rattle.mqb_base.specs.declared.queues.QueuePlan.{QueuePlan}
 use Rattle.mqb_base.specs.declared.queues.Place.{Place}
 use Rattle.mqb_base.specs.declared.draft.Op.{Op}
 use Rattle.mqb_base.specs.Same.{same_bytes}
-use Rattle.mqb_devices.specs.declared.power.Mode.{Mode}
-use Rattle.mqb_devices.specs.declared.power.Pick.{Pick}
+use Rattle.mqb_outside.specs.declared.power.Mode.{Mode}
+use Rattle.mqb_outside.specs.declared.power.Pick.{Pick}
 use Rattle.mqb_names.specs.Values.{AreBytes, IsName}
 use Rattle.mqb_forms.specs.declared.faults.LineKind.{LineKind}
 use Rattle.mqb_forms.specs.declared.sends.Names.{Names}

@@ -14,10 +14,10 @@ use Rattle.mqb_base.specs.declared.queues.Place.{Place}
 use Rattle.mqb_base.specs.declared.queues.Place.TheVariants as place
 use Rattle.mqb_base.specs.Names.{is_name_byte}
 use Rattle.mqb_base.specs.Same.{same_bytes}
-use Rattle.mqb_devices.specs.declared.power.Mode.{Mode}
-use Rattle.mqb_devices.specs.declared.power.Mode.TheVariants.{Stop, Fail}
-use Rattle.mqb_devices.specs.declared.power.Pick.{Pick}
-use Rattle.mqb_devices.specs.declared.power.Pick.TheVariants.{Old, New, Half, Ones}
+use Rattle.mqb_outside.specs.declared.power.Mode.{Mode}
+use Rattle.mqb_outside.specs.declared.power.Mode.TheVariants.{Stop, Fail}
+use Rattle.mqb_outside.specs.declared.power.Pick.{Pick}
+use Rattle.mqb_outside.specs.declared.power.Pick.TheVariants.{Old, New, Half, Ones}
 use Rattle.mqb_names.specs.Printed.{printed_guid}
 use Rattle.mqb_names.specs.Values.{AreBytes, IsName}
 use Rattle.mqb_forms.specs.Values.{MOST, mode_of, pick_of, name_of, guid_from, guid_of, journal_suffix, is_journal, before_journal, place_of}

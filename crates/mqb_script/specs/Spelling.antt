@@ -10,10 +10,10 @@ use Rattle.mqb_base.specs.declared.queues.Place.TheVariants as place
 use Rattle.mqb_base.specs.declared.draft.Parts.{Parts}
 use Rattle.mqb_base.specs.declared.draft.Op.{Op}
 use Rattle.mqb_base.specs.declared.draft.Op.TheVariants as op
-use Rattle.mqb_devices.specs.declared.power.Mode.{Mode}
-use Rattle.mqb_devices.specs.declared.power.Mode.TheVariants.{Stop, Fail}
-use Rattle.mqb_devices.specs.declared.power.Pick.{Pick}
-use Rattle.mqb_devices.specs.declared.power.Pick.TheVariants.{Old, New, Half, Ones}
+use Rattle.mqb_outside.specs.declared.power.Mode.{Mode}
+use Rattle.mqb_outside.specs.declared.power.Mode.TheVariants.{Stop, Fail}
+use Rattle.mqb_outside.specs.declared.power.Pick.{Pick}
+use Rattle.mqb_outside.specs.declared.power.Pick.TheVariants.{Old, New, Half, Ones}
 use Rattle.mqb_names.specs.Printed.{printed, printed_guid}
 use Rattle.mqb_names.specs.Values.{AreBytes, IsName, IsQueueName}
 use Rattle.mqb_forms.specs.declared.sends.Names.{Names}

@@ -1,7 +1,7 @@
 use crate::managers::Which;
 use mqb_base::{Draft, Place, QueuePlan};
-use mqb_devices::{Mode, Pick};
 use mqb_forms::Ops;
+use mqb_outside::{Mode, Pick};
 
 /// A line of a script. Moments are seconds since 1970, packets are numbered from 1.
 #[derive(Debug, Drop)]

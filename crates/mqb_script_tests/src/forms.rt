@@ -1,6 +1,5 @@
 use mqb_base::{Draft, Op, Place, QueuePlan};
-use mqb_devices::{Mode, Pick};
-use mqb_outside::MemorySource;
+use mqb_outside::{MemorySource, Mode, Pick};
 use mqb_script::{Event, Script, ScriptFault, Which, read_script};
 use std::alloc::Global;
 

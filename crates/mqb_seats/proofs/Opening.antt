@@ -1,14 +1,14 @@
 -- What a restart of the manager in a seat comes to.
 use Rattle.std.proofs.Common.{◌≡◌, Bool, true, false, List, ℕ, not, ◌==◌, refl, sym, ap, subst, arith}
-use Rattle.mqb_devices.specs.Disk.{IsSettled, OnlyReads, View}
-use Rattle.mqb_devices.specs.Images.{Each}
+use Rattle.mqb_outside.specs.Disk.{IsSettled, OnlyReads, View}
+use Rattle.mqb_outside.specs.Images.{Each}
 use Rattle.mqb_model.specs.laws.Durable.{DurableIsApplied}
 use Rattle.mqb_model.specs.managers.Valid.{IsValidManager}
 use Rattle.mqb_outside.specs.Faults.{Rose}
 use Rattle.mqb_store_laws.specs.Laws.{ImagesOpenToOne}
 use Rattle.mqb_moves.specs.States.{ManagerState, manager_of}
 use Rattle.mqb_moves.specs.Calling.{seat_of}
-use Rattle.mqb_moves.specs.Restarting.{Restarts, StandsForOneList, Starts, held_unread, restarts_so, unread_is}
+use Rattle.mqb_moves.specs.lemmas.Restarting.{Restarts, StandsForOneList, Starts, held_unread, restarts_so, unread_is}
 use Rattle.mqb_moves.specs.Seats.{IsHeldOn, SeatState}
 use Rattle.mqb_seats.specs.Opened.{IsOpened, NotOpened, opened_by}
 use Rattle.mqb_seats.specs.declared.restarting.Opened.{Opened}

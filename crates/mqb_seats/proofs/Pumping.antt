@@ -3,7 +3,7 @@ use Rattle.std.proofs.Common.{◌≡◌, ◌==◌, ℕ, Bool, false, cond, List,
 use Rattle.std.proofs.lemmas.List.Elements.{recursion_from_All}
 use Rattle.std.specs.List.{AllByRecursion}
 use Rattle.std.specs.Prelude.{All, IfErr, OnErr, OnOk, flat_map, not}
-use Rattle.mqb_devices.specs.Disk.{View}
+use Rattle.mqb_outside.specs.Disk.{View}
 use Rattle.mqb_moves.specs.Calls.{IsCall}
 use Rattle.mqb_moves.specs.States.{ManagerState, manager_of}
 use Rattle.mqb_model.specs.calls.hear.Hear.{IsReadable}

@@ -3,7 +3,7 @@ use Rattle.std.proofs.Common.{◌≡◌, ◌==◌, ◌≤◌, ℕ, length, inl, 
 use Rattle.std.specs.Prelude.{not}
 use Rattle.mqb_base.specs.declared.heard.Heard.{Heard}
 use Rattle.mqb_base.specs.declared.ledger.Line.{Line}
-use Rattle.mqb_devices.specs.Disk.{View}
+use Rattle.mqb_outside.specs.Disk.{View}
 use Rattle.mqb_base.specs.declared.draft.Op.{Op}
 use Rattle.mqb_moves.specs.Calls.{Ends, IsCall}
 use Rattle.mqb_moves.specs.States.{ManagerState, manager_of}
@@ -19,7 +19,8 @@ use Rattle.mqb_model.specs.managers.Manager.{Manager, is_down}
 use Rattle.mqb_model.specs.managers.Outcomes.{Outcome, lines_after}
 use Rattle.mqb_model.specs.managers.Restarts.{unread}
 use Rattle.mqb_model.specs.managers.Valid.{IsValidManager}
-use Rattle.mqb_moves.specs.Calling.{broke, lines_told, seat_of, went_well}
+use Rattle.mqb_moves.specs.Calling.{seat_of}
+use Rattle.mqb_moves.specs.lemmas.Calling.{broke, lines_told, went_well}
 use Rattle.mqb_moves.specs.Moves.{IsMove}
 use Rattle.mqb_moves.specs.Never.{TransactionsHaveOps}
 use Rattle.mqb_moves.specs.Seats.{SeatState, seated}

@@ -1,7 +1,7 @@
 -- What became of a call of a manager with its disk.
 use Rattle.std.specs.Prelude.{[], ◌≡◌, Bool, List, None, Ok, Result, Some, if◌then◌else◌}
 use Rattle.mqb_base.specs.declared.ledger.Line.{Line}
-use Rattle.mqb_devices.specs.Disk.{View}
+use Rattle.mqb_outside.specs.Disk.{View}
 use Rattle.mqb_model.specs.managers.Outcomes.{Outcome, lines_after}
 use Rattle.mqb_network.specs.Choices as network
 use Rattle.mqb_replies.specs.declared.faults.AnswerFault.{AnswerFault}

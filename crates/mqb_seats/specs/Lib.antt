@@ -6,3 +6,4 @@ pub use Rattle.mqb_moves.specs.Seats
 pub use Rattle.mqb_moves.specs.Moves
 pub use Rattle.mqb_moves.specs.Counting
 pub use Rattle.mqb_moves.specs.Holding
+pub use Rattle.mqb_moves.specs.lemmas.Stored

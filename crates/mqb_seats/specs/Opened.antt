@@ -1,6 +1,6 @@
 -- What a restart of a manager with its disk comes to.
 use Rattle.std.specs.Prelude.{◌+◌, ◌≡◌, Bool, IsSome, false, if◌then◌else◌, true}
-use Rattle.mqb_devices.specs.Disk.{View}
+use Rattle.mqb_outside.specs.Disk.{View}
 use Rattle.mqb_model.specs.managers.Manager.{doubt_of}
 use Rattle.mqb_model.specs.managers.Restarts.{lines_in_doubt, restarted, unread}
 use Rattle.mqb_outside.specs.Faults.{Rose}

@@ -1,7 +1,7 @@
 -- What became of a packet that a manager was given, and of packets that it gave out.
 use Rattle.std.specs.Prelude.{[], ◌≡◌, ◌⊎◌, Bool, Err, Ok, None, Result, Some, if◌then◌else◌}
 use Rattle.mqb_base.specs.declared.heard.Heard.{Heard as HeardSo}
-use Rattle.mqb_devices.specs.Disk.{View}
+use Rattle.mqb_outside.specs.Disk.{View}
 use Rattle.mqb_model.specs.calls.hear.Session.{HeardOutcome}
 use Rattle.mqb_model.specs.declared.faults.HearFault.{HearFault}
 use Rattle.mqb_model.specs.declared.faults.HearFault.TheVariants as fault

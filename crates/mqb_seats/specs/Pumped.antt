@@ -1,6 +1,6 @@
 -- What became of the packets that a manager gave out.
 use Rattle.std.specs.Prelude.{[], ◌++◌, ◌≡◌, Bool, Err, List, None, Ok, Result, Some, flat_map, if◌then◌else◌, map, ℕ}
-use Rattle.mqb_devices.specs.Disk.{View}
+use Rattle.mqb_outside.specs.Disk.{View}
 use Rattle.mqb_model.specs.calls.pump.Pump.{PumpOutcome}
 use Rattle.mqb_model.specs.declared.faults.PumpFault.{PumpFault}
 use Rattle.mqb_model.specs.declared.faults.PumpFault.TheVariants as fault

@@ -2,7 +2,7 @@ ghost use Rattle.std.specs.Prelude.{◌≡◌, IfOk, Ok, false};
 ghost use Rattle.mqb_seats.specs.Called.{how_by};
 
 use mqb_base::Memory;
-use mqb_devices::Power;
+use mqb_outside::Power;
 use mqb_replies::AnswerFault;
 use mqb_transcript::Reply;
 

@@ -15,11 +15,11 @@ ghost use Rattle.mqb_seats.specs.Called.{IsCalled, alone};
 use crate::called::{Called, how, told};
 use crate::seat::Seat;
 use mqb_base::{Draft, Memory, Op, Place, QueuePlan};
-use mqb_devices::Power;
 use mqb_model::{
     CommitFault, CreateFault, PurgeFault, SendFault, StoreFault, TakeFault, refused_is_same,
 };
 use mqb_moves::{definitions_do_not_fail, down_refuses_all, transactions_have_ops};
+use mqb_outside::Power;
 use mqb_replies::{
     commit_reply, create_reply, purge_reply, roll_reply, send_reply, take_reply, tick_reply,
 };

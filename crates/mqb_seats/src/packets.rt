@@ -13,12 +13,11 @@ ghost use Rattle.mqb_seats.specs.Pumped.{ArePosted, IsPumped, SpellPumped, Tells
 use crate::called::{Failure, how};
 use crate::seat::Seat;
 use mqb_base::{Heard, Memory};
-use mqb_devices::Power;
 use mqb_model::{
     HearFault, PumpFault, pumped_is_readable, refusals_change_nothing, refused_is_same,
 };
 use mqb_moves::{definitions_do_not_fail, down_refuses_all};
-use mqb_outside::Medium;
+use mqb_outside::{Medium, Power};
 use mqb_packet::PacketView;
 use mqb_posts::{PostFault, post_packets};
 use mqb_transcript::Reply;

@@ -1,16 +1,16 @@
 //! How a call of a manager's disk is armed, and how the manager is dropped and started again over what a restart left there.
 ghost use Rattle.std.specs.Prelude.{◌==◌, ◌≡◌, ◌≤◌, IfOk, Some, not};
-ghost use Rattle.mqb_devices.specs.Disk.{Counted};
+ghost use Rattle.mqb_outside.specs.Disk.{Counted};
 ghost use Rattle.mqb_moves.specs.Calling.{seat_of};
 ghost use Rattle.mqb_moves.specs.Seats.{IsHeldOn};
 ghost use Rattle.mqb_seats.specs.Opened.{IsOpened, opened_by};
 
 use crate::seat::Seat;
 use mqb_base::Memory;
-use mqb_devices::{Mode, Pick, Power};
 use mqb_journal::stands_for_one_list;
 use mqb_model::durable_is_applied;
 use mqb_moves::{Manager, OpenFault};
+use mqb_outside::{Mode, Pick, Power};
 use mqb_store_laws::{images_open_to_one, opened_is_not_bad};
 use std::mem::replace;
 

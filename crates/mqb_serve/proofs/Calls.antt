@@ -17,7 +17,7 @@ use Rattle.mqb_model.specs.records.Reading.{record_of}
 use Rattle.mqb_model.specs.records.Record.{Record}
 use Rattle.mqb_manager.specs.Calls.{Ends}
 use Rattle.mqb_manager.specs.States.{IsUp, ManagerState, condition_of, manager_of}
-use Rattle.mqb_serve_laws.proofs.Never.{IsHearAnswer, IsPumpAnswer, is_hear_answer, is_pump_answer}
+use Rattle.mqb_serving.proofs.Never.{IsHearAnswer, IsPumpAnswer, is_hear_answer, is_pump_answer}
 
 errs : {V E : Type 0} (a b : E) → (a ≡ b → ⊥) → ◌≡◌ {A = Result V E} (Err a) (Err b) → ⊥
 errs a b differ same = differ (let e : a ≡ b = cc in e)

@@ -1,6 +1,6 @@
 -- The manager is linked before a connection, and unlinked behind it.
 use Rattle.std.proofs.Common.{◌≡◌, Err, None, Ok, Option, Result, List, ℕ, ap, cond, false, true, Bool, refl, subst, sym, ◌∙◌}
-use Rattle.mqb_devices.specs.Disk.{View}
+use Rattle.mqb_outside.specs.Disk.{View}
 use Rattle.mqb_journal.specs.Causes.{FaultsAsSaid}
 use Rattle.mqb_model.specs.calls.Link.{link, unlink}
 use Rattle.mqb_model.specs.declared.answers.Role.{Role}
@@ -13,10 +13,11 @@ use Rattle.mqb_serving.specs.declared.faults.ConnFault.TheVariants as fault
 use Rattle.mqb_serving.specs.declared.faults.PeerFault.{PeerFault}
 use Rattle.mqb_outside.specs.Faults.{Rose}
 use Rattle.mqb_serving.specs.declared.limits.TheConstants.{WINDOW}
-use Rattle.mqb_serve_laws.specs.Serving.{Serves, ServesWhole, answer_of, is_disk_fault}
-use Rattle.mqb_serve_laws.specs.Steps.{Converses, Stands}
-use Rattle.mqb_serve_laws.proofs.Ending.{linked_stands, serves_end, serves_part, serves_stop, serves_whole}
-use Rattle.mqb_manager.specs.Keeping.{KeepsDisk, keeping_goes_on, links_keep_disks, unlinks_keep_disks}
+use Rattle.mqb_serving.specs.Serving.{Serves, ServesWhole, answer_of, is_disk_fault}
+use Rattle.mqb_serving.specs.Steps.{Converses, Stands}
+use Rattle.mqb_serving.proofs.Ending.{linked_stands, serves_end, serves_part, serves_stop, serves_whole}
+use Rattle.mqb_manager.specs.Keeping.{KeepsDisk}
+use Rattle.mqb_manager.specs.lemmas.Keeping.{keeping_goes_on, links_keep_disks, unlinks_keep_disks}
 use Rattle.mqb_serve.proofs.Calls.{quietly_up}
 
 pub disk_is : (why : ConnFault) → is_disk_fault why ≡ true → why ≡ fault.DiskFault

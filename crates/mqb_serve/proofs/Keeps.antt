@@ -1,6 +1,6 @@
 -- What steps leave of the disk, one after another.
 use Rattle.std.proofs.Common.{◌≡◌, Bool, cond, false, Result, Ok, Err, ℕ, refl, sym, subst}
-use Rattle.mqb_devices.specs.Disk.{View}
+use Rattle.mqb_outside.specs.Disk.{View}
 use Rattle.mqb_journal.specs.Causes.{FaultsAsSaid}
 use Rattle.mqb_outside.specs.Faults.{Rose}
 use Rattle.mqb_model.specs.managers.Outcomes.{Outcome}
@@ -8,8 +8,8 @@ use Rattle.mqb_manager.specs.Calls.{IsCall}
 use Rattle.mqb_manager.specs.States.{IsUp, ManagerState}
 use Rattle.mqb_serving.specs.declared.faults.ConnFault.{ConnFault}
 use Rattle.mqb_serving.specs.declared.faults.ConnFault.TheVariants as fault
-use Rattle.mqb_serve_laws.specs.Serving.{is_disk_fault}
-use Rattle.mqb_manager.specs.Keeping.{calls_keep_disks, keeping_goes_on, nothing_keeps}
+use Rattle.mqb_serving.specs.Serving.{is_disk_fault}
+use Rattle.mqb_manager.specs.lemmas.Keeping.{calls_keep_disks, keeping_goes_on, nothing_keeps}
 use Rattle.mqb_serve.specs.Talking.{Keeps}
 use Rattle.mqb_serve.proofs.Calls.{stays_up}
 

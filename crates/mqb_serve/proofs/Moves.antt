@@ -7,8 +7,8 @@ use Rattle.mqb_model.specs.managers.Manager.{Manager}
 use Rattle.mqb_serving.specs.Conversations.{Conversation, End, end_after, no_bytes, pumped, sent_some}
 use Rattle.mqb_serving.specs.declared.faults.ConnFault.{ConnFault}
 use Rattle.mqb_serving.specs.declared.limits.TheConstants.{MAX_PUMPS, MAX_READ}
-use Rattle.mqb_serve_laws.specs.Steps.{IsPumped, Itself, PumpStops, Reaches, Stands, Stops}
-use Rattle.mqb_serve_laws.proofs.Pumping.{Pumps, pumps_all, pumps_more, pumps_rest, pumps_stop}
+use Rattle.mqb_serving.specs.Steps.{IsPumped, Itself, PumpStops, Reaches, Stands, Stops}
+use Rattle.mqb_serving.proofs.Pumping.{Pumps, pumps_all, pumps_more, pumps_rest, pumps_stop}
 
 pub same_at : (i most : ℕ) → i ≤ most → most ≤ i → i ≡ most
 same_at i most less more = omega arith

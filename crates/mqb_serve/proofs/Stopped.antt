@@ -2,7 +2,7 @@
 use Rattle.std.proofs.Common.{◌≡◌, false, List, [], ◌++◌, None, Option, Result, Some, Ok, Err, ℕ, refl, sym, ap, subst, inl, inr, ◌∙◌}
 use Rattle.std.specs.Prelude.{IsSomeAnd, OnErr, OnOk, flat_map}
 use Rattle.mqb_base.specs.declared.heard.Heard.{Heard}
-use Rattle.mqb_devices.specs.Disk.{View}
+use Rattle.mqb_outside.specs.Disk.{View}
 use Rattle.mqb_hearing.specs.Plans.{ShowsReadable}
 use Rattle.mqb_outside.specs.Told.{Took}
 use Rattle.mqb_packet.specs.Parts.{packet_of, seen_packet}
@@ -22,8 +22,8 @@ use Rattle.mqb_manager.specs.Calls.{IsCall}
 use Rattle.mqb_manager.specs.States.{IsUp, ManagerState, manager_of}
 use Rattle.mqb_serving.specs.declared.faults.ConnFault.{ConnFault}
 use Rattle.mqb_serving.specs.declared.faults.ConnFault.TheVariants as fault
-use Rattle.mqb_serve_laws.specs.Serving.{is_read_fault, is_write_fault}
-use Rattle.mqb_serve_laws.specs.Steps.{IsHeard, IsPumped, LeftBy, PumpStops, TookFront}
+use Rattle.mqb_serving.specs.Serving.{is_read_fault, is_write_fault}
+use Rattle.mqb_serving.specs.Steps.{IsHeard, IsPumped, LeftBy, PumpStops, TookFront}
 use Rattle.mqb_serve.specs.Talking.{Keeps, stopped_hearing, stopped_pumping}
 use Rattle.mqb_serve.proofs.Calls.{answered_so, broken_so, memory_so, never_fails, never_fails_to_hear, never_wants, never_wants_to_hear, pump_adds}
 use Rattle.mqb_serve.proofs.Keeps.{keeps_call, keeps_fault, keeps_memory}

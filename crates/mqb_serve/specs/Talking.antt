@@ -1,7 +1,7 @@
 -- What the steps of a connection leave of the disk.
 use Rattle.std.specs.Prelude.{Err, None, Ok, Option, Result, Some, cond, ℕ}
 use Rattle.mqb_base.specs.declared.heard.Heard.{Heard}
-use Rattle.mqb_devices.specs.Disk.{View}
+use Rattle.mqb_outside.specs.Disk.{View}
 use Rattle.mqb_journal.specs.Causes.{FaultsAsSaid}
 use Rattle.mqb_model.specs.declared.faults.HearFault.{HearFault}
 use Rattle.mqb_model.specs.declared.faults.HearFault.TheVariants as hear_fault
@@ -10,7 +10,7 @@ use Rattle.mqb_model.specs.declared.faults.PumpFault.TheVariants as pump_fault
 use Rattle.mqb_serving.specs.declared.faults.ConnFault.{ConnFault}
 use Rattle.mqb_serving.specs.declared.faults.ConnFault.TheVariants as fault
 use Rattle.mqb_manager.specs.States.{IsUp, ManagerState}
-use Rattle.mqb_serve_laws.specs.Serving.{is_disk_fault}
+use Rattle.mqb_serving.specs.Serving.{is_disk_fault}
 use Rattle.mqb_manager.specs.Keeping.{KeepsDisk}
 
 -- a manager is up, unless the disk failed

@@ -1,10 +1,10 @@
 ghost use Rattle.std.specs.Prelude.{◌≡◌, OnOk, OnErr};
 ghost use Rattle.mqb_outside.specs.Faults.{HasCause};
 ghost use Rattle.mqb_outside.specs.Told.{Took};
-ghost use Rattle.mqb_serve_laws.specs.Steps.{TookFront};
+ghost use Rattle.mqb_serving.specs.Steps.{TookFront};
 
 use mqb_base::Failed;
-use mqb_devices::Conn;
+use mqb_outside::Conn;
 
 /// Sends bytes whole. After a fault a front of them was sent.
 pub(crate) fn send_all<C: Conn>(conn: &mut C, bytes: &[u8]) -> Result<(), Failed>

@@ -3,14 +3,14 @@ ghost use Rattle.mqb_journal.specs.Causes.{FaultsAsSaid};
 ghost use Rattle.mqb_manager.specs.States.{IsOnDisk, IsUp, manager_of};
 ghost use Rattle.mqb_manager.specs.Keeping.{KeepsDisk};
 ghost use Rattle.mqb_serve.specs.Talking.{Keeps};
-ghost use Rattle.mqb_serve_laws.specs.Serving.{Serves, ServesWhole, answer_of, is_disk_fault, is_read_fault, is_write_fault};
-ghost use Rattle.mqb_serve_laws.specs.Steps.{Converses, Stands};
+ghost use Rattle.mqb_serving.specs.Serving.{Serves, ServesWhole, answer_of, is_disk_fault, is_read_fault, is_write_fault};
+ghost use Rattle.mqb_serving.specs.Steps.{Converses, Stands};
 ghost use Rattle.mqb_serving.specs.Conversations.{Conversation, no_bytes};
 
 use crate::talk::{End, Talk};
-use mqb_devices::{Conn, Disk};
 use mqb_manager::Manager;
 use mqb_model::Role;
+use mqb_outside::{Conn, Disk};
 use mqb_serving::{ConnFault, WINDOW};
 use std::alloc::Global;
 

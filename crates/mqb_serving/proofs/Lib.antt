@@ -5,3 +5,12 @@ pub mod Hearing
 pub mod Resting
 pub mod Asking
 pub mod Pushing
+pub mod Taking
+pub mod Points
+pub mod Stopping
+pub mod Never
+pub mod Pumping
+pub mod Looking
+pub mod Piecing
+pub mod Taken
+pub mod Ending

@@ -1,3 +1,6 @@
 pub mod Conversations
 pub mod Laws
 pub mod Worked
+pub mod Serving
+pub mod Steps
+pub mod EndLaws

@@ -2,9 +2,10 @@
 use Rattle.std.proofs.Common.{◌≡◌, ◌<◌, ◌^◌, ℕ, suc, Bool, true, List, [], ◌∷◌, ◌++◌, length, Result, Ok, refl, sym, ap, subst, ◌∙◌, append_assoc, arith, length-append}
 use Rattle.std.specs.List.{flat_map}
 use Rattle.std.proofs.lemmas.List.{append-nil}
-use Rattle.mqb_entries.specs.FieldFormats.{u32_format}
+use Rattle.mqb_entries.specs.lemmas.FieldFormats.{u32_format}
 use Rattle.mqb_entries.specs.Fields.{u32_at}
-use Rattle.mqb_entries.specs.Formats.{IsFormat, both_moved, rest_again}
+use Rattle.mqb_entries.specs.Formats.{IsFormat}
+use Rattle.mqb_entries.specs.lemmas.Formats.{both_moved, rest_again}
 use Rattle.mqb_entries.specs.declared.faults.EntryFault.{EntryFault}
 use Rattle.mqb_fields.specs.Reading.{◌>>=◌, Reading, moved, rest_of}
 use Rattle.mqb_snapshot.specs.Parts.{Parts, each_joined, joined, list_joined, tested}

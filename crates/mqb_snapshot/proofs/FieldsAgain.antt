@@ -11,9 +11,9 @@ use Rattle.mqb_base.specs.declared.message.Delivery.TheVariants as delivery
 use Rattle.mqb_base.specs.declared.message.Message.{Message}
 use Rattle.mqb_base.specs.declared.queue_names.QueueName.{QueueName}
 use Rattle.mqb_base.specs.declared.queue_names.QueueName.TheVariants.{Direct, Machine, Private, Public}
-use Rattle.mqb_entries.specs.FieldFormats.{address_format, guid_format, name_format, packet_format, u32_format, u8_format}
+use Rattle.mqb_entries.specs.lemmas.FieldFormats.{address_format, guid_format, name_format, packet_format, u32_format, u8_format}
 use Rattle.mqb_entries.specs.Fields.{address_at, guid_at, name_at, u32_at}
-use Rattle.mqb_entries.specs.Formats.{both_moved, part_format, rest_again}
+use Rattle.mqb_entries.specs.lemmas.Formats.{both_moved, part_format, rest_again}
 use Rattle.mqb_entries.specs.Spelled.{spelled_guid, spelled_name, spelled_packet}
 use Rattle.mqb_fate.specs.Asking.{is_transactional}
 use Rattle.mqb_fields.specs.Reading.{◌>>=◌, moved, rest_of}

@@ -8,7 +8,7 @@ use Rattle.mqb_base.specs.QueueNames.{names_queue}
 use Rattle.mqb_base.specs.declared.ids.Guid.{Guid}
 use Rattle.mqb_base.specs.declared.message.Message.{Message}
 use Rattle.mqb_base.specs.declared.queue_names.QueueName.{QueueName}
-use Rattle.mqb_entries.specs.FieldFormats.{guid_format}
+use Rattle.mqb_entries.specs.lemmas.FieldFormats.{guid_format}
 use Rattle.mqb_entries.specs.Fields.{guid_at, u32_at}
 use Rattle.mqb_entries.specs.Spelled.{spelled_guid}
 use Rattle.mqb_fields.specs.Reading.{◌>>=◌}

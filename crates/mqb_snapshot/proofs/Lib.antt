@@ -14,3 +14,20 @@ pub mod Turned
 mod OutsAgain
 mod InsAgain
 pub mod StateAgain
+mod Lists
+mod Readers
+mod FieldsRead
+mod MessagesRead
+mod Sound
+mod PeersSound
+mod PlacesSound
+mod PlainSound
+mod OutsSound
+mod InsSound
+mod StateSound
+mod Filled
+mod PlacesFilled
+mod PlainFilled
+mod RowsFilled
+mod StateFilled
+mod StateRead

@@ -12,7 +12,7 @@ use Rattle.mqb_base.specs.Same.{same_guid}
 use Rattle.mqb_base.specs.declared.ids.Guid.{Guid}
 use Rattle.mqb_base.specs.declared.message.Message.{Message}
 use Rattle.mqb_base.specs.declared.queue_names.QueueName.{QueueName}
-use Rattle.mqb_entries.specs.FieldFormats.{flag_format}
+use Rattle.mqb_entries.specs.lemmas.FieldFormats.{flag_format}
 use Rattle.mqb_entries.specs.Fields.{flag_at, u32_at}
 use Rattle.mqb_entries.specs.Spelled.{spelled_flag, spelled_packet}
 use Rattle.mqb_fate.specs.Asking.{is_transactional}

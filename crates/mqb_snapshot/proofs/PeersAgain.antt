@@ -9,9 +9,9 @@ use Rattle.mqb_base.specs.Same.{same_guid, same_ignoring_case}
 use Rattle.mqb_base.specs.declared.ids.Guid.{Guid}
 use Rattle.mqb_base.specs.declared.ids.Identity.{Identity}
 use Rattle.mqb_base.specs.declared.queues.QueuePlan.{QueuePlan}
-use Rattle.mqb_entries.specs.FieldFormats.{address_format, flag_format, guid_format, name_format}
+use Rattle.mqb_entries.specs.lemmas.FieldFormats.{address_format, flag_format, guid_format, name_format}
 use Rattle.mqb_entries.specs.Fields.{address_at, flag_at, guid_at, name_at, u32_at}
-use Rattle.mqb_entries.specs.Formats.{both_moved, rest_again}
+use Rattle.mqb_entries.specs.lemmas.Formats.{both_moved, rest_again}
 use Rattle.mqb_entries.specs.Spelled.{spelled_flag, spelled_guid, spelled_name, spelled_public}
 use Rattle.mqb_fate.specs.Orders.{is_order_name}
 use Rattle.mqb_fields.specs.Reading.{◌>>=◌, moved}

@@ -14,7 +14,7 @@ use Rattle.mqb_base.specs.declared.message.Message.{Message}
 use Rattle.mqb_base.specs.declared.queues.EntryPlace.{EntryPlace}
 use Rattle.mqb_base.specs.declared.queues.EntryPlace.TheVariants as place
 use Rattle.mqb_base.specs.declared.queues.QueuePlan.{QueuePlan}
-use Rattle.mqb_entries.specs.FieldFormats.{flag_format}
+use Rattle.mqb_entries.specs.lemmas.FieldFormats.{flag_format}
 use Rattle.mqb_entries.specs.Fields.{flag_at}
 use Rattle.mqb_entries.specs.Spelled.{spelled_flag, spelled_packet}
 use Rattle.mqb_fate.specs.Asking.{is_transactional}

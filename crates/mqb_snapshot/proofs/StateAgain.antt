@@ -7,7 +7,7 @@ use Rattle.std.specs.Prelude.{All}
 use Rattle.mqb_base.specs.Same.{same_guid}
 use Rattle.mqb_base.specs.declared.ids.Guid.{Guid}
 use Rattle.mqb_base.specs.declared.message.Message.{Message}
-use Rattle.mqb_entries.specs.Formats.{rest_again}
+use Rattle.mqb_entries.specs.lemmas.Formats.{rest_again}
 use Rattle.mqb_entries.specs.Lists.{start}
 use Rattle.mqb_fields.specs.Reading.{◌>>=◌, moved, rest_of}
 use Rattle.mqb_model.specs.declared.limits.TheConstants.{MAX_ORDINAL}

@@ -6,7 +6,7 @@ use Rattle.mqb_base.specs.declared.ledger.Line.{Line}
 use Rattle.mqb_contents.specs.Changes.{AllReady, messages, redone}
 use Rattle.mqb_contents.specs.Rooms.{StateRooms}
 use Rattle.mqb_entries.specs.declared.entry.Entry.{Entry}
-use Rattle.mqb_express.specs.declared.work.ExpressWork.{ExpressWork}
+use Rattle.mqb_timeouts.specs.declared.work.ExpressWork.{ExpressWork}
 use Rattle.mqb_model.specs.laws.Keeping.{AppliedIsValid}
 use Rattle.mqb_model.specs.managers.Beside.{Beside, beside_done}
 use Rattle.mqb_model.specs.managers.Outcomes.{recorded}

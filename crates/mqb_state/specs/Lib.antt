@@ -1,5 +1,5 @@
 pub mod Prepared
 pub mod Together
 pub use Rattle.mqb_records.specs.Unfit
-pub use Rattle.mqb_express.specs.Work
-pub use Rattle.mqb_express.specs.Noting
+pub use Rattle.mqb_timeouts.specs.Work
+pub use Rattle.mqb_timeouts.specs.Noting

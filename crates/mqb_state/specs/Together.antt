@@ -2,8 +2,8 @@
 use Rattle.std.specs.Option.{option_map_or}
 use Rattle.std.specs.Prelude.{[], ◌+◌, ◌≡◌, IfSome, IsSomeAnd, None, Option, Some, true, ℕ}
 use Rattle.mqb_entries.specs.declared.entry.Entry.{Entry}
-use Rattle.mqb_express.specs.Work.{express_count}
-use Rattle.mqb_express.specs.declared.work.ExpressWork.{ExpressWork}
+use Rattle.mqb_timeouts.specs.Work.{express_count}
+use Rattle.mqb_timeouts.specs.declared.work.ExpressWork.{ExpressWork}
 use Rattle.mqb_model.specs.managers.Beside.{Beside, beside_done}
 use Rattle.mqb_model.specs.managers.Outcomes.{recorded}
 use Rattle.mqb_model.specs.records.Applying.{fits, lines_of}

@@ -12,8 +12,8 @@ mod readers;
 mod state;
 mod typed;
 
-pub use mqb_express::{ExpressWork, Origin};
 pub use mqb_read_back::BackFault;
 pub use mqb_records::{RecordFault as PrepareFault, owned_identity, peer_there, queue_there};
+pub use mqb_timeouts::{ExpressWork, Origin};
 pub use prepared::Prepared;
 pub use state::State;

@@ -1,12 +1,12 @@
 //! What was sent is noted without memory, and what was noted is forgotten where a connection ends.
 ghost use Rattle.std.specs.Prelude.{◌≡◌};
-ghost use Rattle.mqb_express.specs.Noting.{CanNote, origin_of};
+ghost use Rattle.mqb_timeouts.specs.Noting.{CanNote, origin_of};
 ghost use Rattle.mqb_model.specs.managers.Beside.{beside_done, noted_as};
 ghost use Rattle.mqb_model.specs.managers.Beside as beside;
 
 use crate::state::State;
 use mqb_base::SessionHead;
-use mqb_express::{Origin, note_sent};
+use mqb_timeouts::{Origin, note_sent};
 
 impl State {
     /// No plain message counts as sent any more.

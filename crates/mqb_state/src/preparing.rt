@@ -1,7 +1,7 @@
 ghost use Rattle.std.specs.Prelude.{◌≡◌, ◌+◌, ◌*◌, ◌≤◌, Err, IfOk, IsSomeAnd, OnOk, option_copied, true};
 ghost use Rattle.mqb_contents.specs.Changes.{messages, redone, rooms_redone};
 ghost use Rattle.mqb_contents.specs.Rooms.{IsGrown};
-ghost use Rattle.mqb_express.specs.Work.{beside_of};
+ghost use Rattle.mqb_timeouts.specs.Work.{beside_of};
 ghost use Rattle.mqb_model.specs.managers.Beside as beside;
 ghost use Rattle.mqb_model.specs.records.Applying.{effect_of, fits};
 ghost use Rattle.mqb_model.specs.records.Counting.{named_count};
@@ -20,9 +20,9 @@ use core::mem::replace_with;
 use mqb_contents::Contents;
 use mqb_drafts::{Draft, redo};
 use mqb_entries::Entry;
-use mqb_express::{ExpressWork, beside_done};
 use mqb_model::applied_is_valid;
 use mqb_records::{RecordFault, apply_record};
+use mqb_timeouts::{ExpressWork, beside_done};
 use std::alloc::Global;
 
 /// An entry is tried, where there is one.

@@ -5,12 +5,12 @@ ghost use Rattle.mqb_model.specs.records.Carrying.{IsRead};
 ghost use Rattle.mqb_model.specs.records.Reading.{record_in};
 ghost use Rattle.mqb_model.specs.state.State.{State};
 ghost use Rattle.mqb_model.specs.state.Valid.{IsValidState};
-ghost use Rattle.mqb_record_laws.specs.Typed.{IsTyped, IsTypedOp, IsTypedPart};
+ghost use Rattle.mqb_model.specs.Typed.{IsTyped, IsTypedOp, IsTypedPart};
 ghost use Rattle.mqb_snapshot.specs.Reading.{state_of};
 
 use mqb_entries::{ArrivedPart, Entry, OpView, Ops, PacketSlice};
-use mqb_record_laws::entries_are_read;
-use mqb_snapshot_laws::read_states_are_valid;
+use mqb_model::entries_are_read;
+use mqb_snapshot::read_states_are_valid;
 
 fn bytes_are_bytes(bytes: &[u8])
     ensures { IsBytes bytes.now }

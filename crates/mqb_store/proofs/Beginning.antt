@@ -5,7 +5,7 @@ use Rattle.std.specs.Prelude.{[], ◌≡◌, ◌∷◌, List, None, Some, if◌t
 use Rattle.mqb_base.specs.Same.{same_guid}
 use Rattle.mqb_base.specs.declared.ids.Guid.{Guid}
 use Rattle.mqb_base.specs.declared.ids.Identity.{Identity}
-use Rattle.mqb_devices.specs.Disk.{View}
+use Rattle.mqb_outside.specs.Disk.{View}
 use Rattle.mqb_journal.specs.Journals.{GoesOn}
 use Rattle.mqb_journal.specs.States.{JournalState}
 use Rattle.mqb_model.specs.records.Reading.{record_of}

@@ -4,9 +4,9 @@ use Rattle.std.specs.Prelude.{[], ◌++◌, ◌<◌, ◌≡◌, ◌∷◌, List,
 use Rattle.mqb_base.specs.Same.{same_guid}
 use Rattle.mqb_base.specs.declared.ids.Guid.{Guid}
 use Rattle.mqb_base.specs.declared.ids.Identity.{Identity}
-use Rattle.mqb_devices.specs.Disk.{OnlyReads, View}
-use Rattle.mqb_devices.specs.Images.{Each}
-use Rattle.mqb_journal.specs.Carrying.{goes_on_stands, lent_goes_on}
+use Rattle.mqb_outside.specs.Disk.{OnlyReads, View}
+use Rattle.mqb_outside.specs.Images.{Each}
+use Rattle.mqb_journal.specs.lemmas.Carrying.{goes_on_stands, lent_goes_on}
 use Rattle.mqb_journal.specs.Journals.{Lent}
 use Rattle.mqb_journal.specs.Scan.{GoesTo, IsBadAt}
 use Rattle.mqb_journal.specs.States.{ScanState, finished}

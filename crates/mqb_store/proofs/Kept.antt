@@ -1,7 +1,7 @@
 -- What is kept by a write.
 use Rattle.std.proofs.Common.{◌∙◌, ap}
 use Rattle.std.specs.Prelude.{[], ◌++◌, ◌≡◌, ◌∷◌, IsSomeAnd, List, None, Option, Some, true, ℕ}
-use Rattle.mqb_devices.specs.Disk.{IsSettled, LeavesOnly, View}
+use Rattle.mqb_outside.specs.Disk.{IsSettled, LeavesOnly, View}
 use Rattle.mqb_journal.specs.Journals.{GoesOn}
 use Rattle.mqb_journal.specs.States.{JournalState}
 use Rattle.mqb_journal.specs.Store.{IsBeforeOrAfter}
@@ -13,7 +13,7 @@ use Rattle.mqb_model.specs.records.Record.{Record}
 use Rattle.mqb_model.specs.state.Durable.{durable}
 use Rattle.mqb_model.specs.state.State.{State}
 use Rattle.mqb_model.specs.state.Valid.{IsValidState}
-use Rattle.mqb_store_laws.specs.Carrying.{moments_open, on_beside, on_written}
+use Rattle.mqb_store_laws.specs.lemmas.Carrying.{moments_open, on_beside, on_written}
 use Rattle.mqb_store_laws.specs.Images.{IsOn, Opens}
 use Rattle.mqb_store_laws.specs.Laws.{RecordsJoin}
 

@@ -6,9 +6,9 @@ use Rattle.mqb_base.specs.Same.{same_guid}
 use Rattle.mqb_base.specs.declared.ids.Guid.{Guid}
 use Rattle.mqb_base.specs.declared.ids.Identity.{Identity}
 use Rattle.mqb_base.specs.declared.ledger.Line.{Line}
-use Rattle.mqb_devices.specs.Disk.{OnlyReads, View}
-use Rattle.mqb_devices.specs.Images.{Each}
-use Rattle.mqb_journal.specs.Carrying.{goes_on_stands, lent_goes_on}
+use Rattle.mqb_outside.specs.Disk.{OnlyReads, View}
+use Rattle.mqb_outside.specs.Images.{Each}
+use Rattle.mqb_journal.specs.lemmas.Carrying.{goes_on_stands, lent_goes_on}
 use Rattle.mqb_journal.specs.States.{ScanState, finished}
 use Rattle.mqb_model.specs.laws.Durable.{DurableIsApplied}
 use Rattle.mqb_model.specs.records.Applying.{apply, effect_of, fits, lines_of}
@@ -23,7 +23,7 @@ use Rattle.mqb_state.specs.Unfit.{is_fit}
 use Rattle.mqb_store.proofs.Beginning.{first_state}
 use Rattle.mqb_store.proofs.Faulty.{StandsBehind}
 use Rattle.mqb_store.specs.Replaying.{IsReadUpTo}
-use Rattle.mqb_store_laws.specs.Carrying.{opens_now}
+use Rattle.mqb_store_laws.specs.lemmas.Carrying.{opens_now}
 use Rattle.mqb_store_laws.specs.Faults.{MayGoOn}
 use Rattle.mqb_store_laws.specs.Images.{HasLastLines, IsOn, OpensTo, identity_in, lines_added, state_from, state_in}
 use Rattle.mqb_store_laws.specs.Laws.{EntriesBegin, EntriesGoOn}

@@ -1,7 +1,7 @@
 -- What is seen of a manager's store.
 use Rattle.std.specs.Prelude.{◌≡◌, List, false, ℕ}
 use Rattle.mqb_base.specs.declared.ledger.Line.{Line}
-use Rattle.mqb_devices.specs.Disk.{View}
+use Rattle.mqb_outside.specs.Disk.{View}
 use Rattle.mqb_journal.specs.States.{JournalState}
 use Rattle.mqb_model.specs.state.State.{State}
 use Rattle.mqb_store_laws.specs.Images.{IsOn}

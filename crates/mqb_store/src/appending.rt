@@ -1,6 +1,6 @@
 ghost use Rattle.std.specs.Prelude.{[], ◌+◌, ◌++◌, ◌<◌, ◌≡◌, ◌≢◌, ◌≤◌, ◌∷◌, Err, List, OnOk, false, length, true, ℕ};
-ghost use Rattle.mqb_devices.specs.Disk.{Counted, IsSettled, LeavesOnly};
-ghost use Rattle.mqb_devices.specs.Images.{Each};
+ghost use Rattle.mqb_outside.specs.Disk.{Counted, IsSettled, LeavesOnly};
+ghost use Rattle.mqb_outside.specs.Images.{Each};
 ghost use Rattle.mqb_journal.specs.Causes.{FaultsAsSaid};
 ghost use Rattle.mqb_journal.specs.Journals.{GoesOn};
 ghost use Rattle.mqb_journal.specs.States.{appended};
@@ -8,8 +8,8 @@ ghost use Rattle.mqb_journal.specs.Store.{IsBeforeOrAfter, IsSmall};
 ghost use Rattle.mqb_store.specs.Writing.{write_failed};
 
 use crate::faults::WriteFault;
-use mqb_devices::Disk;
 use mqb_journal::{AppendFault, Journal};
+use mqb_outside::Disk;
 
 /// Appends a record that is no longer than one may be to a journal that is up.
 pub(crate) fn append<D: Disk>(

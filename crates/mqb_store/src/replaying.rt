@@ -1,7 +1,7 @@
 //! The state of a store is made again from its records, one at a time.
 ghost use Rattle.std.specs.Prelude.{[], ◌-◌, ◌<◌, ◌≡◌, ◌≢◌, Err, IfOk, IsSomeAnd, OnOk, false, true, ℕ};
-ghost use Rattle.mqb_devices.specs.Disk.{OnlyReads};
-ghost use Rattle.mqb_devices.specs.Images.{Each};
+ghost use Rattle.mqb_outside.specs.Disk.{OnlyReads};
+ghost use Rattle.mqb_outside.specs.Images.{Each};
 ghost use Rattle.mqb_journal.specs.Causes.{FaultsAsSaid, open_failed};
 ghost use Rattle.mqb_journal.specs.Journals.{Lent};
 ghost use Rattle.mqb_model.specs.records.Applying.{effect_of, fits};
@@ -13,10 +13,10 @@ ghost use Rattle.mqb_store_laws.specs.Faults.{IsBadStore};
 use crate::spelling::identity_of;
 use crate::typed::guid_is_whole;
 use mqb_base::{Line, Roomed};
-use mqb_devices::Disk;
 use mqb_entries::entry_view;
 use mqb_journal::{OpenFault, Scan};
 use mqb_model::durable_is_applied;
+use mqb_outside::Disk;
 use mqb_state::{PrepareFault, State};
 use mqb_store_laws::{entries_begin, entries_go_on};
 use std::alloc::Global;

@@ -1,6 +1,6 @@
 ghost use Rattle.std.specs.Prelude.{[], ◌+◌, ◌<◌, ◌≡◌, ◌≢◌, ◌≤◌, ◌∷◌, Err, IfOk, List, OnErr, OnOk, false, length, ℕ};
-ghost use Rattle.mqb_devices.specs.Disk.{Counted, IsSettled, OnlyReads};
-ghost use Rattle.mqb_devices.specs.Images.{Each};
+ghost use Rattle.mqb_outside.specs.Disk.{Counted, IsSettled, OnlyReads};
+ghost use Rattle.mqb_outside.specs.Images.{Each};
 ghost use Rattle.mqb_journal.specs.Causes.{FaultsAsSaid, open_failed};
 ghost use Rattle.mqb_journal.specs.Journals.{GoesOn};
 ghost use Rattle.mqb_journal.specs.States.{appended};
@@ -17,8 +17,8 @@ use crate::replaying::{first, replay};
 use crate::spelling::spell_identity;
 use crate::store::Store;
 use mqb_base::{Identity, Roomed};
-use mqb_devices::Disk;
 use mqb_journal::{Journal, OpenFault};
+use mqb_outside::Disk;
 use mqb_state::State;
 use mqb_store_laws::entries_begin;
 use std::alloc::Global;

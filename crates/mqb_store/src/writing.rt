@@ -1,7 +1,7 @@
 ghost use Rattle.std.specs.Option.{option_map_or};
 ghost use Rattle.std.specs.Prelude.{◌+◌, ◌≡◌, ◌≢◌, Err, IfSome, IsSomeAnd, None, OnOk, Some, option_copied, true};
 ghost use Rattle.mqb_contents.specs.Changes.{redone};
-ghost use Rattle.mqb_devices.specs.Disk.{Counted, IsSettled, LeavesOnly};
+ghost use Rattle.mqb_outside.specs.Disk.{Counted, IsSettled, LeavesOnly};
 ghost use Rattle.mqb_state.specs.Work.{beside_of};
 ghost use Rattle.mqb_journal.specs.Causes.{FaultsAsSaid};
 ghost use Rattle.mqb_model.specs.records.Reading.{record_in, record_of};
@@ -17,8 +17,8 @@ use crate::preparing::prepare;
 use crate::spelling::spell;
 use crate::store::Store;
 use mqb_base::{Line, Roomed};
-use mqb_devices::Disk;
 use mqb_entries::Entry;
+use mqb_outside::Disk;
 use mqb_state::{ExpressWork, Prepared, State};
 use mqb_store_laws::records_join;
 use std::alloc::Global;

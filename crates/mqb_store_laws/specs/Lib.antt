@@ -2,3 +2,4 @@ pub mod Images
 pub mod Faults
 pub mod Laws
 pub mod Carrying
+pub mod lemmas

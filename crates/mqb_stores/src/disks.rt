@@ -1,6 +1,6 @@
 use mqb_base::Failed;
-use mqb_devices::{Disk, Mode, Pick, Power};
 use mqb_disk::{Call, FileDisk, MemoryDisk, TraceDisk};
+use mqb_outside::{Disk, Mode, Pick, Power};
 use std::alloc::{AllocError, Global};
 use std::fs;
 use std::test::Fail;

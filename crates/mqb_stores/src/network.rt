@@ -1,7 +1,6 @@
 use crate::outside::{echo, moment};
-use mqb_devices::{Conn, Net};
 use mqb_net::{SystemClock, TcpConn, TcpNet};
-use mqb_outside::{Sink, Source};
+use mqb_outside::{Conn, Net, Sink, Source};
 use std::test::Fail;
 
 /// Two ends of one connection, by way of a net's own port: the one that asked for it, and the one that was asked.

@@ -1,7 +1,7 @@
 use mqb_base::{Bytes, Failed};
-use mqb_devices::{Clock, Conn, ConnPlan, FixedClock, MemoryConn, MemoryNet, Net};
 use mqb_outside::{
-    Medium, MemoryMedium, MemorySink, MemorySource, Sink, Source, StdSink, StdSource,
+    Clock, Conn, ConnPlan, FixedClock, Medium, MemoryConn, MemoryMedium, MemoryNet, MemorySink,
+    MemorySource, Net, Sink, Source, StdSink, StdSource,
 };
 use std::io;
 use std::test::Fail;

@@ -1,8 +1,8 @@
 ghost use Rattle.std.specs.Prelude.{◌≡◌, IfOk};
-ghost use Rattle.mqb_devices.specs.Disk.{OnlyReads};
+ghost use Rattle.mqb_outside.specs.Disk.{OnlyReads};
 
-use mqb_devices::Disk;
 use mqb_journal::{Journal, OpenFault, ScanFault};
+use mqb_outside::Disk;
 use std::alloc::Global;
 
 fn as_opening(fault: ScanFault) -> OpenFault {

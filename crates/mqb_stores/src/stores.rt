@@ -3,9 +3,9 @@ ghost use Rattle.std.specs.Prelude.{◌≡◌, ◌≢◌, ◌≤◌};
 use crate::disks::holds;
 use crate::reading::start;
 use mqb_base::{Failed, Guid};
-use mqb_devices::{Disk, Mode, Pick, Power};
 use mqb_disk::{Call, MemoryDisk, TraceDisk};
 use mqb_journal::{AppendFault, Journal, OpenFault, ScanFault};
+use mqb_outside::{Disk, Mode, Pick, Power};
 use std::alloc::{AllocError, Global};
 use std::test::Fail;
 

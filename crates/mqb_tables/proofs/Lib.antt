@@ -3,3 +3,7 @@ pub mod Alike
 pub mod Keyed
 pub mod Lasts
 pub mod Numbering
+pub mod Members
+pub mod Lens
+pub mod Each
+pub mod Waiting

@@ -3,3 +3,4 @@ pub mod Due
 pub mod Swept
 pub mod Lapsed
 pub mod Expired
+pub mod Dropped

@@ -4,7 +4,7 @@ use Rattle.std.proofs.lemmas.List.{append-nil, length-map}
 use Rattle.std.specs.Option.{option_map_or}
 use Rattle.std.specs.Prelude.{IfOk, if◌then◌else◌, map, replicate}
 use Rattle.mqb_base.specs.declared.ledger.Line.{Line}
-use Rattle.mqb_devices.specs.Disk.{View}
+use Rattle.mqb_outside.specs.Disk.{View}
 use Rattle.mqb_model.specs.calls.pump.Pump.{PumpOutcome, pump}
 use Rattle.mqb_model.specs.declared.faults.PumpFault.{PumpFault}
 use Rattle.mqb_model.specs.managers.Manager.{Manager}
@@ -13,7 +13,7 @@ use Rattle.mqb_model.specs.laws.Validity.{RefusedIsSame}
 use Rattle.mqb_model.specs.managers.Outcomes.{lines_after, succeeded}
 use Rattle.mqb_model.specs.managers.Valid.{IsValidManager}
 use Rattle.mqb_seats.specs.Counting.{PumpsAreCounted}
-use Rattle.mqb_seats.specs.Holding.{same_stores, stored_held}
+use Rattle.mqb_seats.specs.Stored.{same_stores, stored_held}
 use Rattle.mqb_seats.specs.Seats.{SeatState, seated}
 use Rattle.mqb_network.specs.Answers.{Answer}
 use Rattle.mqb_network.specs.Changes.{failed_at, note_by, noted, succeeded_at, with_lines}

@@ -7,7 +7,8 @@ use Rattle.mqb_base.specs.declared.ledger.Line.{Line}
 use Rattle.mqb_model.specs.calls.Link.{resend}
 use Rattle.mqb_model.specs.managers.Manager.{Manager}
 use Rattle.mqb_model.specs.managers.Outcomes.{succeeded}
-use Rattle.mqb_seats.specs.Holding.{StaysStored, same_stores}
+use Rattle.mqb_seats.specs.Holding.{StaysStored}
+use Rattle.mqb_seats.specs.Stored.{same_stores}
 use Rattle.mqb_seats.specs.Seats.{SeatState, seated}
 use Rattle.mqb_network.specs.Answers.{Answer, only}
 use Rattle.mqb_network.specs.Changes.{as_dropped, dropped, ended, succeeded_at, with_lines}

@@ -3,7 +3,7 @@ use Rattle.std.proofs.Common.{◌≡◌, ℕ, Bool, true, false, cond, List, [],
 use Rattle.std.proofs.lemmas.List.{append-nil}
 use Rattle.std.specs.Prelude.{◌+◌, is_some, not}
 use Rattle.mqb_base.specs.declared.ledger.Line.{Line}
-use Rattle.mqb_devices.specs.Disk.{View}
+use Rattle.mqb_outside.specs.Disk.{View}
 use Rattle.mqb_journal.specs.States.{JournalState}
 use Rattle.mqb_model.specs.managers.Manager.{Condition, Down, Manager, Up, doubt_of, is_down}
 use Rattle.mqb_model.specs.managers.Restarts.{lines_in_doubt, restarted, unread}

@@ -1,6 +1,6 @@
 -- What it is to the network that one packet is passed to its receiver.
 use Rattle.std.specs.Prelude.{[], ◌++◌, ◌+◌, ◌≡◌, Bool, IsSome, true, false, List, MatchOption, None, Option, if◌then◌else◌, length, ℕ}
-use Rattle.mqb_devices.specs.Disk.{View}
+use Rattle.mqb_outside.specs.Disk.{View}
 use Rattle.mqb_model.specs.calls.hear.Session.{HeardOutcome}
 use Rattle.mqb_seats.specs.Holding.{StaysStored}
 use Rattle.mqb_seats.specs.Seats.{IsHeldOn}

@@ -1,6 +1,6 @@
 -- What the packets that a manager gives out are to the network, and to the medium.
 use Rattle.std.specs.Prelude.{[], ◌++◌, ◌≡◌, Bool, Err, IsSome, IsTrue, List, Ok, Result, length, map, ℕ}
-use Rattle.mqb_devices.specs.Disk.{View}
+use Rattle.mqb_outside.specs.Disk.{View}
 use Rattle.mqb_model.specs.calls.pump.Pump.{PumpOutcome, pump}
 use Rattle.mqb_seats.specs.Holding.{StaysStored}
 use Rattle.mqb_seats.specs.Seats.{IsHeldOn, seated}

@@ -1,7 +1,7 @@
 -- What a restart is to the network of a world, as the manager sees it that is started again.
 use Rattle.std.specs.Prelude.{[], ◌+◌, ◌≡◌, Bool, IsTrue, List, Ok, false, if◌then◌else◌, true, ℕ}
 use Rattle.mqb_base.specs.declared.ledger.Line.{Line}
-use Rattle.mqb_devices.specs.Disk.{View}
+use Rattle.mqb_outside.specs.Disk.{View}
 use Rattle.mqb_seats.specs.Holding.{StaysStored}
 use Rattle.mqb_seats.specs.Seats.{IsHeldOn, SeatState}
 use Rattle.mqb_network.specs.Choices.{Choice}

@@ -1,6 +1,6 @@
 -- What an event is to the network of a world, as one manager sees it.
 use Rattle.std.specs.Prelude.{[], ◌≡◌, Bool, IsTrue, None, Ok, length, ℕ}
-use Rattle.mqb_devices.specs.Disk.{View}
+use Rattle.mqb_outside.specs.Disk.{View}
 use Rattle.mqb_seats.specs.Holding.{StaysStored}
 use Rattle.mqb_seats.specs.Seats.{IsHeldOn}
 use Rattle.mqb_network.specs.Answers.{Answer}

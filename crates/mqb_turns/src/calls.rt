@@ -9,8 +9,8 @@ ghost use Rattle.mqb_turns.specs.Sides.{side};
 
 use crate::between::settle;
 use mqb_base::{Draft, Memory, Op, Place, QueuePlan};
-use mqb_devices::Power;
 use mqb_model::refusals_change_nothing;
+use mqb_outside::Power;
 use mqb_script::Which;
 use mqb_seats::Seat;
 use mqb_traffic::Traffic;

@@ -15,8 +15,8 @@ ghost use Rattle.mqb_network.specs.Replies as reply;
 
 use crate::between::{note, part, part_where};
 use mqb_base::{Heard, Memory};
-use mqb_devices::Power;
 use mqb_model::refusals_change_nothing;
+use mqb_outside::Power;
 use mqb_packet::PacketView;
 use mqb_script::Which;
 use mqb_seats::{Failure, Passed, Seat};

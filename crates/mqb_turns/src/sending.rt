@@ -11,9 +11,8 @@ ghost use Rattle.mqb_turns.specs.Turns.{answers_to};
 
 use crate::between::{failure_reply, note, part};
 use mqb_base::Memory;
-use mqb_devices::Power;
 use mqb_model::{refusals_change_nothing, refused_is_same};
-use mqb_outside::Medium;
+use mqb_outside::{Medium, Power};
 use mqb_posts::PostFault;
 use mqb_script::Which;
 use mqb_seats::{Pumped, Seat, pumps_are_counted};

@@ -1,13 +1,13 @@
 //! How a call of a disk is armed, and how a manager is started again.
 ghost use Rattle.std.specs.Prelude.{◌≡◌, IfOk, Some};
-ghost use Rattle.mqb_devices.specs.Disk.{Counted};
+ghost use Rattle.mqb_outside.specs.Disk.{Counted};
 ghost use Rattle.mqb_seats.specs.Seats.{IsHeldOn};
 ghost use Rattle.mqb_turns.specs.Starts.{IsStarted, opened_reply, was_kept};
 ghost use Rattle.mqb_turns.specs.Sides.{side};
 
 use crate::between::{note, part};
 use mqb_base::Memory;
-use mqb_devices::{Pick, Power};
+use mqb_outside::{Pick, Power};
 use mqb_script::Which;
 use mqb_seats::{Opened, Seat};
 use mqb_traffic::Traffic;

@@ -4,9 +4,9 @@ use Rattle.std.proofs.lemmas.List.{append-nil}
 use Rattle.std.specs.Prelude.{IfOk, map}
 use Rattle.mqb_base.specs.declared.ledger.Line.{Line}
 use Rattle.mqb_deliveries.specs.Steps.{FallsShort, may_at}
-use Rattle.mqb_devices.specs.Disk.{Switch, View}
-use Rattle.mqb_devices.specs.declared.power.Mode.{Mode}
-use Rattle.mqb_devices.specs.declared.power.Pick.{Pick}
+use Rattle.mqb_outside.specs.Disk.{Switch, View}
+use Rattle.mqb_outside.specs.declared.power.Mode.{Mode}
+use Rattle.mqb_outside.specs.declared.power.Pick.{Pick}
 use Rattle.mqb_model.specs.calls.Commit.{commit}
 use Rattle.mqb_model.specs.calls.CreateQueue.{create_queue}
 use Rattle.mqb_model.specs.calls.Purge.{purge}
@@ -17,7 +17,7 @@ use Rattle.mqb_model.specs.calls.Tick.{tick}
 use Rattle.mqb_model.specs.calls.pump.Pump.{PumpOutcome, pump}
 use Rattle.mqb_model.specs.declared.faults.PumpFault.{PumpFault}
 use Rattle.mqb_model.specs.managers.Manager.{Manager, is_down}
-use Rattle.mqb_moves.specs.Holding.{same_stores, stored_held}
+use Rattle.mqb_moves.specs.lemmas.Stored.{same_stores, stored_held}
 use Rattle.mqb_moves.specs.Seats.{IsHeldOn, seated}
 use Rattle.mqb_network.specs.Answers.{Answer, lines_at}
 use Rattle.mqb_network.specs.Changes.{ended}

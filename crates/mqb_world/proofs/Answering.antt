@@ -1,7 +1,7 @@
 -- What becomes of a run in an event.
 use Rattle.std.proofs.Common.{◌≡◌, ℕ, Bool, List, Result, Ok, Err, sym, subst}
 use Rattle.std.specs.Prelude.{IfOk}
-use Rattle.mqb_devices.specs.Disk.{View}
+use Rattle.mqb_outside.specs.Disk.{View}
 use Rattle.mqb_history.specs.Laws.{HistoriesAreOrderly, RunsHaveHistories}
 use Rattle.mqb_network.specs.Runs.{Move, after_run, packet_of}
 use Rattle.mqb_posts.specs.declared.faults.PostFault.{PostFault}

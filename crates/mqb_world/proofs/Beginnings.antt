@@ -5,7 +5,7 @@ use Rattle.std.specs.Prelude.{◌||◌, nat_le, option_and_then}
 use Rattle.mqb_base.specs.Same.{same_guid}
 use Rattle.mqb_base.specs.declared.ids.Guid.{Guid}
 use Rattle.mqb_base.specs.declared.ids.Identity.{Identity}
-use Rattle.mqb_devices.specs.Disk.{IsSettled, View}
+use Rattle.mqb_outside.specs.Disk.{IsSettled, View}
 use Rattle.mqb_moves.specs.Calls.{Ends, IsCall}
 use Rattle.mqb_moves.specs.States.{IsOnDisk, IsUp, ManagerState, manager_of}
 use Rattle.mqb_model.specs.calls.AddPeer.{add_peer, add_peer_refusal}
@@ -20,7 +20,8 @@ use Rattle.mqb_model.specs.records.Record.{Record}
 use Rattle.mqb_model.specs.records.Record as entry
 use Rattle.mqb_model.specs.state.Durable.{durable}
 use Rattle.mqb_model.specs.state.State.{State, empty}
-use Rattle.mqb_moves.specs.Calling.{not_up_of, seat_of, went_well}
+use Rattle.mqb_moves.specs.Calling.{seat_of}
+use Rattle.mqb_moves.specs.lemmas.Calling.{not_up_of, went_well}
 use Rattle.mqb_moves.specs.Seats.{IsHeldOn}
 use Rattle.mqb_network.specs.Network.{formatted}
 use Rattle.mqb_store_laws.specs.Images.{state_by, state_in}

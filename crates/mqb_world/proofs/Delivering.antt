@@ -4,10 +4,10 @@ use Rattle.std.proofs.lemmas.Bool.Decides.{nat_tests}
 use Rattle.std.proofs.lemmas.List.{length-map}
 use Rattle.std.specs.Option.{option_map_or}
 use Rattle.std.specs.Prelude.{IsSome, map, option_map, slice_get}
-use Rattle.mqb_deliveries.specs.Delivered.{delivers_so, gone_delivers}
+use Rattle.mqb_deliveries.specs.lemmas.Delivered.{delivers_so, gone_delivers}
 use Rattle.mqb_deliveries.specs.Delivers.{WasDelivered}
 use Rattle.mqb_deliveries.specs.Failing.{is_for}
-use Rattle.mqb_devices.specs.Disk.{View}
+use Rattle.mqb_outside.specs.Disk.{View}
 use Rattle.mqb_network.specs.Network as network
 use Rattle.mqb_network.specs.Network.{is_underway}
 use Rattle.mqb_packet.specs.Plain.{plain_spelling}

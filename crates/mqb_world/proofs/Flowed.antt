@@ -4,10 +4,10 @@ use Rattle.std.proofs.lemmas.List.{length-map}
 use Rattle.std.specs.Option.{option_map_or}
 use Rattle.std.specs.Prelude.{IfOk, OnOk, find, is_some, map, replicate}
 use Rattle.mqb_deliveries.specs.Failing.{FailsAs, failures_at, failures_in}
-use Rattle.mqb_deliveries.specs.Flowed.{all_packets, all_spelled, all_writable, are_packets, broke_step, flow_sends, pumped_course, refused_step, went_short, went_step}
+use Rattle.mqb_deliveries.specs.lemmas.Flowed.{all_packets, all_spelled, all_writable, are_packets, broke_step, flow_sends, pumped_course, refused_step, went_short, went_step}
 use Rattle.mqb_deliveries.specs.Flows.{Flown, sent_behind}
 use Rattle.mqb_deliveries.specs.Steps.{FallsShort, IsStep, strings_in}
-use Rattle.mqb_devices.specs.Disk.{View}
+use Rattle.mqb_outside.specs.Disk.{View}
 use Rattle.mqb_model.specs.calls.pump.Pump.{PumpOutcome, pump, pump_linked, pump_refusal}
 use Rattle.mqb_model.specs.declared.faults.PumpFault.{PumpFault}
 use Rattle.mqb_model.specs.declared.faults.PumpFault.TheVariants as fault

@@ -1,8 +1,8 @@
 -- An event of one manager, as the world of both sees it.
 use Rattle.std.proofs.Common.{◌≡◌, ℕ, Bool, false, cond, List, [], Option, None, refl, sym, ap, subst, ◌∙◌}
-use Rattle.mqb_devices.specs.Disk.{Switch, View}
-use Rattle.mqb_devices.specs.declared.power.Mode.{Mode}
-use Rattle.mqb_moves.specs.Holding.{stored_held}
+use Rattle.mqb_outside.specs.Disk.{Switch, View}
+use Rattle.mqb_outside.specs.declared.power.Mode.{Mode}
+use Rattle.mqb_moves.specs.lemmas.Stored.{stored_held}
 use Rattle.mqb_moves.specs.Seats.{IsHeldOn, SeatState}
 use Rattle.mqb_network.specs.Network.{Note}
 use Rattle.mqb_script.specs.Managers.{other}

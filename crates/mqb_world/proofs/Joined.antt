@@ -3,12 +3,12 @@ use Rattle.std.proofs.Common.{◌≡◌, ℕ, ◌+◌, Bool, true, false, List, 
 use Rattle.std.proofs.lemmas.List.{append-nil, length-map, map-append}
 use Rattle.std.specs.Prelude.{◌||◌, IfOk, OnOk, is_some, map}
 use Rattle.mqb_base.specs.declared.ledger.Line.{Line}
-use Rattle.mqb_deliveries.specs.Coming.{flow_comes, flow_none, flow_tells_none, flow_told, quiet_parts, short_before}
-use Rattle.mqb_deliveries.specs.Connected.{connect_short, connect_step, four_numbers}
+use Rattle.mqb_deliveries.specs.lemmas.Coming.{flow_comes, flow_none, flow_tells_none, flow_told, quiet_parts, short_before}
+use Rattle.mqb_deliveries.specs.lemmas.Connected.{connect_short, connect_step, four_numbers}
 use Rattle.mqb_deliveries.specs.Courses.{ComesTo, IsJoined}
 use Rattle.mqb_deliveries.specs.Failing.{FailsAs, failures_in}
 use Rattle.mqb_deliveries.specs.Peers.{KnowEachOther}
-use Rattle.mqb_deliveries.specs.SettingUp.{IsSetUp, asks_first, sets_up}
+use Rattle.mqb_deliveries.specs.lemmas.SettingUp.{IsSetUp, asks_first, sets_up}
 use Rattle.mqb_deliveries.specs.Steps.{FallsShort, IsShort, IsStep}
 use Rattle.mqb_model.specs.calls.Link.{link, link_refusal, linking}
 use Rattle.mqb_model.specs.declared.answers.Role.{Role}

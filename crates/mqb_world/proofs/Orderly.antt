@@ -10,7 +10,7 @@ use Rattle.mqb_network.specs.Network.{Network, is_connected, manager_at}
 use Rattle.mqb_network.specs.Runs.{Move, after_run}
 use Rattle.mqb_packet.specs.Plain.{plain_spelling}
 use Rattle.mqb_runs.specs.Hosts.{alpha, beta, hosts}
-use Rattle.mqb_runs.specs.Orderly.{run_is_orderly}
+use Rattle.mqb_runs.specs.lemmas.Orderly.{run_is_orderly}
 use Rattle.mqb_script.specs.declared.managers.Which.{Which}
 use Rattle.mqb_script.specs.declared.managers.Which.TheVariants.{Alpha, Beta}
 use Rattle.mqb_traffic.specs.Networks.{index_of, network_with, note_of}

@@ -3,12 +3,12 @@ use Rattle.std.proofs.Common.{◌≡◌, ℕ, Bool, true, false, cond, List, [],
 use Rattle.std.specs.List.{cons_option}
 use Rattle.std.specs.Prelude.{IfOk, OnOk, is_some, map}
 use Rattle.mqb_base.specs.declared.ids.Identity.{Identity}
-use Rattle.mqb_deliveries.specs.Delivered.{deliver_step, none_step}
+use Rattle.mqb_deliveries.specs.lemmas.Delivered.{deliver_step, none_step}
 use Rattle.mqb_deliveries.specs.Delivers.{WasDelivered, outcome_reply}
 use Rattle.mqb_deliveries.specs.Failing.{FailsAs, arrived, failure_told, failures_at, failures_in, is_for}
 use Rattle.mqb_deliveries.specs.Peers.{KnowEachOther}
 use Rattle.mqb_deliveries.specs.Steps.{FallsShort, IsStep}
-use Rattle.mqb_devices.specs.Disk.{View}
+use Rattle.mqb_outside.specs.Disk.{View}
 use Rattle.mqb_moves.specs.Seats.{IsHeldOn, seated}
 use Rattle.mqb_network.specs.Choices.{Failure}
 use Rattle.mqb_network.specs.Network.{Network, Note}

@@ -1,6 +1,6 @@
 -- The events of one manager alone, and those that call none.
 use Rattle.std.specs.Prelude.{◌≡◌, Bool, List, None, Option, Result, map, ℕ}
-use Rattle.mqb_devices.specs.Disk.{View}
+use Rattle.mqb_outside.specs.Disk.{View}
 use Rattle.mqb_deliveries.specs.Steps.{FallsShort, IsStep}
 use Rattle.mqb_moves.specs.Holding.{StaysStored}
 use Rattle.mqb_moves.specs.Seats.{IsHeldOn}

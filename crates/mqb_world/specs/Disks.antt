@@ -1,9 +1,9 @@
 -- What becomes of the disk of a manager in an event.
 use Rattle.std.specs.Prelude.{[], ◌∷◌, ◌≡◌, Bool, List, Option, Some, false, if◌then◌else◌, true, ℕ}
 use Rattle.mqb_deliveries.specs.Failing.{failures_in, is_for}
-use Rattle.mqb_devices.specs.Disk.{Counted, Switch}
-use Rattle.mqb_devices.specs.declared.power.Mode.{Mode}
-use Rattle.mqb_devices.specs.declared.power.Pick.{Pick}
+use Rattle.mqb_outside.specs.Disk.{Counted, Switch}
+use Rattle.mqb_outside.specs.declared.power.Mode.{Mode}
+use Rattle.mqb_outside.specs.declared.power.Pick.{Pick}
 use Rattle.mqb_network.specs.Choices.{Failed, Failure, Stopped}
 use Rattle.mqb_network.specs.Network.{Note}
 use Rattle.mqb_outside.specs.Faults.{Rose}

@@ -2,7 +2,7 @@
 use Rattle.std.specs.Prelude.{◌≡◌, Bool, List, map, ℕ}
 use Rattle.mqb_deliveries.specs.Failing.{CutBehind, FailsAs, failures_at}
 use Rattle.mqb_deliveries.specs.Flows.{Flown, sent_behind}
-use Rattle.mqb_devices.specs.Disk.{View}
+use Rattle.mqb_outside.specs.Disk.{View}
 use Rattle.mqb_moves.specs.Seats.{IsHeldOn}
 use Rattle.mqb_network.specs.Courses.{Course}
 use Rattle.mqb_packet.specs.Plain.{plain_spelling}

@@ -7,5 +7,5 @@ pub mod Ordered
 pub mod Sides
 pub mod Flowing
 pub use Rattle.mqb_moves.specs.Seats
-pub use Rattle.mqb_moves.specs.Restarting
+pub use Rattle.mqb_moves.specs.lemmas.Restarting
 pub use Rattle.mqb_moves.specs.States

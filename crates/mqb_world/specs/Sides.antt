@@ -1,6 +1,6 @@
 -- A world as one of its managers sees it.
 use Rattle.std.specs.Prelude.{◌≡◌, Bool, List, None, ℕ}
-use Rattle.mqb_devices.specs.Disk.{View}
+use Rattle.mqb_outside.specs.Disk.{View}
 use Rattle.mqb_moves.specs.Seats.{SeatState, seated}
 use Rattle.mqb_network.specs.Network.{Network}
 use Rattle.mqb_script.specs.declared.managers.Which.{Which}

@@ -13,8 +13,7 @@ ghost use Rattle.mqb_world.specs.Acting.{IsActed, IsCallOf, IsOf, actor};
 ghost use Rattle.mqb_world.specs.Disks.{SwitchGoes, switching};
 
 use mqb_base::Memory;
-use mqb_devices::Power;
-use mqb_outside::Medium;
+use mqb_outside::{Medium, Power};
 use mqb_posts::PostFault;
 use mqb_script::{Event, Which};
 use mqb_seats::Seat;

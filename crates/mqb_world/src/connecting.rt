@@ -22,10 +22,9 @@ ghost use Rattle.mqb_world.specs.Ordered.{IsOrdered};
 ghost use Rattle.mqb_world.specs.Sides.{network_in, world};
 
 use crate::flows::flow;
-use mqb_devices::Power;
 use mqb_model::Role;
 use mqb_network::moves_are_events;
-use mqb_outside::Medium;
+use mqb_outside::{Medium, Power};
 use mqb_posts::PostFault;
 use mqb_script::Which;
 use mqb_seats::Seat;

@@ -10,8 +10,7 @@ ghost use Rattle.mqb_traffic.specs.Networks.{notes_of};
 ghost use Rattle.mqb_world.specs.Sides.{network_in};
 
 use mqb_base::Memory;
-use mqb_devices::Power;
-use mqb_outside::Medium;
+use mqb_outside::{Medium, Power};
 use mqb_posts::packet_at;
 use mqb_script::Which;
 use mqb_seats::Seat;

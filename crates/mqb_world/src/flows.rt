@@ -13,9 +13,8 @@ ghost use Rattle.mqb_world.specs.Sides.{AreUnlinked, SentBy, network_in, side_of
 
 use crate::deliveries::deliver;
 use mqb_base::Memory;
-use mqb_devices::Power;
 use mqb_model::refusals_change_nothing;
-use mqb_outside::Medium;
+use mqb_outside::{Medium, Power};
 use mqb_posts::PostFault;
 use mqb_script::Which;
 use mqb_seats::{Pumped, Seat};

@@ -1,6 +1,6 @@
 //! How a manager is made on an empty disk, with the other one as its peer.
 ghost use Rattle.std.specs.Prelude.{[], ◌∷◌, ◌≡◌, ◌≢◌, ◌<◌, Err, IfOk, OnOk, false, length};
-ghost use Rattle.mqb_devices.specs.Images.{Each};
+ghost use Rattle.mqb_outside.specs.Images.{Each};
 ghost use Rattle.mqb_journal.specs.Causes.{FaultsAsSaid};
 ghost use Rattle.mqb_moves.specs.States.{manager_of};
 ghost use Rattle.mqb_model.specs.managers.Manager.{new_manager};
@@ -12,9 +12,9 @@ ghost use Rattle.mqb_world.specs.Faults.{making_failed};
 
 use crate::faults::WorldFault;
 use mqb_base::Identity;
-use mqb_devices::Power;
 use mqb_model::AddPeerFault;
 use mqb_moves::{Manager, OpenFault};
+use mqb_outside::Power;
 use mqb_seats::Seat;
 use std::alloc::Global;
 

@@ -1,5 +1,5 @@
 ghost use Rattle.std.specs.Prelude.{[], ◌≡◌, ◌≢◌, ◌<◌, ◌⊎◌, Err, IfOk, List, None, OnOk, Some, false, length, option_copied, true};
-ghost use Rattle.mqb_devices.specs.Images.{Each};
+ghost use Rattle.mqb_outside.specs.Images.{Each};
 ghost use Rattle.mqb_model.specs.managers.Manager.{is_down};
 ghost use Rattle.mqb_moves.specs.Seats.{IsHeldOn, seated};
 ghost use Rattle.mqb_network.specs.Runs.{Move};
@@ -18,10 +18,9 @@ use crate::faults::WorldFault;
 use crate::identities::{alpha, beta};
 use crate::making::make;
 use mqb_base::Line;
-use mqb_devices::Power;
 use mqb_history::{histories_are_orderly, runs_have_histories};
 use mqb_moves::Manager;
-use mqb_outside::Medium;
+use mqb_outside::{Medium, Power};
 use mqb_runs::runs_keep_guarantees;
 use mqb_script::{Event, Which};
 use mqb_seats::Seat;

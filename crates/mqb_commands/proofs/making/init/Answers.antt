@@ -1,6 +1,6 @@
 use Rattle.std.proofs.Common.{subst, sym}
-use Rattle.mqb_devices.specs.Disk.{OnlyReads}
-use Rattle.mqb_devices.specs.Runs.{reads_none}
+use Rattle.mqb_outside.specs.Disk.{OnlyReads}
+use Rattle.mqb_outside.specs.lemmas.Runs.{reads_none}
 use Rattle.mqb_commands.proofs.Failing.{format_fails}
 use Rattle.mqb_commands.proofs.making.init.Goals as goal
 

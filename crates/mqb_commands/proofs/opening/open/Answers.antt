@@ -1,4 +1,4 @@
-use Rattle.mqb_store_laws.specs.Carrying.{on_told}
+use Rattle.mqb_store_laws.specs.lemmas.Carrying.{on_told}
 use Rattle.mqb_commands.proofs.Failing.{start_fails}
 use Rattle.mqb_commands.proofs.opening.open.Goals as goal
 

@@ -1,6 +1,6 @@
 use Rattle.std.specs.Fmt.{decimal}
 use Rattle.std.specs.Prelude.{codes}
-use Rattle.mqb_status.specs.Texts.{end_text}
+use Rattle.mqb_commands.specs.Texts.{end_text}
 use Rattle.mqb_connections.specs.Visits.{said_line}
 use Rattle.mqb_connections.proofs.Parts.{line_wrote}
 use Rattle.mqb_connections.proofs.lines.put_said.Goals as goal

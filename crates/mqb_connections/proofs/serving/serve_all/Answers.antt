@@ -1,6 +1,6 @@
 use Rattle.std.proofs.Common.{◌∙◌, Err, ap, refl, arith}
 use Rattle.std.proofs.lemmas.Result.{err_from_is_err_and}
-use Rattle.mqb_manager.specs.Keeping.{keeping_goes_on, nothing_keeps}
+use Rattle.mqb_manager.specs.lemmas.Keeping.{keeping_goes_on, nothing_keeps}
 use Rattle.mqb_connections.proofs.Asking.{asks_none, asks_then}
 use Rattle.mqb_connections.proofs.Peers.{no_peers, peers_then}
 use Rattle.mqb_connections.proofs.serving.serve_all.Goals as goal

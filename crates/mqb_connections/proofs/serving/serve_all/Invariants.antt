@@ -2,7 +2,7 @@ use Rattle.std.proofs.Common.{◌≡◌}
 use Rattle.std.specs.Prelude.{None}
 use Rattle.mqb_manager.specs.Keeping.{KeepsDisk}
 use Rattle.mqb_manager.specs.States.{IsUp}
-use Rattle.mqb_status.specs.declared.status.Status.TheVariants as status
+use Rattle.mqb_commands.specs.declared.status.Status.TheVariants as status
 use Rattle.mqb_connections.specs.Asked.{AsksForEach}
 use Rattle.mqb_connections.specs.Served.{ServesPeers}
 use Rattle.mqb_connections.proofs.serving.serve_all.Given as goal

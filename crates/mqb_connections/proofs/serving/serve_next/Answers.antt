@@ -1,6 +1,6 @@
 use Rattle.std.proofs.Common.{◌≡◌, List, [], ◌∷◌, ◌++◌, Option, refl, subst, ◌∙◌}
 use Rattle.std.specs.Option.{option_map}
-use Rattle.mqb_devices.specs.Net.{Ended}
+use Rattle.mqb_outside.specs.Net.{Ended}
 use Rattle.mqb_model.specs.declared.answers.Role.TheVariants as role
 use Rattle.mqb_connections.specs.Visits.{Visit}
 use Rattle.mqb_connections.proofs.Asking.{rose_once}

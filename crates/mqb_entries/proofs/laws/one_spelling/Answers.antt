@@ -1,7 +1,7 @@
 use Rattle.std.proofs.Common.{sym, ap, ◌∙◌}
 use Rattle.mqb_entries.specs.declared.faults.EntryFault.{EntryFault}
 use Rattle.mqb_entries.specs.Entries.{entry_of}
-use Rattle.mqb_entries.specs.Formats.{ok_same}
+use Rattle.mqb_entries.specs.lemmas.Formats.{ok_same}
 use Rattle.mqb_entries.proofs.EntryLaws.{entry_again}
 use Rattle.mqb_entries.proofs.laws.one_spelling.Goals as goal
 

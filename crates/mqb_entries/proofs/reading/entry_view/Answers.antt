@@ -1,5 +1,5 @@
 use Rattle.std.proofs.Common.{rules}
-use Rattle.mqb_entries.specs.Formats.{are_bytes}
+use Rattle.mqb_entries.specs.lemmas.Formats.{are_bytes}
 use Rattle.mqb_entries.proofs.EntryLaws.{view_fits, view_spelled}
 use Rattle.mqb_entries.proofs.reading.entry_view.Goals as goal
 

@@ -1,6 +1,6 @@
 use Rattle.std.proofs.Common.{◌≡◌, ℕ, Option, None, Some, Bool, true, false, ap, refl, subst, sym, ◌∙◌}
 use Rattle.mqb_base.specs.declared.heard.Heard.{Heard}
-use Rattle.mqb_express.specs.declared.work.ExpressWork.TheVariants as work
+use Rattle.mqb_timeouts.specs.declared.work.ExpressWork.TheVariants as work
 use Rattle.mqb_model.specs.managers.Manager.{Manager}
 use Rattle.mqb_model.specs.records.Record.{Record}
 use Rattle.mqb_hearing.specs.Plans.{outcome_of}

@@ -1,6 +1,6 @@
 use Rattle.std.proofs.Common.{◌≡◌, Ok, refl}
 use Rattle.std.specs.Prelude.{[], IfSome, is_some}
-use Rattle.mqb_express.specs.Work.{beside_of}
+use Rattle.mqb_timeouts.specs.Work.{beside_of}
 use Rattle.mqb_model.specs.managers.Beside.{beside_done}
 use Rattle.mqb_model.specs.managers.Outcomes.{recorded}
 use Rattle.mqb_model.specs.managers.Valid.{IsWritable}

@@ -1,4 +1,4 @@
-use Rattle.mqb_journal.specs.Carrying.{goes_on_read, goes_on_unchanged, goes_on_restarted, goes_on_refused, goes_on_stands, goes_on_gate}
+use Rattle.mqb_journal.specs.lemmas.Carrying.{goes_on_read, goes_on_unchanged, goes_on_restarted, goes_on_refused, goes_on_stands, goes_on_gate}
 use Rattle.mqb_journal.proofs.laws.journal_goes_on.Goals as goal
 
 pub returns-clause-read : goal.returns-clause-read

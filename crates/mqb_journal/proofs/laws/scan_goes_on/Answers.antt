@@ -1,4 +1,4 @@
-use Rattle.mqb_journal.specs.Carrying.{lent_goes_on}
+use Rattle.mqb_journal.specs.lemmas.Carrying.{lent_goes_on}
 use Rattle.mqb_journal.proofs.Chains.{lent_is_first}
 use Rattle.mqb_journal.proofs.laws.scan_goes_on.Goals as goal
 

@@ -1,5 +1,5 @@
 use Rattle.std.proofs.Common.{◌∙◌}
-use Rattle.mqb_serve_laws.proofs.Taking.{so_far_then}
+use Rattle.mqb_serving.proofs.Taking.{so_far_then}
 use Rattle.mqb_serve.proofs.sending.send_all.Goals as goal
 
 pub loop-rest-preserved : goal.loop-rest-preserved

@@ -1,5 +1,5 @@
 use Rattle.std.proofs.Common.{◌≡◌, length}
-use Rattle.mqb_serve_laws.proofs.Taking.{TookSoFar}
+use Rattle.mqb_serving.proofs.Taking.{TookSoFar}
 use Rattle.mqb_serve.proofs.sending.send_all.Given as goal
 
 abbrev pub invariant-loop-rest : goal.invariant-loop-rest

@@ -4,10 +4,10 @@ use Rattle.mqb_manager.specs.States.{manager_of}
 use Rattle.mqb_serving.specs.Conversations.{End, no_bytes}
 use Rattle.mqb_serving.specs.declared.faults.ConnFault.{ConnFault}
 use Rattle.mqb_serving.specs.declared.faults.ConnFault.TheVariants as fault
-use Rattle.mqb_serve_laws.specs.Serving.{is_disk_fault}
-use Rattle.mqb_serve_laws.specs.Steps.{Converses, Itself, LeftBy}
-use Rattle.mqb_serve_laws.proofs.Stopping.{stops_here}
-use Rattle.mqb_serve_laws.proofs.Taken.{converses_stop}
+use Rattle.mqb_serving.specs.Serving.{is_disk_fault}
+use Rattle.mqb_serving.specs.Steps.{Converses, Itself, LeftBy}
+use Rattle.mqb_serving.proofs.Stopping.{stops_here}
+use Rattle.mqb_serving.proofs.Taken.{converses_stop}
 use Rattle.mqb_serve.specs.Talking.{Keeps}
 use Rattle.mqb_serve.proofs.Keeps.{keeps_still}
 use Rattle.mqb_serve.proofs.Moves.{stands_at}

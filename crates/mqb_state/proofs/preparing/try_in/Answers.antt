@@ -1,7 +1,7 @@
 use Rattle.std.proofs.Common.{◌≡◌, ◌*◌, ◌+◌, ◌≤◌, ap, subst}
 use Rattle.std.specs.Prelude.{IsSomeAnd, option_copied}
 use Rattle.mqb_drafts.specs.Drafts.{Drafted}
-use Rattle.mqb_express.specs.Work.{beside_of}
+use Rattle.mqb_timeouts.specs.Work.{beside_of}
 use Rattle.mqb_model.specs.state.State.{State}
 use Rattle.mqb_records.specs.Unfit.{IsUnfit}
 use Rattle.mqb_state.specs.Together.{IsTried, count_with, effect_with}

@@ -1,7 +1,7 @@
 use Rattle.std.proofs.Common.{subst, sym, List}
 use Rattle.std.specs.List.{AllByRecursion}
 use Rattle.mqb_entries.specs.declared.members.OpView.{OpView}
-use Rattle.mqb_record_laws.specs.Typed.{IsTypedOp}
+use Rattle.mqb_model.specs.Typed.{IsTypedOp}
 use Rattle.mqb_state.proofs.typed.ops_are_typed.Goals as goal
 
 pub loop-op-preserved : goal.loop-op-preserved

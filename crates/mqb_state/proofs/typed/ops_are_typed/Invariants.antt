@@ -1,5 +1,5 @@
 use Rattle.std.specs.List.{AllByRecursion}
-use Rattle.mqb_record_laws.specs.Typed.{IsTypedOp}
+use Rattle.mqb_model.specs.Typed.{IsTypedOp}
 use Rattle.mqb_state.proofs.typed.ops_are_typed.Given as goal
 
 -- if the ops that are left are typed, all are

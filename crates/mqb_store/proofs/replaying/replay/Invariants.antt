@@ -1,5 +1,5 @@
 use Rattle.std.proofs.Common.{◌≡◌, ◌-◌, false}
-use Rattle.mqb_devices.specs.Disk.{OnlyReads}
+use Rattle.mqb_outside.specs.Disk.{OnlyReads}
 use Rattle.mqb_store.proofs.replaying.replay.Given as goal
 use Rattle.mqb_store.specs.Replaying.{IsReadUpTo}
 

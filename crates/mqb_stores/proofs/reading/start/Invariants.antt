@@ -1,6 +1,6 @@
 use Rattle.std.proofs.Common.{◌≡◌, ◌-◌, ◌<◌, length, false}
-use Rattle.mqb_devices.specs.Images.{Each}
-use Rattle.mqb_devices.specs.Disk.{OnlyReads}
+use Rattle.mqb_outside.specs.Images.{Each}
+use Rattle.mqb_outside.specs.Disk.{OnlyReads}
 use Rattle.mqb_stores.proofs.reading.start.Given as goal
 
 abbrev pub invariant-records : goal.invariant-records

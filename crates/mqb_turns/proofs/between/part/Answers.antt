@@ -1,5 +1,5 @@
 use Rattle.std.proofs.Common.{◌≡◌, Bool, false, true, ap, rules, sym, ◌∙◌}
-use Rattle.mqb_seats.specs.Holding.{same_stores}
+use Rattle.mqb_seats.specs.Stored.{same_stores}
 use Rattle.mqb_seats.specs.Seats.{seated}
 use Rattle.mqb_traffic.specs.Networks.{parted_where}
 use Rattle.mqb_turns.proofs.Parting.{none_again, none_left, parted_so}

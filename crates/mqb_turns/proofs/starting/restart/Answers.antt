@@ -1,5 +1,5 @@
 use Rattle.std.proofs.Common.{Bool, subst}
-use Rattle.mqb_seats.specs.Holding.{stored_held}
+use Rattle.mqb_seats.specs.Stored.{stored_held}
 use Rattle.mqb_turns.proofs.Started.{started_so}
 use Rattle.mqb_turns.proofs.Turning.{if_ok}
 use Rattle.mqb_turns.specs.Settling.{IsNoted}

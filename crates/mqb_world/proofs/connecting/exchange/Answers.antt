@@ -1,6 +1,6 @@
 use Rattle.std.proofs.Common.{◌≡◌, [], sym, subst}
 use Rattle.std.specs.Prelude.{OnOk, map}
-use Rattle.mqb_deliveries.specs.Coming.{comes_then, flow_joined, flow_none, short_then}
+use Rattle.mqb_deliveries.specs.lemmas.Coming.{comes_then, flow_joined, flow_none, short_then}
 use Rattle.mqb_deliveries.specs.Courses.{ComesTo}
 use Rattle.mqb_deliveries.specs.Steps.{IsShort}
 use Rattle.mqb_network.specs.Courses.{course_from}

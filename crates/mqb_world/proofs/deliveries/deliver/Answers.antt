@@ -1,6 +1,6 @@
 use Rattle.std.proofs.Common.{◌≡◌, ap, false, true, sym, ◌∙◌, rules}
-use Rattle.mqb_deliveries.specs.Delivered.{disk_fails, never_underway}
-use Rattle.mqb_moves.specs.Holding.{stored_held}
+use Rattle.mqb_deliveries.specs.lemmas.Delivered.{disk_fails, never_underway}
+use Rattle.mqb_moves.specs.lemmas.Stored.{stored_held}
 use Rattle.mqb_moves.specs.Seats.{seated}
 use Rattle.mqb_script.specs.declared.managers.Which.TheVariants.{Alpha, Beta}
 use Rattle.mqb_traffic.specs.Networks.{connections_of, note_of, notes_of}

@@ -6,11 +6,11 @@ use Rattle.mqb_model.specs.declared.limits.TheConstants.{MAX_QUEUES}
 use Rattle.mqb_model.specs.state.State.{State}
 use Rattle.mqb_queue.specs.Places.{PlaceRooms, Places, Queue, QueueRooms, found, new_queue, no_queue_room}
 use Rattle.mqb_contents.specs.Changes.{changed}
-use Rattle.mqb_waiting.specs.Ends.{last_else, last_of, without_last}
+use Rattle.mqb_tables.specs.Ends.{last_else, last_of, without_last}
 use Rattle.mqb_contents.specs.Rooms.{StateRooms}
 use Rattle.mqb_contents.specs.Seen.{seen}
 use Rattle.mqb_contents.specs.declared.change.Change.TheVariants as change
-use Rattle.mqb_waiting.proofs.Members.{length-without_last}
+use Rattle.mqb_tables.proofs.Members.{length-without_last}
 use Rattle.mqb_contents.proofs.Named.{last_name}
 use Rattle.mqb_contents.proofs.contents.Contents.drop_queue.Goals as goal
 

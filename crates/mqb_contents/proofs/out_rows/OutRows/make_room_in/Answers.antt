@@ -6,8 +6,8 @@ use Rattle.mqb_contents.specs.Rows.{KeepsCommitted}
 use Rattle.mqb_orders.specs.Rows.{Row, row_of}
 use Rattle.mqb_orders.specs.declared.rows.OutRow.{OutRow}
 use Rattle.mqb_contents.proofs.InUse.{in_use_written, members_of, tag}
-use Rattle.mqb_waiting.proofs.Lens.{grown, left, stays}
-use Rattle.mqb_waiting.proofs.Members.{all_at}
+use Rattle.mqb_tables.proofs.Lens.{grown, left, stays}
+use Rattle.mqb_tables.proofs.Members.{all_at}
 use Rattle.mqb_tables.proofs.Numbering.{numbered_written}
 use Rattle.mqb_contents.proofs.out_rows.OutRows.make_room_in.Goals as goal
 

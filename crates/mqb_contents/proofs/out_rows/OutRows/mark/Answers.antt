@@ -7,8 +7,8 @@ use Rattle.mqb_contents.specs.Seen.{room_of}
 use Rattle.mqb_orders.specs.Rows.{Row, row_of}
 use Rattle.mqb_orders.specs.declared.rows.OutRow.{OutRow}
 use Rattle.mqb_contents.proofs.InUse.{in_use_written, members_of, rows_changed, tag}
-use Rattle.mqb_waiting.proofs.Lens.{fact_now, fact_there}
-use Rattle.mqb_waiting.proofs.Members.{all_at}
+use Rattle.mqb_tables.proofs.Lens.{fact_now, fact_there}
+use Rattle.mqb_tables.proofs.Members.{all_at}
 use Rattle.mqb_tables.proofs.Numbering.{numbered_written}
 use Rattle.mqb_contents.proofs.out_rows.OutRows.mark.Goals as goal
 

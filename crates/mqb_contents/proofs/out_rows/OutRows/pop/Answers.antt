@@ -11,13 +11,13 @@ use Rattle.mqb_tables.specs.Tables.{AreNumbered, LeadsToLast}
 use Rattle.mqb_contents.proofs.InUse.{in_use_fewer, key_is_there}
 use Rattle.mqb_base.specs.Rooms.{Room, WithRooms}
 use Rattle.std.specs.Option.{IsSomeAnd}
-use Rattle.mqb_waiting.specs.Ends.{last_of, without_last}
+use Rattle.mqb_tables.specs.Ends.{last_of, without_last}
 use Rattle.mqb_contents.specs.Rooms.{OutRooms}
 use Rattle.mqb_contents.specs.Rows.{EmptyRow, IsBegun, KeepsCommitted, begun_row}
 use Rattle.mqb_contents.specs.Seen.{room_of}
 use Rattle.mqb_orders.specs.Rows.{Row, leads_to, row_of}
 use Rattle.mqb_orders.specs.declared.rows.OutRow.{OutRow}
-use Rattle.mqb_waiting.proofs.Members.{seen_last, seen_there, seen_without_last}
+use Rattle.mqb_tables.proofs.Members.{seen_last, seen_there, seen_without_last}
 use Rattle.mqb_contents.proofs.out_rows.OutRows.pop.Goals as goal
 
 pub returns-clause-row : goal.returns-clause-row

@@ -10,8 +10,8 @@ use Rattle.mqb_orders.specs.Rows.{Row, row_of}
 use Rattle.mqb_orders.specs.declared.kept.Kept.{Kept}
 use Rattle.mqb_orders.specs.declared.rows.OutRow.{OutRow}
 use Rattle.mqb_contents.proofs.InUse.{in_use_written, members_of, rows_changed, tag}
-use Rattle.mqb_waiting.proofs.Lens.{fact_back, fact_now, left}
-use Rattle.mqb_waiting.proofs.Members.{all_at, all_remove, insert-remove, length-removed}
+use Rattle.mqb_tables.proofs.Lens.{fact_back, fact_now, left}
+use Rattle.mqb_tables.proofs.Members.{all_at, all_remove, insert-remove, length-removed}
 use Rattle.mqb_tables.proofs.Numbering.{numbered_written}
 use Rattle.mqb_contents.proofs.out_rows.OutRows.remove_kept.Goals as goal
 

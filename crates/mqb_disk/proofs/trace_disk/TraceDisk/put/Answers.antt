@@ -1,7 +1,7 @@
 use Rattle.std.proofs.Common.{◌≡◌, ◌+◌, ◌++◌, ℕ, List, length, take, drop, vec_len, sym, ◌∙◌, ap, subst, arith}
 use Rattle.std.specs.List.{All}
 use Rattle.std.proofs.lemmas.List.Elements.{All-cons}
-use Rattle.mqb_devices.specs.Steps.{length-written}
+use Rattle.mqb_outside.specs.lemmas.Steps.{length-written}
 use Rattle.mqb_disk.specs.History.{Event, Wrote, fits, held, history, reaches_within}
 use Rattle.mqb_disk.specs.declared.trace_disk.Call.{Call}
 use Rattle.mqb_disk.proofs.Histories.{history_wrote, fits_more}

@@ -1,7 +1,8 @@
 use Rattle.std.proofs.Common.{rules, ◌≡◌, ◌-◌, ℕ, List, sym, ap, subst, arith, length, take}
 use Rattle.std.proofs.lemmas.List.{length-take-le}
 use Rattle.std.proofs.lemmas.Result.{err_from_is_err_and}
-use Rattle.mqb_entries.specs.Formats.{IsBytes, are_bytes}
+use Rattle.mqb_entries.specs.Formats.{IsBytes}
+use Rattle.mqb_entries.specs.lemmas.Formats.{are_bytes}
 use Rattle.mqb_entries.proofs.ListFormats.{IsCut, IsListed, cut_at, cut_as, passing_fails}
 use Rattle.mqb_entries.proofs.lists.MemberList.read.Given as given
 use Rattle.mqb_entries.proofs.lists.MemberList.read.Goals as goal

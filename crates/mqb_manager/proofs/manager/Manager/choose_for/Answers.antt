@@ -5,8 +5,8 @@ use Rattle.mqb_model.specs.Lists.{grown}
 use Rattle.mqb_model.specs.managers.Valid.{IsExpressValid}
 use Rattle.mqb_model.specs.state.State.{State}
 use Rattle.mqb_model.specs.state.Valid.{IsValidState}
-use Rattle.mqb_steps.proofs.Rests.{within}
-use Rattle.mqb_steps.specs.Plans as plans
+use Rattle.mqb_choosing.proofs.Rests.{within}
+use Rattle.mqb_choosing.specs.Plans as plans
 use Rattle.mqb_manager.specs.Pumps.{IsPlanned, waiting_for}
 use Rattle.mqb_manager.specs.States.{ManagerState}
 use Rattle.mqb_manager.proofs.manager.Manager.choose_for.Goals as goal

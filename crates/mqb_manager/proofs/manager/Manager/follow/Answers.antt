@@ -9,7 +9,7 @@ use Rattle.mqb_model.specs.declared.faults.HearFault.TheVariants as fault
 use Rattle.mqb_model.specs.declared.limits.TheConstants.{MAX_RECORD}
 use Rattle.mqb_model.specs.records.Reading.{record_in}
 use Rattle.mqb_manager.specs.Calls.{IsCall}
-use Rattle.mqb_steps.specs.Marks.{marked}
+use Rattle.mqb_choosing.specs.Owed.{marked}
 use Rattle.mqb_hearing.specs.Plans.{outcome_of}
 use Rattle.mqb_manager.specs.Seen.{seen}
 use Rattle.mqb_manager.specs.States.{ManagerState, manager_of}

@@ -4,7 +4,7 @@ use Rattle.std.specs.Prelude.{IfSome, OnOk, Result}
 use Rattle.mqb_base.specs.Rooms.{WithRooms}
 use Rattle.mqb_base.specs.declared.heard.Heard.{Heard}
 use Rattle.mqb_contents.specs.Rooms.{StateRooms}
-use Rattle.mqb_devices.specs.Disk.{Counted}
+use Rattle.mqb_outside.specs.Disk.{Counted}
 use Rattle.mqb_model.specs.calls.hear.Hear.{hear}
 use Rattle.mqb_model.specs.calls.hear.Session.{HeardOutcome}
 use Rattle.mqb_model.specs.declared.faults.HearFault.{HearFault}

@@ -2,7 +2,7 @@ use Rattle.std.proofs.Common.{◌≡◌, IfSome, Ok, OnOk, Option, Result, ap, s
 use Rattle.std.proofs.lemmas.Result.{err_from_is_err_and}
 use Rattle.std.specs.Prelude.{option_copied, option_map}
 use Rattle.mqb_base.specs.declared.ids.MessageId.{MessageId}
-use Rattle.mqb_devices.specs.Disk.{Counted}
+use Rattle.mqb_outside.specs.Disk.{Counted}
 use Rattle.mqb_entries.specs.declared.entry.Entry.{Entry}
 use Rattle.mqb_store.specs.Work.{beside_of}
 use Rattle.mqb_model.specs.calls.Send.{send}

@@ -1,5 +1,5 @@
 use Rattle.std.proofs.Common.{◌≡◌, Err, ap, subst, sym, ◌∙◌}
-use Rattle.mqb_devices.specs.Images.{Each}
+use Rattle.mqb_outside.specs.Images.{Each}
 use Rattle.mqb_journal.specs.declared.faults.OpenFault.TheVariants as opening
 use Rattle.mqb_model.specs.managers.Manager.{unlinked}
 use Rattle.mqb_model.specs.managers.Valid.{IsValidManager}

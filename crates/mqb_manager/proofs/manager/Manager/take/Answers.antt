@@ -2,7 +2,7 @@ use Rattle.std.proofs.Common.{◌≡◌, ap, sym, ◌∙◌}
 use Rattle.std.specs.Prelude.{option_copied}
 use Rattle.mqb_base.specs.Rooms.{WithRooms}
 use Rattle.mqb_contents.specs.Rooms.{StateRooms}
-use Rattle.mqb_devices.specs.Disk.{Counted}
+use Rattle.mqb_outside.specs.Disk.{Counted}
 use Rattle.mqb_store.specs.Work.{beside_of}
 use Rattle.mqb_model.specs.calls.Take.{take_message}
 use Rattle.mqb_model.specs.declared.faults.TakeFault.TheVariants as fault

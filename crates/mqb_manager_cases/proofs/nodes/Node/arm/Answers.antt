@@ -1,4 +1,4 @@
-use Rattle.mqb_store_laws.specs.Carrying.{on_told}
+use Rattle.mqb_store_laws.specs.lemmas.Carrying.{on_told}
 use Rattle.mqb_manager_cases.specs.Kept.{IsKept}
 use Rattle.mqb_manager_cases.proofs.nodes.Node.arm.Goals as goal
 

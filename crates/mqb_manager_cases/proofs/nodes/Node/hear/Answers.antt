@@ -2,7 +2,7 @@ use Rattle.std.proofs.Common.{◌≡◌, refl}
 use Rattle.std.specs.Prelude.{IsSomeAnd, None, Option, Some}
 use Rattle.mqb_packet.specs.Parts.{seen_packet}
 use Rattle.mqb_packet.specs.Spelled.{packet_in}
-use Rattle.mqb_manager.specs.Keeping.{calls_keep_disks}
+use Rattle.mqb_manager.specs.lemmas.Keeping.{calls_keep_disks}
 use Rattle.mqb_manager_cases.specs.Kept.{IsKept}
 use Rattle.mqb_manager_cases.proofs.nodes.Node.hear.Goals as goal
 

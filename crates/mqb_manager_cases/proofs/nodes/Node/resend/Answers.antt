@@ -1,5 +1,5 @@
 use Rattle.mqb_disk.specs.Views.{memory_view}
-use Rattle.mqb_manager.specs.Keeping.{resends_keep_disks}
+use Rattle.mqb_manager.specs.lemmas.Keeping.{resends_keep_disks}
 use Rattle.mqb_manager_cases.specs.Kept.{IsKept}
 use Rattle.mqb_manager_cases.proofs.nodes.Node.resend.Goals as goal
 

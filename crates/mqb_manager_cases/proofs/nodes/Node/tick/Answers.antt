@@ -1,4 +1,4 @@
-use Rattle.mqb_manager.specs.Keeping.{calls_keep_disks}
+use Rattle.mqb_manager.specs.lemmas.Keeping.{calls_keep_disks}
 use Rattle.mqb_manager_cases.specs.Kept.{IsKept}
 use Rattle.mqb_manager_cases.proofs.nodes.Node.tick.Goals as goal
 

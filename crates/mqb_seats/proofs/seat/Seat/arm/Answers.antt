@@ -1,4 +1,4 @@
-use Rattle.mqb_moves.specs.Holding.{unchanged_held}
+use Rattle.mqb_moves.specs.lemmas.Stored.{unchanged_held}
 use Rattle.mqb_seats.proofs.seat.Seat.arm.Goals as goal
 
 pub returns-clause-held : goal.returns-clause-held

@@ -3,7 +3,7 @@ use Rattle.mqb_journal.specs.Causes.{FaultsAsSaid, open_failed}
 use Rattle.mqb_journal.specs.declared.faults.OpenFault.{OpenFault}
 use Rattle.mqb_moves.specs.States.{ManagerState}
 use Rattle.mqb_journal.specs.declared.faults.OpenFault.TheVariants as fault
-use Rattle.mqb_moves.specs.Restarting.{not_bad}
+use Rattle.mqb_moves.specs.lemmas.Restarting.{not_bad}
 use Rattle.mqb_moves.specs.Seats.{SeatState}
 use Rattle.mqb_outside.specs.Faults.{Rose}
 use Rattle.mqb_seats.specs.Opened.{IsOpened, opened_by}

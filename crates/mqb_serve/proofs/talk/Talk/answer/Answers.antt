@@ -6,9 +6,9 @@ use Rattle.mqb_manager.specs.States.{manager_of}
 use Rattle.mqb_stream.specs.Framing.{next}
 use Rattle.mqb_serving.specs.Conversations.{End, answered}
 use Rattle.mqb_serving.specs.declared.faults.ConnFault.{ConnFault}
-use Rattle.mqb_serve_laws.specs.Serving.{is_write_fault}
-use Rattle.mqb_serve_laws.specs.Steps.{Goes, HearsFrame, HearsHeld, IsHeard}
-use Rattle.mqb_serve_laws.proofs.Looking.{answer_heard, answer_stopped, listening, listening_stands}
+use Rattle.mqb_serving.specs.Serving.{is_write_fault}
+use Rattle.mqb_serving.specs.Steps.{Goes, HearsFrame, HearsHeld, IsHeard}
+use Rattle.mqb_serving.proofs.Looking.{answer_heard, answer_stopped, listening, listening_stands}
 use Rattle.mqb_serve.proofs.Keeps.{keeps_then, said_not}
 use Rattle.mqb_serve.proofs.Moves.{wants_advanced}
 use Rattle.mqb_serve.proofs.talk.Talk.answer.Goals as goal

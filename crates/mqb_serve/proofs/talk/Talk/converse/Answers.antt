@@ -4,8 +4,8 @@ use Rattle.mqb_manager.specs.States.{manager_of}
 use Rattle.mqb_serving.specs.Conversations.{End, pumped}
 use Rattle.mqb_serving.specs.declared.faults.ConnFault.{ConnFault}
 use Rattle.mqb_serving.specs.declared.limits.TheConstants.{MAX_PUMPS}
-use Rattle.mqb_serve_laws.specs.Steps.{Converses, Reaches}
-use Rattle.mqb_serve_laws.proofs.Taken.{converses_end, converses_on, converses_stop}
+use Rattle.mqb_serving.specs.Steps.{Converses, Reaches}
+use Rattle.mqb_serving.proofs.Taken.{converses_end, converses_on, converses_stop}
 use Rattle.mqb_serve.specs.Talking.{Keeps}
 use Rattle.mqb_serve.proofs.Keeps.{keeps_err, keeps_then}
 use Rattle.mqb_serve.proofs.Moves.{none_came, none_wants}

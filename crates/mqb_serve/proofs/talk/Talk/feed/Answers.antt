@@ -1,6 +1,6 @@
 use Rattle.std.proofs.Common.{ap, arith, length}
 use Rattle.mqb_stream.specs.Framing.{Framing}
-use Rattle.mqb_serve_laws.proofs.Piecing.{fed_counted}
+use Rattle.mqb_serving.proofs.Piecing.{fed_counted}
 use Rattle.mqb_serve.proofs.talk.Talk.feed.Goals as goal
 
 pub invariant_of-self-clause-count : goal.invariant_of-self-clause-count

@@ -4,9 +4,9 @@ use Rattle.mqb_manager.specs.States.{manager_of}
 use Rattle.mqb_outside.specs.Told.{Gave}
 use Rattle.mqb_serving.specs.Conversations.{End, read_on}
 use Rattle.mqb_serving.specs.declared.faults.ConnFault.{ConnFault}
-use Rattle.mqb_serve_laws.specs.Serving.{Hears}
-use Rattle.mqb_serve_laws.specs.Steps.{Goes, Listens}
-use Rattle.mqb_serve_laws.proofs.Taken.{Reads, reads_end, reads_fault, reads_more, reads_out, reads_stop}
+use Rattle.mqb_serving.specs.Serving.{Hears}
+use Rattle.mqb_serving.specs.Steps.{Goes, Listens}
+use Rattle.mqb_serving.proofs.Taken.{Reads, reads_end, reads_fault, reads_more, reads_out, reads_stop}
 use Rattle.mqb_serve.proofs.Keeps.{keeps_ok, keeps_then}
 use Rattle.mqb_serve.proofs.talk.Talk.listen.Goals as goal
 

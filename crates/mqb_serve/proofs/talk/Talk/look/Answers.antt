@@ -6,8 +6,8 @@ use Rattle.mqb_stream.specs.Framing.{next}
 use Rattle.mqb_serving.specs.Conversations.{End, answered, looked_at}
 use Rattle.mqb_serving.specs.declared.faults.ConnFault.{ConnFault}
 use Rattle.mqb_serving.specs.declared.limits.TheConstants.{MAX_READ}
-use Rattle.mqb_serve_laws.specs.Steps.{Goes, HearsHeld, Reaches}
-use Rattle.mqb_serve_laws.proofs.Looking.{limit_ended, limit_far, limit_reached}
+use Rattle.mqb_serving.specs.Steps.{Goes, HearsHeld, Reaches}
+use Rattle.mqb_serving.proofs.Looking.{limit_ended, limit_far, limit_reached}
 use Rattle.mqb_serve.proofs.talk.Talk.look.Goals as goal
 
 pub returns-in_err-ended-clause-goes : goal.returns-in_err-ended-clause-goes

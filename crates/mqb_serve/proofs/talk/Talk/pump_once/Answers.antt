@@ -1,7 +1,7 @@
 use Rattle.std.proofs.Common.{List, refl, subst, sym, ℕ}
 use Rattle.mqb_outside.specs.Told.{Took}
 use Rattle.mqb_serving.specs.declared.faults.ConnFault.TheVariants as fault
-use Rattle.mqb_serve_laws.specs.Steps.{TookFront}
+use Rattle.mqb_serving.specs.Steps.{TookFront}
 use Rattle.mqb_serve.proofs.Keeps.{keeps_broken}
 use Rattle.mqb_serve.proofs.Stopped.{pump_cut, pump_keeps, pump_kept, pump_never_reads, pump_sent, pump_stopped}
 use Rattle.mqb_serve.proofs.talk.Talk.pump_once.Goals as goal

@@ -4,7 +4,7 @@ use Rattle.mqb_manager.specs.States.{manager_of}
 use Rattle.mqb_serving.specs.Conversations.{End, pumped}
 use Rattle.mqb_serving.specs.declared.faults.ConnFault.{ConnFault}
 use Rattle.mqb_serving.specs.declared.limits.TheConstants.{MAX_PUMPS}
-use Rattle.mqb_serve_laws.specs.Steps.{Goes, Itself}
+use Rattle.mqb_serving.specs.Steps.{Goes, Itself}
 use Rattle.mqb_serve.proofs.Keeps.{keeps_ok, keeps_then}
 use Rattle.mqb_serve.proofs.Moves.{all_at, more_at, rest_at, stop_at}
 use Rattle.mqb_serve.proofs.talk.Talk.pump_to_rest.Goals as goal

@@ -1,8 +1,8 @@
 use Rattle.std.proofs.Common.{◌≡◌, Ok, ℕ}
 use Rattle.mqb_manager.specs.States.{manager_of}
 use Rattle.mqb_serving.specs.Conversations.{Conversation}
-use Rattle.mqb_serve_laws.specs.Steps.{Stands}
-use Rattle.mqb_serve_laws.proofs.Pumping.{Pumps}
+use Rattle.mqb_serving.specs.Steps.{Stands}
+use Rattle.mqb_serving.proofs.Pumping.{Pumps}
 use Rattle.mqb_serve.specs.Talking.{Keeps}
 use Rattle.mqb_serve.proofs.talk.Talk.pump_to_rest.Given as goal
 

@@ -5,9 +5,9 @@ use Rattle.mqb_serving.specs.Conversations.{End, looked_at, read_on}
 use Rattle.mqb_serving.specs.declared.faults.ConnFault.{ConnFault}
 use Rattle.mqb_serving.specs.declared.limits.TheConstants.{MAX_READ}
 use Rattle.mqb_stream.specs.Framing.{fed}
-use Rattle.mqb_serve_laws.specs.Serving.{Hears}
-use Rattle.mqb_serve_laws.specs.Steps.{Goes, HearsHeld}
-use Rattle.mqb_serve_laws.proofs.Taken.{Takes, takes_all, takes_end, takes_more, takes_stop}
+use Rattle.mqb_serving.specs.Serving.{Hears}
+use Rattle.mqb_serving.specs.Steps.{Goes, HearsHeld}
+use Rattle.mqb_serving.proofs.Taken.{Takes, takes_all, takes_end, takes_more, takes_stop}
 use Rattle.mqb_serve.specs.Talking.{Keeps}
 use Rattle.mqb_serve.proofs.Keeps.{keeps_ok, keeps_then}
 use Rattle.mqb_serve.proofs.Moves.{none_left, stands_at}

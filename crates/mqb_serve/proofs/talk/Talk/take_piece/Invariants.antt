@@ -3,8 +3,8 @@ use Rattle.mqb_manager.specs.States.{manager_of}
 use Rattle.mqb_stream.specs.Framing.{next, wants_more}
 use Rattle.mqb_serving.specs.Conversations.{Conversation}
 use Rattle.mqb_serving.specs.declared.limits.TheConstants.{MAX_READ}
-use Rattle.mqb_serve_laws.specs.Steps.{Stands}
-use Rattle.mqb_serve_laws.proofs.Taken.{Takes}
+use Rattle.mqb_serving.specs.Steps.{Stands}
+use Rattle.mqb_serving.proofs.Taken.{Takes}
 use Rattle.mqb_serve.specs.Talking.{Keeps}
 use Rattle.mqb_serve.proofs.talk.Talk.take_piece.Given as goal
 

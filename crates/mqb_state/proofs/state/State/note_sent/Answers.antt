@@ -1,5 +1,5 @@
 use Rattle.std.proofs.Common.{sym, subst}
-use Rattle.mqb_express.specs.Noting.{origin_of}
+use Rattle.mqb_timeouts.specs.Noting.{origin_of}
 use Rattle.mqb_model.specs.state.Valid.{IsValidState}
 use Rattle.mqb_state.proofs.Marks.{noted_valid}
 use Rattle.mqb_state.proofs.state.State.note_sent.Goals as goal

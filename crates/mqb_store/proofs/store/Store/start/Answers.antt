@@ -1,8 +1,8 @@
 use Rattle.std.proofs.Common.{◌∙◌, ap, inl, subst, sym}
 use Rattle.std.proofs.lemmas.Result.{err_from_is_err_and}
 use Rattle.std.specs.Prelude.{Err}
-use Rattle.mqb_devices.specs.Images.{Each}
-use Rattle.mqb_devices.specs.Runs.{reads_then}
+use Rattle.mqb_outside.specs.Images.{Each}
+use Rattle.mqb_outside.specs.lemmas.Runs.{reads_then}
 use Rattle.mqb_journal.specs.States.{JournalState}
 use Rattle.mqb_journal.specs.declared.faults.OpenFault.{OpenFault}
 use Rattle.mqb_journal.specs.declared.faults.OpenFault.TheVariants as opening

@@ -1,7 +1,7 @@
 use Rattle.std.specs.Prelude.{option_copied}
 use Rattle.mqb_store.proofs.store.Store.write.Goals as goal
 use Rattle.mqb_store.specs.Writing.{change_in}
-use Rattle.mqb_store_laws.specs.Carrying.{quiet_opens}
+use Rattle.mqb_store_laws.specs.lemmas.Carrying.{quiet_opens}
 
 pub returns-in-None-clause-moments : goal.returns-in-None-clause-moments
 returns-in-None-clause-moments g c settled =

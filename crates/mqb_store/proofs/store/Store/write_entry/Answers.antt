@@ -1,8 +1,8 @@
 use Rattle.std.proofs.Common.{◌≡◌, ◌∙◌, ap, subst, sym}
 use Rattle.std.specs.Prelude.{IsSomeAnd, Some, true}
-use Rattle.mqb_devices.specs.Disk.{LeavesOnly}
+use Rattle.mqb_outside.specs.Disk.{LeavesOnly}
 use Rattle.mqb_state.specs.Work.{beside_of}
-use Rattle.mqb_journal.specs.Carrying.{goes_on_gate}
+use Rattle.mqb_journal.specs.lemmas.Carrying.{goes_on_gate}
 use Rattle.mqb_journal.specs.States.{JournalState}
 use Rattle.mqb_model.specs.records.Applying.{fits}
 use Rattle.mqb_model.specs.records.Reading.{record_in, record_of}
@@ -10,7 +10,7 @@ use Rattle.mqb_store.proofs.Kept.{CanJoin, written_moments, written_on}
 use Rattle.mqb_store.proofs.store.Store.write_entry.Goals as goal
 use Rattle.mqb_store.specs.States.{IsStoredOn, StoreState}
 use Rattle.mqb_store.specs.Writing.{LeavesStore}
-use Rattle.mqb_store_laws.specs.Carrying.{quiet_opens}
+use Rattle.mqb_store_laws.specs.lemmas.Carrying.{quiet_opens}
 use Rattle.mqb_store_laws.specs.Images.{IsOn, Opens}
 
 pub append-requires-clause-gate : goal.append-requires-clause-gate

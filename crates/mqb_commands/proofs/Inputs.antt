@@ -1,0 +1,174 @@
+-- What was shown of an input so far.
+use Rattle.std.proofs.Common.{◌≡◌, ◌<◌, ◌+◌, ℕ, List, [], ◌∷◌, ◌++◌, length, Option, None, Some, Result, Err, refl, sym, ap, subst, ◌∙◌, arith, length-append, append_assoc, append-nil, zero-add}
+use Rattle.std.specs.Option.{option_map}
+use Rattle.mqb_outside.specs.Told.{Gave, Took}
+use Rattle.mqb_serving.specs.declared.faults.PeerFault.TheVariants as peer
+use Rattle.mqb_serving.specs.declared.limits.TheConstants.{MAX_READ}
+use Rattle.mqb_stream.specs.Cutting.{joined}
+use Rattle.mqb_stream.specs.Framing.{Framing, next, wants_more}
+use Rattle.mqb_commands.specs.lemmas.Taking.{front_none}
+use Rattle.mqb_commands.specs.declared.shown_faults.ShowFault.{ShowFault}
+use Rattle.mqb_commands.specs.declared.shown_faults.ShowFault.TheVariants as fault
+use Rattle.mqb_commands.specs.Cuts.{BeginsBad, IsCut, IsUnfinished, held_at}
+use Rattle.mqb_commands.specs.Lines.{lines_from}
+use Rattle.mqb_commands.specs.Shown.{IsAtEnd}
+use Rattle.mqb_commands.specs.Showing.{EndsWith, ShowsAll}
+use Rattle.mqb_commands.specs.Viewing.{GoesOn, IsOpen, Stops, StopsBehind, end_of}
+use Rattle.mqb_commands.proofs.Going.{goes_count, goes_framer, goes_nowhere, goes_then, more_goes, open_empty, stops_then}
+
+-- What a source gave.
+
+pub gave_none : (h : Option (List ℕ)) → Gave h h []
+gave_none None = refl
+gave_none (Some t) = refl
+
+pub gave_more : (h m l : Option (List ℕ)) (x y : List ℕ) → Gave h m x → Gave m l y → Gave h l (x ++ y)
+gave_more h m None x y first second = first ∙ ap (λ (o : Option (List ℕ)). option_map (λ t. x ++ t) o) second
+gave_more h m (Some t) x y first second =
+    first ∙ ap (λ (o : Option (List ℕ)). option_map (λ t. x ++ t) o) second ∙ ap (λ (z : List ℕ). Some z) (sym (append_assoc x y t))
+
+gave_empty : (m l : Option (List ℕ)) → Gave m l [] → m ≡ l
+gave_empty m None first = first
+gave_empty m (Some t) first = first
+
+-- The viewer is here.
+pub record SoFar (held left before after : Option (List ℕ)) (f : Framing) (count : ℕ) : Type 0 where
+  pub bytes : List ℕ
+  pub gave : Gave held left bytes
+  pub goes : GoesOn (held_at 0 []) f bytes [] before after
+  pub wants : IsOpen f
+  pub same : count ≡ length bytes
+
+pub none_so_far : (held before : Option (List ℕ)) (f : Framing) → f ≡ held_at 0 [] → SoFar held held before before f 0
+none_so_far held before f is = record {
+  bytes = [];
+  gave = gave_none held;
+  goes = subst (λ (g : Framing). GoesOn (held_at 0 []) g [] [] before before) (sym is) (goes_nowhere (held_at 0 []) [] before refl);
+  wants = subst IsOpen (sym is) (open_empty 0);
+  same = refl;
+}
+
+pub so_far_place : (held left before after : Option (List ℕ)) (f : Framing) (count : ℕ) → SoFar held left before after f count → f.place + length f.held ≡ count
+so_far_place held left before after f count so =
+    let counted = goes_count (held_at 0 []) f so.bytes [] before after so.goes in
+    omega (arith, counted, so.same)
+
+pub so_far_framer : (held left before after : Option (List ℕ)) (f : Framing) (count : ℕ) → SoFar held left before after f count → f ≡ held_at f.place f.held
+so_far_framer held left before after f count so = goes_framer (held_at 0 []) f so.bytes [] before after so.goes
+
+-- a piece was shown
+pub so_far_more : (held left later before after then : Option (List ℕ)) (f g : Framing) (count n : ℕ) (piece : List ℕ) → SoFar held left before after f count
+    → Gave left later piece → n ≡ length piece → GoesOn f g piece [] after then × IsOpen g → SoFar held later before then g (count + n)
+so_far_more held left later before after then f g count n piece so gave len shown = record {
+  bytes = so.bytes ++ piece;
+  gave = gave_more held left later so.bytes piece so.gave gave;
+  goes = goes_then (held_at 0 []) f g (so.bytes ++ piece) piece [] before after then (more_goes (held_at 0 []) f so.bytes piece before after so.goes) shown.0;
+  wants = shown.1;
+  same = omega (arith, so.same, len, length-append so.bytes piece);
+}
+
+-- How it ends.
+
+-- what is held is the rest
+record IsHeld (f : Framing) (bytes : List ℕ) (before after : Option (List ℕ)) : Type 0 where
+  pub packets : List (List ℕ)
+  pub cut : IsCut bytes packets f.held
+  pub wrote : Took before after (lines_from 0 packets)
+  pub place : f ≡ held_at (length (joined packets)) f.held
+
+held_of : (f : Framing) (bytes : List ℕ) (before after : Option (List ℕ)) → GoesOn (held_at 0 []) f bytes [] before after → IsHeld f bytes before after
+held_of f bytes before after so = record {
+  packets = so.packets;
+  cut = record { whole = so.cut.whole ∙ ap (λ (t : List ℕ). joined so.packets ++ t) (append-nil f.held); each = so.cut.each };
+  wrote = so.wrote;
+  place = so.framer ∙ ap (λ (p : ℕ). held_at p f.held) (zero-add (length (joined so.packets)));
+}
+
+unfinished : (f : Framing) (place : ℕ) → f ≡ held_at place f.held → IsOpen f → IsUnfinished place f.held
+unfinished f place is wants = ap (λ (g : Framing). wants_more (next g)) (sym is) ∙ wants
+
+pub ends_by_fault : (held left later before after : Option (List ℕ)) (f : Framing) (count : ℕ) → SoFar held left before after f count → later ≡ left
+    → ShowsAll held later before after (Err fault.ReadFault)
+ends_by_fault held left later before after f count so same =
+    let is = held_of f so.bytes before after so.goes in
+    record {
+      bytes = so.bytes;
+      packets = is.packets;
+      rest = f.held;
+      gave = subst (λ (o : Option (List ℕ)). Gave held o so.bytes) (sym same) so.gave;
+      cut = is.cut;
+      ends = (unfinished f (length (joined is.packets)) is.place so.wants, is.wrote);
+    }
+
+pub ends_by_limit : (held left before after : Option (List ℕ)) (f : Framing) (count : ℕ) → SoFar held left before after f count → count ≡ MAX_READ
+    → ShowsAll held left before after (Err (fault.Peer peer.TooMuch))
+ends_by_limit held left before after f count so most =
+    let is = held_of f so.bytes before after so.goes in
+    let size : length (joined is.packets) + length f.held ≡ MAX_READ =
+    omega (arith, most, so.same, ap (λ (t : List ℕ). length t) is.cut.whole, length-append (joined is.packets) f.held) in
+    record {
+      bytes = so.bytes;
+      packets = is.packets;
+      rest = f.held;
+      gave = so.gave;
+      cut = is.cut;
+      ends = ((size, unfinished f (length (joined is.packets)) is.place so.wants), is.wrote);
+    }
+
+by_end : (place : ℕ) (held lines : List ℕ) (left before after : Option (List ℕ)) (r : Result (Unit {0}) ShowFault) → r ≡ end_of held → IsUnfinished place held → IsAtEnd left
+    → Took before after lines → EndsWith place held lines left before after r
+by_end place [] lines left before after r is open_ end took = subst (EndsWith place [] lines left before after) (sym is) ((refl, end), took)
+by_end place (b ∷ held) lines left before after r is open_ end took =
+    let some : 0 < length (b ∷ held) = omega arith in
+    subst (EndsWith place (b ∷ held) lines left before after) (sym is) ((some, open_, end), took)
+
+pub ends_by_end : (held left later before after : Option (List ℕ)) (f : Framing) (count : ℕ) (r : Result (Unit {0}) ShowFault) → SoFar held left before after f count
+    → Gave left later [] → IsAtEnd left → r ≡ end_of f.held → ShowsAll held later before after r
+ends_by_end held left later before after f count r so gave end is_end =
+    let is = held_of f so.bytes before after so.goes in
+    let same = gave_empty left later gave in
+    record {
+      bytes = so.bytes;
+      packets = is.packets;
+      rest = f.held;
+      gave = subst (λ (o : Option (List ℕ)). Gave held o so.bytes) same so.gave;
+      cut = is.cut;
+      ends = by_end (length (joined is.packets)) f.held (lines_from 0 is.packets) later before after r is_end
+          (unfinished f (length (joined is.packets)) is.place so.wants) (subst IsAtEnd same end) is.wrote;
+    }
+
+by_stop : (place other : ℕ) (rest lines : List ℕ) (left before after : Option (List ℕ)) (why : ShowFault) → place ≡ other → StopsBehind place rest lines before after why
+    → EndsWith other rest lines left before after (Err why)
+by_stop place other rest lines left before after (fault.Peer (peer.Bad at why)) same stops =
+    ((stops.0 ∙ same, subst (λ (p : ℕ). BeginsBad p rest why) same stops.1), stops.2)
+by_stop place other rest lines left before after (fault.Peer peer.PeerClosed) same stops = absurd stops
+by_stop place other rest lines left before after (fault.Peer (peer.Closed cause)) same stops = absurd stops
+by_stop place other rest lines left before after (fault.Peer peer.Spent) same stops = absurd stops
+by_stop place other rest lines left before after (fault.Peer peer.TooMuch) same stops = absurd stops
+by_stop place other rest lines left before after fault.ReadFault same stops = absurd stops
+by_stop place other rest lines left before after fault.WriteFault same stops = stops
+by_stop place other rest lines left before after fault.Memory same stops = stops
+
+pub ends_by_stop : (held left later before after then : Option (List ℕ)) (f : Framing) (count : ℕ) (piece : List ℕ) (why : ShowFault) → SoFar held left before after f count
+    → Gave left later piece → Stops f piece after then why → ShowsAll held later before then (Err why)
+ends_by_stop held left later before after then f count piece why so gave stops =
+    let all = stops_then (held_at 0 []) f (so.bytes ++ piece) piece before after then why (more_goes (held_at 0 []) f so.bytes piece before after so.goes) stops in
+    record {
+      bytes = so.bytes ++ piece;
+      packets = all.packets;
+      rest = all.rest;
+      gave = gave_more held left later so.bytes piece so.gave gave;
+      cut = all.cut;
+      ends = by_stop (0 + length (joined all.packets)) (length (joined all.packets)) all.rest (lines_from 0 all.packets) later before then why
+          (zero-add (length (joined all.packets))) all.stops;
+    }
+
+pub ends_at_once : (held before : Option (List ℕ)) → ShowsAll held held before before (Err fault.Memory)
+ends_at_once held before = record {
+  bytes = [];
+  packets = [];
+  rest = [];
+  gave = gave_none held;
+  cut = record { whole = refl; each = tt };
+  ends = front_none before [];
+}

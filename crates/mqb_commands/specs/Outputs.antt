@@ -1,0 +1,44 @@
+-- What a command says, how it ends, and what an output takes of that.
+use Rattle.std.specs.Prelude.{[], ◌++◌, ◌≡◌, ◌⊎◌, List, Option, ℕ}
+use Rattle.mqb_outside.specs.Faults.{Rose}
+use Rattle.mqb_outside.specs.Told.{Took}
+use Rattle.mqb_commands.specs.declared.status.Status.{Status}
+use Rattle.mqb_commands.specs.declared.status.Status.TheVariants as status
+use Rattle.mqb_commands.specs.Texts.{fault_text}
+
+-- a sink that had taken before took a front of this text, and has taken after
+pub record TookFront (before after : Option (List ℕ)) (text : List ℕ) : Type 0 where
+  pub written : List ℕ
+  pub left : List ℕ
+  pub whole : written ++ left ≡ text
+  pub took : Took before after written
+
+-- The text was written and the program ended so, or a front of it was, and the output failed.
+abbrev pub Tells : List ℕ → Status → Option (List ℕ) → Option (List ℕ) → Status → Type 0
+Tells text end before after r = ((r ≡ end) × Took before after text) ⊎ ((r ≡ status.WriteFault) × TookFront before after text)
+
+-- A command said what is meant, and ended so.
+pub record Says (meant : List ℕ → Status → Type 0) (before after : Option (List ℕ)) (r : Status) : Type 0 where
+  pub text : List ℕ
+  pub end : Status
+  pub means : meant text end
+  pub told : Tells text end before after r
+
+-- the fault line of an end, or memory ran out
+abbrev pub IsFaultLine : Status → List ℕ → Status → Type 0
+IsFaultLine fault text end = ((end ≡ fault) × (text ≡ fault_text fault)) ⊎ ((end ≡ status.Memory) × (text ≡ []))
+
+-- the program ends with a read fault only where the input's count of faults rose
+abbrev pub ReadFaultHasCause : ℕ → ℕ → Status → Type 0
+ReadFaultHasCause before after status.ReadFault = Rose before after
+ReadFaultHasCause before after _ = Unit {0}
+
+-- the program ends with a write fault only where the output's count of faults rose
+abbrev pub WriteFaultHasCause : ℕ → ℕ → Status → Type 0
+WriteFaultHasCause before after status.WriteFault = Rose before after
+WriteFaultHasCause before after _ = Unit {0}
+
+-- an end that is no write fault
+abbrev pub IsPlain : Status → Type 0
+IsPlain status.WriteFault = ⊥
+IsPlain _ = Unit {0}

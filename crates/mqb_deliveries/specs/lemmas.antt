@@ -1,0 +1,7 @@
+pub mod Coming
+pub mod Connected
+pub mod Delivered
+pub mod Flowed
+pub mod Flowing
+pub mod SettingUp
+pub mod Unsent

@@ -1,0 +1,3 @@
+pub mod FieldFormats
+pub mod Formats
+pub mod MemberFormats

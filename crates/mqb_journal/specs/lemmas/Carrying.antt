@@ -1,0 +1,89 @@
+-- What carries a journal's condition from call to call.
+use Rattle.std.proofs.Common.{◌≡◌, ℕ, ◌+◌, ◌<◌, List, ◌∷◌, ◌++◌, length, drop, true, false, ◌∙◌, ap, arith, length-append}
+use Rattle.mqb_outside.specs.Images.{Each}
+use Rattle.mqb_outside.specs.Disk.{View, IsSettled, Unchanged, OnlyReads}
+use Rattle.mqb_journal.specs.Store.{StandsFor, chain}
+use Rattle.mqb_journal.specs.States.{JournalState, ScanState, finished}
+use Rattle.mqb_journal.specs.Journals.{GoesOn, Lent}
+
+-- over a disk of which nothing new is told
+pub goes_on_told : (d e : View) (j : JournalState) (records : List (List ℕ)) → GoesOn d j records → Each e.reads d.reads → GoesOn e j records
+goes_on_told d e j records on told = record {
+  front = on.front;
+  is_front = on.is_front;
+  stands = λ c reads. on.stands c (told c reads);
+  small = on.small;
+  end = on.end;
+  count = on.count;
+  up = on.up;
+}
+
+-- through a call that only reads
+pub goes_on_read : (d e : View) (j : JournalState) (records : List (List ℕ)) → GoesOn d j records → OnlyReads d e → GoesOn e j records
+goes_on_read d e j records on reads = goes_on_told d e j records on reads.unchanged.reads.none_new
+
+-- through a call of the power switch
+pub goes_on_unchanged : (d e : View) (j : JournalState) (records : List (List ℕ)) → GoesOn d j records → Unchanged d e → GoesOn e j records
+goes_on_unchanged d e j records on same = goes_on_told d e j records on same.reads.none_new
+
+-- through a restart of a settled disk
+pub goes_on_restarted : (d e : View) (j : JournalState) (records : List (List ℕ)) → GoesOn d j records → IsSettled d → Each e.reads d.leaves → GoesOn e j records
+goes_on_restarted d e j records on settled left = goes_on_told d e j records on (λ c reads. settled c (left c reads))
+
+-- through a refusal, which may leave more room
+pub goes_on_refused : (d : View) (j : JournalState) (room : ℕ) (records : List (List ℕ)) → GoesOn d j records → GoesOn d (record j { room = room }) records
+goes_on_refused d j room records on = record {
+  front = on.front;
+  is_front = on.is_front;
+  stands = on.stands;
+  small = on.small;
+  end = on.end;
+  count = on.count;
+  up = on.up;
+}
+
+pub settled_read : (d e : View) → IsSettled d → OnlyReads d e → IsSettled e
+settled_read d e settled reads c left = reads.unchanged.reads.none_lost c (settled c (reads.unchanged.leaves.none_new c left))
+
+pub settled_unchanged : (d e : View) → IsSettled d → Unchanged d e → IsSettled e
+settled_unchanged d e settled same c left = same.reads.none_lost c (settled c (same.leaves.none_new c left))
+
+-- what a read gives stands for the records
+pub goes_on_stands : (d : View) (j : JournalState) (records : List (List ℕ)) → GoesOn d j records → Each d.reads (StandsFor j.guid.0 records)
+goes_on_stands d j records on c told = record { front = on.front; is_front = on.is_front; small = on.small; stands = on.stands c told }
+
+-- the gate behind the records is there, so that a record can be added
+pub goes_on_gate : (d : View) (j : JournalState) (records : List (List ℕ)) → GoesOn d j records → Each d.reads (λ c. j.end < length c)
+goes_on_gate d j records on c told =
+    let shut = on.stands c told in
+    omega (arith, on.end, ap length shut.is, length-append (on.front ++ chain records) (shut.gate ∷ shut.rest), length-append on.front (chain records))
+
+-- a scan that has ended goes on as a journal
+pub lent_goes_on : (d : View) (s : ScanState) (room : ℕ) (records : List (List ℕ)) → Lent d s records → s.ended ≡ true → GoesOn d (finished s room) records
+lent_goes_on d s room records lent ended = record {
+  front = lent.front;
+  is_front = lent.is_front;
+  stands = λ c told. (let shut = lent.shut ended c told in record {
+    gate = shut.byte;
+    rest = drop (s.gate + 1) c;
+    closed = shut.closed;
+    is = lent.begins c told ∙ ap (λ (l : List ℕ). lent.front ++ chain records ++ l) shut.is;
+  });
+  small = lent.small;
+  end = lent.place;
+  count = lent.count;
+  up = λ _. false;
+}
+
+-- through calls that only read
+pub lent_read : (d e : View) (s : ScanState) (records : List (List ℕ)) → Lent d s records → OnlyReads d e → Lent e s records
+lent_read d e s records lent reads = record {
+  front = lent.front;
+  is_front = lent.is_front;
+  begins = λ c told. lent.begins c (reads.unchanged.reads.none_new c told);
+  long = λ c told. lent.long c (reads.unchanged.reads.none_new c told);
+  small = lent.small;
+  place = lent.place;
+  count = lent.count;
+  shut = λ ended c told. lent.shut ended c (reads.unchanged.reads.none_new c told);
+}

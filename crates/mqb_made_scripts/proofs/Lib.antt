@@ -1,5 +1,0 @@
-mod Reading
-mod Making
-mod Bounding
-mod Sizing
-mod Whole

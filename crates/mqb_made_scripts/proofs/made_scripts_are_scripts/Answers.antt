@@ -1,5 +1,0 @@
-use Rattle.mqb_made_scripts.proofs.Whole as whole
-use Rattle.mqb_made_scripts.proofs.made_scripts_are_scripts.Goals as goal
-
-pub returns : goal.returns
-returns c = whole.made (record { kept = c.lines_are_read_back.ensures.kept; event = c.lines_are_read_back.ensures.event })

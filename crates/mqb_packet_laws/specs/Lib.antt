@@ -1,4 +1,0 @@
-pub mod Forms
-pub mod Grammar
-pub mod DirectNames
-pub mod ReadPackets

@@ -1,9 +1,0 @@
-pub mod Taking
-pub mod Points
-pub mod Stopping
-pub mod Never
-pub mod Pumping
-pub mod Looking
-pub mod Piecing
-pub mod Taken
-pub mod Ending

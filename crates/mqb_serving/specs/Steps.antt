@@ -1,0 +1,168 @@
+-- How serving goes from one conversation to another, and where it stops.
+use Rattle.std.specs.Prelude.{[], ◌&&◌, ◌++◌, ◌==◌, ◌≡◌, ◌⊎◌, Bool, Err, IfSome, List, None, Ok, Option, Result, if◌then◌else◌, length, unwrap_or, ℕ}
+use Rattle.mqb_fields.specs.declared.faults.HeadFault.{HeadFault}
+use Rattle.mqb_outside.specs.Told.{Gave, Took}
+use Rattle.mqb_packet.specs.Parts.{packet_of}
+use Rattle.mqb_packet.specs.Spelled.{Spells}
+use Rattle.mqb_packet.specs.declared.packet.Packet.{Packet}
+use Rattle.mqb_stream.specs.Framing.{Framing, Whole, advanced, next}
+use Rattle.mqb_model.specs.calls.hear.Hear.{hear}
+use Rattle.mqb_model.specs.calls.pump.Pump.{pump}
+use Rattle.mqb_model.specs.declared.answers.Role.{Role}
+use Rattle.mqb_model.specs.declared.faults.PumpFault.{PumpFault}
+use Rattle.mqb_model.specs.managers.Manager.{Manager}
+use Rattle.mqb_model.specs.managers.Outcomes.{failed_under, succeeded}
+use Rattle.mqb_model.specs.records.Record.{Record}
+use Rattle.mqb_serving.specs.Conversations.{Conversation, End, bytes_of, end_of_bytes, pumped, read_on}
+use Rattle.mqb_serving.specs.Laws.{Begins}
+use Rattle.mqb_serving.specs.declared.faults.PeerFault.TheVariants as peer
+use Rattle.mqb_serving.specs.declared.limits.TheConstants.{MAX_PUMPS}
+use Rattle.mqb_serving.specs.declared.faults.ConnFault.{ConnFault}
+use Rattle.mqb_serving.specs.declared.faults.ConnFault.TheVariants as fault
+use Rattle.mqb_serving.specs.Serving.{Hears, hearing}
+
+-- A sink that had taken before took a front of these bytes, and has taken after.
+pub record TookFront (before after : Option (List ℕ)) (bytes : List ℕ) : Type 0 where
+  pub written : List ℕ
+  pub begins : Begins written bytes
+  pub took : Took before after written
+
+-- What a fault leaves: the disk failed in the next call of a manager, or nothing has changed. No peer's fault does.
+abbrev pub LeftBy : ConnFault → Manager → Manager → Type 0
+LeftBy (fault.Peer why) m n = ⊥
+LeftBy fault.ReadFault m n = n ≡ m
+LeftBy fault.WriteFault m n = n ≡ m
+LeftBy fault.DiskFault m n = (doubt : Option Record) × (n ≡ failed_under m doubt)
+LeftBy fault.Memory m n = n ≡ m
+
+-- One call of the manager.
+
+-- A pump went as its definition does, and its packets were sent.
+pub record IsPumped (m : Manager) (moment : ℕ) (n : Manager) (before after : Option (List ℕ)) (r : Result ℕ PumpFault) : Type 0 where
+  pub answer : r ≡ (pump m moment).answer
+  pub manager : n ≡ succeeded m (pump m moment)
+  pub took : Took before after (bytes_of (pump m moment).packets)
+
+-- it was not made, and nothing was sent; or only a front of its packets was
+abbrev pub PumpStops : Manager → ℕ → Manager → (before after : Option (List ℕ)) → ConnFault → Type 0
+PumpStops m moment n before after why = (LeftBy why m n × (after ≡ before))
+    ⊎ (LeftBy why (succeeded m (pump m moment)) n × TookFront before after (bytes_of (pump m moment).packets))
+
+-- what a pump comes to, with what is sent of it
+abbrev pub PumpsOnce : Manager → ℕ → Manager → (before after : Option (List ℕ)) → Result (Result ℕ PumpFault) ConnFault → Type 0
+PumpsOnce m moment n before after (Ok r) = IsPumped m moment n before after r
+PumpsOnce m moment n before after (Err why) = PumpStops m moment n before after why
+
+-- A frame is heard as the packet that it spells.
+pub record IsHeard (frame : List ℕ) (m : Manager) (moment : ℕ) (n : Manager) : Type 0 where
+  pub packet : Packet
+  pub spells : Spells packet frame
+  pub manager : n ≡ succeeded m (hear m packet moment)
+
+-- what hearing a frame comes to, which may be no packet
+abbrev pub HearsFrame : List ℕ → Manager → ℕ → Manager → Result (Result (Unit {0}) HeadFault) ConnFault → Type 0
+HearsFrame frame m moment n (Ok (Ok done)) = IsHeard frame m moment n
+HearsFrame frame m moment n (Ok (Err why)) = (packet_of frame ≡ Err why) × (n ≡ m)
+HearsFrame frame m moment n (Err why) = LeftBy why m n
+
+-- A step.
+
+-- The program stands at this conversation, which goes on.
+pub record Stands (c : Conversation) (asks : Role) (moment : ℕ) (m : Manager) (f : Framing) : Type 0 where
+  pub role : c.role ≡ asks
+  pub now : c.now ≡ moment
+  pub manager : c.manager ≡ m
+  pub framing : c.framing ≡ f
+  pub end : c.end ≡ None
+
+-- From one conversation another was reached: these packets were given besides, and sent.
+pub record Gives (c d : Conversation) (before after : Option (List ℕ)) : Type 0 where
+  pub packets : List Packet
+  pub given : d.given ≡ c.given ++ packets
+  pub took : Took before after (bytes_of packets)
+
+-- The program reached it, and stands there unless it ended.
+pub record Reaches (c d : Conversation) (before after : Option (List ℕ)) (asks : Role) (moment : ℕ) (m : Manager) (f : Framing) (r : Option End) : Type 0 where
+  pub gives : Gives c d before after
+  pub manager : d.manager ≡ m
+  pub end : d.end ≡ r
+  pub stands : r ≡ None → Stands d asks moment m f
+
+-- the same manager, which gave the same packets
+pub record IsSameSide (c d : Conversation) : Type 0 where
+  pub manager : d.manager ≡ c.manager
+  pub given : d.given ≡ c.given
+
+-- Pumping went on from one of these starts.
+pub record IsBehind (starts : Conversation → Type 0) (d : Conversation) : Type 0 where
+  pub from : Conversation
+  pub pumps : ℕ
+  pub start : starts from
+  pub manager : d.manager ≡ (pumped pumps from).manager
+  pub given : d.given ≡ (pumped pumps from).given
+
+-- a conversation itself, or one behind some pumps from one of these starts
+abbrev pub IsPast : (Conversation → Type 0) → Conversation → Conversation → Type 0
+IsPast starts c d = IsSameSide c d ⊎ IsBehind starts d
+
+-- A fault stops it there. What was written is a front of what was given.
+pub record Stops (starts : Conversation → Type 0) (c : Conversation) (before after : Option (List ℕ)) (n : Manager) (why : ConnFault) : Type 0 where
+  pub at : Conversation
+  pub past : IsPast starts c at
+  pub written : List ℕ
+  pub took : Took before after written
+  pub begins : Begins (bytes_of c.given ++ written) (bytes_of at.given)
+  pub left : LeftBy why at.manager n
+
+-- a step reaches another conversation, or is stopped
+abbrev pub Goes : (Conversation → Type 0) → (c d : Conversation) → (before after : Option (List ℕ)) → Role → ℕ → Manager → Framing → Result (Option End) ConnFault → Type 0
+Goes starts c d before after asks moment m f (Ok end) = Reaches c d before after asks moment m f end
+Goes starts c d before after asks moment m f (Err why) = Stops starts c before after m why
+
+-- Where pumping starts in a step.
+
+-- at the conversation itself
+abbrev pub Itself : Conversation → Conversation → Type 0
+Itself c from = from ≡ c
+
+-- Where a packet that is held is heard.
+pub record HearsHeld (c from : Conversation) : Type 0 where
+  pub frame : List ℕ
+  pub packet : Packet
+  pub whole : next c.framing ≡ Whole frame
+  pub spells : Spells packet frame
+  pub heard : from ≡ hearing (record c { framing = advanced c.framing }) packet
+
+-- All steps.
+
+-- the end where no more bytes come, by whether it is through and what is held
+abbrev pub end_of : Bool → List ℕ → End
+end_of through held = if through && length held == 0 then Ok tt else Err peer.PeerClosed
+
+-- The bytes that were read came to this end, or nothing more came.
+pub record Finishes (c d : Conversation) (before after held_now : Option (List ℕ)) (m : Manager) (r : End) : Type 0 where
+  pub gives : Gives c d before after
+  pub manager : d.manager ≡ m
+  pub end : unwrap_or d.end (end_of_bytes d) ≡ r
+  pub all : d.end ≡ None → IfSome held_now (λ rest. rest ≡ [])
+
+-- a conversation goes on to its end from where it is, or is stopped
+abbrev pub EndsFrom : (Conversation → Type 0) → (c d : Conversation) → (before after held_now : Option (List ℕ)) → Manager → Result End ConnFault → Type 0
+EndsFrom starts c d before after held_now m (Ok end) = Finishes c d before after held_now m end
+EndsFrom starts c d before after held_now m (Err why) = Stops starts c before after m why
+
+-- The program reads what comes, from a conversation on.
+pub record Listens (c : Conversation) (held held_now before after : Option (List ℕ)) (m : Manager) (r : Result End ConnFault) : Type 0 where
+  pub read : List ℕ
+  pub gave : Gave held held_now read
+  pub ends : EndsFrom (Hears c read) c (read_on c read) before after held_now m r
+
+-- pumping starts at once, or where a packet is heard behind it
+abbrev pub StartsAt : Conversation → List ℕ → Conversation → Type 0
+StartsAt c read from = (from ≡ c) ⊎ Hears (pumped MAX_PUMPS c) read from
+
+-- The program pumps first, and then reads what comes.
+pub record Converses (c : Conversation) (held held_now before after : Option (List ℕ)) (m : Manager) (r : Result End ConnFault) : Type 0 where
+  pub read : List ℕ
+  pub gave : Gave held held_now read
+  pub ends : EndsFrom (StartsAt c read) c (read_on (pumped MAX_PUMPS c) read) before after held_now m r

@@ -1,5 +1,0 @@
-pub mod Lines
-pub mod Cuts
-pub mod Viewing
-pub mod Shown
-pub mod Showing

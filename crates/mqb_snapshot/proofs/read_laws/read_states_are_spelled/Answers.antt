@@ -1,0 +1,5 @@
+use Rattle.mqb_snapshot.proofs.StateRead as law
+use Rattle.mqb_snapshot.proofs.read_laws.read_states_are_spelled.Goals as goal
+
+pub returns : goal.returns
+returns c = law.read_states_are_spelled

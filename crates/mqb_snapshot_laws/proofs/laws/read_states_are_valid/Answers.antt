@@ -1,5 +1,0 @@
-use Rattle.mqb_snapshot_laws.proofs.StateRead as law
-use Rattle.mqb_snapshot_laws.proofs.laws.read_states_are_valid.Goals as goal
-
-pub returns : goal.returns
-returns c = law.read_states_are_valid

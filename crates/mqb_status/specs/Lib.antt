@@ -1,4 +1,0 @@
-pub mod Exits
-pub mod Texts
-pub mod Outputs
-pub mod lemmas

@@ -1,4 +1,0 @@
-pub mod Members
-pub mod Lens
-pub mod Each
-pub mod Waiting

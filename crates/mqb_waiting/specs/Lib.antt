@@ -1,4 +1,0 @@
-pub mod Ends
-pub mod Rooms
-pub mod Waits
-pub mod Seen
