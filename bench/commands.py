@@ -7,12 +7,12 @@ milliseconds), a list 4 and 113 times (9.7 and 1,093), since each reads the whol
 syncs went; show 10 million bytes a second. On one that was less busy, with MOST = 10000: 0.7 and 4.4, 1.6 and 8.2; 417 and 253 messages a second, 0.13 and 0.98; 40 million.
 
 A store gets its records by messages that are pushed to it: each that arrives is one. FOLDER is where the files stand, which decides what a sync costs. It stands
-outside the gate. Its port must be free: 1801, or MQB_PORT. MQB names another program.
+outside the gate. Its port must be free: 1801, or MQB_PORT. MQB names another program than `./mqb --where` does.
 """
 import os, pathlib, subprocess, sys, tempfile, time
 
 TOP = pathlib.Path(__file__).resolve().parent.parent
-MQB = os.environ.get("MQB", TOP / "crates/mqb/out/mqb")
+MQB = os.environ.get("MQB") or subprocess.check_output([TOP / "mqb", "--where"], text=True).strip()
 PORT = int(os.environ.get("MQB_PORT", "1801"))
 MOST = int(sys.argv[1]) if len(sys.argv) > 1 else 100_000
 ALPHA = ("alpha", "0a0b0c0d-0e0f-1011-1213-141516171819", "127.0.0.2")

@@ -6,12 +6,12 @@ decided at the receiver. At the end every message is pushed and taken: each once
 
 Seen twice: of 100 commits 62 and 60 had printed their line, 9 and 6 were there and had not, 29 and 34 were not there; in 23 and 100 of 100 pushes and in 10 and 66 of
 100 serves that were killed something was decided of which the sender had not heard; 676 and 671 messages came once each, in the order of their commits.
- Its port must be free: 1801, or MQB_PORT. MQB names another program.
+ Its port must be free: 1801, or MQB_PORT. MQB names another program than `./mqb --where` does.
 """
 import os, pathlib, random, re, subprocess, sys, tempfile, time
 
 TOP = pathlib.Path(__file__).resolve().parent.parent
-MQB = os.environ.get("MQB", TOP / "crates/mqb/out/mqb")
+MQB = os.environ.get("MQB") or subprocess.check_output([TOP / "mqb", "--where"], text=True).strip()
 PORT = int(os.environ.get("MQB_PORT", "1801"))
 ROUNDS = int(sys.argv[1]) if len(sys.argv) > 1 else 100
 ALPHA = ("alpha", "0a0b0c0d-0e0f-1011-1213-141516171819", "127.0.0.1")

@@ -14,13 +14,14 @@ it asks for room by a hint and, where that is refused, once more for room for on
 the file, and by `run`, and so are those of an op of a commit; those of a line of a script once. `init` is not among the commands: where the name of its
 folder finds no memory, it ends with a disk fault, as `create` of a `FileDisk` does.
 
-The allocations are those of the C library, refused by a library that stands before it, which `cc` makes. It stands outside the gate. MQB names another program.
+The allocations are those of the C library, refused by a library that stands before it, which `cc` makes. It stands outside the gate. MQB names another program
+than `./mqb --where` does.
 """
 import collections, os, pathlib, shutil, subprocess, sys, tempfile, threading
 from concurrent.futures import ThreadPoolExecutor
 
 TOP = pathlib.Path(__file__).resolve().parent.parent
-MQB = os.environ.get("MQB", TOP / "crates/mqb/out/mqb")
+MQB = os.environ.get("MQB") or subprocess.check_output([TOP / "mqb", "--where"], text=True).strip()
 MOST = int(sys.argv[1]) if len(sys.argv) > 1 else None
 MEMORY = 10
 ALPHA = ("alpha", "0a0b0c0d-1112-1314-1516-1718191a1b1c", "127.0.0.1")

@@ -3,11 +3,12 @@
 # - scripts of 200, 2,000 and 20,000 lines: commits of 1,000 bytes, each pumped, delivered and acknowledged.
 # - trials: what 10,000 orders take beyond one order, of what 1,000 take beyond one. At most 11 are wanted.
 # - scripts of 25,000 and 50,000 commits before the first pump. At most 2.2 times are wanted.
-# ROUNDS=15 takes more rounds, MQB names another program. The first call of ./mqb builds the program, which is not counted.
+# ROUNDS=15 takes more rounds, MQB names another program than ./mqb --where does.
 set -e
 top=$(cd "$(dirname "$0")/.." && pwd)
-"$top/mqb" replay < "$top/examples/one_message.mqb" > /dev/null
-MQB=${MQB:-$top/crates/mqb/out/mqb} ROUNDS=${ROUNDS:-5} exec python3 - <<'END'
+MQB=${MQB:-$("$top/mqb" --where)}
+export MQB
+ROUNDS=${ROUNDS:-5} exec python3 - <<'END'
 import os, subprocess, tempfile, time
 
 MQB, ROUNDS = os.environ["MQB"], int(os.environ["ROUNDS"])
