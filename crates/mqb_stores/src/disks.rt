@@ -1,12 +1,12 @@
 use mqb_base::Failed;
 use mqb_disk::{Call, FileDisk, MemoryDisk, TraceDisk};
-use mqb_outside::{Disk, Mode, Pick, Power};
+use mqb_outside::{Disk, Pick, Power};
 use std::alloc::{AllocError, Global};
 use std::fs;
 use std::test::Fail;
 
 /// Two device calls: the length, and the write.
-fn write<D: Disk>(disk: &mut D, at: u64, bytes: &[u8]) -> Result<(), Failed> {
+pub(crate) fn write<D: Disk>(disk: &mut D, at: u64, bytes: &[u8]) -> Result<(), Failed> {
     if at <= disk.len()? && bytes.len() < 100 {
         disk.write_at(at, bytes)
     } else {
@@ -24,11 +24,7 @@ fn cut<D: Disk>(disk: &mut D, len: u64) -> Result<(), Failed> {
 }
 
 /// Whether a disk holds exactly these bytes.
-pub(crate) fn holds<D: Disk>(
-    alloc: Global,
-    disk: &mut D,
-    bytes: &[u8],
-) -> Result<bool, AllocError> {
+fn holds<D: Disk>(alloc: Global, disk: &mut D, bytes: &[u8]) -> Result<bool, AllocError> {
     let mut text = Vec::from_elem(alloc, 0, bytes.len())?;
     if disk.len() != Ok(bytes.len() as u64) {
         return Ok(false);
@@ -59,25 +55,6 @@ fn what_a_restart_leaves(rt: HostRuntime) -> Result<(), Fail> {
             assert!(rt; holds(alloc, &mut disk, left)?, "{pick:?} {cuts}");
         }
     }
-    Ok(())
-}
-
-#[test]
-fn armed_calls(rt: HostRuntime) -> Result<(), Fail> {
-    let alloc = rt.alloc();
-    let mut disk = MemoryDisk::new(alloc, 16)?;
-    disk.arm(2, Mode::Fail);
-    assert_eq!(rt; write(&mut disk, 0, b"one"), Err(Failed));
-    assert_eq!(rt; write(&mut disk, 0, b"two"), Ok(()));
-    disk.arm(2, Mode::Stop);
-    assert_eq!(rt; write(&mut disk, 3, b"three"), Err(Failed));
-    assert!(rt; disk.stopped() && disk.sync().is_err());
-    disk.arm_restart();
-    disk.restart(Pick::New);
-    // The call that fails is the first of the two.
-    disk.arm(2, Mode::Fail);
-    assert!(rt; !disk.stopped() && disk.len().is_err() && disk.len().is_err());
-    assert!(rt; holds(alloc, &mut disk, b"twothree")?);
     Ok(())
 }
 

@@ -1,14 +1,9 @@
-//! Tests alone: the forms in memory of the outside, disks, journals and the disk in a file, as tables. Each call that takes memory is called here with
-//! ample memory, and each generic call at a concrete type.
+//! Tests alone: disks and journals over them as tables, the disk in a file, and connections over TCP. What the program shows by itself stands in the tables of `examples`.
 #![tactic(auto)]
 
 #[cfg(test)]
 mod disks;
 #[cfg(test)]
+mod journals;
+#[cfg(test)]
 mod network;
-#[cfg(test)]
-mod outside;
-#[cfg(test)]
-mod reading;
-#[cfg(test)]
-mod stores;

@@ -12,9 +12,19 @@ use std::test::Fail;
 #[derive(Drop)]
 pub(crate) struct Run {
     pub(crate) end: Status,
+    /// what was sent over it
     pub(crate) sent: Vec<u8>,
+    /// what was printed
+    pub(crate) said: Vec<u8>,
     /// what the store holds behind it, as `list` says it
     pub(crate) holds: Vec<u8>,
+}
+
+impl Run {
+    /// Whether it ended so, behind so many bytes, and left this.
+    pub(crate) fn is_as_told(&self, end: Status, sent: usize, holds: &str) -> bool {
+        self.end == end && self.sent.len() == sent && self.holds.as_slice() == holds.as_bytes()
+    }
 }
 
 /// A store serves what comes.
@@ -29,41 +39,26 @@ pub(crate) fn served(
     Ok(Run {
         end,
         sent: Vec::from_slice(alloc, out.as_slice())?,
+        said: Vec::new(alloc),
         holds: holds(alloc, disk),
     })
 }
 
-/// A net with one connection, over which this comes at once.
-pub(crate) fn net_of(alloc: Global, coming: Coming<'_>) -> Result<MemoryNet, Memory> {
-    let plan = ConnPlan {
+/// A connection over which this comes at once.
+pub(crate) fn plan_of(alloc: Global, coming: Coming<'_>) -> Result<ConnPlan, Memory> {
+    Ok(ConnPlan {
         bytes: Bytes::from_slice(alloc, coming.bytes)?,
         failing_reads: Vec::from_slice(alloc, coming.failing_reads)?,
         failing_writes: Vec::from_slice(alloc, coming.failing_writes)?,
-    };
-    let mut plans = Vec::new(alloc);
-    plans.push(Some(plan))?;
-    MemoryNet::new(alloc, plans)
+    })
 }
 
 /// What was sent over the first connection that ended.
-pub(crate) fn sent_first(net: &MemoryNet) -> &[u8] {
+fn sent_first(net: &MemoryNet) -> &[u8] {
     match net.finished().first() {
         Some(conn) => conn.sent(),
         None => &[],
     }
-}
-
-/// What a push to a host prints, and how it ends.
-pub(crate) fn pushed_to(
-    alloc: Global,
-    host: &[u8],
-    disk: &mut MemoryDisk,
-    net: &mut MemoryNet,
-) -> Result<(Vec<u8>, Status), Fail> {
-    let host = Name::new(alloc, host)?;
-    let mut out = MemorySink::new(alloc, &[])?;
-    let end = pushes(alloc, &host, &mut out, disk, net);
-    Ok((Vec::from_slice(alloc, out.as_slice())?, end))
 }
 
 /// A store pushes to beta, over a connection over which this comes at once.
@@ -72,11 +67,16 @@ pub(crate) fn pushed(
     disk: &mut MemoryDisk,
     coming: Coming<'_>,
 ) -> Result<Run, Fail> {
-    let mut net = net_of(alloc, coming)?;
-    let (_, end) = pushed_to(alloc, b"beta", disk, &mut net)?;
+    let mut plans = Vec::new(alloc);
+    plans.push(Some(plan_of(alloc, coming)?))?;
+    let mut net = MemoryNet::new(alloc, plans)?;
+    let host = Name::new(alloc, b"beta")?;
+    let mut out = MemorySink::new(alloc, &[])?;
+    let end = pushes(alloc, &host, &mut out, disk, &mut net);
     Ok(Run {
         end,
         sent: Vec::from_slice(alloc, sent_first(&net))?,
+        said: Vec::from_slice(alloc, out.as_slice())?,
         holds: holds(alloc, disk),
     })
 }

@@ -1,10 +1,12 @@
 //! The commands, of which nothing is said here. So a test that calls them over forms in memory has nothing to carry, and nothing to prove of a manager.
-use mqb_base::{Memory, Name};
-use mqb_commands::Status;
+use mqb_base::Name;
+use mqb_commands::{Status, list};
 use mqb_connections::{probe, push, serve};
-use mqb_outside::{Clock, Disk, FixedClock, Net, Sink, Source};
-use mqb_sample_stores::{NOW, list};
+use mqb_outside::{Disk, FixedClock, Net, Sink, Source};
 use std::alloc::Global;
+
+/// When all happens, in seconds.
+const NOW: u32 = 1000;
 
 /// Probes a store.
 pub(crate) fn probes<S: Source, K: Sink, D: Disk>(

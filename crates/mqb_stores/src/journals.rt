@@ -1,0 +1,112 @@
+use crate::disks::write;
+use mqb_base::{Guid, Memory};
+use mqb_disk::{Call, TraceDisk};
+use mqb_journal::{AppendFault, Journal, OpenFault, ScanFault};
+use mqb_outside::Disk;
+use std::alloc::Global;
+use std::fmt::Display;
+use std::test::Fail;
+
+/// What a formatted disk answers to two appends.
+fn append<D: Disk>(
+    alloc: Global,
+    disk: &mut D,
+    first: &[u8],
+    second: &[u8],
+) -> Result<(Result<(), AppendFault>, Result<(), AppendFault>), OpenFault> {
+    let mut journal = Journal::format(alloc, disk, Guid([9; 16]))?;
+    let refused = journal.append(disk, first);
+    Ok((refused, journal.append(disk, second)))
+}
+
+/// The header with the gate; nothing for a record over the limit; the length, the record and the next gate; and the gate.
+#[test]
+fn the_calls_of_an_append(rt: HostRuntime) -> Result<(), Fail> {
+    let alloc = rt.alloc();
+    let mut disk = TraceDisk::new(alloc, 64, 16)?;
+    let entry = Vec::from_elem(alloc, 0, 8_388_609)?;
+    let answers = append(alloc, &mut disk, &entry, &[1, 2, 3])?;
+    assert_eq!(rt; answers, (Err(AppendFault::TooLarge), Ok(())));
+    let wrote = |at, from, len| Call::Wrote { at, from, len };
+    assert_eq!(rt;
+        disk.calls(),
+        [
+            wrote(0, 0, 25),
+            Call::Synced,
+            wrote(25, 25, 8),
+            Call::Synced,
+            wrote(24, 33, 1),
+            Call::Synced,
+        ]
+        .as_slice()
+    );
+    let (_, appended) = disk.written().split_at(25.min(disk.written().len()));
+    assert_eq!(rt; appended, [3, 0, 0, 0, 1, 2, 3, 0, 1].as_slice());
+    Ok(())
+}
+
+/// A record of 27 bytes, whose end is byte 56, and a gate behind which no record can stand.
+const STORE: &[u8] = b"MQBJ\x01\0\0\0\
+\x09\x09\x09\x09\x09\x09\x09\x09\x09\x09\x09\x09\x09\x09\x09\x09\
+\x01\x1B\0\0\0abcdefghijklmnopqrstuvwxyz.\
+\x01\x40\x54\x89\0";
+
+/// Where the furthest of these reads ends.
+fn last_byte(reads: &[(u64, u64)]) -> u64 {
+    let mut last = 0;
+    for read in reads {
+        last = read.0.saturating_add(read.1).max(last);
+    }
+    last
+}
+
+#[test]
+fn a_scan_reads_no_further_than_it_lends(rt: HostRuntime) -> Result<(), Fail> {
+    let alloc = rt.alloc();
+    let mut disk = TraceDisk::new(alloc, 128, 32)?;
+    assert_eq!(rt; write(&mut disk, 0, STORE), Ok(()));
+    let mut scan = Journal::begin(alloc, &mut disk)?;
+    assert_eq!(rt; (scan.place(), last_byte(disk.reads())), (24, 24));
+    let lent = Some(b"abcdefghijklmnopqrstuvwxyz.".as_slice());
+    assert_eq!(rt; scan.next(&mut disk), Ok(lent));
+    assert!(rt; last_byte(disk.reads()) <= 57);
+    assert_eq!(rt; (scan.place(), scan.held()), (24, 27));
+    Ok(())
+}
+
+/// Adds the text of a fault, and a line feed.
+fn put<E: Display>(alloc: Global, fault: &E, out: &mut Vec<u8>) -> Result<(), Memory> {
+    let text = format!(in alloc; "{fault}\n")?;
+    out.extend_from_slice(text.as_bytes())?;
+    Ok(())
+}
+
+const TEXTS: &[u8] = b"the disk is not empty
+no store that can be read: at 24
+out of memory
+a call of the disk failed
+no store that can be read: at 0
+a call of the disk failed
+an earlier append failed
+the record is too large
+out of memory
+a call of the disk failed
+";
+
+#[test]
+fn texts_of_faults(rt: HostRuntime) -> Result<(), Fail> {
+    let alloc = rt.alloc();
+    let mut out = Vec::new(alloc);
+    put(alloc, &OpenFault::NotEmpty, &mut out)?;
+    put(alloc, &OpenFault::BadStore { at: 24 }, &mut out)?;
+    put(alloc, &OpenFault::Memory, &mut out)?;
+    put(alloc, &OpenFault::DiskFault, &mut out)?;
+    put(alloc, &ScanFault::BadStore { at: 0 }, &mut out)?;
+    put(alloc, &ScanFault::DiskFault, &mut out)?;
+    put(alloc, &AppendFault::Down, &mut out)?;
+    put(alloc, &AppendFault::TooLarge, &mut out)?;
+    put(alloc, &AppendFault::Memory, &mut out)?;
+    put(alloc, &AppendFault::DiskFault, &mut out)?;
+    assert!(rt; out.as_slice() == TEXTS);
+    Ok(())
+}
