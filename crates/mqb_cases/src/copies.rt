@@ -1,10 +1,6 @@
 use crate::samples::{ALPHA, REPLIES, SAMPLE, SEQUENCE, message};
-use mqb_base::{
-    Bytes, Host, Identity, Line, Message, MessageId, Name, Place, QueueName, QueuePlan, Stream,
-    Units,
-};
-use mqb_orders::{InKey, InRow, Kept, OutKey};
-use std::alloc::Global;
+use mqb_base::{Guid, Name, Place, QueuePlan, Stream};
+use mqb_orders::{InKey, InRow, Kept, OutKey, same_stream};
 use std::hash::{FoldHasher, Hash, Hasher};
 use std::test::Fail;
 
@@ -12,42 +8,6 @@ use std::test::Fail;
 fn is_copied<T: Clone + PartialEq + Drop>(value: T) -> Result<bool, Fail> {
     let copy = value.clone()?;
     Ok(copy == value)
-}
-
-fn name(alloc: Global) -> Result<Name, Fail> {
-    Ok(Name::new(alloc, b"orders")?)
-}
-
-fn direct(host: Name, queue: Name) -> QueueName {
-    QueueName::Direct {
-        host: Host::Os(host),
-        queue,
-        journal: false,
-    }
-}
-
-#[test]
-fn values_of_any_length(rt: HostRuntime) -> Result<(), Fail> {
-    assert!(rt; is_copied(Bytes::from_slice(rt.alloc(), b"one")?)?);
-    assert!(rt; is_copied(Units::from_slice(rt.alloc(), &[0x6F, 0x6E])?)?);
-    assert!(rt; is_copied(name(rt.alloc())?)?);
-    assert!(rt; is_copied(Host::Os(name(rt.alloc())?))?);
-    Ok(())
-}
-
-#[test]
-fn names_of_queues(rt: HostRuntime) -> Result<(), Fail> {
-    let host = name(rt.alloc())?;
-    assert!(rt; is_copied(direct(host, name(rt.alloc())?))?);
-    Ok(())
-}
-
-fn identity(host: Name) -> Identity {
-    Identity {
-        host,
-        guid: ALPHA,
-        address: [10, 0, 0, 1],
-    }
 }
 
 fn plan(name: Name) -> QueuePlan {
@@ -59,27 +19,6 @@ fn plan(name: Name) -> QueuePlan {
         journal: true,
     }
 }
-
-#[test]
-fn managers_and_queues(rt: HostRuntime) -> Result<(), Fail> {
-    assert!(rt; is_copied(identity(name(rt.alloc())?))?);
-    assert!(rt; is_copied(plan(name(rt.alloc())?))?);
-    assert!(rt; is_copied(Place::JournalOf(name(rt.alloc())?))?);
-    Ok(())
-}
-
-const STREAM: Stream = Stream {
-    source: ALPHA,
-    destination: REPLIES,
-    sequence: SEQUENCE,
-};
-
-const TOOK: Line = Line::Took {
-    id: MessageId {
-        qm: ALPHA,
-        number: 7,
-    },
-};
 
 const ROW: InRow = InRow {
     source: ALPHA,
@@ -104,27 +43,30 @@ fn hash_of<T: Hash>(value: &T) -> u64 {
     hasher.finish()
 }
 
-fn is_hashed_alike(key: &OutKey) -> Result<bool, Fail> {
-    let copy = key.clone()?;
-    Ok(hash_of(key) == hash_of(&copy))
-}
-
 #[test]
-fn streams_and_rows(rt: HostRuntime) -> Result<(), Fail> {
-    assert!(rt; is_copied(STREAM)? && is_copied(TOOK)?);
-    assert!(rt; is_copied(ROW)?);
-    assert!(rt; is_copied(INCOMING)? && is_copied(OUTGOING)?);
-    assert!(rt; is_hashed_alike(&OUTGOING)?);
+fn copies_that_no_program_makes(rt: HostRuntime) -> Result<(), Fail> {
+    let alloc = rt.alloc();
+    assert!(rt; is_copied(plan(Name::new(alloc, b"orders")?))?);
+    assert!(rt; is_copied(Place::JournalOf(Name::new(alloc, b"orders")?))?);
+    assert!(rt; is_copied(ROW)? && is_copied(INCOMING)? && is_copied(OUTGOING)?);
+    let message = message(alloc, &SAMPLE)?;
+    assert!(rt; is_copied(Kept { number: 7, message })?);
+    assert!(rt; hash_of(&OUTGOING) == hash_of(&OUTGOING.clone()?));
     Ok(())
 }
 
-fn kept(message: Message) -> Kept {
-    Kept { number: 7, message }
-}
+const STREAM: Stream = Stream {
+    source: ALPHA,
+    destination: REPLIES,
+    sequence: SEQUENCE,
+};
+
+const OTHER: Stream = Stream {
+    source: Guid([2; 16]),
+    ..STREAM
+};
 
 #[test]
-fn messages(rt: HostRuntime) -> Result<(), Fail> {
-    assert!(rt; is_copied(message(rt.alloc(), &SAMPLE)?)?);
-    assert!(rt; is_copied(kept(message(rt.alloc(), &SAMPLE)?))?);
-    Ok(())
+fn streams_are_compared_whole(rt: HostRuntime) {
+    assert!(rt; same_stream(&STREAM, &STREAM) && !same_stream(&STREAM, &OTHER));
 }

@@ -1,13 +1,10 @@
-//! Tests alone: the rules by which messages are queued, kept, sent and told of, as tables. Each call of them that takes memory is called here with
-//! ample memory, and each generic call at a concrete type.
+//! Tests alone: lists with room, and what is put into lists of messages and taken out of them by calls that no program makes.
 #![tactic(auto)]
 
 #[cfg(test)]
 mod copies;
 #[cfg(test)]
-mod notices;
-#[cfg(test)]
-mod orders;
+mod lists_with_room;
 #[cfg(test)]
 mod plain;
 #[cfg(test)]

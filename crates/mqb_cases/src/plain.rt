@@ -24,14 +24,12 @@ fn head(user: u16, recoverable: u16) -> SessionHead
 }
 
 fn sample(alloc: Global, delivery: Delivery, number: u32) -> Result<Message, Memory> {
-    message(
-        alloc,
-        &Sample {
-            number,
-            delivery,
-            ..SAMPLE
-        },
-    )
+    let sample = Sample {
+        number,
+        delivery,
+        ..SAMPLE
+    };
+    message(alloc, &sample)
 }
 
 fn push_recoverable(plain: &mut PlainOut, message: Message) -> Result<(), Memory>
@@ -97,20 +95,6 @@ fn take_express(plain: &mut PlainOut) -> u32 {
 }
 
 #[test]
-fn a_recoverable_message_is_taken_out(rt: HostRuntime) -> Result<(), Fail> {
-    let mut plain = one_recoverable(rt.alloc())?;
-    assert!(rt; take_recoverable(&mut plain) == 1 && plain.is_empty());
-    Ok(())
-}
-
-#[test]
-fn an_express_message_is_taken_out(rt: HostRuntime) -> Result<(), Fail> {
-    let mut plain = one_express(rt.alloc())?;
-    assert!(rt; take_express(&mut plain) == 0x8000_0000 && plain.is_empty());
-    Ok(())
-}
-
-#[test]
 fn a_recoverable_message_is_released_when_it_is_stored(rt: HostRuntime) -> Result<(), Fail> {
     let mut plain = one_recoverable(rt.alloc())?;
     assert_eq!(rt; number_of(plain.unsent()), 1);
@@ -120,6 +104,7 @@ fn a_recoverable_message_is_released_when_it_is_stored(rt: HostRuntime) -> Resul
     plain.restart_marks();
     assert_eq!(rt; plain.released_by(9), 0);
     assert_eq!(rt; number_of(plain.unsent()), 1);
+    assert!(rt; take_recoverable(&mut plain) == 1 && plain.is_empty());
     Ok(())
 }
 
@@ -132,5 +117,12 @@ fn an_express_message_is_dropped_when_it_is_got(rt: HostRuntime) -> Result<(), F
     assert_eq!(rt; plain.len(), 1);
     plain.drop_express(2);
     assert_eq!(rt; plain.len(), 0);
+    Ok(())
+}
+
+#[test]
+fn an_express_message_is_taken_out(rt: HostRuntime) -> Result<(), Fail> {
+    let mut plain = one_express(rt.alloc())?;
+    assert!(rt; take_express(&mut plain) == 0x8000_0000 && plain.is_empty());
     Ok(())
 }

@@ -73,22 +73,14 @@ fn keep_2_before_9(list: &mut KeptList, alloc: Global) -> Result<(), Memory>
     Ok(())
 }
 
-#[test]
-fn a_kept_message_is_put_before_another(rt: HostRuntime) -> Result<(), Fail> {
-    let mut list = KeptList::new(rt.alloc());
-    keep_2_before_9(&mut list, rt.alloc())?;
-    assert_eq!(rt; numbers_of(&list), [2, 9]);
-    Ok(())
-}
-
-fn removed(list: &mut KeptList) -> u32 {
+fn remove_first(list: &mut KeptList) -> u32 {
     if list.is_empty() {
         return 0;
     }
     list.remove(0).number
 }
 
-fn popped(list: &mut KeptList) -> u32 {
+fn pop(list: &mut KeptList) -> u32 {
     if list.is_empty() {
         return 0;
     }
@@ -96,18 +88,15 @@ fn popped(list: &mut KeptList) -> u32 {
 }
 
 #[test]
-fn kept_messages_are_taken_out(rt: HostRuntime) -> Result<(), Fail> {
-    let mut list = kept_2_and_9(rt.alloc(), 0)?;
-    assert_eq!(rt; removed(&mut list), 2);
+fn kept_messages_come_and_leave(rt: HostRuntime) -> Result<(), Fail> {
+    let mut list = KeptList::new(rt.alloc());
+    keep_2_before_9(&mut list, rt.alloc())?;
+    assert_eq!(rt; numbers_of(&list), [2, 9]);
+    assert_eq!(rt; remove_first(&mut list), 2);
     assert_eq!(rt; numbers_of(&list), [9, 0]);
-    Ok(())
-}
-
-#[test]
-fn kept_messages_are_released(rt: HostRuntime) -> Result<(), Fail> {
     let mut list = kept_2_and_9(rt.alloc(), 0)?;
     list.release(2);
-    assert_eq!(rt; popped(&mut list), 9);
+    assert_eq!(rt; pop(&mut list), 9);
     assert!(rt; list.is_empty());
     Ok(())
 }

@@ -7,8 +7,6 @@ use std::alloc::Global;
 
 pub(crate) const ALPHA: Guid = Guid([1; 16]);
 
-pub(crate) const BETA: Guid = Guid([2; 16]);
-
 /// A queue of alpha.
 pub(crate) const REPLIES: QueueName = QueueName::Public {
     guid: ALPHA,
@@ -24,54 +22,47 @@ pub(crate) const SEQUENCE: SequenceId = SequenceId {
 #[derive(Clone, Copy, Debug)]
 pub(crate) struct Sample {
     pub(crate) number: u32,
-    pub(crate) class: Class,
     pub(crate) delivery: Delivery,
     pub(crate) priority: u8,
     pub(crate) life: u32,
-    pub(crate) ack: u8,
     pub(crate) journal: u8,
 }
 
 /// A recoverable message that asks for nothing.
 pub(crate) const SAMPLE: Sample = Sample {
     number: 7,
-    class: Class::NORMAL,
     delivery: Delivery::Recoverable,
     priority: 3,
     life: UNLIMITED,
-    ack: 0,
     journal: 0,
 };
 
-/// A message of alpha, sent at 1000, whose body is `one`.
+/// A message of alpha, sent at 1000.
 pub(crate) fn message(alloc: Global, sample: &Sample) -> Result<Message, Memory> {
-    let label = Units::from_slice(alloc, &[0x6F])?;
-    let extension = Bytes::from_slice(alloc, b"")?;
-    let body = Bytes::from_slice(alloc, b"one")?;
     Ok(Message {
         id: MessageId {
             qm: ALPHA,
             number: sample.number,
         },
-        class: sample.class,
+        class: Class::NORMAL,
         delivery: sample.delivery,
         priority: sample.priority,
         sent: 1000,
         reach: 10,
         life: sample.life,
         destination: REPLIES,
-        admin: Some(REPLIES),
-        response: Some(REPLIES),
-        ack: sample.ack,
+        admin: None,
+        response: None,
+        ack: 0,
         journal: sample.journal,
         correlation: MessageId {
-            qm: BETA,
+            qm: ALPHA,
             number: 0,
         },
         body_type: 1,
         tag: 1,
-        label,
-        extension,
-        body,
+        label: Units::from_slice(alloc, &[])?,
+        extension: Bytes::from_slice(alloc, b"")?,
+        body: Bytes::from_slice(alloc, b"one")?,
     })
 }

@@ -1,97 +1,134 @@
-use crate::samples::{ALPHA, BETA, STORED};
-use mqb_fields::Cursor;
-use mqb_setup::{
-    Establish, HeadFault, HeadKind, Internal, Parameters, put_internal, put_session, read_internal,
-    read_session,
-};
+//! One end of a session that takes the steps of a line.
 
-/// Both GUIDs as they stand in packets.
-const ALPHA_AND_BETA: &[u8] = b"\x0D\x0C\x0B\x0A\x12\x11\x14\x13\x15\x16\x17\x18\x19\x1A\x1B\x1C\
-    \x2D\x2C\x2B\x2A\x32\x31\x34\x33\x35\x36\x37\x38\x39\x3A\x3B\x3C";
+use crate::bytes::{put, put_value};
+use mqb_base::{Cause, Guid, Memory, SessionHead};
+use mqb_session::{HeadHeard, Kind, Session};
+use mqb_setup::{Establish, Parameters};
+use std::alloc::Global;
 
-/// An internal header and its part, and its bytes.
-const PARTS: [(Internal, &[u8]); 2] = [
-    (
-        Internal::Parameters(Parameters {
-            storage_time: 10_000,
-            ack_time: 20_000,
-            window: 64,
-        }),
-        b"\x03\0\0\0\x10\x27\0\0\x20\x4E\0\0\0\0\x40\0",
-    ),
-    (
-        Internal::Ack(STORED),
-        b"\x01\0\0\0\x01\0\x01\0\0\0\0\0\0\0\0\0\x40\0\0\0",
-    ),
-];
+pub(crate) const ALPHA: Guid = Guid([0xA; 16]);
 
-#[test]
-fn parts_are_put_and_read(rt: HostRuntime) {
-    for (part, bytes) in PARTS.iter() {
-        let mut room = [0xFF; 20];
-        let count = put_internal(part, &mut room);
-        assert_eq!(rt; &room[..count], *bytes);
-        let mut cursor = Cursor::new(&room);
-        assert_eq!(rt; read_internal(&mut cursor), Ok(*part));
-        assert_eq!(rt; cursor.at(), bytes.len());
+pub(crate) const BETA: Guid = Guid([0xB; 16]);
+
+/// The number that a text spells, or 0.
+fn number(text: Option<&str>) -> u16 {
+    text.unwrap_or_default().parse::<u16>().unwrap_or(0)
+}
+
+/// The session header of the numbers `ACK,STORED,USER,RECOVERABLE`.
+fn session_head(text: &str) -> SessionHead {
+    let mut numbers = text.split(',');
+    SessionHead {
+        ack: number(numbers.next()),
+        stored: number(numbers.next()),
+        stored_flags: 0,
+        user: number(numbers.next()),
+        recoverable: number(numbers.next()),
+        window: 64,
     }
 }
 
-#[test]
-fn a_session_header_is_put_and_read(rt: HostRuntime) {
-    let mut room = [0xFF; 18];
-    assert_eq!(rt; put_session(&STORED, &mut room), 16);
-    assert_eq!(rt; &room, b"\x01\0\x01\0\0\0\0\0\0\0\0\0\x40\0\0\0\xFF\xFF");
-    assert_eq!(rt; read_session(&mut Cursor::new(&room)), Ok(STORED));
+/// Hears the Establish with which alpha asks beta, or one that differs in what the word says.
+fn hear_establish(session: &mut Session, word: &str) {
+    let establish = Establish {
+        client: ALPHA,
+        server: if word == "elsewhere" { ALPHA } else { BETA },
+        stamp: 1000,
+        refused: word == "refused",
+    };
+    session.hear_establish(&establish, word != "unknown");
 }
 
-#[test]
-#[tactic(auto, using(mqb_setup::specs::lemmas::Parts::length_filler))]
-fn an_establish_has_a_filler(rt: HostRuntime) {
-    for (refused, flags) in [(false, 2), (true, 18)] {
-        let part = Internal::Establish(Establish {
-            client: ALPHA,
-            server: BETA,
-            stamp: 1000,
-            refused,
+/// Hears the Parameters of a window.
+fn hear_parameters(session: &mut Session, window: &str) {
+    session.hear_parameters(&Parameters {
+        storage_time: 10_000,
+        ack_time: 20_000,
+        window: number(Some(window)),
+    });
+}
+
+/// Hears a header, and notes that its packet is stored where it is the next one.
+fn hear_and_store(session: &mut Session, head: &SessionHead) -> HeadHeard {
+    let heard = session.hear_head(head);
+    if heard == HeadHeard::InOrder {
+        session.note_stored();
+    }
+    heard
+}
+
+/// Sends a packet of a kind, where one may go, and adds its header.
+fn send(alloc: Global, session: &mut Session, kind: Kind, out: &mut Vec<u8>) -> Result<(), Memory> {
+    if kind != Kind::Ack && !session.may_send() {
+        return put(b"waits ", out);
+    }
+    put_value(alloc, &session.stamp(kind), out)
+}
+
+/// Sends the next packet, where one may go, and hears that it came.
+fn exchange(session: &mut Session) {
+    if session.may_send() {
+        let head = session.stamp(Kind::Plain);
+        let _ = session.hear_head(&SessionHead {
+            ack: head.user,
+            user: 0,
+            ..head
         });
-        let mut room = [0xFF; 560];
-        assert_eq!(rt; put_internal(&part, &mut room), 556);
-        assert_eq!(rt; &room[..4], [flags, 0, 0, 0].as_slice());
-        assert_eq!(rt; &room[4..36], ALPHA_AND_BETA);
-        assert_eq!(rt; &room[36..44], [0xE8, 3, 0, 0, 0, 0, 0, 0].as_slice());
-        assert_eq!(rt; &room[44..556], [0x5A; 512].as_slice());
-        assert_eq!(rt; &room[556..], [0xFF; 4].as_slice());
-        room[100] = 0;
-        assert_eq!(rt; read_internal(&mut Cursor::new(&room)), Ok(part));
     }
 }
 
-/// Flags, and how many bytes an internal header with these flags has with its part.
-const LENGTHS: [(u8, usize); 4] = [(1, 20), (2, 556), (3, 16), (19, 16)];
+/// Exchanges as many packets as a text says.
+fn exchange_all(session: &mut Session, count: &str) {
+    for _ in 0..count.parse::<u32>().unwrap_or(0) {
+        exchange(session);
+    }
+}
 
-#[test]
-fn a_field_past_the_end_is_a_fault_of_the_size(rt: HostRuntime) {
-    for (flags, len) in LENGTHS.iter() {
-        let mut bytes = [0; 556];
-        bytes[0] = *flags;
-        assert!(rt; read_internal(&mut Cursor::new(&bytes[..*len])).is_ok());
-        for cut in 0..*len {
-            let mut cursor = Cursor::new(&bytes[..cut]);
-            assert_eq!(rt; read_internal(&mut cursor), Err(HeadFault::PAST_END));
-            assert_eq!(rt; cursor.at(), 0);
+/// Takes a step, and adds what the session answers.
+fn take_step(
+    alloc: Global,
+    session: &mut Session,
+    step: &str,
+    out: &mut Vec<u8>,
+) -> Result<(), Memory> {
+    let (kind, rest) = step.split_once('=').unwrap_or((step, ""));
+    match kind {
+        "owed" => {
+            let _ = session.owed(1000);
         }
+        "establish" => hear_establish(session, rest),
+        "parameters" => hear_parameters(session, rest),
+        "head" => put_value(alloc, &session.hear_head(&session_head(rest)), out)?,
+        "store" => put_value(alloc, &hear_and_store(session, &session_head(rest)), out)?,
+        "plain" => send(alloc, session, Kind::Plain, out)?,
+        "recoverable" => send(alloc, session, Kind::Recoverable, out)?,
+        "ack" => send(alloc, session, Kind::Ack, out)?,
+        "exchange" => exchange_all(session, rest),
+        "close" => session.close(Cause::Foreign),
+        _ => put(b"no such step ", out)?,
     }
+    Ok(())
 }
 
-#[test]
-fn no_such_type_is_a_fault_of_the_flags(rt: HostRuntime) {
-    let kind = HeadFault::new(3, HeadKind::Kind);
-    for flags in [0, 4, 15, 16] {
-        let bytes = [9, 9, 9, flags, 0];
-        let mut cursor = Cursor::new(&bytes);
-        assert_eq!(rt; cursor.skip(3), Ok(()));
-        assert_eq!(rt; read_internal(&mut cursor), Err(kind));
-        assert_eq!(rt; cursor.at(), 3);
+/// Adds what an end tells of itself.
+fn put_end(alloc: Global, end: &Session, out: &mut Vec<u8>) -> Result<(), Memory> {
+    put_value(alloc, &end.phase(), out)?;
+    put_value(alloc, &end.peer(), out)?;
+    put_value(alloc, &[end.acked(), end.recoverable_acked()], out)?;
+    let flags = [end.may_send(), end.is_spent(), end.owes_ack()];
+    put_value(alloc, &flags, out)
+}
+
+/// `initiator STEP ..`, `acceptor STEP ..`: what this end answers at each step, then its phase, whether it knows its peer, how many packets and
+/// recoverable ones are acknowledged, and whether it may send, is spent, and owes an acknowledgement.
+pub(crate) fn show_session(
+    alloc: Global,
+    end: &mut Session,
+    steps: &str,
+    out: &mut Vec<u8>,
+) -> Result<(), Memory> {
+    for step in steps.split_whitespace() {
+        take_step(alloc, end, step, out)?;
     }
+    put_end(alloc, end, out)
 }
