@@ -11,11 +11,10 @@ trap 'rm -rf "$work"' EXIT
 git -C "$top" archive HEAD crates crates.txt HANDLES | tar -x -C "$work"
 crate=$work/crates/mqb_drawn
 mkdir -p "$crate/src"
-for name in main hexes showing twins; do
+for name in main hexes pictures showing twins; do
   cp "$top/bench/drawn/$name.txt" "$crate/src/$name.rt"
 done
-cp "$top/crates/mqb_state_cases/src/pictures.rt" "$crate/src/" # how the tests of the state print it
-sed -n 's/^mqb_state_cases: \(.*\)/mqb_drawn: \1/p' "$top/crates.txt" >> "$work/crates.txt"
+echo 'mqb_drawn: core indexmap mqb_base mqb_orders mqb_queue mqb_plain mqb_entries mqb_transcript mqb_state thiserror uuid' >> "$work/crates.txt"
 for run in ${*:-0 1 2 3 4 5 6 7 8 9 10 11}; do
   cat "$top/bench/drawn/run$run.txt"
 done > "$work/told.txt"

@@ -27,10 +27,9 @@ done
 crate=$work/crates/mqb_depths
 mkdir -p "$crate/src"
 sed "s/^const MESSAGES: u32 = .*/const MESSAGES: u32 = ${MESSAGES:-100_000};/" "$top/bench/state/main.txt" > "$crate/src/main.rt"
-cp "$top/bench/state/calls.txt" "$crate/src/calls.rt"
-for name in records samples spelling; do # how the tests of the state spell their records
-  cp "$top/crates/mqb_state_cases/src/$name.rt" "$crate/src/"
+for name in calls records samples spelling; do
+  cp "$top/bench/state/$name.txt" "$crate/src/$name.rt"
 done
-sed -n 's/^mqb_state_cases: \(.*\)/mqb_depths: \1/p' "$top/crates.txt" >> "$work/crates.txt"
+echo 'mqb_depths: core indexmap mqb_base mqb_orders mqb_queue mqb_plain mqb_entries mqb_transcript mqb_state thiserror uuid' >> "$work/crates.txt"
 cd "$crate"
 rt ${HOW:-run}

@@ -1,135 +1,35 @@
-//! Disks that are no store of a manager.
-ghost use Rattle.std.specs.Prelude.{◌≤◌};
-
-use crate::worlds::hosts;
-use mqb_base::{Failed, Identity};
+//! A manager on a disk: what it reads of a bad store, and what is in doubt where its disk stops.
+use mqb_base::{Guid, Identity, Name, NameError};
 use mqb_disk::{MemoryDisk, TraceDisk};
 use mqb_journal::OpenFault;
 use mqb_manager::Manager;
-use mqb_outside::Disk;
+use mqb_outside::{Disk, Mode, Pick, Power};
 use std::alloc::Global;
 use std::test::Fail;
 
-/// Alpha's store, which knows beta: behind the magic, the version and alpha's GUID stand the gate at 24 and the identity, and the gate at 56 and the peer.
-const STORE: [u8; 88] = *b"MQBJ\x01\0\0\0\
-\x0D\x0C\x0B\x0A\x12\x11\x14\x13\x15\x16\x17\x18\x19\x1A\x1B\x1C\
-\x01\x1B\0\0\0\x01\x05alpha\x0D\x0C\x0B\x0A\x12\x11\x14\x13\x15\x16\x17\x18\x19\x1A\x1B\x1C\x0A\0\0\x01\
-\x01\x1A\0\0\0\x02\x04beta\x2D\x2C\x2B\x2A\x32\x31\x34\x33\x35\x36\x37\x38\x39\x3A\x3B\x3C\x0A\0\0\x02\0";
-
-/// Makes an empty disk the store of a manager that knows another one. Answers why it can not be.
-fn make<D: Disk>(
-    alloc: Global,
-    disk: &mut D,
-    own: &Identity,
-    peer: &Identity,
-) -> Option<OpenFault> {
-    let mut manager = match Manager::format(alloc, disk, own) {
-        Ok(manager) => manager,
-        Err(fault) => return Some(fault),
-    };
-    let _index = manager.add_peer(disk, peer);
-    drop(manager);
-    None
+/// A manager whose GUID is sixteen equal bytes.
+pub(crate) fn identity(alloc: Global, host: &[u8], byte: u8) -> Result<Identity, NameError> {
+    Ok(Identity {
+        host: Name::new(alloc, host)?,
+        guid: Guid([byte; 16]),
+        address: [10, 0, 0, byte],
+    })
 }
 
-/// The first bytes of a disk, at most a hundred.
-fn read(alloc: Global, disk: &mut MemoryDisk) -> Result<Vec<u8>, Fail> {
-    let size = disk.len()?.min(100) as usize;
-    let mut bytes = Vec::from_elem(alloc, 0, size)?;
-    disk.read_at(0, &mut bytes)?;
-    Ok(bytes)
-}
-
-/// Writes at most a hundred bytes from the front on.
-fn write<D: Disk>(disk: &mut D, bytes: &[u8]) -> Result<(), Failed> {
-    if bytes.len() > 100 {
-        return Err(Failed);
-    }
-    disk.write_at(0, bytes)?;
-    disk.sync()
-}
+/// A store whose first record is of no kind. The length of the second one is 9,000,000.
+const BAD: [u8; 88] =
+    *b"MQBJ\x01\0\0\0AAAAAAAAAAAAAAAA\x01\x1B\0\0\0\xC8\x05alphaAAAAAAAAAAAAAAAA\x0A\0\0\x01\x01@T\
+\x89\0\x02\x04betaBBBBBBBBBBBBBBBB\x0A\0\0\x02\0";
 
 /// Why no manager starts on a disk.
-fn fault_of<D: Disk>(alloc: Global, disk: &mut D) -> Option<OpenFault> {
+fn fault_on(alloc: Global, disk: &mut TraceDisk) -> Option<OpenFault> {
     match Manager::start(alloc, disk) {
         Ok(manager) => {
-            drop(manager);
+            manager.close();
             None
         }
         Err(fault) => Some(fault),
     }
-}
-
-/// Why no manager starts on a disk that has these bytes.
-fn fault_in(alloc: Global, bytes: &[u8]) -> Result<Option<OpenFault>, Fail> {
-    let mut disk = MemoryDisk::new(alloc, 128)?;
-    write(&mut disk, bytes)?;
-    Ok(fault_of(alloc, &mut disk))
-}
-
-/// Puts these in place of the bytes from a place on.
-fn put(bytes: &mut [u8], at: usize, part: &[u8]) {
-    for (byte, new) in bytes.iter_mut().skip(at).zip(part) {
-        *byte = *new;
-    }
-}
-
-#[test]
-fn a_store_is_made_once(rt: HostRuntime) -> Result<(), Fail> {
-    let alloc = rt.alloc();
-    let hosts = hosts(alloc)?;
-    let mut disk = MemoryDisk::new(alloc, 128)?;
-    for fault in [None, Some(OpenFault::NotEmpty)] {
-        assert_eq!(rt; make(alloc, &mut disk, &hosts[0], &hosts[1]), fault);
-        assert!(rt; read(alloc, &mut disk)?.as_slice() == STORE.as_slice());
-        assert_eq!(rt; fault_of(alloc, &mut disk), None);
-    }
-    Ok(())
-}
-
-/// A length of 9,000,000.
-const TOO_LONG: [u8; 4] = [0x40, 0x54, 0x89, 0];
-
-/// Bytes of alpha's store that are changed, and the place where it is bad then.
-static CHANGES: [(usize, &[u8], u64); 10] = [
-    // the GUID is not the identity's
-    (8, &[9], 0),
-    (24, &[0], 24),
-    // no such kind
-    (29, &[200], 24),
-    // no such length
-    (59, &[200], 56),
-    (57, &TOO_LONG, 56),
-    // a second identity
-    (61, &[1], 56),
-    // no magic, and another version
-    (0, &[0], 0),
-    (4, &[2], 0),
-    // the first record is a peer
-    (29, &[2], 24),
-    // the last gate is open, and nothing stands behind it
-    (87, &[1], 87),
-];
-
-#[test]
-fn stores_that_are_changed(rt: HostRuntime) -> Result<(), Fail> {
-    for (place, part, at) in &CHANGES {
-        let mut store = STORE;
-        put(&mut store, *place, part);
-        let found = fault_in(rt.alloc(), &store)?;
-        assert_eq!(rt; found, Some(OpenFault::BadStore { at: *at }), "{place}");
-    }
-    Ok(())
-}
-
-#[test]
-fn stores_that_are_cut_short(rt: HostRuntime) -> Result<(), Fail> {
-    for (size, at) in [(0, 0), (24, 0), (56, 24), (60, 56)] {
-        let front = STORE.get(..size).unwrap_or_default();
-        let found = fault_in(rt.alloc(), front)?;
-        assert_eq!(rt; found, Some(OpenFault::BadStore { at }), "{size}");
-    }
-    Ok(())
 }
 
 /// Where the furthest of these reads ends.
@@ -141,16 +41,61 @@ fn last_byte(reads: &[(u64, u64)]) -> u64 {
     last
 }
 
-/// Each record is applied before the next is read: the first is of no kind, and of the second the gate alone is read.
+/// Each record is applied before the next one is read: of the second one the gate alone is.
 #[test]
 fn records_are_read_one_at_a_time(rt: HostRuntime) -> Result<(), Fail> {
     let mut disk = TraceDisk::new(rt.alloc(), 128, 32)?;
-    let mut store = STORE;
-    put(&mut store, 29, &[200]);
-    put(&mut store, 57, &TOO_LONG);
-    write(&mut disk, &store)?;
-    let found = fault_of(rt.alloc(), &mut disk);
+    disk.write_at(0, &BAD)?;
+    disk.sync()?;
+    let found = fault_on(rt.alloc(), &mut disk);
     assert_eq!(rt; found, Some(OpenFault::BadStore { at: 24 }));
     assert!(rt; last_byte(disk.reads()) <= 57);
+    Ok(())
+}
+
+/// The entry by which a manager knows beta.
+const PEER: &[u8] = b"\x02\x04betaBBBBBBBBBBBBBBBB\x0A\0\0B";
+
+/// How many calls the disk has where a store is formatted.
+const FORMATTED: u32 = 7;
+
+/// Whether the entry of a peer is in doubt where the disk stops or fails in that call of its record, and how many records a restart leaves.
+fn left(alloc: Global, mode: Mode, call: u32, pick: Pick) -> Result<(bool, u64), Fail> {
+    let own = identity(alloc, b"alpha", b'A')?;
+    let peer = identity(alloc, b"beta", b'B')?;
+    let mut disk = MemoryDisk::new(alloc, 256)?;
+    disk.arm(call.saturating_add(FORMATTED).max(1), mode);
+    let mut manager = Manager::format(alloc, &mut disk, &own)?;
+    let _index = manager.add_peer(&mut disk, &peer);
+    let is_doubted = manager.doubt() == Some(PEER);
+    manager.close();
+    disk.restart(pick);
+    let manager = Manager::start(alloc, &mut disk)?;
+    let count = manager.lsn();
+    let is_settled = manager.doubt().is_none();
+    manager.close();
+    Ok((is_doubted && is_settled, count))
+}
+
+/// A call of a record of which the disk stops or fails, and how many records are left by each pick.
+static STOPS: [(Mode, u32, [u64; 4]); 5] = [
+    (Mode::Stop, 1, [1, 1, 1, 1]),
+    (Mode::Stop, 2, [1, 1, 1, 1]),
+    (Mode::Stop, 3, [1, 2, 1, 2]),
+    (Mode::Stop, 4, [1, 2, 1, 2]),
+    (Mode::Fail, 1, [1, 1, 1, 1]),
+];
+
+#[test]
+fn what_a_stopped_call_leaves(rt: HostRuntime) -> Result<(), Fail> {
+    for (mode, call, counts) in &STOPS {
+        for (pick, count) in [Pick::Old, Pick::New, Pick::Half, Pick::Ones]
+            .iter()
+            .zip(counts)
+        {
+            let found = left(rt.alloc(), *mode, *call, *pick)?;
+            assert_eq!(rt; found, (true, *count), "{mode:?} {call} {pick:?}");
+        }
+    }
     Ok(())
 }
