@@ -17,7 +17,8 @@ for_none count ended asked = record { served = 0; most = omega arith; counted = 
 
 pub asks_none : (words : Option Command) (ended : Option (List Ended)) (asked : ℕ) → Asks words ended ended asked asked
 asks_none (Some (command.Serve count)) ended asked = for_none count ended asked
-asks_none (Some (command.Push host)) ended asked = for_none 1 ended asked
+asks_none (Some (command.Push host address)) ended asked = for_none 1 ended asked
+asks_none (Some (command.Fetch host address seconds)) ended asked = for_none 1 ended asked
 asks_none (Some command.Probe) ended asked = inl refl
 asks_none (Some (command.Call call)) ended asked = inl refl
 asks_none _ ended asked = refl

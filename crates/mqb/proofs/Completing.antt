@@ -7,7 +7,7 @@ use Rattle.mqb_commands.specs.Called.{Calls, CallsAt, status_of}
 use Rattle.mqb_commands.specs.Opened.{IsNotOpened}
 use Rattle.mqb_commands.specs.Said.{Inits, Lists, Makes}
 use Rattle.mqb_connections.specs.Probed.{CompletesProbe, ProbesStore}
-use Rattle.mqb_connections.specs.Pushed.{CompletesPush}
+use Rattle.mqb_connections.specs.Reached.{CompletesReach}
 use Rattle.mqb_connections.specs.Served as served
 use Rattle.mqb_connections.specs.Statuses.{IsFaultless, probe_status}
 use Rattle.mqb_outside.specs.Disk.{View}
@@ -96,15 +96,15 @@ serve_ends sound _ ends = inl (λ is. elim (ends is) [
   | inr none ↦ absurd (let never : ⊥ = cc in never)
 ])
 
-abbrev IsPushEnd : Status → Type 0
-IsPushEnd r = IsDoneOrPeer r ⊎ (r ≡ status.Refused)
+abbrev IsReachEnd : Status → Type 0
+IsReachEnd r = IsDoneOrPeer r ⊎ (r ≡ status.Refused)
 
-push_ends : (sound : Type 0) (r : Status) → (sound → IsFaultless r) → Unless (λ r. sound → IsPushEnd r) r
-push_ends sound status.Memory ends = inr refl
-push_ends sound status.Done ends = inl (λ is. inl (inl refl))
-push_ends sound (status.Peer why) ends = inl (λ is. inl (inr (why, refl)))
-push_ends sound status.Refused ends = inl (λ is. inr refl)
-push_ends sound _ ends = inl (λ is. absurd (ends is))
+reach_ends : (sound : Type 0) (r : Status) → (sound → IsFaultless r) → Unless (λ r. sound → IsReachEnd r) r
+reach_ends sound status.Memory ends = inr refl
+reach_ends sound status.Done ends = inl (λ is. inl (inl refl))
+reach_ends sound (status.Peer why) ends = inl (λ is. inl (inr (why, refl)))
+reach_ends sound status.Refused ends = inl (λ is. inr refl)
+reach_ends sound _ ends = inl (λ is. absurd (ends is))
 
 probe_not_refused : (end : Answer) → probe_status end ≡ status.Refused → ⊥
 probe_not_refused (Ok done) e = cc
@@ -202,10 +202,15 @@ module _ (d e : View) (b : Devices) (held : Option (List ℕ)) (reads reads_now 
   pub serve_completes : (count : ℕ) → served.Completes d e net net_now writes writes_now r → Completes (Some (command.Serve count)) d b held old new r
   serve_completes count ends calm = serve_ends (IsSound d) r (λ sound. ends sound calm.disk calm.net calm.output)
 
-  pub push_completes : (host : List ℕ) (finished finished_now : Option (List Ended))
-      → CompletesPush d e (record { finished = finished; finished_now = finished_now; faults = net; faults_now = net_now; lost = lost; lost_now = lost_now }) writes writes_now r
-      → Completes (Some (command.Push host)) d b held old new r
-  push_completes host finished finished_now ends calm = push_ends (IsSound d) r (λ sound. ends sound calm.disk calm.net calm.lost calm.output)
+  pub push_completes : (host : List ℕ) (address : Option (List ℕ)) (finished finished_now : Option (List Ended))
+      → CompletesReach d e (record { finished = finished; finished_now = finished_now; faults = net; faults_now = net_now; lost = lost; lost_now = lost_now }) writes writes_now r
+      → Completes (Some (command.Push host address)) d b held old new r
+  push_completes host address finished finished_now ends calm = reach_ends (IsSound d) r (λ sound. ends sound calm.disk calm.net calm.lost calm.output)
+
+  pub fetch_completes : (host : List ℕ) (address : Option (List ℕ)) (seconds : ℕ) (finished finished_now : Option (List Ended))
+      → CompletesReach d e (record { finished = finished; finished_now = finished_now; faults = net; faults_now = net_now; lost = lost; lost_now = lost_now }) writes writes_now r
+      → Completes (Some (command.Fetch host address seconds)) d b held old new r
+  fetch_completes host address seconds finished finished_now ends calm = reach_ends (IsSound d) r (λ sound. ends sound calm.disk calm.net calm.lost calm.output)
 
   pub replay_completes : (end : Result (Unit {0}) ReplayFault) → r ≡ playing.status_of end → replay.Completes held b reads reads_now writes writes_now end
       → Completes (Some command.Replay) d b held old new r

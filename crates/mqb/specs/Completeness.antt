@@ -24,9 +24,10 @@ pub record Faults : Type 0 where
   pub net : ℕ
   pub lost : ℕ
 
--- where a command pushes, no connection was lost
+-- where a command reaches a peer, no connection was lost
 abbrev pub NoneLost : Option Command → (lost lost_now : ℕ) → Type 0
-NoneLost (Some (command.Push host)) lost lost_now = Rose lost lost_now → ⊥
+NoneLost (Some (command.Push host address)) lost lost_now = Rose lost lost_now → ⊥
+NoneLost (Some (command.Fetch host address seconds)) lost lost_now = Rose lost lost_now → ⊥
 NoneLost _ lost lost_now = Unit {0}
 
 -- No device of a command failed but the disks of a replay. Connections of `serve` may be lost.
@@ -62,7 +63,8 @@ EndsWell (Some (command.Call asked)) store devices held r = IsSound store → (r
 EndsWell (Some command.List) store devices held r = IsSound store → r ≡ status.Done
 EndsWell (Some command.Probe) store devices held r = IsSound store → IsDoneOrPeer r
 EndsWell (Some (command.Serve count)) store devices held r = IsSound store → r ≡ status.Done
-EndsWell (Some (command.Push host)) store devices held r = IsSound store → IsDoneOrPeer r ⊎ (r ≡ status.Refused)
+EndsWell (Some (command.Push host address)) store devices held r = IsSound store → IsDoneOrPeer r ⊎ (r ≡ status.Refused)
+EndsWell (Some (command.Fetch host address seconds)) store devices held r = IsSound store → IsDoneOrPeer r ⊎ (r ≡ status.Refused)
 EndsWell (Some command.Help) store devices held r = r ≡ status.Done
 EndsWell (Some command.Version) store devices held r = r ≡ status.Done
 

@@ -5,7 +5,7 @@ use Rattle.mqb_commands.specs.Helps.{help_text, version_text}
 use Rattle.mqb_commands.specs.Said.{Inits, Lists, Makes}
 use Rattle.mqb_connections.specs.Asked.{AsksForEach, AsksOnce}
 use Rattle.mqb_connections.specs.Probed.{ProbesStore}
-use Rattle.mqb_connections.specs.Pushed.{PushesStore}
+use Rattle.mqb_connections.specs.Reached.{ReachesStore}
 use Rattle.mqb_connections.specs.Served.{Nets, ServesFrom}
 use Rattle.mqb_outside.specs.Disk.{View}
 use Rattle.mqb_outside.specs.Net.{Ended}
@@ -18,6 +18,7 @@ use Rattle.mqb_replay.specs.declared.faults.ReplayFault.{ReplayFault}
 use Rattle.mqb_commands.specs.Shown.{Shows}
 use Rattle.mqb_commands.specs.Outputs.{Says, Tells}
 use Rattle.mqb_commands.specs.declared.status.Status.{Status}
+use Rattle.mqb_serving.specs.declared.purpose.Errand.TheVariants as errand
 use Rattle.mqb_commands.specs.declared.status.Status.TheVariants as status
 use Rattle.mqb_words.specs.declared.commands.Command.{Command}
 use Rattle.mqb_words.specs.declared.commands.Command.TheVariants as command
@@ -55,7 +56,9 @@ Does (command.Call asked) o r = Says (CallsAt asked o.moment o.disk o.disk_now) 
 Does command.List o r = Says (Lists o.disk o.disk_now) o.taken o.taken_now r
 Does command.Probe o r = ProbesStore o.moment o.disk o.disk_now o.held o.held_now o.taken o.taken_now r
 Does (command.Serve count) o r = ServesFrom count o.moment o.disk o.disk_now o.net o.taken o.taken_now r
-Does (command.Push host) o r = PushesStore host o.moment o.disk o.disk_now o.net o.taken o.taken_now r
+Does (command.Push host address) o r = ReachesStore errand.Push address host o.moment o.disk o.disk_now o.net o.taken o.taken_now r
+-- the seconds are how long it is waited for more, which no clause says
+Does (command.Fetch host address seconds) o r = ReachesStore errand.Fetch address host o.moment o.disk o.disk_now o.net o.taken o.taken_now r
 Does command.Help o r = Tells help_text status.Done o.taken o.taken_now r
 Does command.Version o r = Tells version_text status.Done o.taken o.taken_now r
 
@@ -72,7 +75,8 @@ UsageHasCause asked _ = Unit {0}
 -- The net's counts by which a command may end with a net fault: those of calls that gave no connection, and of connections that were lost. Others use no net.
 abbrev pub NetCause : Option Command → (faults faults_now lost lost_now : ℕ) → Type 0
 NetCause (Some (command.Serve count)) faults faults_now lost lost_now = Rose faults faults_now
-NetCause (Some (command.Push host)) faults faults_now lost lost_now = Rose faults faults_now ⊎ Rose lost lost_now
+NetCause (Some (command.Push host address)) faults faults_now lost lost_now = Rose faults faults_now ⊎ Rose lost lost_now
+NetCause (Some (command.Fetch host address seconds)) faults faults_now lost lost_now = Rose faults faults_now ⊎ Rose lost lost_now
 NetCause _ faults faults_now lost lost_now = ⊥
 
 -- The disks' counts by which a command may end with a disk fault: those of the two disks of a replay, and of all others that of the store.
@@ -89,7 +93,8 @@ IsDiskFaultOf cause _ = Unit {0}
 -- How often a command asks the clock, by what the net tells as finished: once for each connection, once for a call, and else never.
 abbrev pub Asks : Option Command → (ended ended_now : Option (List Ended)) → (asked asked_now : ℕ) → Type 0
 Asks (Some (command.Serve count)) ended ended_now asked asked_now = AsksForEach count ended ended_now asked asked_now
-Asks (Some (command.Push host)) ended ended_now asked asked_now = AsksForEach 1 ended ended_now asked asked_now
+Asks (Some (command.Push host address)) ended ended_now asked asked_now = AsksForEach 1 ended ended_now asked asked_now
+Asks (Some (command.Fetch host address seconds)) ended ended_now asked asked_now = AsksForEach 1 ended ended_now asked asked_now
 Asks (Some command.Probe) ended ended_now asked asked_now = AsksOnce asked asked_now
 Asks (Some (command.Call call)) ended ended_now asked asked_now = AsksOnce asked asked_now
 Asks _ ended ended_now asked asked_now = asked_now ≡ asked

@@ -8,7 +8,7 @@ mod saying;
 use mqb_base::Memory;
 use mqb_commands::Status;
 use mqb_disk::{FileDisk, MemoryDisk};
-use mqb_net::{PORT, SystemClock, TcpNet};
+use mqb_net::{MAX_WAIT, PORT, SystemClock, TcpNet};
 use mqb_outside::{Disk, MemoryMedium, Power, StdSink, StdSource};
 use mqb_words::{Command, WordsFault, command_of};
 use no_disk::NoDisk;
@@ -34,12 +34,31 @@ fn words_of(rt: &(impl Env + AllocGlobal), alloc: Global) -> Result<Vec<String>,
     Ok(words)
 }
 
+/// What the environment has under a name; none where it has nothing, or no text.
+fn value_of(rt: &(impl Env + AllocGlobal), name: &str) -> Result<Option<String>, Memory> {
+    match env::var(rt, name) {
+        Ok(value) => Ok(Some(value)),
+        Err(VarError::OutOfMemory) => Err(Memory),
+        Err(VarError::NotPresent | VarError::NotUnicode) => Ok(None),
+    }
+}
+
 /// The port of managers, unless MQB_PORT names another.
 fn port_of(rt: &(impl Env + AllocGlobal)) -> Result<u16, Memory> {
-    match env::var(rt, "MQB_PORT") {
-        Ok(port) => Ok(port.as_str().parse().unwrap_or(PORT)),
-        Err(VarError::OutOfMemory) => Err(Memory),
-        Err(VarError::NotPresent | VarError::NotUnicode) => Ok(PORT),
+    match value_of(rt, "MQB_PORT")? {
+        Some(port) => Ok(port.as_str().parse().unwrap_or(PORT)),
+        None => Ok(PORT),
+    }
+}
+
+/// How many milliseconds a silent peer is waited for, unless MQB_WAIT names another number than 0.
+fn wait_of(rt: &(impl Env + AllocGlobal)) -> Result<u64, Memory> {
+    match value_of(rt, "MQB_WAIT")? {
+        Some(wait) => match wait.as_str().parse::<u32>() {
+            Ok(wait) if wait > 0 => Ok(u64::from(wait)),
+            _ => Ok(MAX_WAIT),
+        },
+        None => Ok(MAX_WAIT),
     }
 }
 
@@ -71,20 +90,35 @@ fn store_of(rt: &HostRuntime, command: &Command, words: &[String]) -> Disks {
     }
 }
 
-fn disks_of(rt: &HostRuntime, alloc: Global, words: &[String]) -> Result<Disks, Memory> {
-    match command_of(alloc, words) {
+fn disks_of(
+    rt: &HostRuntime,
+    alloc: Global,
+    asked: &Result<Command, WordsFault>,
+    words: &[String],
+) -> Result<Disks, Memory> {
+    match asked {
         Ok(Command::Replay | Command::Trial { .. }) => {
             let alpha = MemoryDisk::new(alloc, MAX_REPLAY_DISK)?;
             let beta = MemoryDisk::new(alloc, MAX_REPLAY_DISK)?;
             Ok(Disks::Replay(alpha, beta))
         }
-        Ok(command) => Ok(store_of(rt, &command, words)),
+        Ok(command) => Ok(store_of(rt, command, words)),
         Err(WordsFault::Memory) => Err(Memory),
         Err(WordsFault::Usage) => Ok(Disks::None),
     }
 }
 
-/// Does what the words ask for, over these disks and the other real objects.
+/// The net of a command: of a fetch its connections end by silence.
+fn net_of(rt: &HostRuntime, asked: &Result<Command, WordsFault>) -> Result<TcpNet, Memory> {
+    let mut net = TcpNet::with_port(rt, port_of(rt)?);
+    net.set_max_wait(wait_of(rt)?);
+    if let Ok(Command::Fetch { seconds, .. }) = asked {
+        net.end_by_silence(*seconds);
+    }
+    Ok(net)
+}
+
+/// Does what the words ask for, over these disks, this net and the other real objects.
 fn run_over<D: Disk, P: Power>(
     rt: &HostRuntime,
     alloc: Global,
@@ -92,13 +126,13 @@ fn run_over<D: Disk, P: Power>(
     disk: &mut D,
     first: &mut P,
     second: &mut P,
-) -> Result<Status, Memory> {
+    net: &mut TcpNet,
+) -> Status {
     let mut input = StdSource::new(rt.reader());
     let mut out = StdSink::new(io::writer(rt));
     let mut medium = MemoryMedium::new(alloc);
-    let mut net = TcpNet::with_port(rt, port_of(rt)?);
     let mut clock = SystemClock::new(rt);
-    Ok(run(
+    run(
         alloc,
         words,
         &mut input,
@@ -107,25 +141,47 @@ fn run_over<D: Disk, P: Power>(
         first,
         second,
         &mut medium,
-        &mut net,
+        net,
         &mut clock,
-    ))
+    )
 }
 
 /// Does what the words ask for.
 fn run_words(rt: &HostRuntime, alloc: Global) -> Result<Status, Memory> {
     let words = words_of(rt, alloc)?;
+    let asked = command_of(alloc, &words);
+    let mut net = net_of(rt, &asked)?;
     let mut none = NoDisk::new();
-    let (mut no_first, mut no_second) = (NoDisk::new(), NoDisk::new());
-    match disks_of(rt, alloc, &words)? {
+    let (mut first, mut second) = (NoDisk::new(), NoDisk::new());
+    Ok(match disks_of(rt, alloc, &asked, &words)? {
         Disks::Store(mut disk) => {
-            run_over(rt, alloc, &words, &mut disk, &mut no_first, &mut no_second)
+            run_over(
+                rt,
+                alloc,
+                &words,
+                &mut disk,
+                &mut first,
+                &mut second,
+                &mut net,
+            )
         }
-        Disks::Replay(mut first, mut second) => {
-            run_over(rt, alloc, &words, &mut none, &mut first, &mut second)
+        Disks::Replay(mut alpha, mut beta) => {
+            run_over(
+                rt, alloc, &words, &mut none, &mut alpha, &mut beta, &mut net,
+            )
         }
-        Disks::None => run_over(rt, alloc, &words, &mut none, &mut no_first, &mut no_second),
-    }
+        Disks::None => {
+            run_over(
+                rt,
+                alloc,
+                &words,
+                &mut none,
+                &mut first,
+                &mut second,
+                &mut net,
+            )
+        }
+    })
 }
 
 fn main(rt: HostRuntime) -> ExitCode {

@@ -10,9 +10,10 @@ ghost use Rattle.mqb_words.specs.Words.{command_of};
 
 use crate::saying::{say_called, say_formatted, say_listed, say_made};
 use mqb_commands::{Status, help, show, tell, version};
-use mqb_connections::{probe, push, serve};
+use mqb_connections::{probe, reach, serve};
 use mqb_outside::{Clock, Disk, Medium, Net, Power, Sink, Source};
 use mqb_replay::{replay, status_of, trial};
+use mqb_serving::Errand;
 use mqb_words::{Command, WordsFault, command_of};
 use std::alloc::Global;
 
@@ -90,7 +91,12 @@ fn run_command<S: Source, K: Sink, D: Disk, P: Power, M: Medium, N: Net, C: Cloc
         Command::List => say_listed(alloc, out, disk),
         Command::Probe => probe(alloc, input, out, disk, clock),
         Command::Serve { count } => serve(alloc, *count, out, disk, net, clock),
-        Command::Push { host } => push(alloc, host, out, disk, net, clock),
+        Command::Push { host, address } => {
+            reach(alloc, Errand::Push, *address, host, out, disk, net, clock)
+        }
+        Command::Fetch { host, address, .. } => {
+            reach(alloc, Errand::Fetch, *address, host, out, disk, net, clock)
+        }
         Command::Help => tell(out, help(), Status::Done),
         Command::Version => tell(out, version(), Status::Done),
     }

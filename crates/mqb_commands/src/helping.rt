@@ -29,8 +29,10 @@ mqb commit STORE OP ..              makes a transaction of sends and takes
     mqb commit alpha.store 'send,DIRECT=OS:beta\\PRIVATE$\\orders,-,-,-,-,-,two' take,replies
 mqb serve STORE COUNT               serves connections of peers one after another, on port 1801
     mqb serve beta.store 1 &
-mqb push STORE HOST                 sends to a peer what waits for it
+mqb push STORE HOST [ADDRESS]       sends to a peer what waits for it, at another address than its own if one is named
     mqb push alpha.store beta
+mqb fetch STORE HOST [ADDRESS] [SECONDS]    is a push that takes what waits at the peer, too, until nothing came for 1 to 3600 seconds (5)
+    mqb fetch alpha.store beta 2
 mqb take STORE PLACE                takes a message and prints its body in hexadecimal
     mqb take beta.store orders
 mqb purge STORE PLACE               empties a place

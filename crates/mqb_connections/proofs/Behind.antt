@@ -6,11 +6,11 @@ use Rattle.std.specs.Option.{option_map}
 use Rattle.std.specs.Prelude.{map}
 use Rattle.mqb_outside.specs.Net.{Ended}
 use Rattle.mqb_manager.specs.States.{ManagerState}
-use Rattle.mqb_model.specs.declared.answers.Role.{Role}
+use Rattle.mqb_serving.specs.declared.purpose.Purpose.{Purpose}
 use Rattle.mqb_connections.specs.Served.{with_last}
 use Rattle.mqb_connections.specs.Visits.{AreFinished, Visit, Visits, end_line, lines_from}
 
-pub visits_then : (asks : Role) (steady : Option ℕ) (m n o : ManagerState) (xs ys : List Visit)
+pub visits_then : (asks : Purpose) (steady : Option ℕ) (m n o : ManagerState) (xs ys : List Visit)
     → Visits asks steady m xs n → Visits asks steady n ys o → Visits asks steady m (xs ++ ys) o
 visits_then asks steady m n o [] ys first second = subst (λ (k : ManagerState). Visits asks steady k ys o) first second
 visits_then asks steady m n o (x ∷ xs) ys first second = (first.0, visits_then asks steady x.after n o xs ys first.1 second)

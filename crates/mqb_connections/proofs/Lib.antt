@@ -9,5 +9,5 @@ pub mod Opening
 pub mod Unopened
 pub mod Storing
 pub mod Completing
-pub mod Pushes
+pub mod Reaches
 pub mod Probes

@@ -3,7 +3,7 @@ use Rattle.std.proofs.Common.{◌≡◌, ◌≢◌, ◌+◌, ◌≤◌, inl, inr
 use Rattle.std.specs.Prelude.{IfErr}
 use Rattle.mqb_outside.specs.Net.{Ended}
 use Rattle.mqb_manager.specs.States.{ManagerState}
-use Rattle.mqb_model.specs.declared.answers.Role.TheVariants as role
+use Rattle.mqb_serving.specs.declared.purpose.Purpose.TheVariants as purpose
 use Rattle.mqb_outside.specs.Faults.{Rose}
 use Rattle.mqb_outside.specs.Told.{Took}
 use Rattle.mqb_serving.specs.Serving.{Answer}
@@ -33,7 +33,7 @@ no_peers steady m ended faults taken = record {
 -- One connection.
 
 pub one_told : (number : ℕ) (steady : Option ℕ) (m n : ManagerState) (ended ended_now : Option (List Ended)) (faults faults_now : ℕ) (before after : Option (List ℕ))
-    (end : Answer) (r : Result (Unit {0}) Status) → IsNext role.Acceptor steady m n ended ended_now end → TellsEnd number end before after r
+    (end : Answer) (r : Result (Unit {0}) Status) → IsNext purpose.Serve steady m n ended ended_now end → TellsEnd number end before after r
     → ServesPeers number 1 steady m n ended ended_now faults faults_now before after (end_of r)
 one_told number steady m n ended ended_now faults faults_now before after end (Ok done) next told = record {
   told = next.visit ∷ [];
@@ -129,9 +129,9 @@ peers_then {number} {next} {k} {count} {total} {steady} {steady_mid} {m} {n} {o}
     record {
       told = first.told ++ second.told;
       last = second.last;
-      served = subst (λ (vs : List Visit). Visits role.Acceptor steady m vs o) behind
-          (visits_then role.Acceptor steady m n o first.told all (subst (λ (vs : List Visit). Visits role.Acceptor steady m vs n) alone first.served)
-          (subst (λ (s : Option ℕ). Visits role.Acceptor s n all o) same_clock second.served));
+      served = subst (λ (vs : List Visit). Visits purpose.Serve steady m vs o) behind
+          (visits_then purpose.Serve steady m n o first.told all (subst (λ (vs : List Visit). Visits purpose.Serve steady m vs n) alone first.served)
+          (subst (λ (s : Option ℕ). Visits purpose.Serve s n all o) same_clock second.served));
       finished = subst (λ (vs : List Visit). AreFinished ended ended_now vs) behind
           (finished_then ended ended_mid ended_now first.told all (subst (λ (vs : List Visit). AreFinished ended ended_mid vs) alone first.finished) second.finished);
       goes_on = all_then (λ v. GoesOn v.end) first.told second.told first.goes_on second.goes_on;

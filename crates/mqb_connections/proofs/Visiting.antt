@@ -4,11 +4,11 @@ use Rattle.std.specs.Prelude.{IfSome}
 use Rattle.mqb_commands.specs.Opened.{IsMoment}
 use Rattle.mqb_journal.specs.Causes.{FaultsAsSaid}
 use Rattle.mqb_manager.specs.States.{ManagerState, manager_of}
-use Rattle.mqb_model.specs.declared.answers.Role.{Role}
+use Rattle.mqb_serving.specs.declared.purpose.Purpose.{Purpose}
 use Rattle.mqb_serving.specs.Serving.{Serves, ServesWhole, is_read_fault, is_write_fault}
 use Rattle.mqb_connections.specs.Visits.{IsVisit, Visit}
 
-pub is_visit : (asks : Role) (steady : Option ℕ) (m : ManagerState) (v : Visit) (held sent : Option (List ℕ)) (r w : ℕ)
+pub is_visit : (asks : Purpose) (steady : Option ℕ) (m : ManagerState) (v : Visit) (held sent : Option (List ℕ)) (r w : ℕ)
     → IsMoment steady v.now → IfSome sent (λ text. text ≡ []) → v.ended.given ≡ held → r ≡ 0 → w ≡ 0
     → Serves asks v.now (manager_of m) (manager_of v.after) held v.ended.held sent v.ended.taken v.end
     → ServesWhole v.end asks v.now (manager_of m) (manager_of v.after) held sent v.ended.taken

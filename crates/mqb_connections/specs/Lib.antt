@@ -4,5 +4,5 @@ pub mod Statuses
 pub mod Visits
 pub mod Told
 pub mod Served
-pub mod Pushed
+pub mod Reached
 pub mod Probed

@@ -7,7 +7,7 @@ use Rattle.mqb_outside.specs.Images.{Each}
 use Rattle.mqb_outside.specs.Net.{Ended}
 use Rattle.mqb_manager.specs.Keeping.{KeepsDisk}
 use Rattle.mqb_manager.specs.States.{IsUp, ManagerState}
-use Rattle.mqb_model.specs.declared.answers.Role.TheVariants as role
+use Rattle.mqb_serving.specs.declared.purpose.Purpose.TheVariants as purpose
 use Rattle.mqb_outside.specs.Faults.{Rose}
 use Rattle.mqb_outside.specs.Told.{Took}
 use Rattle.mqb_store_laws.specs.Faults.{IsBadStore}
@@ -55,7 +55,7 @@ pub record ServesPeers (number count : ℕ) (steady : Option ℕ) (m n : Manager
   pub told : List Visit
   -- the one that ended the program
   pub last : Option Visit
-  pub served : Visits role.Acceptor steady m (with_last told last) n
+  pub served : Visits purpose.Serve steady m (with_last told last) n
   pub finished : AreFinished ended ended_now (with_last told last)
   pub goes_on : AllByRecursion (λ v. GoesOn v.end) told
   -- what was taken behind the lines

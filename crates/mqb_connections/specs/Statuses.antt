@@ -5,13 +5,13 @@ use Rattle.mqb_serving.specs.declared.faults.ConnFault.TheVariants as fault
 use Rattle.mqb_commands.specs.declared.status.Status.{Status}
 use Rattle.mqb_commands.specs.declared.status.Status.TheVariants as status
 
-abbrev pub push_status : Answer → Status
-push_status (Ok done) = status.Done
-push_status (Err (fault.Peer why)) = status.Peer why
-push_status (Err fault.ReadFault) = status.NetFault
-push_status (Err fault.WriteFault) = status.NetFault
-push_status (Err fault.DiskFault) = status.DiskFault
-push_status (Err fault.Memory) = status.Memory
+abbrev pub reach_status : Answer → Status
+reach_status (Ok done) = status.Done
+reach_status (Err (fault.Peer why)) = status.Peer why
+reach_status (Err fault.ReadFault) = status.NetFault
+reach_status (Err fault.WriteFault) = status.NetFault
+reach_status (Err fault.DiskFault) = status.DiskFault
+reach_status (Err fault.Memory) = status.Memory
 
 abbrev pub probe_status : Answer → Status
 probe_status (Ok done) = status.Done

@@ -5,7 +5,7 @@ use Rattle.mqb_commands.specs.Opened.{IsMoment}
 use Rattle.mqb_outside.specs.Net.{Ended}
 use Rattle.mqb_journal.specs.Causes.{FaultsAsSaid}
 use Rattle.mqb_manager.specs.States.{ManagerState, manager_of}
-use Rattle.mqb_model.specs.declared.answers.Role.{Role}
+use Rattle.mqb_serving.specs.declared.purpose.Purpose.{Purpose}
 use Rattle.mqb_serving.specs.Serving.{Answer, Serves, ServesWhole, is_read_fault, is_write_fault}
 use Rattle.mqb_serving.specs.declared.faults.ConnFault.TheVariants as fault
 use Rattle.mqb_commands.specs.Texts.{end_text}
@@ -18,7 +18,7 @@ pub record Visit : Type 0 where
   pub after : ManagerState
 
 -- A manager served it, from the first byte that it held to its end.
-pub record IsVisit (asks : Role) (steady : Option ℕ) (m : ManagerState) (v : Visit) : Type 0 where
+pub record IsVisit (asks : Purpose) (steady : Option ℕ) (m : ManagerState) (v : Visit) : Type 0 where
   pub moment : IsMoment steady v.now
   -- what was sent on it before, which is nothing where it tells that
   pub sent : Option (List ℕ)
@@ -29,7 +29,7 @@ pub record IsVisit (asks : Role) (steady : Option ℕ) (m : ManagerState) (v : V
   pub writes : FaultsAsSaid is_write_fault 0 v.ended.write_faults v.end
 
 -- connections one after another, the first served by the manager m, and each other by the one that the connection before it left, up to n
-abbrev pub Visits : Role → Option ℕ → ManagerState → List Visit → ManagerState → Type 0
+abbrev pub Visits : Purpose → Option ℕ → ManagerState → List Visit → ManagerState → Type 0
 Visits asks steady m [] n = n ≡ m
 Visits asks steady m (v ∷ visits) n = IsVisit asks steady m v × Visits asks steady v.after visits n
 
@@ -38,7 +38,7 @@ abbrev pub AreFinished : (before after : Option (List Ended)) → List Visit →
 AreFinished before after visits = after ≡ option_map (λ ended. ended ++ map (λ v. v.ended) visits) before
 
 -- The next connection was served from m to n, and ended so; and the net tells it as finished.
-pub record IsNext (asks : Role) (steady : Option ℕ) (m n : ManagerState) (before after : Option (List Ended)) (end : Answer) : Type 0 where
+pub record IsNext (asks : Purpose) (steady : Option ℕ) (m n : ManagerState) (before after : Option (List Ended)) (end : Answer) : Type 0 where
   pub visit : Visit
   pub is : IsVisit asks steady m visit
   pub left : visit.after ≡ n

@@ -6,9 +6,9 @@
 mod lines;
 mod piped;
 mod probing;
-mod pushing;
+mod reaching;
 mod serving;
 
 pub use probing::probe;
-pub use pushing::push;
+pub use reaching::reach;
 pub use serving::serve;

@@ -14,10 +14,9 @@ ghost use Rattle.mqb_commands.specs.Outputs.{ReadFaultHasCause, WriteFaultHasCau
 use crate::piped::Piped;
 use mqb_commands::{Status, open};
 use mqb_manager::Manager;
-use mqb_model::Role;
 use mqb_outside::{Clock, Disk, Sink, Source};
 use mqb_serve::serve_one;
-use mqb_serving::ConnFault;
+use mqb_serving::{ConnFault, Purpose};
 use std::alloc::Global;
 
 /// How the program ends by the end of the connection of a probe.
@@ -46,9 +45,9 @@ fn serve_piped<S: Source, K: Sink, D: Disk>(
     requires up { IsUp manager.old }
     requires on { IsOnDisk (D.view disk.old) manager.old }
     requires unlinked { manager.old.session ≡ None }
-    ensures served { Serves Role.Acceptor now (manager_of manager.old) (manager_of manager.new)
+    ensures served { Serves Purpose.Serve now (manager_of manager.old) (manager_of manager.new)
         (S.held input.old) (S.held input.new) (K.taken out.old) (K.taken out.new) result }
-    ensures whole { ServesWhole result Role.Acceptor now (manager_of manager.old)
+    ensures whole { ServesWhole result Purpose.Serve now (manager_of manager.old)
         (manager_of manager.new) (S.held input.old) (K.taken out.old) (K.taken out.new) }
     ensures up { result ≢ Err ConnFault.DiskFault → IsUp manager.new }
     ensures disk { KeepsDisk (D.view disk.old) (D.view disk.new) manager.old manager.new }
@@ -60,7 +59,7 @@ fn serve_piped<S: Source, K: Sink, D: Disk>(
         (K.write_faults out.new) result }
 {
     let mut piped = Piped { input, out };
-    serve_one(alloc, disk, manager, &mut piped, now)
+    serve_one(alloc, disk, manager, Purpose::Serve, &mut piped, now)
 }
 
 /// Serves one connection over the input and the output, on which nothing else is written.

@@ -17,10 +17,9 @@ use crate::lines::end_line;
 use mqb_base::{Failed, Memory};
 use mqb_commands::{Answer, Status, open, write_all};
 use mqb_manager::Manager;
-use mqb_model::Role;
 use mqb_outside::{Clock, Disk, Net, Sink};
 use mqb_serve::serve_one;
-use mqb_serving::ConnFault;
+use mqb_serving::{ConnFault, Purpose};
 use std::alloc::Global;
 
 /// Writes the line of a connection that ended, and says how the program ends, where it does.
@@ -81,7 +80,7 @@ fn serve_next<D: Disk, N: Net, C: Clock>(
     ensures disk { KeepsDisk (D.view disk.old) (D.view disk.new) manager.old manager.new }
     ensures disk_faults { IfOk result (FaultsAsSaid is_disk_fault (D.view disk.old).faults
         (D.view disk.new).faults) }
-    ensures next { IfOk result (IsNext Role.Acceptor (C.steady clock.old) manager.old manager.new
+    ensures next { IfOk result (IsNext Purpose.Serve (C.steady clock.old) manager.old manager.new
         (N.finished net.old) (N.finished net.new)) }
     ensures unchanged { OnErr result ((disk.new ≡ disk.old) × (manager.new ≡ manager.old)
         × (N.finished net.new ≡ N.finished net.old)) }
@@ -93,7 +92,7 @@ fn serve_next<D: Disk, N: Net, C: Clock>(
 {
     let mut conn = net.accept()?;
     let now = clock.now();
-    let end = serve_one(alloc, disk, manager, &mut conn, now);
+    let end = serve_one(alloc, disk, manager, Purpose::Serve, &mut conn, now);
     net.finish(conn);
     Ok(end)
 }

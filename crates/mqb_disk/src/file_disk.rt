@@ -2,6 +2,7 @@ ghost use Rattle.std.specs.Prelude.{◌≡◌, ◌+◌, ◌^◌, ◌<◌, ◌≤
 ghost use Rattle.mqb_outside.specs.Faults.{HasCause};
 ghost use Rattle.mqb_outside.specs.Disk.{Counted};
 
+use crate::open_fault::{OpenFault, fault_of};
 use mqb_base::Failed;
 use mqb_outside::{Disk, MAX_DISK};
 use std::fs::{self, File, OpenOptions};
@@ -9,6 +10,8 @@ use std::io;
 use std::os::unix::fs::FileExt;
 
 /// A disk in a file of the operating system. It tells nothing of its contents.
+///
+/// From when it is opened until it is dropped it holds the system's lock on the file, so that no other one is opened in it, here or in another program.
 #[derive(Drop)]
 pub struct FileDisk {
     file: File,
@@ -20,24 +23,24 @@ impl FileDisk {
     ghost use Rattle.mqb_disk.specs.FileViews.{file_view};
 
     /// Opens a file that is there.
-    pub fn open(rt: &HostRuntime, path: &str) -> Result<FileDisk, Failed>
+    pub fn open(rt: &HostRuntime, path: &str) -> Result<FileDisk, OpenFault>
         ensures calls { IfOk result (λ disk. (file_view disk).calls ≡ 0) }
         ensures faults { IfOk result (λ disk. (file_view disk).faults ≡ 0) }
     {
-        match OpenOptions::new().read(true).write(true).open(rt, path) {
+        match open_locked(rt, path) {
             Ok(file) => Ok(FileDisk::over(file)),
-            Err(_) => Err(Failed),
+            Err(error) => Err(fault_of(&error)),
         }
     }
 
     /// Opens a file, and makes it where it is not there. Its folder is synced, so that a crash does not take its name away.
-    pub fn create(rt: &HostRuntime, path: &str) -> Result<FileDisk, Failed>
+    pub fn create(rt: &HostRuntime, path: &str) -> Result<FileDisk, OpenFault>
         ensures calls { IfOk result (λ disk. (file_view disk).calls ≡ 0) }
         ensures faults { IfOk result (λ disk. (file_view disk).faults ≡ 0) }
     {
         match make(rt, path) {
             Ok(file) => Ok(FileDisk::over(file)),
-            Err(_) => Err(Failed),
+            Err(error) => Err(fault_of(&error)),
         }
     }
 
@@ -69,13 +72,26 @@ impl FileDisk {
     }
 }
 
-// Makes a file where none is there, and syncs the folder that names it.
+// Takes the system's lock on a file, without waiting. The system takes it back once the file is closed, also where the program was killed.
+fn locked(file: File) -> io::Result<File> {
+    match file.try_lock() {
+        Ok(()) => Ok(file),
+        Err(error) => Err(error.into()),
+    }
+}
+
+fn open_locked(rt: &HostRuntime, path: &str) -> io::Result<File> {
+    locked(OpenOptions::new().read(true).write(true).open(rt, path)?)
+}
+
+// Makes a file where none is there, takes its lock, and syncs the folder that names it.
 fn make(rt: &HostRuntime, path: &str) -> io::Result<File> {
     let file = OpenOptions::new()
         .read(true)
         .write(true)
         .create(true)
         .open(rt, path)?;
+    let file = locked(file)?;
     let mut folder = fs::canonicalize(rt, path)?;
     folder.pop();
     File::open(rt, folder.as_str())?.sync_all()?;

@@ -8,9 +8,11 @@ mod change;
 mod file_disk;
 mod image;
 mod memory_disk;
+mod open_fault;
 mod switch;
 mod trace_disk;
 
 pub use file_disk::FileDisk;
 pub use memory_disk::MemoryDisk;
+pub use open_fault::OpenFault;
 pub use trace_disk::{Call, TraceDisk};

@@ -1,8 +1,9 @@
 //! The commands, of which nothing is said here. So a test that calls them over forms in memory has nothing to carry, and nothing to prove of a manager.
 use mqb_base::Name;
 use mqb_commands::{Status, list};
-use mqb_connections::{probe, push, serve};
+use mqb_connections::{probe, reach, serve};
 use mqb_outside::{Disk, FixedClock, Net, Sink, Source};
+use mqb_serving::Errand;
 use std::alloc::Global;
 
 /// When all happens, in seconds.
@@ -37,7 +38,16 @@ pub(crate) fn pushes<K: Sink, D: Disk, N: Net>(
     disk: &mut D,
     net: &mut N,
 ) -> Status {
-    push(alloc, host, out, disk, net, &mut FixedClock(NOW))
+    reach(
+        alloc,
+        Errand::Push,
+        None,
+        host,
+        out,
+        disk,
+        net,
+        &mut FixedClock(NOW),
+    )
 }
 
 /// What a store holds.

@@ -4,7 +4,7 @@ use Rattle.mqb_net.specs.declared.tcp_net.TcpNet.{TcpNet}
 
 -- neither a read of a connection nor a write to it has failed
 abbrev pub IsFaultless : TcpConn → Type 0
-IsFaultless conn = (conn.read_faults ≡ 0) × (conn.write_faults ≡ 0)
+IsFaultless conn = (conn.ends.read_faults ≡ 0) × (conn.ends.write_faults ≡ 0)
 
 -- how often a net over TCP gave no connection
 abbrev pub faults_of : TcpNet → ℕ

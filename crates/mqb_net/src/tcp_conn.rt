@@ -1,94 +1,57 @@
-ghost use Rattle.std.specs.Prelude.{◌≡◌, ◌<◌, ◌≤◌, ◌↔◌, ◌+◌, None, IsTrue, IfOk, length};
-ghost use Rattle.mqb_outside.specs.Faults.{HasCause};
+ghost use Rattle.std.specs.Prelude.{◌≡◌, ◌<◌, ◌↔◌, ◌+◌, None, IsTrue, IfOk};
 ghost use Rattle.mqb_net.specs.Tcp.{IsFaultless};
 
+use crate::quiet::Waits;
+use crate::socket::TcpSocket;
+use crate::two_way::TwoWay;
 use mqb_base::Failed;
 use mqb_outside::{Conn, Sink, Source};
-use std::io::{self, Read, Write};
+use std::io;
 use std::net::TcpStream;
-use std::time::Duration;
 
-/// The longest wait of a connection for one byte to come or to be taken, and for a peer to be reached, in seconds.
-pub const MAX_WAIT: u64 = 60;
-
-/// A connection over TCP. It tells neither what comes on it nor what was sent. A read or a write that waits for `MAX_WAIT` without a byte fails.
+/// A connection over TCP. It tells neither what comes on it nor what was sent. A write that would wait takes in what has come, which the next reads give
+/// first. Both fail where the peer is silent: where fewer than `MIN_BYTES` came within the longest wait, and none went.
 #[derive(Drop)]
 pub struct TcpConn {
-    stream: TcpStream,
-    read_faults: u64,
-    write_faults: u64,
+    ends: TwoWay<TcpSocket>,
 }
 
 impl TcpConn {
-    pub(crate) fn over(stream: TcpStream) -> io::Result<TcpConn>
+    pub(crate) fn over(rt: &HostRuntime, stream: TcpStream, waits: Waits) -> io::Result<TcpConn>
         ensures { IfOk result (λ conn. IsFaultless conn) }
     {
-        let wait = Duration::from_secs(MAX_WAIT);
-        stream.set_read_timeout(Some(wait))?;
-        stream.set_write_timeout(Some(wait))?;
+        let socket = TcpSocket::over(rt, stream, waits.last)?;
+        let longest = waits.longest.saturating_add(waits.last.unwrap_or(0));
         Ok(TcpConn {
-            stream,
-            read_faults: 0,
-            write_faults: 0,
+            ends: TwoWay::new(rt.alloc(), socket, longest),
         })
     }
 
     /// Whether one of its counts of faults is not 0.
     pub(crate) fn had_faults(&self) -> bool
-        ensures { IsTrue result ↔ (0 < self.now.read_faults + self.now.write_faults) }
+        ensures { IsTrue result ↔ (0 < self.now.ends.read_faults + self.now.ends.write_faults) }
     {
-        self.read_faults > 0 || self.write_faults > 0
-    }
-
-    // Reads of the socket, and counts a fault.
-    fn hear(&mut self, buf: &mut [u8]) -> Result<usize, Failed>
-        ensures within { IfOk result (λ n. n ≤ length buf.old) }
-        ensures cause { HasCause self.old.read_faults self.new.read_faults result }
-        ensures write_faults { self.new.write_faults ≡ self.old.write_faults }
-    {
-        match self.stream.read(buf) {
-            Ok(n) => Ok(n),
-            Err(_) => {
-                self.read_faults = self.read_faults.saturating_add(1);
-                Err(Failed)
-            }
-        }
-    }
-
-    // Writes to the socket, and counts a fault. That nothing of some bytes was taken is one.
-    fn tell(&mut self, bytes: &[u8]) -> Result<usize, Failed>
-        ensures within { IfOk result (λ n. n ≤ length bytes.now) }
-        ensures some { IfOk result (λ n. 0 < length bytes.now → 0 < n) }
-        ensures cause { HasCause self.old.write_faults self.new.write_faults result }
-        ensures read_faults { self.new.read_faults ≡ self.old.read_faults }
-    {
-        match self.stream.write(bytes) {
-            Ok(n) if n > 0 || bytes.is_empty() => Ok(n),
-            _ => {
-                self.write_faults = self.write_faults.saturating_add(1);
-                Err(Failed)
-            }
-        }
+        self.ends.had_faults()
     }
 }
 
 impl Source for TcpConn {
     ghost held = { λ _. None };
 
-    ghost read_faults = { λ conn. conn.read_faults };
+    ghost read_faults = { λ conn. conn.ends.read_faults };
 
     fn read(&mut self, buf: &mut [u8]) -> Result<usize, Failed> {
-        self.hear(buf)
+        self.ends.read(buf)
     }
 }
 
 impl Sink for TcpConn {
     ghost taken = { λ _. None };
 
-    ghost write_faults = { λ conn. conn.write_faults };
+    ghost write_faults = { λ conn. conn.ends.write_faults };
 
     fn write(&mut self, bytes: &[u8]) -> Result<usize, Failed> {
-        self.tell(bytes)
+        self.ends.write(bytes)
     }
 }
 
@@ -98,10 +61,10 @@ impl Conn for TcpConn {
     ghost address = { λ _. None };
 
     fn receive(&mut self, buf: &mut [u8]) -> Result<usize, Failed> {
-        self.hear(buf)
+        self.ends.receive(buf)
     }
 
     fn send(&mut self, bytes: &[u8]) -> Result<usize, Failed> {
-        self.tell(bytes)
+        self.ends.send(bytes)
     }
 }

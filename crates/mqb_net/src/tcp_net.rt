@@ -2,21 +2,32 @@ ghost use Rattle.std.specs.Prelude.{◌≡◌, None, Ok, IfOk, OnErr};
 ghost use Rattle.mqb_outside.specs.Faults.{HasCause};
 ghost use Rattle.mqb_net.specs.Tcp.{IsFaultless, faults_of, lost_by};
 
-use crate::tcp_conn::{MAX_WAIT, TcpConn};
+use crate::quiet::Waits;
+use crate::tcp_conn::TcpConn;
 use mqb_base::Failed;
 use mqb_outside::Net;
-use std::io;
 use std::net::{Ipv4Addr, SocketAddr, SocketAddrV4, TcpListener, TcpStream};
 use std::time::Duration;
+use std::{io, thread};
 
 /// The port of managers.
 pub const PORT: u16 = 1801;
+
+/// The longest wait for a silent peer, and for a peer to be reached, in milliseconds.
+pub const MAX_WAIT: u64 = 60_000;
+
+/// How often an accept that failed is made again.
+const MAX_TRIES: u32 = 100;
+
+/// The milliseconds between one such accept and the next.
+const PAUSE: u64 = 100;
 
 /// A net over TCP. From its first `accept` or `listen` on it listens on all addresses of the machine. It tells nothing of its connections.
 #[derive(Drop)]
 pub struct TcpNet {
     rt: HostRuntime,
     port: u16,
+    waits: Waits,
     listener: Option<TcpListener>,
     faults: u64,
     lost: u64,
@@ -39,10 +50,30 @@ impl TcpNet {
         TcpNet {
             rt: *rt,
             port,
+            waits: Waits {
+                longest: MAX_WAIT,
+                last: None,
+            },
             listener: None,
             faults: 0,
             lost: 0,
         }
+    }
+
+    /// A peer of the connections to come is silent after so many milliseconds.
+    pub fn set_max_wait(&mut self, millis: u64)
+        ensures faults { faults_of self.new ≡ faults_of self.old }
+        ensures lost { lost_by self.new ≡ lost_by self.old }
+    {
+        self.waits.longest = millis;
+    }
+
+    /// A read of the connections to come finds the end of what comes where it has waited so many seconds without a byte.
+    pub fn end_by_silence(&mut self, seconds: u32)
+        ensures faults { faults_of self.new ≡ faults_of self.old }
+        ensures lost { lost_by self.new ≡ lost_by self.old }
+    {
+        self.waits.last = Some(u64::from(seconds) * 1000);
     }
 
     /// Listens, unless it does already, so that connections that peers make wait for an `accept`. It answers the port.
@@ -77,7 +108,7 @@ impl TcpNet {
     {
         self.begin()?;
         match &self.listener {
-            Some(listener) => TcpConn::over(listener.accept()?.0),
+            Some(listener) => accept_from(&self.rt, listener, self.waits),
             None => Err(io::ErrorKind::NotConnected.into()),
         }
     }
@@ -98,11 +129,31 @@ impl TcpNet {
     }
 }
 
-fn reach(rt: &HostRuntime, address: [u8; 4], port: u16) -> io::Result<TcpConn>
+fn accept_one(rt: &HostRuntime, listener: &TcpListener, waits: Waits) -> io::Result<TcpConn>
+    ensures { IfOk result (λ conn. IsFaultless conn) }
+{
+    TcpConn::over(rt, listener.accept()?.0, waits)
+}
+
+// Waits for the next connection. One that was broken before it was accepted, or a lack of handles for a moment, does not end the wait.
+fn accept_from(rt: &HostRuntime, listener: &TcpListener, waits: Waits) -> io::Result<TcpConn>
+    ensures { IfOk result (λ conn. IsFaultless conn) }
+{
+    for _ in 0..MAX_TRIES {
+        match accept_one(rt, listener, waits) {
+            Ok(conn) => return Ok(conn),
+            Err(_) => thread::sleep(rt, Duration::from_millis(PAUSE)),
+        }
+    }
+    accept_one(rt, listener, waits)
+}
+
+fn reach(rt: &HostRuntime, address: [u8; 4], port: u16, waits: Waits) -> io::Result<TcpConn>
     ensures { IfOk result (λ conn. IsFaultless conn) }
 {
     let peer = SocketAddr::V4(SocketAddrV4::new(Ipv4Addr::from_octets(address), port));
-    TcpConn::over(TcpStream::connect_timeout(rt, &peer, Duration::from_secs(MAX_WAIT))?)
+    let wait = Duration::from_millis(waits.longest);
+    TcpConn::over(rt, TcpStream::connect_timeout(rt, &peer, wait)?, waits)
 }
 
 impl Net for TcpNet {
@@ -124,7 +175,7 @@ impl Net for TcpNet {
     }
 
     fn connect(&mut self, address: [u8; 4]) -> Result<TcpConn, Failed> {
-        let made = reach(&self.rt, address, self.port);
+        let made = reach(&self.rt, address, self.port, self.waits);
         self.note(made)
     }
 

@@ -5,9 +5,11 @@ use Rattle.mqb_journal.specs.Causes.{FaultsAsSaid}
 use Rattle.mqb_model.specs.calls.Link.{link, unlink}
 use Rattle.mqb_model.specs.declared.answers.Role.{Role}
 use Rattle.mqb_model.specs.managers.Manager.{Manager}
+use Rattle.mqb_model.specs.managers.Outcomes.{succeeded}
 use Rattle.mqb_manager.specs.Calls.{Succeeds}
 use Rattle.mqb_manager.specs.States.{IsOnDisk, IsUp, ManagerState, manager_of}
-use Rattle.mqb_serving.specs.Conversations.{Conversation, End, linked, no_bytes}
+use Rattle.mqb_serving.specs.Conversations.{Conversation, End, linked, no_bytes, role_of}
+use Rattle.mqb_serving.specs.declared.purpose.Purpose.{Purpose}
 use Rattle.mqb_serving.specs.declared.faults.ConnFault.{ConnFault}
 use Rattle.mqb_serving.specs.declared.faults.ConnFault.TheVariants as fault
 use Rattle.mqb_serving.specs.declared.faults.PeerFault.{PeerFault}
@@ -34,12 +36,12 @@ not_disk why works is = let wrong : true ≡ false = sym (ap is_disk_fault is) �
     true_false e = cc
 
 -- The manager was linked.
-module _ (m n : ManagerState) (asks : Role) (left : Succeeds m n (link (manager_of m) asks WINDOW)) (journal : n.store.journal ≡ m.store.journal) where
+module _ (m n : ManagerState) (asks : Purpose) (role : Role) (is_role : role ≡ role_of asks) (left : Succeeds m n (link (manager_of m) role WINDOW)) (journal : n.store.journal ≡ m.store.journal) where
   pub linked_up : IsUp m → IsUp n
-  linked_up up = quietly_up m n (link (manager_of m) asks WINDOW) left.manager up
+  linked_up up = quietly_up m n (link (manager_of m) role WINDOW) left.manager up
 
   pub linked_keeps : (d : View) → KeepsDisk d d m n
-  linked_keeps d = links_keep_disks d m n asks WINDOW left journal
+  linked_keeps d = links_keep_disks d m n role WINDOW left journal
 
   pub linked_on : (d : View) → IsUp m → IsOnDisk d m → IsOnDisk d n
   linked_on d up on = (linked_keeps d).on (λ _. on) (linked_up up)
@@ -48,7 +50,8 @@ module _ (m n : ManagerState) (asks : Role) (left : Succeeds m n (link (manager_
   module _ (now : ℕ) (o : ManagerState) (h i x y : Option (List ℕ)) (r : Result End ConnFault)
       (converses : (c : Conversation) → Stands c asks now (manager_of n) no_bytes → Converses c h i x y (manager_of o) r) where
     conversed : Converses (linked (manager_of m) asks now) h i x y (manager_of o) r
-    conversed = converses (linked (manager_of m) asks now) (linked_stands (manager_of m) (manager_of n) asks now left.manager)
+    conversed = converses (linked (manager_of m) asks now) (linked_stands (manager_of m) (manager_of n) asks now
+        (subst (λ (r : Role). manager_of n ≡ succeeded (manager_of m) (link (manager_of m) r WINDOW)) is_role left.manager))
 
     -- and was unlinked
     module _ (p : ManagerState) (gone : Succeeds o p (unlink (manager_of o))) where

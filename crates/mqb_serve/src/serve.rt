@@ -1,4 +1,4 @@
-ghost use Rattle.std.specs.Prelude.{◌<◌, ◌≡◌, ◌≢◌, Err, None, length};
+ghost use Rattle.std.specs.Prelude.{◌≡◌, ◌≢◌, Err, None};
 ghost use Rattle.mqb_journal.specs.Causes.{FaultsAsSaid};
 ghost use Rattle.mqb_manager.specs.States.{IsOnDisk, IsUp, manager_of};
 ghost use Rattle.mqb_manager.specs.Keeping.{KeepsDisk};
@@ -9,27 +9,26 @@ ghost use Rattle.mqb_serving.specs.Conversations.{Conversation, no_bytes};
 
 use crate::talk::{End, Talk};
 use mqb_manager::Manager;
-use mqb_model::Role;
 use mqb_outside::{Conn, Disk};
-use mqb_serving::{ConnFault, WINDOW};
+use mqb_serving::{ConnFault, Purpose, WINDOW};
 use std::alloc::Global;
 
 /// The most bytes that are read at a time.
 const MAX_PIECE: usize = 65_536;
 
-/// Converses over a connection as the end that `role` says, from a manager that was linked.
+/// Converses over a connection, from a manager that was linked.
 fn converse<D: Disk, C: Conn>(
     alloc: Global,
     disk: &mut D,
     manager: &mut Manager,
-    role: Role,
+    purpose: Purpose,
     conn: &mut C,
     now: u32,
 ) -> Result<End, ConnFault>
     requires up { IsUp manager.old }
     requires on { IsOnDisk (D.view disk.old) manager.old }
     ensures converses { (c : Conversation) →
-        Stands c role now (manager_of manager.old) no_bytes →
+        Stands c purpose now (manager_of manager.old) no_bytes →
         Converses c (C.held conn.old) (C.held conn.new) (C.taken conn.old) (C.taken conn.new)
         (manager_of manager.new) result }
     ensures keeps { Keeps (D.view disk.old) (D.view disk.new) manager.old manager.new result }
@@ -41,7 +40,7 @@ fn converse<D: Disk, C: Conn>(
     ensures address { C.address conn.new ≡ C.address conn.old }
     ensures lent { C.lent conn.new ≡ C.lent conn.old }
 {
-    let mut talk = Talk::new(alloc, role, now)?;
+    let mut talk = Talk::new(alloc, purpose, now)?;
     let Ok(mut buffer) = Vec::from_elem(alloc, 0, MAX_PIECE) else {
         return Err(ConnFault::Memory);
     };
@@ -64,20 +63,24 @@ fn is_disk_fault(fault: &ConnFault) -> bool
     matches!(fault, ConnFault::DiskFault)
 }
 
-/// Links a manager, converses, and forgets the connection. A manager that is down has forgotten it.
-fn serve<D: Disk, C: Conn>(
+/// Serves one connection: the manager is linked, converses, and forgets the connection. A manager that is down has forgotten it. All calls have the moment
+/// `now`, in seconds.
+///
+/// # Errors
+/// `Peer`: the connection ended badly, by what the peer did. `ReadFault`, `WriteFault`, `Memory`: it was cut short. `DiskFault`: the manager is down.
+pub fn serve_one<D: Disk, C: Conn>(
     alloc: Global,
     disk: &mut D,
     manager: &mut Manager,
-    role: Role,
+    purpose: Purpose,
     conn: &mut C,
     now: u32,
 ) -> Result<(), ConnFault>
     requires up { IsUp manager.old }
     requires on { IsOnDisk (D.view disk.old) manager.old }
-    ensures served { Serves role now (manager_of manager.old) (manager_of manager.new)
+    ensures served { Serves purpose now (manager_of manager.old) (manager_of manager.new)
         (C.held conn.old) (C.held conn.new) (C.taken conn.old) (C.taken conn.new) result }
-    ensures whole { ServesWhole result role now (manager_of manager.old) (manager_of manager.new)
+    ensures whole { ServesWhole result purpose now (manager_of manager.old) (manager_of manager.new)
         (C.held conn.old) (C.taken conn.old) (C.taken conn.new) }
     ensures unlinked { manager.new.session ≡ None }
     ensures up { result ≢ Err ConnFault.DiskFault → IsUp manager.new }
@@ -92,8 +95,8 @@ fn serve<D: Disk, C: Conn>(
     ensures address { C.address conn.new ≡ C.address conn.old }
     ensures lent { C.lent conn.new ≡ C.lent conn.old }
 {
-    let _linked = manager.link(role, WINDOW);
-    match converse(alloc, disk, manager, role, conn, now) {
+    let _linked = manager.link(purpose.role(), WINDOW);
+    match converse(alloc, disk, manager, purpose, conn, now) {
         Ok(end) => {
             manager.unlink();
             answer_of(end)
@@ -106,76 +109,4 @@ fn serve<D: Disk, C: Conn>(
             Err(fault)
         }
     }
-}
-
-/// Serves one connection that a peer made: the manager waits to be asked for a session. All calls have the moment `now`, in seconds.
-///
-/// # Errors
-/// `Peer`: the connection ended badly, by what the peer did. `ReadFault`, `WriteFault`, `Memory`: it was cut short. `DiskFault`: the manager is down.
-pub fn serve_one<D: Disk, C: Conn>(
-    alloc: Global,
-    disk: &mut D,
-    manager: &mut Manager,
-    conn: &mut C,
-    now: u32,
-) -> Result<(), ConnFault>
-    requires up { IsUp manager.old }
-    requires on { IsOnDisk (D.view disk.old) manager.old }
-    requires unlinked { manager.old.session ≡ None }
-    ensures served { Serves Role.Acceptor now (manager_of manager.old) (manager_of manager.new)
-        (C.held conn.old) (C.held conn.new) (C.taken conn.old) (C.taken conn.new) result }
-    ensures whole { ServesWhole result Role.Acceptor now (manager_of manager.old)
-        (manager_of manager.new) (C.held conn.old) (C.taken conn.old) (C.taken conn.new) }
-    ensures unlinked { manager.new.session ≡ None }
-    ensures up { result ≢ Err ConnFault.DiskFault → IsUp manager.new }
-    ensures disk { KeepsDisk (D.view disk.old) (D.view disk.new) manager.old manager.new }
-    ensures disk_faults { FaultsAsSaid is_disk_fault (D.view disk.old).faults
-        (D.view disk.new).faults result }
-    ensures read_faults { FaultsAsSaid is_read_fault (C.read_faults conn.old)
-        (C.read_faults conn.new) result }
-    ensures write_faults { FaultsAsSaid is_write_fault (C.write_faults conn.old)
-        (C.write_faults conn.new) result }
-    ensures given { C.given conn.new ≡ C.given conn.old }
-    ensures address { C.address conn.new ≡ C.address conn.old }
-    ensures lent { C.lent conn.new ≡ C.lent conn.old }
-{
-    serve(alloc, disk, manager, Role::Acceptor, conn, now)
-}
-
-/// Pushes to the peer at an index, over a connection to it: the manager asks for a session, and the connection ends as soon as nothing for the peer is
-/// outstanding. All calls have the moment `now`, in seconds.
-///
-/// # Errors
-/// As of `serve_one`.
-pub fn push_one<D: Disk, C: Conn>(
-    alloc: Global,
-    disk: &mut D,
-    manager: &mut Manager,
-    peer: u32,
-    conn: &mut C,
-    now: u32,
-) -> Result<(), ConnFault>
-    requires up { IsUp manager.old }
-    requires on { IsOnDisk (D.view disk.old) manager.old }
-    requires unlinked { manager.old.session ≡ None }
-    requires peer { peer < length manager.old.store.state.peers }
-    ensures served { Serves (Role.Initiator peer) now (manager_of manager.old)
-        (manager_of manager.new) (C.held conn.old) (C.held conn.new) (C.taken conn.old)
-        (C.taken conn.new) result }
-    ensures whole { ServesWhole result (Role.Initiator peer) now (manager_of manager.old)
-        (manager_of manager.new) (C.held conn.old) (C.taken conn.old) (C.taken conn.new) }
-    ensures unlinked { manager.new.session ≡ None }
-    ensures up { result ≢ Err ConnFault.DiskFault → IsUp manager.new }
-    ensures disk { KeepsDisk (D.view disk.old) (D.view disk.new) manager.old manager.new }
-    ensures disk_faults { FaultsAsSaid is_disk_fault (D.view disk.old).faults
-        (D.view disk.new).faults result }
-    ensures read_faults { FaultsAsSaid is_read_fault (C.read_faults conn.old)
-        (C.read_faults conn.new) result }
-    ensures write_faults { FaultsAsSaid is_write_fault (C.write_faults conn.old)
-        (C.write_faults conn.new) result }
-    ensures given { C.given conn.new ≡ C.given conn.old }
-    ensures address { C.address conn.new ≡ C.address conn.old }
-    ensures lent { C.lent conn.new ≡ C.lent conn.old }
-{
-    serve(alloc, disk, manager, Role::Initiator { peer }, conn, now)
 }

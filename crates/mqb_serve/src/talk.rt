@@ -8,7 +8,7 @@ ghost use Rattle.mqb_serve.specs.Talking.{Keeps, stopped_hearing, stopped_pumpin
 ghost use Rattle.mqb_serving.specs.Serving.{Hears, is_read_fault, is_write_fault};
 ghost use Rattle.mqb_serving.specs.Steps.{Converses, Goes, HearsFrame, HearsHeld, Itself, Listens, PumpsOnce, Stands, end_of};
 ghost use Rattle.mqb_serving.specs.declared.limits.TheConstants.{MAX_READ};
-ghost use Rattle.mqb_serving.specs.Conversations.{Conversation, answered, end_after, end_of_role, end_of_session, is_through, looked_at, no_bytes, pumped, read_on, sent_some};
+ghost use Rattle.mqb_serving.specs.Conversations.{Conversation, answered, end_after, end_of_purpose, end_of_session, is_through, looked_at, no_bytes, pumped, read_on, sent_some};
 ghost use Rattle.mqb_stream.specs.Framing.{fed, next, wants_more};
 ghost use Rattle.mqb_stream.specs.Histories.{part_of};
 
@@ -17,10 +17,10 @@ use mqb_base::Heard;
 use mqb_fields::HeadFault;
 use mqb_heads::MAX_PACKET;
 use mqb_manager::Manager;
-use mqb_model::{HearFault, PumpFault, Role, refusals_change_nothing};
+use mqb_model::{HearFault, PumpFault, refusals_change_nothing};
 use mqb_outside::{Conn, Disk};
 use mqb_packet::view;
-use mqb_serving::{ConnFault, MAX_PUMPS, MAX_READ, PeerFault};
+use mqb_serving::{ConnFault, Errand, MAX_PUMPS, MAX_READ, PeerFault, Purpose};
 use mqb_session::Phase;
 use mqb_stream::{Framer, Next};
 use std::alloc::Global;
@@ -31,7 +31,7 @@ pub(crate) type End = Result<(), PeerFault>;
 /// What one end of a connection has beside its manager.
 #[derive(Debug, Drop)]
 pub(crate) struct Talk {
-    role: Role,
+    purpose: Purpose,
     moment: u32,
     framer: Framer,
     // How many bytes came.
@@ -59,25 +59,28 @@ fn end_of_session(manager: &Manager) -> Option<End>
     }
 }
 
-/// A push ends as soon as it is through.
-fn end_of_role(role: Role, manager: &Manager) -> Option<End>
-    ensures { result ≡ end_of_role role (manager_of manager.now) }
+/// A push ends as soon as it is through; the others go on.
+fn end_of_purpose(purpose: Purpose, manager: &Manager) -> Option<End>
+    ensures { result ≡ end_of_purpose purpose (manager_of manager.now) }
 {
-    match role {
-        Role::Initiator { .. } if is_through(manager) => Some(Ok(())),
+    match purpose {
+        Purpose::Reach {
+            errand: Errand::Push,
+            ..
+        } if is_through(manager) => Some(Ok(())),
         _ => None,
     }
 }
 
 /// The end by what the last pump answered.
-fn end_after(answer: Result<u32, PumpFault>, role: Role, manager: &Manager) -> Option<End>
-    ensures { result ≡ end_after answer role (manager_of manager.now) }
+fn end_after(answer: Result<u32, PumpFault>, purpose: Purpose, manager: &Manager) -> Option<End>
+    ensures { result ≡ end_after answer purpose (manager_of manager.now) }
 {
     match answer {
         Err(_) => Some(Err(PeerFault::Spent)),
         Ok(_) => match end_of_session(manager) {
             Some(end) => Some(end),
-            None => end_of_role(role, manager),
+            None => end_of_purpose(purpose, manager),
         },
     }
 }
@@ -141,15 +144,15 @@ fn hear_frame<D: Disk>(
 
 impl Talk {
     /// One end at a moment in seconds, to which nothing came.
-    pub(crate) fn new(alloc: Global, role: Role, moment: u32) -> Result<Talk, ConnFault>
-        ensures role { IfOk result (λ talk. talk.role ≡ role) }
+    pub(crate) fn new(alloc: Global, purpose: Purpose, moment: u32) -> Result<Talk, ConnFault>
+        ensures purpose { IfOk result (λ talk. talk.purpose ≡ purpose) }
         ensures moment { IfOk result (λ talk. talk.moment ≡ moment) }
         ensures framer { IfOk result (λ talk. talk.framer ≡ no_bytes) }
         ensures fault { IfErr result (λ why. why ≡ ConnFault.Memory) }
     {
         match Framer::new(alloc, MAX_PACKET) {
             Ok(framer) => Ok(Talk {
-                role,
+                purpose,
                 moment,
                 framer,
                 came: 0,
@@ -178,7 +181,7 @@ impl Talk {
         ensures pumps { PumpsOnce (manager_of manager.old) self.old.moment (manager_of manager.new)
             (C.taken conn.old) (C.taken conn.new) result }
         ensures keeps { Keeps (D.view disk.old) (D.view disk.new) manager.old manager.new result }
-        ensures role { self.new.role ≡ self.old.role }
+        ensures purpose { self.new.purpose ≡ self.old.purpose }
         ensures moment { self.new.moment ≡ self.old.moment }
         ensures framer { self.new.framer ≡ self.old.framer }
         ensures came { self.new.came ≡ self.old.came }
@@ -213,11 +216,11 @@ impl Talk {
         requires up { IsUp manager.old }
         requires on { IsOnDisk (D.view disk.old) manager.old }
         ensures goes { (c : Conversation) →
-            Stands c self.old.role self.old.moment (manager_of manager.old) self.old.framer →
+            Stands c self.old.purpose self.old.moment (manager_of manager.old) self.old.framer →
             Goes (Itself c) c (pumped MAX_PUMPS c) (C.taken conn.old) (C.taken conn.new)
-            self.new.role self.new.moment (manager_of manager.new) self.new.framer result }
+            self.new.purpose self.new.moment (manager_of manager.new) self.new.framer result }
         ensures keeps { Keeps (D.view disk.old) (D.view disk.new) manager.old manager.new result }
-        ensures role { self.new.role ≡ self.old.role }
+        ensures purpose { self.new.purpose ≡ self.old.purpose }
         ensures moment { self.new.moment ≡ self.old.moment }
         ensures framer { self.new.framer ≡ self.old.framer }
         ensures came { self.new.came ≡ self.old.came }
@@ -233,7 +236,7 @@ impl Talk {
         for _pump in 0..MAX_PUMPS {
             let answer = self.pump_once(disk, manager, conn)?;
             if !sent_some(&answer) {
-                return Ok(end_after(answer, self.role, manager));
+                return Ok(end_after(answer, self.purpose, manager));
             }
         }
         Ok(None)
@@ -249,9 +252,9 @@ impl Talk {
         requires up { IsUp manager.old }
         requires on { IsOnDisk (D.view disk.old) manager.old }
         ensures goes { (c : Conversation) →
-            Stands c self.old.role self.old.moment (manager_of manager.old) self.old.framer →
+            Stands c self.old.purpose self.old.moment (manager_of manager.old) self.old.framer →
             Goes (HearsHeld c) c (answered (next c.framing) c) (C.taken conn.old)
-            (C.taken conn.new) self.new.role self.new.moment (manager_of manager.new)
+            (C.taken conn.new) self.new.purpose self.new.moment (manager_of manager.new)
             self.new.framer result }
         ensures wants { result ≡ Ok None → wants_more (next self.new.framer) ≡ true }
         ensures came { self.new.came ≡ self.old.came }
@@ -292,9 +295,9 @@ impl Talk {
         requires up { IsUp manager.old }
         requires on { IsOnDisk (D.view disk.old) manager.old }
         ensures goes { (c : Conversation) →
-            Stands c self.old.role self.old.moment (manager_of manager.old) self.old.framer →
+            Stands c self.old.purpose self.old.moment (manager_of manager.old) self.old.framer →
             Goes (HearsHeld c) c (looked_at c) (C.taken conn.old) (C.taken conn.new)
-            self.new.role self.new.moment (manager_of manager.new) self.new.framer result }
+            self.new.purpose self.new.moment (manager_of manager.new) self.new.framer result }
         ensures wants { result ≡ Ok None → wants_more (next self.new.framer) ≡ true }
         ensures came { self.new.came ≡ self.old.came }
         ensures less { result ≡ Ok None → self.new.came < MAX_READ }
@@ -328,7 +331,7 @@ impl Talk {
         ensures within { result ≤ length piece.now }
         ensures framer { self.new.framer ≡ fed self.old.framer piece.now }
         ensures came { self.new.came ≡ self.old.came + result }
-        ensures role { self.new.role ≡ self.old.role }
+        ensures purpose { self.new.purpose ≡ self.old.purpose }
         ensures moment { self.new.moment ≡ self.old.moment }
     {
         let Ok(count) = self.framer.feed(piece) else {
@@ -352,9 +355,9 @@ impl Talk {
         requires few { self.old.came + length piece.now ≤ MAX_READ }
         requires less { self.old.came < MAX_READ }
         ensures goes { (c : Conversation) →
-            Stands c self.old.role self.old.moment (manager_of manager.old) self.old.framer →
+            Stands c self.old.purpose self.old.moment (manager_of manager.old) self.old.framer →
             Goes (Hears c piece.now) c (read_on c piece.now) (C.taken conn.old) (C.taken conn.new)
-            self.new.role self.new.moment (manager_of manager.new) self.new.framer result }
+            self.new.purpose self.new.moment (manager_of manager.new) self.new.framer result }
         ensures wants { result ≡ Ok None → wants_more (next self.new.framer) ≡ true }
         ensures came { result ≡ Ok None → self.new.came ≡ self.old.came + length piece.now }
         ensures less { result ≡ Ok None → self.new.came < MAX_READ }
@@ -431,7 +434,7 @@ impl Talk {
         requires less { self.old.came < MAX_READ }
         requires room { 0 < length buffer.old }
         ensures listens { (c : Conversation) →
-            Stands c self.old.role self.old.moment (manager_of manager.old) self.old.framer →
+            Stands c self.old.purpose self.old.moment (manager_of manager.old) self.old.framer →
             Listens c (C.held conn.old) (C.held conn.new) (C.taken conn.old) (C.taken conn.new)
             (manager_of manager.new) result }
         ensures keeps { Keeps (D.view disk.old) (D.view disk.new) manager.old manager.new result }
@@ -468,7 +471,7 @@ impl Talk {
         requires nothing { self.old.framer ≡ no_bytes }
         requires room { 0 < length buffer.old }
         ensures converses { (c : Conversation) →
-            Stands c self.old.role self.old.moment (manager_of manager.old) self.old.framer →
+            Stands c self.old.purpose self.old.moment (manager_of manager.old) self.old.framer →
             Converses c (C.held conn.old) (C.held conn.new) (C.taken conn.old) (C.taken conn.new)
             (manager_of manager.new) result }
         ensures keeps { Keeps (D.view disk.old) (D.view disk.new) manager.old manager.new result }

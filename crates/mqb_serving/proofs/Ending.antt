@@ -3,10 +3,10 @@ use Rattle.std.proofs.Common.{◌≡◌, List, [], ◌++◌, Option, None, Some,
 use Rattle.std.specs.Option.{option_map}
 use Rattle.mqb_packet.specs.declared.packet.Packet.{Packet}
 use Rattle.mqb_model.specs.calls.Link.{link, unlink}
-use Rattle.mqb_model.specs.declared.answers.Role.{Role}
+use Rattle.mqb_serving.specs.declared.purpose.Purpose.{Purpose}
 use Rattle.mqb_model.specs.managers.Manager.{Manager}
 use Rattle.mqb_model.specs.managers.Outcomes.{succeeded}
-use Rattle.mqb_serving.specs.Conversations.{Conversation, End, bytes_of, closed, linked, no_bytes, opened, read_on, served}
+use Rattle.mqb_serving.specs.Conversations.{Conversation, End, bytes_of, closed, linked, no_bytes, opened, read_on, role_of, served}
 use Rattle.mqb_serving.specs.Laws.{Begins}
 use Rattle.mqb_serving.specs.declared.faults.ConnFault.{ConnFault}
 use Rattle.mqb_serving.specs.declared.faults.ConnFault.TheVariants as fault
@@ -22,10 +22,10 @@ answer_for (Ok end) = answer_of end
 answer_for (Err why) = Err why
 
 -- The manager was linked.
-pub linked_stands : (m n : Manager) (asks : Role) (now : ℕ) → n ≡ succeeded m (link m asks WINDOW) → Stands (linked m asks now) asks now n no_bytes
-linked_stands m n asks now is = record { role = refl; now = refl; manager = sym is; framing = refl; end = refl }
+pub linked_stands : (m n : Manager) (asks : Purpose) (now : ℕ) → n ≡ succeeded m (link m (role_of asks) WINDOW) → Stands (linked m asks now) asks now n no_bytes
+linked_stands m n asks now is = record { purpose = refl; now = refl; manager = sym is; framing = refl; end = refl }
 
-module _ (m : Manager) (asks : Role) (now : ℕ) where
+module _ (m : Manager) (asks : Purpose) (now : ℕ) where
   abbrev start : Conversation
   start = linked m asks now
 
@@ -112,7 +112,7 @@ same_served : (c : Conversation) (read rest : List ℕ) (e : Option End) → (re
 same_served c read rest (Some end) is all = read_then c read rest ∙ ends_last (read_on c read) end rest is
 same_served c read rest None is all = read_then c read rest ∙ ap (read_on (read_on c read)) (all is)
 
-module _ (m : Manager) (asks : Role) (now : ℕ) where
+module _ (m : Manager) (asks : Purpose) (now : ℕ) where
   all_served : (read : List ℕ) (bytes : List ℕ) (i x y : Option (List ℕ)) (n k : Manager) (end : End) (f : Finishes (linked m asks now) (read_on (opened m asks now) read) x y i n end)
       → k ≡ succeeded n (unlink n) → Some bytes ≡ option_map (λ rest. read ++ rest) i → ServesAll asks now m k bytes x y (answer_of end)
   all_served read bytes None x y n k end f left gave = absurd (let wrong : ⊥ = cc in wrong)
@@ -151,7 +151,7 @@ module _ (m : Manager) (asks : Role) (now : ℕ) where
 
 -- A manager behind a fault of its disk is not linked, and one that was unlinked neither.
 
-pub down_unlinked : (m n : Manager) (asks : Role) (now : ℕ) (h i x y : Option (List ℕ)) → Converses (linked m asks now) h i x y n (Err fault.DiskFault) → n.rest.session ≡ None
+pub down_unlinked : (m n : Manager) (asks : Purpose) (now : ℕ) (h i x y : Option (List ℕ)) → Converses (linked m asks now) h i x y n (Err fault.DiskFault) → n.rest.session ≡ None
 down_unlinked m n asks now h i x y c = ap (λ (k : Manager). k.rest.session) c.ends.left.1
 
 pub unlinked_after : (n k : Manager) → k ≡ succeeded n (unlink n) → k.rest.session ≡ None

@@ -6,7 +6,7 @@ use Rattle.mqb_packet.specs.Parts.{PacketParts, packet_of}
 use Rattle.mqb_packet.specs.declared.packet.Packet.{Packet}
 use Rattle.mqb_stream.specs.Framing.{Answer, Broken, Framing, Wants, Whole, advanced, next}
 use Rattle.mqb_model.specs.calls.hear.Hear.{hear}
-use Rattle.mqb_model.specs.declared.answers.Role.{Role}
+use Rattle.mqb_serving.specs.declared.purpose.Purpose.{Purpose}
 use Rattle.mqb_model.specs.managers.Manager.{Manager}
 use Rattle.mqb_model.specs.managers.Outcomes.{succeeded}
 use Rattle.mqb_serving.specs.Conversations.{Conversation, End, answered, count_read, ended, heard, heard_as, limited, pumped}
@@ -17,7 +17,7 @@ use Rattle.mqb_serving.specs.Serving.{hearing}
 use Rattle.mqb_serving.specs.Steps.{Goes, HearsHeld, IsHeard, Itself, LeftBy, Reaches, Stands, Stops}
 use Rattle.mqb_serving.proofs.Stopping.{gives_from, gives_none, stops_here, stops_then}
 
-module _ (c : Conversation) (asks : Role) (moment : ℕ) (m : Manager) (f : Framing) (s : Stands c asks moment m f) (a b : Option (List ℕ)) where
+module _ (c : Conversation) (asks : Purpose) (moment : ℕ) (m : Manager) (f : Framing) (s : Stands c asks moment m f) (a b : Option (List ℕ)) where
   next_is : (answer : Answer) → next f ≡ answer → answered (next c.framing) c ≡ answered answer c
   next_is answer is = ap (λ (t : Answer). answered t c) (ap next s.framing ∙ is)
 
@@ -29,7 +29,7 @@ module _ (c : Conversation) (asks : Role) (moment : ℕ) (m : Manager) (f : Fram
         gives = gives_none c c a b refl same;
         manager = s.manager ∙ sym kept;
         end = s.end;
-        stands = λ none. record { role = s.role; now = s.now; manager = s.manager ∙ sym kept; framing = s.framing ∙ sym framer; end = s.end };
+        stands = λ none. record { purpose = s.purpose; now = s.now; manager = s.manager ∙ sym kept; framing = s.framing ∙ sym framer; end = s.end };
       })
 
   -- it ends
@@ -74,7 +74,7 @@ module _ (c : Conversation) (asks : Role) (moment : ℕ) (m : Manager) (f : Fram
       pub listening_stands : (g : Framing) → g ≡ advanced f → Stands listening asks moment n g
       unfolding listening
       listening_stands g drops = record {
-        role = s.role;
+        purpose = s.purpose;
         now = s.now;
         manager = ap (λ (k : Manager). succeeded k (hear k h.packet c.now)) s.manager ∙ ap (λ (t : ℕ). succeeded m (hear m h.packet t)) s.now ∙ sym h.manager;
         framing = ap advanced s.framing ∙ sym drops;
@@ -93,7 +93,7 @@ module _ (c : Conversation) (asks : Role) (moment : ℕ) (m : Manager) (f : Fram
       unfolding listening
       listening_given = refl
 
-      pub answer_heard : (k : Manager) (g : Framing) (asks_now : Role) (moment_now : ℕ) (r : Result (Option End) ConnFault)
+      pub answer_heard : (k : Manager) (g : Framing) (asks_now : Purpose) (moment_now : ℕ) (r : Result (Option End) ConnFault)
           → Goes (Itself listening) listening (pumped MAX_PUMPS listening) a b asks_now moment_now k g r
           → Goes (HearsHeld c) c (answered (next c.framing) c) a b asks_now moment_now k g r
       answer_heard k g asks_now moment_now (Ok end) r =
@@ -115,7 +115,7 @@ module _ (c : Conversation) (asks : Role) (moment : ℕ) (m : Manager) (f : Fram
 
 -- The limit.
 
-limit_at : (c d : Conversation) (a b : Option (List ℕ)) (asks : Role) (moment : ℕ) (m : Manager) (f : Framing) (end : End) (most : Bool)
+limit_at : (c d : Conversation) (a b : Option (List ℕ)) (asks : Purpose) (moment : ℕ) (m : Manager) (f : Framing) (end : End) (most : Bool)
     → Reaches c d a b asks moment m f (Some end) → Reaches c (cond most (record d { end = option_or d.end (Some (Err fault.TooMuch)) }) d) a b asks moment m f (Some end)
 limit_at c d a b asks moment m f end true r = record {
   gives = record { packets = r.gives.packets; given = r.gives.given; took = r.gives.took };
@@ -126,16 +126,16 @@ limit_at c d a b asks moment m f end true r = record {
 limit_at c d a b asks moment m f end false r = r
 
 -- the end is the same at the limit
-pub limit_ended : (c d : Conversation) (a b : Option (List ℕ)) (asks : Role) (moment : ℕ) (m : Manager) (f : Framing) (end : End)
+pub limit_ended : (c d : Conversation) (a b : Option (List ℕ)) (asks : Purpose) (moment : ℕ) (m : Manager) (f : Framing) (end : End)
     → Reaches c d a b asks moment m f (Some end) → Reaches c (limited d) a b asks moment m f (Some end)
 limit_ended c d a b asks moment m f end r = limit_at c d a b asks moment m f end (count_read d == MAX_READ) r
 
-count_is : (c d : Conversation) (a b : Option (List ℕ)) (asks : Role) (moment : ℕ) (m : Manager) (f : Framing) (came : ℕ)
+count_is : (c d : Conversation) (a b : Option (List ℕ)) (asks : Purpose) (moment : ℕ) (m : Manager) (f : Framing) (came : ℕ)
     → Reaches c d a b asks moment m f None → came ≡ f.place + length f.held → came ≡ count_read d
 count_is c d a b asks moment m f came r is = is ∙ sym (ap (λ (g : Framing). g.place + length g.held) ((r.stands refl).framing))
 
 -- too many bytes came
-pub limit_reached : (c d : Conversation) (a b : Option (List ℕ)) (asks : Role) (moment : ℕ) (m : Manager) (f g : Framing) (came : ℕ) → came ≡ f.place + length f.held
+pub limit_reached : (c d : Conversation) (a b : Option (List ℕ)) (asks : Purpose) (moment : ℕ) (m : Manager) (f g : Framing) (came : ℕ) → came ≡ f.place + length f.held
     → (came == MAX_READ) ≡ true → Reaches c d a b asks moment m f None → Reaches c (limited d) a b asks moment m g (Some (Err fault.TooMuch))
 limit_reached c d a b asks moment m f g came is most r =
     let same : limited d ≡ record d { end = option_or d.end (Some (Err fault.TooMuch)) } =
@@ -150,7 +150,7 @@ limit_reached c d a b asks moment m f g came is most r =
     })
 
 -- or fewer
-pub limit_far : (c d : Conversation) (a b : Option (List ℕ)) (asks : Role) (moment : ℕ) (m : Manager) (f : Framing) (came : ℕ) → came ≡ f.place + length f.held
+pub limit_far : (c d : Conversation) (a b : Option (List ℕ)) (asks : Purpose) (moment : ℕ) (m : Manager) (f : Framing) (came : ℕ) → came ≡ f.place + length f.held
     → (came == MAX_READ) ≡ false → Reaches c d a b asks moment m f None → Reaches c (limited d) a b asks moment m f None
 limit_far c d a b asks moment m f came is less r =
     let same : limited d ≡ d =

@@ -4,7 +4,7 @@ use Rattle.std.proofs.lemmas.Grind.{flat_map-append}
 use Rattle.mqb_packet.specs.Plain.{plain_spelling}
 use Rattle.mqb_stream.specs.Framing.{Framing}
 use Rattle.mqb_model.specs.calls.pump.Pump.{PumpOutcome, pump}
-use Rattle.mqb_model.specs.declared.answers.Role.{Role}
+use Rattle.mqb_serving.specs.declared.purpose.Purpose.{Purpose}
 use Rattle.mqb_model.specs.declared.faults.PumpFault.{PumpFault}
 use Rattle.mqb_model.specs.managers.Manager.{Manager}
 use Rattle.mqb_model.specs.managers.Outcomes.{succeeded}
@@ -45,24 +45,24 @@ ahead_more i c d ahead some k =
     ap (λ (n : ℕ). pumped n c) e ∙ ahead (suc k) ∙ pumped_more k d some
 
 -- Where the code stands behind some of them.
-pub record Pumps (c : Conversation) (i : ℕ) (before after : Option (List ℕ)) (asks : Role) (moment : ℕ) (m : Manager) (f : Framing) : Type 0 where
+pub record Pumps (c : Conversation) (i : ℕ) (before after : Option (List ℕ)) (asks : Purpose) (moment : ℕ) (m : Manager) (f : Framing) : Type 0 where
   pub at : Conversation
   pub ahead : IsAhead i c at
   pub stands : Stands at asks moment m f
   pub gives : Gives c at before after
 
-pub pumps_none : (c : Conversation) (a : Option (List ℕ)) (asks : Role) (moment : ℕ) (m : Manager) (f : Framing) → Stands c asks moment m f → Pumps c 0 a a asks moment m f
+pub pumps_none : (c : Conversation) (a : Option (List ℕ)) (asks : Purpose) (moment : ℕ) (m : Manager) (f : Framing) → Stands c asks moment m f → Pumps c 0 a a asks moment m f
 pumps_none c a asks moment m f s = record { at = c; ahead = ahead_none c; stands = s; gives = gives_none c c a a refl refl }
 
 -- One more.
 
 -- the pump of the code is that of the conversation
-pumped_at : (d : Conversation) (asks : Role) (moment : ℕ) (m n : Manager) (f : Framing) (a b : Option (List ℕ)) (r : Result ℕ PumpFault) → Stands d asks moment m f
+pumped_at : (d : Conversation) (asks : Purpose) (moment : ℕ) (m n : Manager) (f : Framing) (a b : Option (List ℕ)) (r : Result ℕ PumpFault) → Stands d asks moment m f
     → IsPumped m moment n a b r → IsPumped d.manager d.now n a b r
 pumped_at d asks moment m n f a b r s p =
     subst (λ (k : Manager). IsPumped k d.now n a b r) (sym s.manager) (subst (λ (t : ℕ). IsPumped m t n a b r) (sym s.now) p)
 
-stopped_at : (d : Conversation) (asks : Role) (moment : ℕ) (m n : Manager) (f : Framing) (a b : Option (List ℕ)) (why : ConnFault) → Stands d asks moment m f
+stopped_at : (d : Conversation) (asks : Purpose) (moment : ℕ) (m n : Manager) (f : Framing) (a b : Option (List ℕ)) (why : ConnFault) → Stands d asks moment m f
     → PumpStops m moment n a b why → PumpStops d.manager d.now n a b why
 stopped_at d asks moment m n f a b why s p =
     subst (λ (k : Manager). PumpStops k d.now n a b why) (sym s.manager) (subst (λ (t : ℕ). PumpStops m t n a b why) (sym s.now) p)
@@ -70,7 +70,7 @@ stopped_at d asks moment m n f a b why s p =
 gave_given : (c d : Conversation) (x y z : Option (List ℕ)) (n : Manager) (r : Result ℕ PumpFault) → Gives c d x y → IsPumped d.manager d.now n y z r → Gives c (gave (next_pump d) d) x z
 gave_given c d x y z n r g p = gives_then c d (gave (next_pump d) d) x y z g (record { packets = (next_pump d).packets; given = refl; took = p.took })
 
-pub pumps_more : (c : Conversation) (i : ℕ) (x y z : Option (List ℕ)) (asks : Role) (moment : ℕ) (m n : Manager) (f : Framing) (r : Result ℕ PumpFault) (some : Bool)
+pub pumps_more : (c : Conversation) (i : ℕ) (x y z : Option (List ℕ)) (asks : Purpose) (moment : ℕ) (m n : Manager) (f : Framing) (r : Result ℕ PumpFault) (some : Bool)
     → Pumps c i x y asks moment m f → IsPumped m moment n y z r → some ≡ sent_some r → some ≡ true → Pumps c (i + 1) x z asks moment n f
 pumps_more c i x y z asks moment m n f r some s p is went =
     let d = s.at in
@@ -78,29 +78,29 @@ pumps_more c i x y z asks moment m n f r some s p is went =
     record {
       at = gave (next_pump d) d;
       ahead = ahead_more i c d s.ahead (ap sent_some (sym q.answer) ∙ sym is ∙ went);
-      stands = record { role = s.stands.role; now = s.stands.now; manager = sym q.manager; framing = s.stands.framing; end = s.stands.end };
+      stands = record { purpose = s.stands.purpose; now = s.stands.now; manager = sym q.manager; framing = s.stands.framing; end = s.stands.end };
       gives = gave_given c d x y z n r s.gives q;
     }
 
 -- They come to rest.
 
-rest_reached : (c d : Conversation) (x z : Option (List ℕ)) (asks : Role) (moment : ℕ) (m n : Manager) (f : Framing) (r : Result ℕ PumpFault) (end : Option End)
+rest_reached : (c d : Conversation) (x z : Option (List ℕ)) (asks : Purpose) (moment : ℕ) (m n : Manager) (f : Framing) (r : Result ℕ PumpFault) (end : Option End)
     → Stands d asks moment m f → r ≡ (next_pump d).answer → n ≡ succeeded d.manager (next_pump d) → Gives c (gave (next_pump d) d) x z → end ≡ end_after r asks n
     → Reaches c (at_rest (next_pump d).answer (gave (next_pump d) d)) x z asks moment n f end
 rest_reached c d x z asks moment m n f r end s answer manager gives is =
     let o = next_pump d in
-    let e : end_after o.answer d.role (succeeded d.manager o) ≡ end =
-    ap (λ (q : Result ℕ PumpFault). end_after q d.role (succeeded d.manager o)) (sym answer)
-    ∙ ap (λ (k : Manager). end_after r d.role k) (sym manager)
-    ∙ ap (λ (t : Role). end_after r t n) s.role ∙ sym is in
+    let e : end_after o.answer d.purpose (succeeded d.manager o) ≡ end =
+    ap (λ (q : Result ℕ PumpFault). end_after q d.purpose (succeeded d.manager o)) (sym answer)
+    ∙ ap (λ (k : Manager). end_after r d.purpose k) (sym manager)
+    ∙ ap (λ (t : Purpose). end_after r t n) s.purpose ∙ sym is in
     record {
       gives = record { packets = gives.packets; given = gives.given; took = gives.took };
       manager = sym manager;
       end = e;
-      stands = λ none. record { role = s.role; now = s.now; manager = sym manager; framing = s.framing; end = e ∙ none };
+      stands = λ none. record { purpose = s.purpose; now = s.now; manager = sym manager; framing = s.framing; end = e ∙ none };
     }
 
-pub pumps_rest : (most : ℕ) (c : Conversation) (i : ℕ) (x y z : Option (List ℕ)) (asks : Role) (moment : ℕ) (m n : Manager) (f : Framing) (r : Result ℕ PumpFault) (some : Bool) (end : Option End)
+pub pumps_rest : (most : ℕ) (c : Conversation) (i : ℕ) (x y z : Option (List ℕ)) (asks : Purpose) (moment : ℕ) (m n : Manager) (f : Framing) (r : Result ℕ PumpFault) (some : Bool) (end : Option End)
     → i < most → Pumps c i x y asks moment m f → IsPumped m moment n y z r → some ≡ sent_some r → some ≡ false → end ≡ end_after r asks n
     → Reaches c (pumped most c) x z asks moment n f end
 pumps_rest most c i x y z asks moment m n f r some end less s p is went ends =
@@ -114,7 +114,7 @@ pumps_rest most c i x y z asks moment m n f r some end less s p is went ends =
     (rest_reached c d x z asks moment m n f r end s.stands q.answer q.manager (gave_given c d x y z n r s.gives q) ends)
 
 -- or there were too many
-pub pumps_all : (most : ℕ) (c : Conversation) (i : ℕ) (x y : Option (List ℕ)) (asks : Role) (moment : ℕ) (m : Manager) (f : Framing) → i ≡ most → Pumps c i x y asks moment m f
+pub pumps_all : (most : ℕ) (c : Conversation) (i : ℕ) (x y : Option (List ℕ)) (asks : Purpose) (moment : ℕ) (m : Manager) (f : Framing) → i ≡ most → Pumps c i x y asks moment m f
     → Reaches c (pumped most c) x y asks moment m f None
 pumps_all most c i x y asks moment m f all s =
     let d = s.at in
@@ -125,7 +125,7 @@ pumps_all most c i x y asks moment m f all s =
 
 -- One of them stops.
 
-pub pumps_stop : (c : Conversation) (i : ℕ) (x y z : Option (List ℕ)) (asks : Role) (moment : ℕ) (m n : Manager) (f : Framing) (why : ConnFault)
+pub pumps_stop : (c : Conversation) (i : ℕ) (x y z : Option (List ℕ)) (asks : Purpose) (moment : ℕ) (m n : Manager) (f : Framing) (why : ConnFault)
     → Pumps c i x y asks moment m f → PumpStops m moment n y z why → Stops (Itself c) c x z n why
 pumps_stop c i x y z asks moment m n f why s p =
     stops_then (Itself c) (Itself c) c d x y z n why (λ from is. is) s.gives

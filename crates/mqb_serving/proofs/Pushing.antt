@@ -13,7 +13,8 @@ use Rattle.mqb_packet.specs.Plain.{IsWellFormedPacket, packet_size, plain_spelli
 use Rattle.mqb_packet.specs.Values.{IsPacket}
 use Rattle.mqb_packet.specs.declared.packet.Packet.{Packet}
 use Rattle.mqb_packet.specs.declared.packet.Packet.TheVariants as packet
-use Rattle.mqb_model.specs.declared.answers.Role.TheVariants as role
+use Rattle.mqb_serving.specs.declared.purpose.Errand.TheVariants as errand
+use Rattle.mqb_serving.specs.declared.purpose.Purpose.TheVariants as purpose
 use Rattle.mqb_model.specs.calls.Link.{unlink}
 use Rattle.mqb_model.specs.managers.Outcomes.{succeeded}
 use Rattle.mqb_model.specs.runs.Samples.{alpha, beta, ids_of}
@@ -103,10 +104,10 @@ ack_writable = record {
 }
 
 abbrev alpha_begun : Conversation
-alpha_begun = opened pushing (role.Initiator 0) 1001
+alpha_begun = opened pushing (purpose.Reach errand.Push 0) 1001
 
 abbrev beta_begun : Conversation
-beta_begun = opened receiving role.Acceptor 1003
+beta_begun = opened receiving purpose.Serve 1003
 
 -- alpha over beta's packets
 abbrev alpha_after : Conversation
@@ -117,10 +118,10 @@ abbrev beta_after : Conversation
 beta_after = fold packet_heard beta_begun from_alpha
 
 alpha_heard : read_on alpha_begun (bytes_of from_beta) ≡ alpha_after
-alpha_heard = packets_served pushing (role.Initiator 0) 1001 from_beta (establish_writable 1001 (omega arith), (parameters_writable, (ack_writable, tt))) (omega arith)
+alpha_heard = packets_served pushing (purpose.Reach errand.Push 0) 1001 from_beta (establish_writable 1001 (omega arith), (parameters_writable, (ack_writable, tt))) (omega arith)
 
 beta_heard : read_on beta_begun (bytes_of from_alpha) ≡ beta_after
-beta_heard = packets_served receiving role.Acceptor 1003 from_alpha (establish_writable 1001 (omega arith), (parameters_writable, (order_writable, (last_writable, tt)))) (omega arith)
+beta_heard = packets_served receiving purpose.Serve 1003 from_alpha (establish_writable 1001 (omega arith), (parameters_writable, (order_writable, (last_writable, tt)))) (omega arith)
 
 alpha_given : alpha_after.given ≡ from_alpha
 alpha_given = refl

@@ -5,7 +5,7 @@ use Rattle.std.specs.Prelude.{IfSome, unwrap_or}
 use Rattle.mqb_outside.specs.Told.{Gave}
 use Rattle.mqb_stream.specs.Framing.{Framing, fed, next, wants_more}
 use Rattle.mqb_stream.specs.Histories.{part_of}
-use Rattle.mqb_model.specs.declared.answers.Role.{Role}
+use Rattle.mqb_serving.specs.declared.purpose.Purpose.{Purpose}
 use Rattle.mqb_model.specs.managers.Manager.{Manager}
 use Rattle.mqb_serving.specs.Conversations.{Conversation, End, count_read, end_of_bytes, is_through, looked_at, pumped, read_on}
 use Rattle.mqb_serving.specs.Laws.{GoesOn}
@@ -21,7 +21,7 @@ use Rattle.mqb_serving.proofs.Stopping.{gives_from, gives_none, gives_then, stop
 use Rattle.mqb_serving.proofs.Taking.{gave_same, gave_then}
 
 -- One reading behind another.
-pub goes_then : (c : Conversation) (front more : List ℕ) (x y z : Option (List ℕ)) (asks asks_now : Role) (moment moment_now : ℕ) (m n : Manager) (f g : Framing) (r : Result (Option End) ConnFault)
+pub goes_then : (c : Conversation) (front more : List ℕ) (x y z : Option (List ℕ)) (asks asks_now : Purpose) (moment moment_now : ℕ) (m n : Manager) (f g : Framing) (r : Result (Option End) ConnFault)
     → Reaches c (read_on c front) x y asks moment m f None
     → Goes (Hears (read_on c front) more) (read_on c front) (read_on (read_on c front) more) y z asks_now moment_now n g r
     → Goes (Hears c (front ++ more)) c (read_on c (front ++ more)) x z asks_now moment_now n g r
@@ -38,7 +38,7 @@ goes_then c front more x y z asks asks_now moment moment_now m n f g (Err why) f
     (past_map (Hears c front) (Hears c (front ++ more)) c (read_on c front) (hears_more c front more) (read_past c front)) second
 
 -- The part of a piece that the framer takes.
-part_goes : (d : Conversation) (piece : List ℕ) (y z : Option (List ℕ)) (asks : Role) (moment : ℕ) (n : Manager) (g : Framing) (r : Result (Option End) ConnFault)
+part_goes : (d : Conversation) (piece : List ℕ) (y z : Option (List ℕ)) (asks : Purpose) (moment : ℕ) (n : Manager) (g : Framing) (r : Result (Option End) ConnFault)
     → GoesOn d → 0 < length piece → count_read d + length piece ≤ MAX_READ
     → Goes (HearsHeld (record d { framing = fed d.framing piece })) (record d { framing = fed d.framing piece }) (looked_at (record d { framing = fed d.framing piece })) y z asks moment n g r
     → Goes (Hears d (part_of d.framing piece)) d (read_on d (part_of d.framing piece)) y z asks moment n g r
@@ -56,18 +56,18 @@ part_goes d piece y z asks moment n g (Err why) on some few r =
     (stops_from (HearsHeld filled) d filled y z n why (record { manager = refl; given = refl }) r)
 
 -- Of a piece this is left, and the program stands behind the bytes before it.
-pub record Takes (c : Conversation) (piece rest : List ℕ) (before after : Option (List ℕ)) (asks : Role) (moment : ℕ) (m : Manager) (f : Framing) : Type 0 where
+pub record Takes (c : Conversation) (piece rest : List ℕ) (before after : Option (List ℕ)) (asks : Purpose) (moment : ℕ) (m : Manager) (f : Framing) : Type 0 where
   pub front : List ℕ
   pub whole : front ++ rest ≡ piece
   pub reached : Reaches c (read_on c front) before after asks moment m f None
 
-stands_reached : (c : Conversation) (a : Option (List ℕ)) (asks : Role) (moment : ℕ) (m : Manager) (f : Framing) → Stands c asks moment m f → Reaches c c a a asks moment m f None
+stands_reached : (c : Conversation) (a : Option (List ℕ)) (asks : Purpose) (moment : ℕ) (m : Manager) (f : Framing) → Stands c asks moment m f → Reaches c c a a asks moment m f None
 stands_reached c a asks moment m f s = record { gives = gives_none c c a a refl refl; manager = s.manager; end = s.end; stands = λ none. s }
 
-pub takes_none : (c : Conversation) (piece : List ℕ) (a : Option (List ℕ)) (asks : Role) (moment : ℕ) (m : Manager) (f : Framing) → Stands c asks moment m f → Takes c piece piece a a asks moment m f
+pub takes_none : (c : Conversation) (piece : List ℕ) (a : Option (List ℕ)) (asks : Purpose) (moment : ℕ) (m : Manager) (f : Framing) → Stands c asks moment m f → Takes c piece piece a a asks moment m f
 takes_none c piece a asks moment m f s = record { front = []; whole = refl; reached = stands_reached c a asks moment m f s }
 
-module _ (c : Conversation) (piece rest : List ℕ) (x y z : Option (List ℕ)) (asks asks_now : Role) (moment moment_now : ℕ) (m n : Manager) (f g : Framing) (count : ℕ)
+module _ (c : Conversation) (piece rest : List ℕ) (x y z : Option (List ℕ)) (asks asks_now : Purpose) (moment moment_now : ℕ) (m n : Manager) (f g : Framing) (count : ℕ)
     (t : Takes c piece rest x y asks moment m f) (wants : wants_more (next f) ≡ true) (some : 0 < length rest) (few : f.place + length f.held + length rest ≤ MAX_READ)
     (taken : take count rest ≡ part_of f rest) where
   d : Conversation
@@ -85,7 +85,7 @@ module _ (c : Conversation) (piece rest : List ℕ) (x y z : Option (List ℕ)) 
       let on : GoesOn (read_on c t.front) = record { end = s.end; wants = ap (λ (k : Framing). wants_more (next k)) s.framing ∙ wants } in
       let count_is : count_read (read_on c t.front) ≡ f.place + length f.held = ap (λ (k : Framing). k.place + length k.held) s.framing in
       let e = record (read_on c t.front) { framing = fed (read_on c t.front).framing rest } in
-      let stands : Stands e asks moment m (fed f rest) = record { role = s.role; now = s.now; manager = s.manager; framing = ap (λ (k : Framing). fed k rest) s.framing; end = s.end } in
+      let stands : Stands e asks moment m (fed f rest) = record { purpose = s.purpose; now = s.now; manager = s.manager; framing = ap (λ (k : Framing). fed k rest) s.framing; end = s.end } in
       let part : part_of (read_on c t.front).framing rest ≡ take count rest = ap (λ (k : Framing). part_of k rest) s.framing ∙ sym taken in
       goes_then c t.front (take count rest) x y z asks asks_now moment moment_now m n f g r t.reached
       (subst (λ (p : List ℕ). Goes (Hears (read_on c t.front) p) (read_on c t.front) (read_on (read_on c t.front) p) y z asks_now moment_now n g r) part
@@ -110,7 +110,7 @@ module _ (c : Conversation) (piece rest : List ℕ) (x y z : Option (List ℕ)) 
       stops_map (Hears c front) (Hears c piece) c x z n why
       (λ from h. subst (λ (s : List ℕ). Hears c s from) left (hears_more c front (drop count rest) from h)) (looked (Err why) look)
 
-pub takes_all : (c : Conversation) (piece rest : List ℕ) (x y : Option (List ℕ)) (asks : Role) (moment : ℕ) (m : Manager) (f : Framing) → rest ≡ [] → Takes c piece rest x y asks moment m f
+pub takes_all : (c : Conversation) (piece rest : List ℕ) (x y : Option (List ℕ)) (asks : Purpose) (moment : ℕ) (m : Manager) (f : Framing) → rest ≡ [] → Takes c piece rest x y asks moment m f
     → Reaches c (read_on c piece) x y asks moment m f None
 takes_all c piece rest x y asks moment m f none t =
     subst (λ (s : List ℕ). Reaches c (read_on c s) x y asks moment m f None)
@@ -119,17 +119,17 @@ takes_all c piece rest x y asks moment m f none t =
 -- Pieces.
 
 -- The program read this, and stands behind it.
-pub record Reads (c : Conversation) (held held_now before after : Option (List ℕ)) (asks : Role) (moment : ℕ) (m : Manager) (f : Framing) : Type 0 where
+pub record Reads (c : Conversation) (held held_now before after : Option (List ℕ)) (asks : Purpose) (moment : ℕ) (m : Manager) (f : Framing) : Type 0 where
   pub read : List ℕ
   pub gave : Gave held held_now read
   pub reached : Reaches c (read_on c read) before after asks moment m f None
 
-pub reads_none : (c : Conversation) (h a : Option (List ℕ)) (asks : Role) (moment : ℕ) (m : Manager) (f : Framing) → Stands c asks moment m f → Reads c h h a a asks moment m f
+pub reads_none : (c : Conversation) (h a : Option (List ℕ)) (asks : Purpose) (moment : ℕ) (m : Manager) (f : Framing) → Stands c asks moment m f → Reads c h h a a asks moment m f
 reads_none c h a asks moment m f s = record { read = []; gave = gave_same h h refl; reached = stands_reached c a asks moment m f s }
 
-module _ (c : Conversation) (h i j : Option (List ℕ)) (x y z : Option (List ℕ)) (asks : Role) (moment : ℕ) (m n : Manager) (f : Framing) (t : Reads c h i x y asks moment m f) where
+module _ (c : Conversation) (h i j : Option (List ℕ)) (x y z : Option (List ℕ)) (asks : Purpose) (moment : ℕ) (m n : Manager) (f : Framing) (t : Reads c h i x y asks moment m f) where
   -- a piece more
-  module _ (asks_now : Role) (moment_now : ℕ) (g : Framing) (piece : List ℕ) (gave : Gave i j piece) where
+  module _ (asks_now : Purpose) (moment_now : ℕ) (g : Framing) (piece : List ℕ) (gave : Gave i j piece) where
     piece_goes : (r : Result (Option End) ConnFault) → ((e : Conversation) → Stands e asks moment m f → Goes (Hears e piece) e (read_on e piece) y z asks_now moment_now n g r)
         → Goes (Hears c (t.read ++ piece)) c (read_on c (t.read ++ piece)) x z asks_now moment_now n g r
     piece_goes r goes = goes_then c t.read piece x y z asks asks_now moment moment_now m n f g r t.reached (goes (read_on c t.read) (t.reached.stands refl))
@@ -183,7 +183,7 @@ module _ (c : Conversation) (h i j : Option (List ℕ)) (x y z : Option (List �
 
 -- Pumping comes first.
 
-pub converses_end : (c : Conversation) (h i x y : Option (List ℕ)) (asks : Role) (moment : ℕ) (n : Manager) (f : Framing) (end : End) → Reaches c (pumped MAX_PUMPS c) x y asks moment n f (Some end)
+pub converses_end : (c : Conversation) (h i x y : Option (List ℕ)) (asks : Purpose) (moment : ℕ) (n : Manager) (f : Framing) (end : End) → Reaches c (pumped MAX_PUMPS c) x y asks moment n f (Some end)
     → i ≡ h → Converses c h i x y n (Ok end)
 converses_end c h i x y asks moment n f end r held = record {
   read = [];
@@ -212,7 +212,7 @@ listens_from c read j x y z n (Err why) g ends =
     stops_then (Hears (pumped MAX_PUMPS c) read) (StartsAt c read) c (pumped MAX_PUMPS c) x y z n why (λ from h. inr h) g
     (inr (record { from = c; pumps = MAX_PUMPS; start = inl refl; manager = refl; given = refl })) ends
 
-pub converses_on : (c : Conversation) (h i j x y z : Option (List ℕ)) (asks : Role) (moment : ℕ) (m n : Manager) (f : Framing) (r : Result End ConnFault) → Reaches c (pumped MAX_PUMPS c) x y asks moment m f None
+pub converses_on : (c : Conversation) (h i j x y z : Option (List ℕ)) (asks : Purpose) (moment : ℕ) (m n : Manager) (f : Framing) (r : Result End ConnFault) → Reaches c (pumped MAX_PUMPS c) x y asks moment m f None
     → i ≡ h → ((e : Conversation) → Stands e asks moment m f → Listens e i j y z n r) → Converses c h j x z n r
 converses_on c h i j x y z asks moment m n f r first held listens =
     let l = listens (pumped MAX_PUMPS c) (first.stands refl) in

@@ -23,16 +23,24 @@ use Rattle.mqb_model.specs.managers.Outcomes.{succeeded}
 use Rattle.mqb_model.specs.managers.Readers.{is_outstanding, phase_of}
 use Rattle.mqb_serving.specs.declared.faults.PeerFault.{PeerFault}
 use Rattle.mqb_serving.specs.declared.faults.PeerFault.TheVariants as fault
+use Rattle.mqb_serving.specs.declared.purpose.Errand.TheVariants as errand
+use Rattle.mqb_serving.specs.declared.purpose.Purpose.{Purpose}
+use Rattle.mqb_serving.specs.declared.purpose.Purpose.TheVariants as purpose
 use Rattle.mqb_serving.specs.declared.limits.TheConstants.{MAX_PUMPS, MAX_READ, WINDOW}
 
 -- how a connection ends: well, or by a fault of the peer
 abbrev pub End : Type 0
 End = Result (Unit {0}) PeerFault
 
--- What one end of a connection knows at one moment: which end the manager is and the moment of its calls, the manager, the packets that it gave, the framer of the bytes
+-- which end of a connection the manager is
+abbrev pub role_of : Purpose → Role
+role_of purpose.Serve = role.Acceptor
+role_of (purpose.Reach why peer) = role.Initiator peer
+
+-- What one end of a connection knows at one moment: what the connection is for and the moment of its calls, the manager, the packets that it gave, the framer of the bytes
 -- that came, and how the connection ended, once it has.
 pub record Conversation : Type 0 where
-  pub role : Role
+  pub purpose : Purpose
   pub now : ℕ
   pub manager : Manager
   pub given : List Packet
@@ -58,15 +66,16 @@ cause_in _ = None
 abbrev pub end_of_session : Option Phase → Option End
 end_of_session session = option_map_or (λ p. option_map (λ why. Err (fault.Closed why)) (cause_in p)) session None
 
--- a push ends as soon as it is through; who was asked goes on
-abbrev pub end_of_role : Role → Manager → Option End
-end_of_role (role.Initiator peer) m = if is_through m then Some (Ok tt) else None
-end_of_role role.Acceptor m = None
+-- a push ends as soon as it is through; the others go on
+abbrev pub end_of_purpose : Purpose → Manager → Option End
+end_of_purpose purpose.Serve m = None
+end_of_purpose (purpose.Reach errand.Push peer) m = if is_through m then Some (Ok tt) else None
+end_of_purpose (purpose.Reach errand.Fetch peer) m = None
 
 -- the end by what the last pump answered
-abbrev pub end_after : Result ℕ PumpFault → Role → Manager → Option End
+abbrev pub end_after : Result ℕ PumpFault → Purpose → Manager → Option End
 end_after (Err why) asks m = Some (Err fault.Spent)
-end_after (Ok count) asks m = option_or (end_of_session (phase_of m)) (end_of_role asks m)
+end_after (Ok count) asks m = option_or (end_of_session (phase_of m)) (end_of_purpose asks m)
 
 -- Pumping.
 
@@ -81,7 +90,7 @@ gave outcome c = record c { manager = succeeded c.manager outcome; given = c.giv
 
 -- nothing more goes
 abbrev pub at_rest : Result ℕ PumpFault → Conversation → Conversation
-at_rest answer c = record c { end = end_after answer c.role c.manager }
+at_rest answer c = record c { end = end_after answer c.purpose c.manager }
 
 -- the manager pumps until nothing goes, at most so many times
 abbrev pub pumped : ℕ → Conversation → Conversation
@@ -96,18 +105,18 @@ abbrev pub no_bytes : Framing
 no_bytes = record { limit = MAX_PACKET; room = MAX_PACKET; place = 0; held = [] }
 
 -- the manager is linked
-abbrev pub linked : Manager → Role → ℕ → Conversation
+abbrev pub linked : Manager → Purpose → ℕ → Conversation
 linked m asks now = record {
-  role = asks;
+  purpose = asks;
   now = now;
-  manager = succeeded m (link m asks WINDOW);
+  manager = succeeded m (link m (role_of asks) WINDOW);
   given = [];
   framing = no_bytes;
   end = None;
 }
 
 -- and pumps
-abbrev pub opened : Manager → Role → ℕ → Conversation
+abbrev pub opened : Manager → Purpose → ℕ → Conversation
 opened m asks now = pumped MAX_PUMPS (linked m asks now)
 
 -- it hears a packet, and pumps
@@ -178,5 +187,5 @@ closed c = record {
 }
 
 -- what a manager that is one end of a connection at this moment serves for the bytes that come
-abbrev pub served : Manager → Role → ℕ → List ℕ → Served
+abbrev pub served : Manager → Purpose → ℕ → List ℕ → Served
 served m asks now bytes = closed (read_on (opened m asks now) bytes)

@@ -8,7 +8,7 @@ use Rattle.mqb_packet.specs.declared.packet.Packet.{Packet}
 use Rattle.mqb_stream.specs.Cutting.{joined}
 use Rattle.mqb_stream.specs.Framing.{advanced, fed, next, wants_more}
 use Rattle.mqb_stream.specs.Histories.{part_of}
-use Rattle.mqb_model.specs.declared.answers.Role.{Role}
+use Rattle.mqb_serving.specs.declared.purpose.Purpose.{Purpose}
 use Rattle.mqb_model.specs.managers.Manager.{Manager}
 use Rattle.mqb_model.specs.managers.Valid.{IsValidManager}
 use Rattle.mqb_serving.specs.Conversations.{Conversation, End, bytes_of, count_read, heard, holding, looked_at, opened, pumped, read_on, served}
@@ -25,7 +25,7 @@ Begins front bytes = (rest : List ℕ) × (bytes ≡ front ++ rest)
 
 -- What is written for the first of the bytes that come begins what is written for all.
 abbrev pub PrefixesWritePrefixes : Type 0
-PrefixesWritePrefixes = (m : Manager) (asks : Role) (now : ℕ) (front more : List ℕ)
+PrefixesWritePrefixes = (m : Manager) (asks : Purpose) (now : ℕ) (front more : List ℕ)
     → Begins (served m asks now front).written (served m asks now (front ++ more)).written
 
 -- A connection that has ended is not changed by what comes.

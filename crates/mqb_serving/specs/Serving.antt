@@ -6,7 +6,7 @@ use Rattle.mqb_packet.specs.declared.packet.Packet.{Packet}
 use Rattle.mqb_stream.specs.Framing.{Whole, next}
 use Rattle.mqb_model.specs.calls.Link.{unlink}
 use Rattle.mqb_model.specs.calls.hear.Hear.{hear}
-use Rattle.mqb_model.specs.declared.answers.Role.{Role}
+use Rattle.mqb_serving.specs.declared.purpose.Purpose.{Purpose}
 use Rattle.mqb_model.specs.managers.Manager.{Manager}
 use Rattle.mqb_model.specs.managers.Outcomes.{failed_under, succeeded}
 use Rattle.mqb_model.specs.records.Record.{Record}
@@ -70,13 +70,13 @@ pub record Hears (c : Conversation) (bytes : List ℕ) (from : Conversation) : T
   pub heard : from ≡ hearing (passed (read_on c front) (byte ∷ [])) packet
 
 -- the manager was linked, or a packet was heard of the bytes that were read
-abbrev pub Starts : Manager → Role → ℕ → List ℕ → Conversation → Type 0
+abbrev pub Starts : Manager → Purpose → ℕ → List ℕ → Conversation → Type 0
 Starts m asks now read from = (from ≡ linked m asks now) ⊎ Hears (opened m asks now) read from
 
 -- What a fault leaves.
 
 -- A manager at one moment of a connection: behind so many pumps from where pumping started. What was written is a front of what it gave.
-pub record IsMoment (m : Manager) (asks : Role) (now : ℕ) (read written : List ℕ) (at : Manager) : Type 0 where
+pub record IsMoment (m : Manager) (asks : Purpose) (now : ℕ) (read written : List ℕ) (at : Manager) : Type 0 where
   pub from : Conversation
   pub pumps : ℕ
   pub starts : Starts m asks now read from
@@ -84,13 +84,13 @@ pub record IsMoment (m : Manager) (asks : Role) (now : ℕ) (read written : List
   pub begins : Begins written (bytes_of (pumped pumps from).given)
 
 -- A fault of the connection or of memory cuts it short: the manager of that moment is not linked any more.
-pub record IsCutShort (m : Manager) (asks : Role) (now : ℕ) (read written : List ℕ) (n : Manager) : Type 0 where
+pub record IsCutShort (m : Manager) (asks : Purpose) (now : ℕ) (read written : List ℕ) (n : Manager) : Type 0 where
   pub at : Manager
   pub moment : IsMoment m asks now read written at
   pub left : n ≡ succeeded at (unlink at)
 
 -- The disk fails in the next call of the manager of that moment, which is down with a record in doubt.
-pub record IsDownAfter (m : Manager) (asks : Role) (now : ℕ) (read written : List ℕ) (n : Manager) : Type 0 where
+pub record IsDownAfter (m : Manager) (asks : Purpose) (now : ℕ) (read written : List ℕ) (n : Manager) : Type 0 where
   pub at : Manager
   pub moment : IsMoment m asks now read written at
   pub doubt : Option Record
@@ -105,7 +105,7 @@ pub record IsServed (s : Served) (r : Answer) (written : List ℕ) (n : Manager)
   pub end : answer_of s.end ≡ r
 
 -- how it ends, by what is answered
-abbrev pub EndsAs : Answer → Manager → Role → ℕ → (read written : List ℕ) → Manager → Type 0
+abbrev pub EndsAs : Answer → Manager → Purpose → ℕ → (read written : List ℕ) → Manager → Type 0
 EndsAs (Ok done) m asks now read written n = IsServed (served m asks now read) (Ok done) written n
 EndsAs (Err (fault.Peer why)) m asks now read written n = IsServed (served m asks now read) (Err (fault.Peer why)) written n
 EndsAs (Err fault.ReadFault) m asks now read written n = IsCutShort m asks now read written n
@@ -114,7 +114,7 @@ EndsAs (Err fault.Memory) m asks now read written n = IsCutShort m asks now read
 EndsAs (Err fault.DiskFault) m asks now read written n = IsDownAfter m asks now read written n
 
 -- A manager serves a connection that held, and had taken, before and after: it reads what that gives and writes what that takes.
-pub record Serves (asks : Role) (now : ℕ) (m n : Manager) (held held_now taken taken_now : Option (List ℕ)) (r : Answer) : Type 0 where
+pub record Serves (asks : Purpose) (now : ℕ) (m n : Manager) (held held_now taken taken_now : Option (List ℕ)) (r : Answer) : Type 0 where
   pub read : List ℕ
   pub written : List ℕ
   pub gave : Gave held held_now read
@@ -122,13 +122,13 @@ pub record Serves (asks : Role) (now : ℕ) (m n : Manager) (held held_now taken
   pub ends : EndsAs r m asks now read written n
 
 -- What is served is what all these bytes come to, also where not all were read.
-pub record ServesAll (asks : Role) (now : ℕ) (m n : Manager) (bytes : List ℕ) (taken taken_now : Option (List ℕ)) (r : Answer) : Type 0 where
+pub record ServesAll (asks : Purpose) (now : ℕ) (m n : Manager) (bytes : List ℕ) (taken taken_now : Option (List ℕ)) (r : Answer) : Type 0 where
   pub written : List ℕ
   pub took : Took taken taken_now written
   pub served : IsServed (served m asks now bytes) r written n
 
 -- an end by the peer, or well: all that the connection held is served
-abbrev pub ServesWhole : Answer → Role → ℕ → Manager → Manager → (held taken taken_now : Option (List ℕ)) → Type 0
+abbrev pub ServesWhole : Answer → Purpose → ℕ → Manager → Manager → (held taken taken_now : Option (List ℕ)) → Type 0
 ServesWhole (Ok done) asks now m n held taken taken_now = IfSome held (λ bytes. ServesAll asks now m n bytes taken taken_now (Ok done))
 ServesWhole (Err (fault.Peer why)) asks now m n held taken taken_now =
     IfSome held (λ bytes. ServesAll asks now m n bytes taken taken_now (Err (fault.Peer why)))

@@ -8,7 +8,7 @@ use Rattle.mqb_packet.specs.declared.packet.Packet.{Packet}
 use Rattle.mqb_stream.specs.Framing.{Framing, Whole, advanced, next}
 use Rattle.mqb_model.specs.calls.hear.Hear.{hear}
 use Rattle.mqb_model.specs.calls.pump.Pump.{pump}
-use Rattle.mqb_model.specs.declared.answers.Role.{Role}
+use Rattle.mqb_serving.specs.declared.purpose.Purpose.{Purpose}
 use Rattle.mqb_model.specs.declared.faults.PumpFault.{PumpFault}
 use Rattle.mqb_model.specs.managers.Manager.{Manager}
 use Rattle.mqb_model.specs.managers.Outcomes.{failed_under, succeeded}
@@ -68,8 +68,8 @@ HearsFrame frame m moment n (Err why) = LeftBy why m n
 -- A step.
 
 -- The program stands at this conversation, which goes on.
-pub record Stands (c : Conversation) (asks : Role) (moment : ℕ) (m : Manager) (f : Framing) : Type 0 where
-  pub role : c.role ≡ asks
+pub record Stands (c : Conversation) (asks : Purpose) (moment : ℕ) (m : Manager) (f : Framing) : Type 0 where
+  pub purpose : c.purpose ≡ asks
   pub now : c.now ≡ moment
   pub manager : c.manager ≡ m
   pub framing : c.framing ≡ f
@@ -82,7 +82,7 @@ pub record Gives (c d : Conversation) (before after : Option (List ℕ)) : Type 
   pub took : Took before after (bytes_of packets)
 
 -- The program reached it, and stands there unless it ended.
-pub record Reaches (c d : Conversation) (before after : Option (List ℕ)) (asks : Role) (moment : ℕ) (m : Manager) (f : Framing) (r : Option End) : Type 0 where
+pub record Reaches (c d : Conversation) (before after : Option (List ℕ)) (asks : Purpose) (moment : ℕ) (m : Manager) (f : Framing) (r : Option End) : Type 0 where
   pub gives : Gives c d before after
   pub manager : d.manager ≡ m
   pub end : d.end ≡ r
@@ -115,7 +115,7 @@ pub record Stops (starts : Conversation → Type 0) (c : Conversation) (before a
   pub left : LeftBy why at.manager n
 
 -- a step reaches another conversation, or is stopped
-abbrev pub Goes : (Conversation → Type 0) → (c d : Conversation) → (before after : Option (List ℕ)) → Role → ℕ → Manager → Framing → Result (Option End) ConnFault → Type 0
+abbrev pub Goes : (Conversation → Type 0) → (c d : Conversation) → (before after : Option (List ℕ)) → Purpose → ℕ → Manager → Framing → Result (Option End) ConnFault → Type 0
 Goes starts c d before after asks moment m f (Ok end) = Reaches c d before after asks moment m f end
 Goes starts c d before after asks moment m f (Err why) = Stops starts c before after m why
 

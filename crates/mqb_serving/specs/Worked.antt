@@ -14,7 +14,8 @@ use Rattle.mqb_packet.specs.declared.packet.Packet.TheVariants as packet
 use Rattle.mqb_session.specs.Phases.{own_parameters}
 use Rattle.mqb_session.specs.State.{asking}
 use Rattle.mqb_model.specs.calls.hear.Session.{no_head}
-use Rattle.mqb_model.specs.declared.answers.Role.TheVariants as role
+use Rattle.mqb_serving.specs.declared.purpose.Errand.TheVariants as errand
+use Rattle.mqb_serving.specs.declared.purpose.Purpose.TheVariants as purpose
 use Rattle.mqb_model.specs.managers.Manager.{Manager}
 use Rattle.mqb_model.specs.managers.Outcomes.{succeeded}
 use Rattle.mqb_model.specs.declared.limits.TheConstants.{FIRST_EXPRESS}
@@ -37,7 +38,7 @@ parameters = packet.Parameters (own_parameters WINDOW)
 
 -- by these bytes
 abbrev pub asked : List ℕ → Served
-asked bytes = served (manager_of alpha beta) role.Acceptor 1000 bytes
+asked bytes = served (manager_of alpha beta) purpose.Serve 1000 bytes
 
 -- for a session
 abbrev pub question : List Packet
@@ -121,11 +122,11 @@ from_beta = establish alpha beta 1001 ∷ parameters ∷ order_ack ∷ []
 
 -- what alpha serves for what beta gives
 abbrev pub pushed : Served
-pushed = served pushing (role.Initiator 0) 1001 (bytes_of from_beta)
+pushed = served pushing (purpose.Reach errand.Push 0) 1001 (bytes_of from_beta)
 
 -- what beta serves for what alpha gives
 abbrev pub received : Served
-received = served receiving role.Acceptor 1003 (bytes_of from_alpha)
+received = served receiving purpose.Serve 1003 (bytes_of from_alpha)
 
 -- Each writes what the other reads, both end well, the message is in beta's queue, and alpha keeps it no more.
 pub record OneIsPushed : Type 0 where

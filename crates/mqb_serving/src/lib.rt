@@ -8,6 +8,7 @@ mod ends;
 mod faults;
 mod laws;
 mod limits;
+mod purpose;
 mod runs;
 
 pub use ends::{answers_are_no_faults, read_is_past};
@@ -17,4 +18,5 @@ pub use laws::{
     prefixes_write_prefixes, pumps_come_to_rest,
 };
 pub use limits::{MAX_PUMPS, MAX_READ, WINDOW};
+pub use purpose::{Errand, Purpose};
 pub use runs::{one_is_asked, one_is_bad, one_is_cut_off, one_is_early, one_is_pushed};

@@ -1,5 +1,5 @@
 use mqb_base::Failed;
-use mqb_disk::{Call, FileDisk, MemoryDisk, TraceDisk};
+use mqb_disk::{Call, FileDisk, MemoryDisk, OpenFault, TraceDisk};
 use mqb_outside::{Disk, Pick, Power};
 use std::alloc::{AllocError, Global};
 use std::fs;
@@ -98,13 +98,20 @@ fn a_trace_keeps_its_calls(rt: HostRuntime) -> Result<(), Fail> {
 fn a_disk_in_a_file(rt: HostRuntime) -> Result<(), Fail> {
     let path = "/tmp/mqb_stores_disk_in_a_file";
     let _gone = fs::remove_file(&rt, path);
-    assert!(rt; FileDisk::open(&rt, path).is_err());
+    assert_eq!(rt;
+        FileDisk::open(&rt, path).map(|_| ()),
+        Err(OpenFault::Failed)
+    );
     let Ok(mut disk) = FileDisk::create(&rt, path) else {
         return Err(Fail::new("no file"));
     };
     assert_eq!(rt; write(&mut disk, 0, b"abcdef").and(disk.sync()), Ok(()));
     assert_eq!(rt; cut(&mut disk, 5), Ok(()));
     assert_eq!(rt; write(&mut disk, 1, b"BC"), Ok(()));
+    let in_use = Err(OpenFault::InUse);
+    assert_eq!(rt; FileDisk::open(&rt, path).map(|_| ()), in_use);
+    assert_eq!(rt; FileDisk::create(&rt, path).map(|_| ()), in_use);
+    drop(disk);
     let Ok(mut again) = FileDisk::open(&rt, path) else {
         return Err(Fail::new("no file again"));
     };

@@ -1,5 +1,5 @@
 -- What commands that are read keep.
-use Rattle.std.proofs.Common.{◌≡◌, ℕ, ◌≤◌, IsTrue, List, [], ◌∷◌, length, Result, Ok, Err, arith}
+use Rattle.std.proofs.Common.{◌≡◌, ℕ, ◌≤◌, IsTrue, List, [], ◌∷◌, length, Option, Result, Ok, Err, refl, arith}
 use Rattle.std.specs.Result.{IfOk}
 use Rattle.std.proofs.lemmas.Result.{IfOk-at_ok}
 use Rattle.mqb_forms.specs.declared.faults.LineKind.{LineKind}
@@ -13,9 +13,9 @@ use Rattle.mqb_words.specs.declared.commands.Call.{Call}
 use Rattle.mqb_words.specs.declared.commands.Command.{Command}
 use Rattle.mqb_words.specs.declared.commands.Command.TheVariants as command
 use Rattle.mqb_words.specs.Table.{form_of}
-use Rattle.mqb_words.specs.Values.{MOST_ORDERS, MOST_CONNECTIONS, connections_of, identity_of}
+use Rattle.mqb_words.specs.Values.{MOST_ORDERS, MOST_CONNECTIONS, MOST_SECONDS, connections_of, seconds_of, address_of, address_in, either_of, wait_in, identity_of}
 use Rattle.mqb_words.specs.Calls.{peer_from, create_from, sent_with, send_from, commit_from, take_from, purge_from, tick_from, roll_from}
-use Rattle.mqb_words.specs.Words.{alone, of_store, orders_from, making, trying, init_from, calling, serve_from, push_from, command_with, command_from}
+use Rattle.mqb_words.specs.Words.{alone, of_store, orders_from, making, trying, init_from, calling, serve_from, push_from, fetch_from, command_with, command_from}
 use Rattle.mqb_words.specs.Stores.{has_store}
 use Rattle.mqb_words.specs.Formed.{IsFormedCall, IsFormed}
 
@@ -132,8 +132,35 @@ serve_good _ = tt
 
 push_good : (words : List (List ℕ)) → IfOk (push_from words) (IsGood words)
 unfolding push_from
-push_good (store ∷ host ∷ []) = then_gives (IsGood (store ∷ host ∷ [])) _ (name_of host) (λ name _. (tt, λ _. omega arith))
+push_good (store ∷ host ∷ behind) =
+    then_gives (IsGood (store ∷ host ∷ behind)) _ (name_of host)
+    (λ name _. then_gives (IsGood (store ∷ host ∷ behind)) _ (address_in behind) (λ at _. (tt, λ _. omega arith)))
 push_good _ = tt
+
+-- so many seconds are waited
+abbrev IsWait : Option (List ℕ) × ℕ → Type 0
+IsWait wait = (1 ≤ wait.1) × (wait.1 ≤ MOST_SECONDS)
+
+either_bounds : (word : List ℕ) (read : Result ℕ LineKind) → seconds_of word ≡ read → IfOk (either_of word read) IsWait
+either_bounds word (Ok seconds) is = let bounds = number_bounds 1 MOST_SECONDS seconds word is in (bounds.low, bounds.high)
+either_bounds word (Err why) is = then_gives IsWait _ (address_of word) (λ at _. (omega arith, omega arith))
+
+wait_bounds : (words : List (List ℕ)) → IfOk (wait_in words) IsWait
+unfolding wait_in
+wait_bounds [] = (omega arith, omega arith)
+wait_bounds (word ∷ []) = either_bounds word (seconds_of word) refl
+wait_bounds (address ∷ seconds ∷ []) =
+    then_gives IsWait _ (address_of address)
+    (λ at _. then_gives IsWait _ (seconds_of seconds) (λ wait is. let bounds = number_bounds 1 MOST_SECONDS wait seconds is in (bounds.low, bounds.high)))
+wait_bounds _ = tt
+
+fetch_good : (words : List (List ℕ)) → IfOk (fetch_from words) (IsGood words)
+unfolding fetch_from
+fetch_good (store ∷ host ∷ behind) =
+    then_gives (IsGood (store ∷ host ∷ behind)) _ (name_of host)
+    (λ name _. then_gives (IsGood (store ∷ host ∷ behind)) _ (wait_in behind)
+    (λ wait is. (IfOk-at_ok IsWait is (wait_bounds behind), λ _. omega arith)))
+fetch_good _ = tt
 
 command_good : (which : Form) (words : List (List ℕ)) → IfOk (command_with which words) (IsGood words)
 unfolding command_with
@@ -154,6 +181,7 @@ command_good form.List words = of_store_good command.List words tt
 command_good form.Probe words = of_store_good command.Probe words tt
 command_good form.Serve words = serve_good words
 command_good form.Push words = push_good words
+command_good form.Fetch words = fetch_good words
 command_good form.Help words = alone_good command.Help words tt (λ none. cc)
 command_good form.Version words = alone_good command.Version words tt (λ none. cc)
 

@@ -14,7 +14,8 @@ has_store (command.Call call) = true
 has_store command.List = true
 has_store command.Probe = true
 has_store (command.Serve count) = true
-has_store (command.Push host) = true
+has_store (command.Push host address) = true
+has_store (command.Fetch host address seconds) = true
 has_store command.Help = false
 has_store command.Version = false
 

@@ -8,7 +8,7 @@ use Rattle.mqb_words.specs.declared.forms.Form.TheVariants as form
 
 abbrev pub forms : List Form
 forms = form.Replay ∷ form.Make ∷ form.Trial ∷ form.Show ∷ form.Init ∷ form.Peer ∷ form.Create ∷ form.Send ∷ form.Commit ∷ form.Take ∷ form.Purge
-    ∷ form.Tick ∷ form.Roll ∷ form.List ∷ form.Probe ∷ form.Serve ∷ form.Push ∷ form.Help ∷ form.Version ∷ []
+    ∷ form.Tick ∷ form.Roll ∷ form.List ∷ form.Probe ∷ form.Serve ∷ form.Push ∷ form.Fetch ∷ form.Help ∷ form.Version ∷ []
 
 abbrev pub word_of : Form → List ℕ
 word_of form.Replay = codes "replay"
@@ -28,6 +28,7 @@ word_of form.List = codes "list"
 word_of form.Probe = codes "probe"
 word_of form.Serve = codes "serve"
 word_of form.Push = codes "push"
+word_of form.Fetch = codes "fetch"
 word_of form.Help = codes "--help"
 word_of form.Version = codes "--version"
 

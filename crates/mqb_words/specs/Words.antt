@@ -15,7 +15,7 @@ use Rattle.mqb_words.specs.declared.commands.Call.{Call}
 use Rattle.mqb_words.specs.declared.commands.Command.{Command}
 use Rattle.mqb_words.specs.declared.commands.Command.TheVariants as command
 use Rattle.mqb_words.specs.Table.{form_of}
-use Rattle.mqb_words.specs.Values.{orders_of, connections_of, identity_of}
+use Rattle.mqb_words.specs.Values.{orders_of, connections_of, identity_of, address_in, wait_in}
 use Rattle.mqb_words.specs.Calls.{peer_from, create_from, send_from, commit_from, take_from, purge_from, tick_from, roll_from}
 
 -- The words behind the first one.
@@ -63,10 +63,18 @@ serve_from (store ∷ count ∷ []) = do
 serve_from _ = Err Value
 
 unfoldable pub push_from : List (List ℕ) → Result Command LineKind
-push_from (store ∷ host ∷ []) = do
+push_from (store ∷ host ∷ words) = do
   name ← name_of host
-  Ok (command.Push name)
+  address ← address_in words
+  Ok (command.Push name address)
 push_from _ = Err Value
+
+unfoldable pub fetch_from : List (List ℕ) → Result Command LineKind
+fetch_from (store ∷ host ∷ words) = do
+  name ← name_of host
+  wait ← wait_in words
+  Ok (command.Fetch name wait.0 wait.1)
+fetch_from _ = Err Value
 
 -- by the form that the first word tells
 unfoldable pub command_with : Form → List (List ℕ) → Result Command LineKind
@@ -87,6 +95,7 @@ command_with form.List words = of_store command.List words
 command_with form.Probe words = of_store command.Probe words
 command_with form.Serve words = serve_from words
 command_with form.Push words = push_from words
+command_with form.Fetch words = fetch_from words
 command_with form.Help words = alone command.Help words
 command_with form.Version words = alone command.Version words
 

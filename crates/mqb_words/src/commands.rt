@@ -11,22 +11,39 @@ pub enum Command {
     /// `replay`
     Replay,
     /// `make N`, from 1 to 10000
-    Make { orders: u32 },
+    Make {
+        orders: u32,
+    },
     /// `trial N`, from 1 to 10000
-    Trial { orders: u32 },
+    Trial {
+        orders: u32,
+    },
     /// `show`
     Show,
     /// `init STORE HOST GUID ADDRESS`
-    Init { identity: Identity },
+    Init {
+        identity: Identity,
+    },
     Call(Call),
     /// `list STORE`
     List,
     /// `probe STORE`
     Probe,
     /// `serve STORE COUNT`, from 1 to 1000000
-    Serve { count: u32 },
-    /// `push STORE HOST`
-    Push { host: Name },
+    Serve {
+        count: u32,
+    },
+    /// `push STORE HOST [ADDRESS]`
+    Push {
+        host: Name,
+        address: Option<[u8; 4]>,
+    },
+    /// `fetch STORE HOST [ADDRESS] [SECONDS]`, from 1 to 3600, and 5 where there are none
+    Fetch {
+        host: Name,
+        address: Option<[u8; 4]>,
+        seconds: u32,
+    },
     /// `--help`
     Help,
     /// `--version`
@@ -65,7 +82,8 @@ impl Command {
             | Command::List
             | Command::Probe
             | Command::Serve { .. }
-            | Command::Push { .. } => true,
+            | Command::Push { .. }
+            | Command::Fetch { .. } => true,
             Command::Replay
             | Command::Make { .. }
             | Command::Trial { .. }

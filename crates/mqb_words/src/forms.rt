@@ -25,11 +25,12 @@ pub enum Form {
     Probe,
     Serve,
     Push,
+    Fetch,
     Help,
     Version,
 }
 
-const FORMS: [Form; 19] = [
+const FORMS: [Form; 20] = [
     Form::Replay,
     Form::Make,
     Form::Trial,
@@ -47,6 +48,7 @@ const FORMS: [Form; 19] = [
     Form::Probe,
     Form::Serve,
     Form::Push,
+    Form::Fetch,
     Form::Help,
     Form::Version,
 ];
@@ -73,6 +75,7 @@ impl Form {
             Form::Probe => b"probe",
             Form::Serve => b"serve",
             Form::Push => b"push",
+            Form::Fetch => b"fetch",
             Form::Help => b"--help",
             Form::Version => b"--version",
         }

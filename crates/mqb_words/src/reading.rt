@@ -1,7 +1,7 @@
 ghost use Rattle.std.specs.Prelude.{◌≡◌, ◌≤◌, length, map, IfOk, IsTrue};
 ghost use Rattle.std.specs.String.{string_bytes};
 ghost use Rattle.mqb_forms.specs.Faults.{Reads};
-ghost use Rattle.mqb_words.specs.Words.{alone, of_store, orders_from, init_from, serve_from, push_from, command_with, command_from, command_of, Answers};
+ghost use Rattle.mqb_words.specs.Words.{alone, of_store, orders_from, init_from, serve_from, push_from, fetch_from, command_with, command_from, command_of, Answers};
 ghost use Rattle.mqb_words.specs.Stores.{has_store};
 ghost use Rattle.mqb_words.specs.Formed.{IsFormed};
 
@@ -11,7 +11,7 @@ use crate::calls::{
 use crate::commands::{Call, Command};
 use crate::faults::WordsFault;
 use crate::forms::{Form, form_of};
-use crate::values::{connections_of, identity_of, orders_of};
+use crate::values::{address_in, connections_of, identity_of, orders_of, wait_in};
 use mqb_forms::{LineFault, LineKind, name_of};
 use std::alloc::{AllocError, Global};
 
@@ -74,11 +74,28 @@ fn serve_from(words: &[&[u8]]) -> Result<Command, LineKind>
 fn push_from(alloc: Global, words: &[&[u8]]) -> Result<Command, LineFault>
     ensures { Reads (push_from (map (λ word. word.now) words.now)) result }
 {
-    let [_store, host] = words else {
+    let [_store, host, words @ ..] = words else {
         return Err(LineFault::VALUE);
     };
     let host = name_of(alloc, host)?;
-    Ok(Command::Push { host })
+    let address = address_in(alloc, words)?;
+    Ok(Command::Push { host, address })
+}
+
+#[tactic(auto, unfolding(crate::specs::Words::fetch_from))]
+fn fetch_from(alloc: Global, words: &[&[u8]]) -> Result<Command, LineFault>
+    ensures { Reads (fetch_from (map (λ word. word.now) words.now)) result }
+{
+    let [_store, host, words @ ..] = words else {
+        return Err(LineFault::VALUE);
+    };
+    let host = name_of(alloc, host)?;
+    let (address, seconds) = wait_in(alloc, words)?;
+    Ok(Command::Fetch {
+        host,
+        address,
+        seconds,
+    })
 }
 
 /// The command of the words of a form, from those behind the first one.
@@ -108,6 +125,7 @@ fn command_with(alloc: Global, form: Form, words: &[&[u8]]) -> Result<Command, L
         Form::Probe => Ok(of_store(Command::Probe, words)?),
         Form::Serve => Ok(serve_from(words)?),
         Form::Push => push_from(alloc, words),
+        Form::Fetch => fetch_from(alloc, words),
         Form::Help => Ok(alone(Command::Help, words)?),
         Form::Version => Ok(alone(Command::Version, words)?),
     }

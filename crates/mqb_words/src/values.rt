@@ -1,6 +1,6 @@
 ghost use Rattle.std.specs.Prelude.{◌≡◌, ◌<◌, map, IfOk};
 ghost use Rattle.mqb_forms.specs.Faults.{Reads};
-ghost use Rattle.mqb_words.specs.Values.{orders_of, connections_of, octet_of, address_from, address_of, identity_of};
+ghost use Rattle.mqb_words.specs.Values.{orders_of, connections_of, seconds_of, octet_of, address_from, address_of, address_in, either_of, wait_in, identity_of};
 
 use mqb_base::Identity;
 use mqb_forms::{LineFault, LineKind, guid_of, name_of, number_in, parts};
@@ -20,6 +20,16 @@ pub(crate) fn connections_of(word: &[u8]) -> Result<u32, LineKind>
     ensures { result ≡ connections_of word.now }
 {
     number_in(1, MAX_CONNECTIONS, word)
+}
+
+const SECONDS: u32 = 5;
+
+const MAX_SECONDS: u32 = 3600;
+
+fn seconds_of(word: &[u8]) -> Result<u32, LineKind>
+    ensures { result ≡ seconds_of word.now }
+{
+    number_in(1, MAX_SECONDS, word)
 }
 
 fn octet_of(word: &[u8]) -> Result<u8, LineKind>
@@ -45,6 +55,44 @@ fn address_of(alloc: Global, word: &[u8]) -> Result<[u8; 4], LineFault>
 {
     let octets = parts(alloc, word, b'.')?;
     Ok(address_from(octets.as_slice())?)
+}
+
+/// The address that the words are, or none.
+#[tactic(auto, unfolding(crate::specs::Values::address_in))]
+pub(crate) fn address_in(alloc: Global, words: &[&[u8]]) -> Result<Option<[u8; 4]>, LineFault>
+    ensures { Reads (address_in (map (λ word. word.now) words.now)) result }
+{
+    match words {
+        [] => Ok(None),
+        [address] => Ok(Some(address_of(alloc, address)?)),
+        _ => Err(LineFault::VALUE),
+    }
+}
+
+/// The address and the seconds that the words are, where they are there.
+#[tactic(auto, unfolding(crate::specs::Values::wait_in))]
+pub(crate) fn wait_in(alloc: Global, words: &[&[u8]]) -> Result<(Option<[u8; 4]>, u32), LineFault>
+    ensures { Reads (wait_in (map (λ word. word.now) words.now)) result }
+{
+    match words {
+        [] => Ok((None, SECONDS)),
+        [word] => either_of(alloc, word),
+        [address, seconds] => {
+            let address = address_of(alloc, address)?;
+            Ok((Some(address), seconds_of(seconds)?))
+        }
+        _ => Err(LineFault::VALUE),
+    }
+}
+
+/// A word that is seconds, or else an address.
+fn either_of(alloc: Global, word: &[u8]) -> Result<(Option<[u8; 4]>, u32), LineFault>
+    ensures { Reads (either_of word.now (seconds_of word.now)) result }
+{
+    match seconds_of(word) {
+        Ok(seconds) => Ok((None, seconds)),
+        Err(_) => Ok((Some(address_of(alloc, word)?), SECONDS)),
+    }
 }
 
 /// The manager that a host, a GUID and an address tell.

@@ -1,6 +1,6 @@
 use Rattle.std.proofs.Common.{refl, sym, subst}
 use Rattle.std.specs.Prelude.{Some}
-use Rattle.mqb.proofs.Completing.{call_completes, help_completes, init_completes, list_completes, make_completes, of_command, probe_completes, push_completes, replay_completes, serve_completes, show_completes, trial_completes, version_completes}
+use Rattle.mqb.proofs.Completing.{call_completes, fetch_completes, help_completes, init_completes, list_completes, make_completes, of_command, probe_completes, push_completes, replay_completes, serve_completes, show_completes, trial_completes, version_completes}
 use Rattle.mqb.proofs.DiskFaults.{none_disk, store_disk}
 use Rattle.mqb.proofs.Quiet.{probe_net, probe_usage, shows_disk, told_disk}
 use Rattle.mqb.proofs.Replaying.{replay_disk, replay_does, replay_net, replay_read, replay_usage, replay_write, trial_disk, trial_does, trial_read}
@@ -24,8 +24,13 @@ returns-in-Serve-clause-net_fault g c =
 
 pub returns-in-Push-clause-net_fault : goal.returns-in-Push-clause-net_fault
 returns-in-Push-clause-net_fault g c =
-    subst (λ (asked : Command). NetFaultHasCause (NetCause (Some asked) (g.N.Net.faults c.args.net.now) (g.N.Net.faults c.push.new.net)
-    (g.N.Net.lost c.args.net.now) (g.N.Net.lost c.push.new.net)) c.push.result) (sym c.in-Push.is) c.push.ensures.net_faults
+    subst (λ (asked : Command). NetFaultHasCause (NetCause (Some asked) (g.N.Net.faults c.args.net.now) (g.N.Net.faults c.reach.new.net)
+    (g.N.Net.lost c.args.net.now) (g.N.Net.lost c.reach.new.net)) c.reach.result) (sym c.in-Push.is) c.reach.ensures.net_faults
+
+pub returns-in-Fetch-clause-net_fault : goal.returns-in-Fetch-clause-net_fault
+returns-in-Fetch-clause-net_fault g c =
+    subst (λ (asked : Command). NetFaultHasCause (NetCause (Some asked) (g.N.Net.faults c.args.net.now) (g.N.Net.faults c.reach-in-Fetch.new.net)
+    (g.N.Net.lost c.args.net.now) (g.N.Net.lost c.reach-in-Fetch.new.net)) c.reach-in-Fetch.result) (sym c.in-Fetch.is) c.reach-in-Fetch.ensures.net_faults
 
 pub returns-in-Replay-clause-complete : goal.returns-in-Replay-clause-complete
 returns-in-Replay-clause-complete g c =
@@ -156,16 +161,30 @@ returns-in-Serve-clause-complete g c =
 pub returns-in-Push-clause-complete : goal.returns-in-Push-clause-complete
 returns-in-Push-clause-complete g c =
     let d = g.D.Disk.view c.args.disk.now in
-    let e = g.D.Disk.view c.push.new.disk in
+    let e = g.D.Disk.view c.reach.new.disk in
     let b = devices (g.M.Medium.strings c.args.medium.now) (g.P.Disk.view c.args.first.now) (g.P.Disk.view c.args.second.now) in
     let held = g.S.Source.held c.args.input.now in
-    of_command c.args.asked.now (command.Push c.in-Push.host) d b held
+    of_command c.args.asked.now (command.Push c.in-Push.host c.in-Push.address) d b held
     (record { input = g.S.Source.read_faults c.args.input.now; output = g.K.Sink.write_faults c.args.out.now; disk = (g.D.Disk.view c.args.disk.now).faults; net = g.N.Net.faults c.args.net.now; lost = g.N.Net.lost c.args.net.now })
-    (record { input = g.S.Source.read_faults c.args.input.now; output = g.K.Sink.write_faults c.push.new.out; disk = (g.D.Disk.view c.push.new.disk).faults; net = g.N.Net.faults c.push.new.net; lost = g.N.Net.lost c.push.new.net })
-    c.push.result c.in-Push.is
+    (record { input = g.S.Source.read_faults c.args.input.now; output = g.K.Sink.write_faults c.reach.new.out; disk = (g.D.Disk.view c.reach.new.disk).faults; net = g.N.Net.faults c.reach.new.net; lost = g.N.Net.lost c.reach.new.net })
+    c.reach.result c.in-Push.is
     (push_completes d e b held (g.S.Source.read_faults c.args.input.now) (g.S.Source.read_faults c.args.input.now)
-    (g.K.Sink.write_faults c.args.out.now) (g.K.Sink.write_faults c.push.new.out) (g.N.Net.faults c.args.net.now) (g.N.Net.faults c.push.new.net)
-    (g.N.Net.lost c.args.net.now) (g.N.Net.lost c.push.new.net) c.push.result c.in-Push.host (g.N.Net.finished c.args.net.now) (g.N.Net.finished c.push.new.net) c.push.ensures.complete)
+    (g.K.Sink.write_faults c.args.out.now) (g.K.Sink.write_faults c.reach.new.out) (g.N.Net.faults c.args.net.now) (g.N.Net.faults c.reach.new.net)
+    (g.N.Net.lost c.args.net.now) (g.N.Net.lost c.reach.new.net) c.reach.result c.in-Push.host c.in-Push.address (g.N.Net.finished c.args.net.now) (g.N.Net.finished c.reach.new.net) c.reach.ensures.complete)
+
+pub returns-in-Fetch-clause-complete : goal.returns-in-Fetch-clause-complete
+returns-in-Fetch-clause-complete g c =
+    let d = g.D.Disk.view c.args.disk.now in
+    let e = g.D.Disk.view c.reach-in-Fetch.new.disk in
+    let b = devices (g.M.Medium.strings c.args.medium.now) (g.P.Disk.view c.args.first.now) (g.P.Disk.view c.args.second.now) in
+    let held = g.S.Source.held c.args.input.now in
+    of_command c.args.asked.now (command.Fetch c.in-Fetch.host c.in-Fetch.address _) d b held
+    (record { input = g.S.Source.read_faults c.args.input.now; output = g.K.Sink.write_faults c.args.out.now; disk = (g.D.Disk.view c.args.disk.now).faults; net = g.N.Net.faults c.args.net.now; lost = g.N.Net.lost c.args.net.now })
+    (record { input = g.S.Source.read_faults c.args.input.now; output = g.K.Sink.write_faults c.reach-in-Fetch.new.out; disk = (g.D.Disk.view c.reach-in-Fetch.new.disk).faults; net = g.N.Net.faults c.reach-in-Fetch.new.net; lost = g.N.Net.lost c.reach-in-Fetch.new.net })
+    c.reach-in-Fetch.result c.in-Fetch.is
+    (fetch_completes d e b held (g.S.Source.read_faults c.args.input.now) (g.S.Source.read_faults c.args.input.now)
+    (g.K.Sink.write_faults c.args.out.now) (g.K.Sink.write_faults c.reach-in-Fetch.new.out) (g.N.Net.faults c.args.net.now) (g.N.Net.faults c.reach-in-Fetch.new.net)
+    (g.N.Net.lost c.args.net.now) (g.N.Net.lost c.reach-in-Fetch.new.net) c.reach-in-Fetch.result c.in-Fetch.host c.in-Fetch.address _ (g.N.Net.finished c.args.net.now) (g.N.Net.finished c.reach-in-Fetch.new.net) c.reach-in-Fetch.ensures.complete)
 
 pub returns-in-Help-clause-complete : goal.returns-in-Help-clause-complete
 returns-in-Help-clause-complete g c =
@@ -267,7 +286,11 @@ returns-in-Serve-clause-disk_fault g c =
 
 pub returns-in-Push-clause-disk_fault : goal.returns-in-Push-clause-disk_fault
 returns-in-Push-clause-disk_fault g c =
-    store_disk c.args.asked.now (command.Push c.in-Push.host) (g.D.Disk.view c.args.disk.now).faults (g.D.Disk.view c.push.new.disk).faults _ _ c.push.result c.in-Push.is refl c.push.ensures.disk_faults
+    store_disk c.args.asked.now (command.Push c.in-Push.host c.in-Push.address) (g.D.Disk.view c.args.disk.now).faults (g.D.Disk.view c.reach.new.disk).faults _ _ c.reach.result c.in-Push.is refl c.reach.ensures.disk_faults
+
+pub returns-in-Fetch-clause-disk_fault : goal.returns-in-Fetch-clause-disk_fault
+returns-in-Fetch-clause-disk_fault g c =
+    store_disk c.args.asked.now (command.Fetch c.in-Fetch.host c.in-Fetch.address _) (g.D.Disk.view c.args.disk.now).faults (g.D.Disk.view c.reach-in-Fetch.new.disk).faults _ _ c.reach-in-Fetch.result c.in-Fetch.is refl c.reach-in-Fetch.ensures.disk_faults
 
 pub returns-in-Help-clause-disk_fault : goal.returns-in-Help-clause-disk_fault
 returns-in-Help-clause-disk_fault g c = told_disk _ _ _ _ _ c.tell.result c.tell.ensures.told tt

@@ -6,9 +6,6 @@ serve_one-requires-clause-up g c = c.requires.up
 pub serve_one-requires-clause-on : goal.serve_one-requires-clause-on
 serve_one-requires-clause-on g c = c.requires.on
 
-pub serve_one-requires-clause-unlinked : goal.serve_one-requires-clause-unlinked
-serve_one-requires-clause-unlinked g c = c.requires.unlinked
-
 pub returns-clause-up : goal.returns-clause-up
 returns-clause-up g c = c.serve_one.ensures.up
 

@@ -1,7 +1,7 @@
 use Rattle.std.proofs.Common.{◌≡◌, List, [], ◌∷◌, ◌++◌, Option, refl, subst, ◌∙◌}
 use Rattle.std.specs.Option.{option_map}
 use Rattle.mqb_outside.specs.Net.{Ended}
-use Rattle.mqb_model.specs.declared.answers.Role.TheVariants as role
+use Rattle.mqb_serving.specs.declared.purpose.Purpose.TheVariants as purpose
 use Rattle.mqb_connections.specs.Visits.{Visit}
 use Rattle.mqb_connections.proofs.Asking.{rose_once}
 use Rattle.mqb_connections.proofs.Ends.{given_back, taken_back}
@@ -38,7 +38,7 @@ returns-clause-next g c =
     } in
     record {
       visit = visit;
-      is = is_visit role.Acceptor (g.C.Clock.steady c.args.clock.now) c.args.manager.now visit (g.N.C.Source.held conn) (g.N.C.Sink.taken conn)
+      is = is_visit purpose.Serve (g.C.Clock.steady c.args.clock.now) c.args.manager.now visit (g.N.C.Source.held conn) (g.N.C.Sink.taken conn)
           (g.N.C.Source.read_faults conn) (g.N.C.Sink.write_faults conn)
           c.now-now.ensures.moment c.in_ok-conn.ensures.taken (c.serve_one-end.ensures.given ∙ c.in_ok-conn.ensures.given)
           c.in_ok-conn.ensures.faultless.0 c.in_ok-conn.ensures.faultless.1

@@ -44,4 +44,4 @@ returns-clause-converses g c = λ k s.
     let t = c.in_ok-talk.talk in
     let e = c.in_ok-talk.ensures in
     c.converse.ensures.converses k
-    (stands_at k c.args.role t.role c.args.now t.moment (manager_of c.args.manager.now) no_bytes t.framer e.role e.moment e.framer s)
+    (stands_at k c.args.purpose t.purpose c.args.now t.moment (manager_of c.args.manager.now) no_bytes t.framer e.purpose e.moment e.framer s)

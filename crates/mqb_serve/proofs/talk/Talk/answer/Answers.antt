@@ -19,8 +19,8 @@ returns-in_err-heard-in-Packet-clause-goes g c = λ k s.
     let a = c.args.self.now in
     let n = manager_of c.hear_frame.new.manager in
     let p = err_from_is_err_and c.from_residual.result c.from_residual.ensures.1 in
-    subst (λ (r : Result (Option End) ConnFault). Goes (HearsHeld k) k (answered (next k.framing) k) x x a.role a.moment n a.framer r) (sym (p.1 ∙ ap Err p.2))
-    (answer_stopped k a.role a.moment (manager_of c.args.manager.now) a.framer s x x n c.in_err-heard-in-Packet.field-0.0 c.in_err-heard-in-Packet.ensures.hears refl)
+    subst (λ (r : Result (Option End) ConnFault). Goes (HearsHeld k) k (answered (next k.framing) k) x x a.purpose a.moment n a.framer r) (sym (p.1 ∙ ap Err p.2))
+    (answer_stopped k a.purpose a.moment (manager_of c.args.manager.now) a.framer s x x n c.in_err-heard-in-Packet.field-0.0 c.in_err-heard-in-Packet.ensures.hears refl)
 
 pub returns-in_err-heard-in-Packet-clause-write_faults : goal.returns-in_err-heard-in-Packet-clause-write_faults
 returns-in_err-heard-in-Packet-clause-write_faults g c =
@@ -41,9 +41,9 @@ returns-in-Ok-clause-goes g c = λ k s.
     let h : IsHeard frame m a.moment n =
     subst (λ (r : Result (Unit {0}) HeadFault). HearsFrame frame m a.moment n (Ok r)) c.in-Ok.is c.in_ok-heard-in-Packet.ensures.hears in
     let t = c.pump_to_rest.new.self in
-    answer_heard k a.role a.moment m a.framer s x y frame is n h (manager_of c.pump_to_rest.new.manager) t.framer t.role t.moment c.pump_to_rest.result
-    (c.pump_to_rest.ensures.goes (listening k a.role a.moment m a.framer s x y frame is n h)
-    (listening_stands k a.role a.moment m a.framer s x y frame is n h c.advance.new.self c.advance.ensures))
+    answer_heard k a.purpose a.moment m a.framer s x y frame is n h (manager_of c.pump_to_rest.new.manager) t.framer t.purpose t.moment c.pump_to_rest.result
+    (c.pump_to_rest.ensures.goes (listening k a.purpose a.moment m a.framer s x y frame is n h)
+    (listening_stands k a.purpose a.moment m a.framer s x y frame is n h c.advance.new.self c.advance.ensures))
 
 pub returns-in-Ok-clause-wants : goal.returns-in-Ok-clause-wants
 returns-in-Ok-clause-wants g c = λ none.

@@ -38,8 +38,8 @@ returns-in-Some-clause-converses g c = λ k s.
     let t = c.pump_to_rest.new.self in
     let n = manager_of c.pump_to_rest.new.manager in
     let e = c.in_ok-ended.ensures in
-    converses_end k h i x y t.role t.moment n t.framer c.in-Some.end
-    (subst (λ (q : Option End). Reaches k (pumped MAX_PUMPS k) x y t.role t.moment n t.framer q) c.in-Some.is (e.goes k s)) e.held
+    converses_end k h i x y t.purpose t.moment n t.framer c.in-Some.end
+    (subst (λ (q : Option End). Reaches k (pumped MAX_PUMPS k) x y t.purpose t.moment n t.framer q) c.in-Some.is (e.goes k s)) e.held
 
 pub returns-in-None-clause-converses : goal.returns-in-None-clause-converses
 returns-in-None-clause-converses g c = λ k s.
@@ -53,8 +53,8 @@ returns-in-None-clause-converses g c = λ k s.
     let m = manager_of c.pump_to_rest.new.manager in
     let n = manager_of c.listen.new.manager in
     let e = c.in_ok-ended.ensures in
-    converses_on k h i j x y z t.role t.moment m n t.framer c.listen.result
-    (subst (λ (q : Option End). Reaches k (pumped MAX_PUMPS k) x y t.role t.moment m t.framer q) c.in-None.is (e.goes k s)) e.held (λ d f. c.listen.ensures.listens d f)
+    converses_on k h i j x y z t.purpose t.moment m n t.framer c.listen.result
+    (subst (λ (q : Option End). Reaches k (pumped MAX_PUMPS k) x y t.purpose t.moment m t.framer q) c.in-None.is (e.goes k s)) e.held (λ d f. c.listen.ensures.listens d f)
 
 pub returns-in-None-clause-keeps : goal.returns-in-None-clause-keeps
 returns-in-None-clause-keeps g c =

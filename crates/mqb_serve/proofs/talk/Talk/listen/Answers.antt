@@ -23,7 +23,7 @@ returns-in_err-count-clause-listens g c = λ k s.
     let e = c.in_err-count.ensures in
     let p = err_from_is_err_and c.from_residual.result c.from_residual.ensures.1 in
     subst (λ (r : Result End ConnFault). Listens k h j x z m r) (sym (p.1 ∙ ap Err p.2 ∙ ap Err e.fault))
-    (reads_fault k h i j x y z a.role a.moment m m a.framer (c.pieces.invariant.reads k s) e.stays e.taken refl)
+    (reads_fault k h i j x y z a.purpose a.moment m m a.framer (c.pieces.invariant.reads k s) e.stays e.taken refl)
 
 pub returns-then-count-eq0-clause-listens : goal.returns-then-count-eq0-clause-listens
 returns-then-count-eq0-clause-listens g c = λ k s.
@@ -36,7 +36,7 @@ returns-then-count-eq0-clause-listens g c = λ k s.
     let a = c.pieces.self in
     let m = manager_of c.pieces.manager in
     let e = c.in_ok-count.ensures in
-    reads_out k h i j x y z a.role a.moment m m a.framer (c.pieces.invariant.reads k s) c.end_of_bytes.result (take c.in_ok-count.count c.read.new.buffer) e.gave
+    reads_out k h i j x y z a.purpose a.moment m m a.framer (c.pieces.invariant.reads k s) c.end_of_bytes.result (take c.in_ok-count.count c.read.new.buffer) e.gave
     (ap (λ (n : ℕ). take n c.read.new.buffer) c.if-count-eq0.true) (e.ended c.if-count-eq0.true) e.taken refl c.end_of_bytes.ensures
 
 pub returns-in_err-ended-clause-listens : goal.returns-in_err-ended-clause-listens
@@ -55,11 +55,11 @@ returns-in_err-ended-clause-listens g c = λ k s.
     let w = c.in_err-ended.ensures in
     let piece : List ℕ = take c.in_ok-count.count c.read.new.buffer in
     let p = err_from_is_err_and c.from_residual-in_err-ended.result c.from_residual-in_err-ended.ensures.1 in
-    let reads : Reads k h i x y a.role a.moment m a.framer =
-    subst (λ (o : Option (List ℕ)). Reads k h i x o a.role a.moment m a.framer) (sym e.taken) (c.pieces.invariant.reads k s) in
+    let reads : Reads k h i x y a.purpose a.moment m a.framer =
+    subst (λ (o : Option (List ℕ)). Reads k h i x o a.purpose a.moment m a.framer) (sym e.taken) (c.pieces.invariant.reads k s) in
     let gave : Gave i j piece = subst (λ (o : Option (List ℕ)). Gave i o piece) (sym w.held) e.gave in
     subst (λ (r : Result End ConnFault). Listens k h j x z n r) (sym (p.1 ∙ ap Err p.2))
-    (reads_stop k h i j x y z a.role a.moment m n a.framer reads t.role t.moment t.framer piece gave c.in_err-ended.field-0.0 (λ d f. w.goes d f))
+    (reads_stop k h i j x y z a.purpose a.moment m n a.framer reads t.purpose t.moment t.framer piece gave c.in_err-ended.field-0.0 (λ d f. w.goes d f))
 
 pub returns-in-Some-clause-listens : goal.returns-in-Some-clause-listens
 returns-in-Some-clause-listens g c = λ k s.
@@ -76,11 +76,11 @@ returns-in-Some-clause-listens g c = λ k s.
     let e = c.in_ok-count.ensures in
     let w = c.in_ok-ended.ensures in
     let piece : List ℕ = take c.in_ok-count.count c.read.new.buffer in
-    let reads : Reads k h i x y a.role a.moment m a.framer =
-    subst (λ (o : Option (List ℕ)). Reads k h i x o a.role a.moment m a.framer) (sym e.taken) (c.pieces.invariant.reads k s) in
+    let reads : Reads k h i x y a.purpose a.moment m a.framer =
+    subst (λ (o : Option (List ℕ)). Reads k h i x o a.purpose a.moment m a.framer) (sym e.taken) (c.pieces.invariant.reads k s) in
     let gave : Gave i j piece = subst (λ (o : Option (List ℕ)). Gave i o piece) (sym w.held) e.gave in
-    reads_end k h i j x y z a.role a.moment m n a.framer reads t.role t.moment t.framer piece gave c.in-Some.end
-    (λ d f. subst (λ (q : Option End). Goes (Hears d piece) d (read_on d piece) y z t.role t.moment n t.framer (Ok q)) c.in-Some.is (w.goes d f))
+    reads_end k h i j x y z a.purpose a.moment m n a.framer reads t.purpose t.moment t.framer piece gave c.in-Some.end
+    (λ d f. subst (λ (q : Option End). Goes (Hears d piece) d (read_on d piece) y z t.purpose t.moment n t.framer (Ok q)) c.in-Some.is (w.goes d f))
 
 pub pieces-preserved : goal.pieces-preserved
 pieces-preserved g c =
@@ -102,10 +102,10 @@ pieces-preserved g c =
     let gave : Gave i j piece = subst (λ (o : Option (List ℕ)). Gave i o piece) (sym w.held) e.gave in
     record {
       reads = λ k s.
-          let reads : Reads k h i x y a.role a.moment m a.framer =
-          subst (λ (o : Option (List ℕ)). Reads k h i x o a.role a.moment m a.framer) (sym e.taken) (v.reads k s) in
-          reads_more k h i j x y z a.role a.moment m n a.framer reads t.role t.moment t.framer piece gave
-          (λ d f. subst (λ (q : Option End). Goes (Hears d piece) d (read_on d piece) y z t.role t.moment n t.framer (Ok q)) c.in_default.is (w.goes d f));
+          let reads : Reads k h i x y a.purpose a.moment m a.framer =
+          subst (λ (o : Option (List ℕ)). Reads k h i x o a.purpose a.moment m a.framer) (sym e.taken) (v.reads k s) in
+          reads_more k h i j x y z a.purpose a.moment m n a.framer reads t.purpose t.moment t.framer piece gave
+          (λ d f. subst (λ (q : Option End). Goes (Hears d piece) d (read_on d piece) y z t.purpose t.moment n t.framer (Ok q)) c.in_default.is (w.goes d f));
       keeps = keeps_ok (view c.args.disk.now) (view c.take_piece.new.disk) c.args.manager.now c.take_piece.new.manager c.in_ok-ended.ended 0
           (keeps_then (view c.args.disk.now) (view c.pieces.disk) (view c.take_piece.new.disk) c.args.manager.now c.pieces.manager c.take_piece.new.manager 0 (Ok c.in_ok-ended.ended) v.keeps w.keeps);
       wants = w.wants (ap Ok c.in_default.is);

@@ -10,8 +10,8 @@ use Rattle.mqb_serve.proofs.talk.Talk.listen.Given as goal
 
 abbrev pub invariant-pieces : goal.invariant-pieces
 invariant-pieces g l = record {
-  reads : (c : Conversation) → Stands c l.fn.self.role l.fn.self.moment (manager_of l.fn.manager) l.fn.self.framer
-      → Reads c (g.C.Source.held l.fn.conn) (g.C.Source.held l.conn) (g.C.Sink.taken l.fn.conn) (g.C.Sink.taken l.conn) l.self.role l.self.moment (manager_of l.manager) l.self.framer;
+  reads : (c : Conversation) → Stands c l.fn.self.purpose l.fn.self.moment (manager_of l.fn.manager) l.fn.self.framer
+      → Reads c (g.C.Source.held l.fn.conn) (g.C.Source.held l.conn) (g.C.Sink.taken l.fn.conn) (g.C.Sink.taken l.conn) l.self.purpose l.self.moment (manager_of l.manager) l.self.framer;
   keeps : Keeps {T = ℕ} (g.D.Disk.view l.fn.disk) (g.D.Disk.view l.disk) l.fn.manager l.manager (Ok 0);
   wants : wants_more (next l.self.framer) ≡ true;
   less : l.self.came < MAX_READ;

@@ -17,7 +17,7 @@ returns-in_err-ended-clause-goes g c = λ k s.
     let t = c.answer.new.self in
     let n = manager_of c.answer.new.manager in
     let p = err_from_is_err_and c.from_residual.result c.from_residual.ensures.1 in
-    subst (λ (r : Result (Option End) ConnFault). Goes (HearsHeld k) k (looked_at k) x y t.role t.moment n t.framer r) (sym (p.1 ∙ ap Err p.2))
+    subst (λ (r : Result (Option End) ConnFault). Goes (HearsHeld k) k (looked_at k) x y t.purpose t.moment n t.framer r) (sym (p.1 ∙ ap Err p.2))
     (c.in_err-ended.ensures.goes k s)
 
 pub returns-in-Some-clause-goes : goal.returns-in-Some-clause-goes
@@ -26,8 +26,8 @@ returns-in-Some-clause-goes g c = λ k s.
     let y = g.C.Sink.taken c.answer.new.conn in
     let t = c.answer.new.self in
     let n = manager_of c.answer.new.manager in
-    limit_ended k (answered (next k.framing) k) x y t.role t.moment n t.framer c.in-Some.end
-    (subst (λ (e : Option End). Reaches k (answered (next k.framing) k) x y t.role t.moment n t.framer e) c.in-Some.is (c.in_ok-ended.ensures.goes k s))
+    limit_ended k (answered (next k.framing) k) x y t.purpose t.moment n t.framer c.in-Some.end
+    (subst (λ (e : Option End). Reaches k (answered (next k.framing) k) x y t.purpose t.moment n t.framer e) c.in-Some.is (c.in_ok-ended.ensures.goes k s))
 
 pub returns-then-self-eq-MAX_READ-clause-goes : goal.returns-then-self-eq-MAX_READ-clause-goes
 returns-then-self-eq-MAX_READ-clause-goes g c = λ k s.
@@ -35,8 +35,8 @@ returns-then-self-eq-MAX_READ-clause-goes g c = λ k s.
     let y = g.C.Sink.taken c.answer.new.conn in
     let t = c.answer.new.self in
     let n = manager_of c.answer.new.manager in
-    limit_reached k (answered (next k.framing) k) x y t.role t.moment n t.framer t.framer t.came t.count (ap (λ (j : ℕ). j == MAX_READ) c.if-self-eq-MAX_READ.true)
-    (subst (λ (e : Option End). Reaches k (answered (next k.framing) k) x y t.role t.moment n t.framer e) c.in_default.is (c.in_ok-ended.ensures.goes k s))
+    limit_reached k (answered (next k.framing) k) x y t.purpose t.moment n t.framer t.framer t.came t.count (ap (λ (j : ℕ). j == MAX_READ) c.if-self-eq-MAX_READ.true)
+    (subst (λ (e : Option End). Reaches k (answered (next k.framing) k) x y t.purpose t.moment n t.framer e) c.in_default.is (c.in_ok-ended.ensures.goes k s))
 
 pub returns-clause-goes : goal.returns-clause-goes
 returns-clause-goes g c = λ k s.
@@ -44,5 +44,5 @@ returns-clause-goes g c = λ k s.
     let y = g.C.Sink.taken c.answer.new.conn in
     let t = c.answer.new.self in
     let n = manager_of c.answer.new.manager in
-    limit_far k (answered (next k.framing) k) x y t.role t.moment n t.framer t.came t.count (ne_eqb t.came MAX_READ c.if-self-eq-MAX_READ.false)
-    (subst (λ (e : Option End). Reaches k (answered (next k.framing) k) x y t.role t.moment n t.framer e) c.in_default.is (c.in_ok-ended.ensures.goes k s))
+    limit_far k (answered (next k.framing) k) x y t.purpose t.moment n t.framer t.came t.count (ne_eqb t.came MAX_READ c.if-self-eq-MAX_READ.false)
+    (subst (λ (e : Option End). Reaches k (answered (next k.framing) k) x y t.purpose t.moment n t.framer e) c.in_default.is (c.in_ok-ended.ensures.goes k s))

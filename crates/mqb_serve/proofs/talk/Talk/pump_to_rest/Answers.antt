@@ -16,9 +16,9 @@ returns-in_err-answer-clause-goes g c = λ k s.
     let t = c.pump_once.new.self in
     let i = c.loop-pump.invariant in
     let p = err_from_is_err_and c.from_residual.result c.from_residual.ensures.1 in
-    subst (λ (r : Result (Option End) ConnFault). Goes (Itself k) k (pumped MAX_PUMPS k) (taken c.args.conn.now) (taken c.pump_once.new.conn) t.role t.moment
+    subst (λ (r : Result (Option End) ConnFault). Goes (Itself k) k (pumped MAX_PUMPS k) (taken c.args.conn.now) (taken c.pump_once.new.conn) t.purpose t.moment
     (manager_of c.pump_once.new.manager) t.framer r) (sym (p.1 ∙ ap Err p.2))
-    (stop_at k c.loop-pump._pump (taken c.args.conn.now) (taken c.loop-pump.conn) (taken c.pump_once.new.conn) a.role a.moment c.loop-pump.self.moment
+    (stop_at k c.loop-pump._pump (taken c.args.conn.now) (taken c.loop-pump.conn) (taken c.pump_once.new.conn) a.purpose a.moment c.loop-pump.self.moment
     (manager_of c.loop-pump.manager) (manager_of c.pump_once.new.manager) a.framer i.moment (i.pumps k s) c.in_err-answer.field-0.0 c.in_err-answer.ensures.pumps)
 
 pub returns-then-not-sent_some-clause-goes : goal.returns-then-not-sent_some-clause-goes
@@ -28,9 +28,9 @@ returns-then-not-sent_some-clause-goes g c = λ k s.
     let t = c.pump_once.new.self in
     let i = c.loop-pump.invariant in
     let e = c.in_ok-answer.ensures in
-    rest_at k c.loop-pump._pump (taken c.args.conn.now) (taken c.loop-pump.conn) (taken c.pump_once.new.conn) a.role a.moment c.loop-pump.self.moment
-    (manager_of c.loop-pump.manager) (manager_of c.pump_once.new.manager) a.framer i.moment (i.pumps k s) t.role t.moment t.framer c.in_ok-answer.answer c.sent_some.result
-    c.end_after.result (e.role ∙ i.role) (e.moment ∙ i.moment) (e.framer ∙ i.framer) c.loop-pump-test.true e.pumps c.sent_some.ensures c.if-not-sent_some.true c.end_after.ensures
+    rest_at k c.loop-pump._pump (taken c.args.conn.now) (taken c.loop-pump.conn) (taken c.pump_once.new.conn) a.purpose a.moment c.loop-pump.self.moment
+    (manager_of c.loop-pump.manager) (manager_of c.pump_once.new.manager) a.framer i.moment (i.pumps k s) t.purpose t.moment t.framer c.in_ok-answer.answer c.sent_some.result
+    c.end_after.result (e.purpose ∙ i.purpose) (e.moment ∙ i.moment) (e.framer ∙ i.framer) c.loop-pump-test.true e.pumps c.sent_some.ensures c.if-not-sent_some.true c.end_after.ensures
 
 pub loop-pump-preserved : goal.loop-pump-preserved
 loop-pump-preserved g c =
@@ -40,12 +40,12 @@ loop-pump-preserved g c =
     let i = c.loop-pump.invariant in
     let e = c.in_ok-answer.ensures in
     record {
-      pumps = λ k s. more_at k c.loop-pump._pump (taken c.args.conn.now) (taken c.loop-pump.conn) (taken c.pump_once.new.conn) a.role a.moment c.loop-pump.self.moment
+      pumps = λ k s. more_at k c.loop-pump._pump (taken c.args.conn.now) (taken c.loop-pump.conn) (taken c.pump_once.new.conn) a.purpose a.moment c.loop-pump.self.moment
           (manager_of c.loop-pump.manager) (manager_of c.pump_once.new.manager) a.framer i.moment (i.pumps k s) c.in_ok-answer.answer c.sent_some.result e.pumps
           c.sent_some.ensures c.if-not-sent_some.false;
       keeps = keeps_ok (view c.args.disk.now) (view c.pump_once.new.disk) c.args.manager.now c.pump_once.new.manager c.in_ok-answer.answer 0
           (keeps_then (view c.args.disk.now) (view c.loop-pump.disk) (view c.pump_once.new.disk) c.args.manager.now c.loop-pump.manager c.pump_once.new.manager 0 (Ok c.in_ok-answer.answer) i.keeps e.keeps);
-      role = e.role ∙ i.role;
+      purpose = e.purpose ∙ i.purpose;
       moment = e.moment ∙ i.moment;
       framer = e.framer ∙ i.framer;
       came = e.came ∙ i.came;
@@ -63,5 +63,5 @@ returns-clause-goes g c = λ k s.
     let a = c.args.self.now in
     let t = c.loop-pump.self in
     let i = c.loop-pump.invariant in
-    all_at k c.loop-pump._pump (taken c.args.conn.now) (taken c.loop-pump.conn) a.role t.role a.moment t.moment (manager_of c.loop-pump.manager) a.framer t.framer
-    i.role i.moment i.framer c.loop-pump.auto._pump-end c.loop-pump-test.false (i.pumps k s)
+    all_at k c.loop-pump._pump (taken c.args.conn.now) (taken c.loop-pump.conn) a.purpose t.purpose a.moment t.moment (manager_of c.loop-pump.manager) a.framer t.framer
+    i.purpose i.moment i.framer c.loop-pump.auto._pump-end c.loop-pump-test.false (i.pumps k s)

@@ -8,10 +8,10 @@ use Rattle.mqb_serve.proofs.talk.Talk.pump_to_rest.Given as goal
 
 abbrev pub invariant-loop-pump : goal.invariant-loop-pump
 invariant-loop-pump g l = record {
-  pumps : (c : Conversation) → Stands c l.fn.self.role l.fn.self.moment (manager_of l.fn.manager) l.fn.self.framer
-      → Pumps c l._pump (g.C.Sink.taken l.fn.conn) (g.C.Sink.taken l.conn) l.fn.self.role l.fn.self.moment (manager_of l.manager) l.fn.self.framer;
+  pumps : (c : Conversation) → Stands c l.fn.self.purpose l.fn.self.moment (manager_of l.fn.manager) l.fn.self.framer
+      → Pumps c l._pump (g.C.Sink.taken l.fn.conn) (g.C.Sink.taken l.conn) l.fn.self.purpose l.fn.self.moment (manager_of l.manager) l.fn.self.framer;
   keeps : Keeps {T = ℕ} (g.D.Disk.view l.fn.disk) (g.D.Disk.view l.disk) l.fn.manager l.manager (Ok 0);
-  role : l.self.role ≡ l.fn.self.role;
+  purpose : l.self.purpose ≡ l.fn.self.purpose;
   moment : l.self.moment ≡ l.fn.self.moment;
   framer : l.self.framer ≡ l.fn.self.framer;
   came : l.self.came ≡ l.fn.self.came;

@@ -30,9 +30,9 @@ returns-in_err-ended-clause-goes g c = λ k s.
     let p = err_from_is_err_and c.from_residual.result c.from_residual.ensures.1 in
     let some : 0 < length rest = search rules in
     let few : a.framer.place + length a.framer.held + length rest ≤ MAX_READ = omega (arith, a.count, i.few, c.requires.few) in
-    subst (λ (r : Result (Option End) ConnFault). Goes (Hears k c.args.piece.now) k (read_on k c.args.piece.now) x z t.role t.moment n t.framer r) (sym (p.1 ∙ ap Err p.2))
-    (takes_stop k c.args.piece.now rest x y z a.role t.role a.moment t.moment m n a.framer t.framer c.feed-count.result (i.takes k s) i.wants some few w.part c.in_err-ended.field-0.0
-    (λ e f. c.in_err-ended.ensures.goes e (stands_at e a.role u.role a.moment u.moment m (fed a.framer rest) u.framer w.role w.moment w.framer f)))
+    subst (λ (r : Result (Option End) ConnFault). Goes (Hears k c.args.piece.now) k (read_on k c.args.piece.now) x z t.purpose t.moment n t.framer r) (sym (p.1 ∙ ap Err p.2))
+    (takes_stop k c.args.piece.now rest x y z a.purpose t.purpose a.moment t.moment m n a.framer t.framer c.feed-count.result (i.takes k s) i.wants some few w.part c.in_err-ended.field-0.0
+    (λ e f. c.in_err-ended.ensures.goes e (stands_at e a.purpose u.purpose a.moment u.moment m (fed a.framer rest) u.framer w.purpose w.moment w.framer f)))
 
 pub returns-in_err-ended-clause-keeps : goal.returns-in_err-ended-clause-keeps
 returns-in_err-ended-clause-keeps g c =
@@ -58,9 +58,9 @@ returns-in-Some-clause-goes g c = λ k s.
     let n = manager_of c.look.new.manager in
     let some : 0 < length rest = search rules in
     let few : a.framer.place + length a.framer.held + length rest ≤ MAX_READ = omega (arith, a.count, i.few, c.requires.few) in
-    takes_end k c.args.piece.now rest x y z a.role t.role a.moment t.moment m n a.framer t.framer c.feed-count.result (i.takes k s) i.wants some few w.part c.in-Some.end
-    (λ e f. subst (λ (q : Option End). Goes (HearsHeld e) e (looked_at e) y z t.role t.moment n t.framer (Ok q)) c.in-Some.is
-    (c.in_ok-ended.ensures.goes e (stands_at e a.role u.role a.moment u.moment m (fed a.framer rest) u.framer w.role w.moment w.framer f)))
+    takes_end k c.args.piece.now rest x y z a.purpose t.purpose a.moment t.moment m n a.framer t.framer c.feed-count.result (i.takes k s) i.wants some few w.part c.in-Some.end
+    (λ e f. subst (λ (q : Option End). Goes (HearsHeld e) e (looked_at e) y z t.purpose t.moment n t.framer (Ok q)) c.in-Some.is
+    (c.in_ok-ended.ensures.goes e (stands_at e a.purpose u.purpose a.moment u.moment m (fed a.framer rest) u.framer w.purpose w.moment w.framer f)))
 
 pub loop-rest-preserved : goal.loop-rest-preserved
 loop-rest-preserved g c =
@@ -81,10 +81,10 @@ loop-rest-preserved g c =
     let some : 0 < length rest = search rules in
     let few : a.framer.place + length a.framer.held + length rest ≤ MAX_READ = omega (arith, a.count, i.few, c.requires.few) in
     record {
-      takes = λ k s. subst (λ (l : List ℕ). Takes k c.args.piece.now l x z t.role t.moment n t.framer) (sym c.split_at.ensures.back)
-          (takes_more k c.args.piece.now rest x y z a.role t.role a.moment t.moment m n a.framer t.framer c.feed-count.result (i.takes k s) i.wants some few w.part
-          (λ d f. subst (λ (q : Option End). Goes (HearsHeld d) d (looked_at d) y z t.role t.moment n t.framer (Ok q)) c.in_default.is
-          (e.goes d (stands_at d a.role u.role a.moment u.moment m (fed a.framer rest) u.framer w.role w.moment w.framer f))));
+      takes = λ k s. subst (λ (l : List ℕ). Takes k c.args.piece.now l x z t.purpose t.moment n t.framer) (sym c.split_at.ensures.back)
+          (takes_more k c.args.piece.now rest x y z a.purpose t.purpose a.moment t.moment m n a.framer t.framer c.feed-count.result (i.takes k s) i.wants some few w.part
+          (λ d f. subst (λ (q : Option End). Goes (HearsHeld d) d (looked_at d) y z t.purpose t.moment n t.framer (Ok q)) c.in_default.is
+          (e.goes d (stands_at d a.purpose u.purpose a.moment u.moment m (fed a.framer rest) u.framer w.purpose w.moment w.framer f))));
       keeps = keeps_ok (view c.args.disk.now) (view c.look.new.disk) c.args.manager.now c.look.new.manager c.in_ok-ended.ended 0
           (keeps_then (view c.args.disk.now) (view c.loop-rest.disk) (view c.look.new.disk) c.args.manager.now c.loop-rest.manager c.look.new.manager 0 (Ok c.in_ok-ended.ended) i.keeps e.keeps);
       wants = e.wants (ap Ok c.in_default.is);
@@ -103,5 +103,5 @@ returns-clause-goes g c = λ k s.
     let taken = g.C.Sink.taken in
     let a = c.loop-rest.self in
     let none : length c.loop-rest.rest.now ≡ 0 = search rules in
-    takes_all k c.args.piece.now c.loop-rest.rest.now (taken c.args.conn.now) (taken c.loop-rest.conn) a.role a.moment (manager_of c.loop-rest.manager) a.framer (none_left c.loop-rest.rest.now none)
+    takes_all k c.args.piece.now c.loop-rest.rest.now (taken c.args.conn.now) (taken c.loop-rest.conn) a.purpose a.moment (manager_of c.loop-rest.manager) a.framer (none_left c.loop-rest.rest.now none)
     (c.loop-rest.invariant.takes k s)

@@ -10,8 +10,8 @@ use Rattle.mqb_serve.proofs.talk.Talk.take_piece.Given as goal
 
 abbrev pub invariant-loop-rest : goal.invariant-loop-rest
 invariant-loop-rest g l = record {
-  takes : (c : Conversation) → Stands c l.fn.self.role l.fn.self.moment (manager_of l.fn.manager) l.fn.self.framer
-      → Takes c l.piece l.rest (g.C.Sink.taken l.fn.conn) (g.C.Sink.taken l.conn) l.self.role l.self.moment (manager_of l.manager) l.self.framer;
+  takes : (c : Conversation) → Stands c l.fn.self.purpose l.fn.self.moment (manager_of l.fn.manager) l.fn.self.framer
+      → Takes c l.piece l.rest (g.C.Sink.taken l.fn.conn) (g.C.Sink.taken l.conn) l.self.purpose l.self.moment (manager_of l.manager) l.self.framer;
   keeps : Keeps {T = ℕ} (g.D.Disk.view l.fn.disk) (g.D.Disk.view l.disk) l.fn.manager l.manager (Ok 0);
   wants : wants_more (next l.self.framer) ≡ true;
   few : l.self.came + length l.rest ≡ l.fn.self.came + length l.piece;

@@ -1,10 +1,11 @@
-//! `push`: one connection to a peer.
+//! `push` and `fetch`: one connection to a peer.
+ghost use Rattle.std.specs.Option.{option_or};
 ghost use Rattle.std.specs.Prelude.{◌<◌, ◌≡◌, ◌≢◌, ◌⊎◌, Err, IfOk, IfSome, MatchResult, None, OnErr, Some, length};
 ghost use Rattle.mqb_commands.specs.Causes.{DiskFaultHasCause};
 ghost use Rattle.mqb_connections.specs.Asked.{AsksForEach, RoseBy};
 ghost use Rattle.mqb_connections.specs.Causes.{IsNetEnd, NetFaultHasCause, is_lost};
-ghost use Rattle.mqb_connections.specs.Pushed.{CompletesPush, IsPush, PushesAt, PushesStore, TellsPush, address_at, index_of_host};
-ghost use Rattle.mqb_connections.specs.Statuses.{push_status};
+ghost use Rattle.mqb_connections.specs.Reached.{CompletesReach, IsReach, ReachesAt, ReachesStore, TellsReach, address_at, index_of_host};
+ghost use Rattle.mqb_connections.specs.Statuses.{reach_status};
 ghost use Rattle.mqb_journal.specs.Causes.{FaultsAsSaid};
 ghost use Rattle.mqb_manager.specs.Keeping.{KeepsDisk};
 ghost use Rattle.mqb_manager.specs.States.{IsOnDisk, IsUp};
@@ -17,8 +18,8 @@ use mqb_base::{Failed, Identity, Memory, Name};
 use mqb_commands::{Status, open, tell};
 use mqb_manager::Manager;
 use mqb_outside::{Clock, Disk, Net, Sink};
-use mqb_serve::push_one;
-use mqb_serving::ConnFault;
+use mqb_serve::serve_one;
+use mqb_serving::{ConnFault, Errand, Purpose};
 use std::alloc::Global;
 
 /// The index of the first peer of a host, ignoring ASCII case.
@@ -39,17 +40,20 @@ fn peer_of_host(manager: &Manager, host: &Name) -> Option<usize>
     index_of_host(manager.state().contents().peers(), host)
 }
 
-/// The address of the peer at an index.
-fn address_at(peers: &[Identity], peer: usize) -> [u8; 4]
+/// The address that the words name, or else that of the peer at an index.
+fn address_for(named: Option<[u8; 4]>, peers: &[Identity], peer: usize) -> [u8; 4]
     requires { peer < length peers.now }
-    ensures { Some result ≡ address_at peers.now peer }
+    ensures { Some result ≡ option_or named (address_at peers.now peer) }
 {
-    peers[peer].address
+    match named {
+        Some(address) => address,
+        None => peers[peer].address,
+    }
 }
 
-/// How the program ends by the end of the connection of a push.
-fn push_status(end: Result<(), ConnFault>) -> Status
-    ensures { result ≡ push_status end }
+/// How the program ends by the end of its connection to a peer.
+fn reach_status(end: Result<(), ConnFault>) -> Status
+    ensures { result ≡ reach_status end }
 {
     match end {
         Ok(()) => Status::Done,
@@ -60,9 +64,11 @@ fn push_status(end: Result<(), ConnFault>) -> Status
     }
 }
 
-/// Pushes to the peer at an index over a connection to it, and says how it ended.
-fn push_over<D: Disk, N: Net, C: Clock>(
+/// Reaches the peer at an index over a connection to it, and says how it ended.
+fn reach_over<D: Disk, N: Net, C: Clock>(
     alloc: Global,
+    why: Errand,
+    named: Option<[u8; 4]>,
     peer: usize,
     manager: &mut Manager,
     disk: &mut D,
@@ -73,7 +79,7 @@ fn push_over<D: Disk, N: Net, C: Clock>(
     requires on { IsOnDisk (D.view disk.old) manager.old }
     requires unlinked { manager.old.session ≡ None }
     requires peer { peer < length manager.old.store.state.peers }
-    ensures push { IfOk result (IsPush peer (C.steady clock.old) manager.old manager.new
+    ensures reach { IfOk result (IsReach why named peer (C.steady clock.old) manager.old manager.new
         (N.finished net.old) (N.finished net.new)) }
     ensures up { IfOk result (λ end. end ≢ Err ConnFault.DiskFault → IsUp manager.new) }
     ensures disk { KeepsDisk (D.view disk.old) (D.view disk.new) manager.old manager.new }
@@ -89,18 +95,22 @@ fn push_over<D: Disk, N: Net, C: Clock>(
     ensures asked { MatchResult result (λ _. RoseBy 1 (C.asked clock.old) (C.asked clock.new))
         (λ _. C.asked clock.new ≡ C.asked clock.old) }
 {
-    let address = address_at(manager.state().contents().peers(), peer);
+    let address = address_for(named, manager.state().contents().peers(), peer);
     let mut conn = net.connect(address)?;
     let now = clock.now();
-    let end = push_one(alloc, disk, manager, peer as u32, &mut conn, now);
+    let purpose = Purpose::Reach {
+        errand: why,
+        peer: peer as u32,
+    };
+    let end = serve_one(alloc, disk, manager, purpose, &mut conn, now);
     net.finish(conn);
     Ok(end)
 }
 
 /// Writes the line of the connection, and ends as it did.
-#[tactic(auto, using(crate::proofs::Pushes::line_told, crate::proofs::Pushes::no_line, crate::proofs::Pushes::plain_push))]
-fn tell_push<K: Sink>(alloc: Global, end: Result<(), ConnFault>, out: &mut K) -> Status
-    ensures told { TellsPush end (K.taken out.old) (K.taken out.new) result }
+#[tactic(auto, using(crate::proofs::Reaches::line_told, crate::proofs::Reaches::no_line, crate::proofs::Reaches::plain_reach))]
+fn tell_reach<K: Sink>(alloc: Global, end: Result<(), ConnFault>, out: &mut K) -> Status
+    ensures told { TellsReach end (K.taken out.old) (K.taken out.new) result }
     ensures write_faults { WriteFaultHasCause (K.write_faults out.old) (K.write_faults out.new)
         result }
 {
@@ -110,14 +120,16 @@ fn tell_push<K: Sink>(alloc: Global, end: Result<(), ConnFault>, out: &mut K) ->
         _ => {}
     }
     match end_line(alloc, 1, end) {
-        Ok(line) => tell(out, &line, push_status(end)),
+        Ok(line) => tell(out, &line, reach_status(end)),
         Err(Memory) => Status::Memory,
     }
 }
 
-/// Pushes to the peer at an index, and says how the connection ended.
-fn push_to<K: Sink, D: Disk, N: Net, C: Clock>(
+/// Reaches the peer at an index, and says how the connection ended.
+fn reach_at<K: Sink, D: Disk, N: Net, C: Clock>(
     alloc: Global,
+    why: Errand,
+    named: Option<[u8; 4]>,
     peer: usize,
     manager: &mut Manager,
     out: &mut K,
@@ -129,7 +141,7 @@ fn push_to<K: Sink, D: Disk, N: Net, C: Clock>(
     requires on { IsOnDisk (D.view disk.old) manager.old }
     requires unlinked { manager.old.session ≡ None }
     requires peer { peer < length manager.old.store.state.peers }
-    ensures pushes { PushesAt (Some peer) (C.steady clock.old) manager.old
+    ensures reaches { ReachesAt why named (Some peer) (C.steady clock.old) manager.old
         (D.view disk.old) (D.view disk.new) (record {
           finished = N.finished net.old;
           finished_now = N.finished net.new;
@@ -145,22 +157,24 @@ fn push_to<K: Sink, D: Disk, N: Net, C: Clock>(
     ensures asked { AsksForEach 1 (N.finished net.old) (N.finished net.new) (C.asked clock.old)
         (C.asked clock.new) }
 {
-    match push_over(alloc, peer, manager, disk, net, clock) {
-        Ok(end) => tell_push(alloc, end, out),
+    match reach_over(alloc, why, named, peer, manager, disk, net, clock) {
+        Ok(end) => tell_reach(alloc, end, out),
         Err(Failed) => tell(out, b"connection 1: netfault\n", Status::NetFault),
     }
 }
 
-/// Pushes to the peer of a host what waits for it, and says how the connection ended.
-pub fn push<K: Sink, D: Disk, N: Net, C: Clock>(
+/// Reaches the peer of a host, at the address that the words name or else at its own, and says how the connection ended.
+pub fn reach<K: Sink, D: Disk, N: Net, C: Clock>(
     alloc: Global,
+    why: Errand,
+    named: Option<[u8; 4]>,
     host: &Name,
     out: &mut K,
     disk: &mut D,
     net: &mut N,
     clock: &mut C,
 ) -> Status
-    ensures pushes { PushesStore host.now (C.steady clock.old)
+    ensures reaches { ReachesStore why named host.now (C.steady clock.old)
         (D.view disk.old) (D.view disk.new) (record {
           finished = N.finished net.old;
           finished_now = N.finished net.new;
@@ -170,7 +184,7 @@ pub fn push<K: Sink, D: Disk, N: Net, C: Clock>(
           lost_now = N.lost net.new;
         }) (K.taken out.old) (K.taken out.new) result }
     ensures unfinished { N.unfinished net.new ≡ N.unfinished net.old }
-    ensures complete { CompletesPush (D.view disk.old) (D.view disk.new) (record {
+    ensures complete { CompletesReach (D.view disk.old) (D.view disk.new) (record {
       finished = N.finished net.old;
       finished_now = N.finished net.new;
       faults = N.faults net.old;
@@ -197,7 +211,7 @@ pub fn push<K: Sink, D: Disk, N: Net, C: Clock>(
         manager.close();
         return tell(out, b"nopeer\n", Status::Refused);
     };
-    let end = push_to(alloc, peer, &mut manager, out, disk, net, clock);
+    let end = reach_at(alloc, why, named, peer, &mut manager, out, disk, net, clock);
     manager.close();
     end
 }
