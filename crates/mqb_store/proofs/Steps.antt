@@ -4,7 +4,7 @@ use Rattle.std.specs.Prelude.{[], ◌++◌, ◌<◌, ◌≡◌, ◌∷◌, Bool,
 use Rattle.mqb_base.specs.declared.ids.Guid.{Guid}
 use Rattle.mqb_outside.specs.Disk.{OnlyReads, View}
 use Rattle.mqb_outside.specs.Images.{Each}
-use Rattle.mqb_journal.specs.Causes.{FaultsAsSaid, open_failed}
+use Rattle.mqb_journal.specs.Causes.{open_failed}
 use Rattle.mqb_journal.specs.Journals.{Lent}
 use Rattle.mqb_journal.specs.States.{ScanState, advanced, ended}
 use Rattle.mqb_journal.specs.declared.faults.OpenFault.{OpenFault}
@@ -100,10 +100,7 @@ same_fault {T} a b is = ap (fault_in {T = T}) is
 pub bad_before : (d e : View) (at : ℕ) → OnlyReads d e → Each e.reads (IsBadStore at) → Each d.reads (IsBadStore at)
 bad_before d e at reads bad c told = bad c (reads.unchanged.reads.none_lost c told)
 
--- a fault that is handed on has the cause that it had
-pub cause_of : {T : Type 0} (r : Result T OpenFault) (f g : OpenFault) (before mid after : ℕ) → r ≡ Err g → g ≡ f → mid ≡ before
-    → cond (open_failed f) (Rose mid after) (after ≡ mid) → FaultsAsSaid open_failed before after r
-cause_of {T} r f g before mid after is same quiet said =
-    subst (λ (q : Result T OpenFault). FaultsAsSaid open_failed before after q) (sym is)
-    (subst (λ (x : OpenFault). cond (open_failed x) (Rose before after) (after ≡ before)) (sym same)
-    (subst (λ (n : ℕ). cond (open_failed f) (Rose n after) (after ≡ n)) quiet said))
+-- a fault that is handed on has the cause that it had, where the calls before it had none
+pub cause_of : (fault : OpenFault) (before mid after : ℕ) → mid ≡ before → cond (open_failed fault) (Rose mid after) (after ≡ mid)
+    → cond (open_failed fault) (Rose before after) (after ≡ before)
+cause_of fault before mid after quiet said = subst (λ (n : ℕ). cond (open_failed fault) (Rose n after) (after ≡ n)) quiet said

@@ -80,15 +80,26 @@ impl Store {
         entries_begin();
         let entry = spell_identity(alloc, identity)?;
         let state = State::empty(alloc, identity)?;
-        let mut journal = Journal::format(alloc, disk, identity.guid)?;
-        append_first(&mut journal, disk, &entry)?;
-        Ok(Store {
-            state,
-            journal,
-            entry,
-            lines: Roomed::new(alloc),
-            alloc,
-        })
+        let mut journal = match Journal::format(alloc, disk, identity.guid) {
+            Ok(journal) => journal,
+            Err(fault) => {
+                drop(state);
+                return Err(fault);
+            }
+        };
+        match append_first(&mut journal, disk, &entry) {
+            Ok(()) => Ok(Store {
+                state,
+                journal,
+                entry,
+                lines: Roomed::new(alloc),
+                alloc,
+            }),
+            Err(fault) => {
+                drop(state);
+                Err(fault)
+            }
+        }
     }
 
     /// The store on a disk: each record is made on one state as it is read. The disk is only read.
@@ -112,13 +123,18 @@ impl Store {
     {
         let mut scan = Journal::begin(alloc, disk)?;
         let mut state = first(alloc, disk, &mut scan)?;
-        let lines = replay(alloc, disk, &mut scan, &mut state)?;
-        Ok(Store {
-            state,
-            journal: scan.finish(),
-            entry: Vec::new(alloc),
-            lines,
-            alloc,
-        })
+        match replay(alloc, disk, &mut scan, &mut state) {
+            Ok(lines) => Ok(Store {
+                state,
+                journal: scan.finish(),
+                entry: Vec::new(alloc),
+                lines,
+                alloc,
+            }),
+            Err(fault) => {
+                drop(state);
+                Err(fault)
+            }
+        }
     }
 }

@@ -91,9 +91,16 @@ impl Store {
         self.state.is_valid();
         spell(entry, &mut self.entry)?;
         let prepared = prepare(&mut self.state, Some(entry), work)?;
-        append(&mut self.journal, disk, &self.entry)?;
-        self.lines = install(&mut self.state, prepared, self.alloc);
-        Ok(())
+        match append(&mut self.journal, disk, &self.entry) {
+            Ok(()) => {
+                self.lines = install(&mut self.state, prepared, self.alloc);
+                Ok(())
+            }
+            Err(fault) => {
+                drop(prepared);
+                Err(fault)
+            }
+        }
     }
 
     /// Writes a record, where there is one, and does what is done beside it. All memory is taken before the first call of the disk.

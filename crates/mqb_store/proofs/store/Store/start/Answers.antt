@@ -23,63 +23,60 @@ returns-in_err-state-clause-bad g c at is =
     bad_before (g.D.Disk.view c.args.disk.now) (g.D.Disk.view c.begin.new.disk) at c.begin.ensures.reads
     (c.in_err-state.ensures.bad at (ap (λ (f : OpenFault). Err f) (sym p.2 ∙ same_fault p.0 (opening.BadStore at) (sym p.1 ∙ is))))
 
-pub returns-in_err-lines-clause-bad : goal.returns-in_err-lines-clause-bad
-returns-in_err-lines-clause-bad g c at is =
+pub returns-in-Err-clause-bad : goal.returns-in-Err-clause-bad
+returns-in-Err-clause-bad g c at is =
     let d = g.D.Disk.view c.args.disk.now in
     let m = g.D.Disk.view c.begin.new.disk in
     let n = g.D.Disk.view c.first.new.disk in
-    let p = err_from_is_err_and c.from_residual-in_err-lines.result c.from_residual-in_err-lines.ensures.1 in
     bad_before d n at (reads_then d m n c.begin.ensures.reads c.first.ensures.reads)
-    (c.in_err-lines.ensures.bad at (ap (λ (f : OpenFault). Err f) (sym p.2 ∙ same_fault p.0 (opening.BadStore at) (sym p.1 ∙ is))))
+    (c.in-Err.ensures.bad at (ap (λ (f : OpenFault). Err f) (same_fault c.in-Err.fault (opening.BadStore at) is)))
 
-pub returns-clause-on : goal.returns-clause-on
-returns-clause-on g c =
+pub returns-in-Ok-clause-on : goal.returns-in-Ok-clause-on
+returns-in-Ok-clause-on g c =
     let e = g.D.Disk.view c.replay.new.disk in
     let s = c.replay.new.state.lists in
     subst (λ (j : JournalState). IsOn e j s) (sym c.finish.ensures)
-    (read_on e c.replay.new.scan c.finish.result.room s c.in_ok-lines.lines.items c.in_ok-lines.ensures.read c.in_ok-lines.ensures.ended)
+    (read_on e c.replay.new.scan c.finish.result.room s c.in-Ok.lines.items c.in-Ok.ensures.read c.in-Ok.ensures.ended)
 
-pub returns-clause-opens : goal.returns-clause-opens
-returns-clause-opens g c =
+pub returns-in-Ok-clause-opens : goal.returns-in-Ok-clause-opens
+returns-in-Ok-clause-opens g c =
     let d = g.D.Disk.view c.args.disk.now in
     let m = g.D.Disk.view c.begin.new.disk in
     let n = g.D.Disk.view c.first.new.disk in
     let e = g.D.Disk.view c.replay.new.disk in
     let s = c.replay.new.state.lists in
     subst (λ (j : JournalState). Each d.reads (OpensTo j.guid j.count s)) (sym c.finish.ensures)
-    (read_opens d e c.replay.new.scan s c.in_ok-lines.lines.items c.in_ok-lines.ensures.read c.in_ok-lines.ensures.ended
+    (read_opens d e c.replay.new.scan s c.in-Ok.lines.items c.in-Ok.ensures.read c.in-Ok.ensures.ended
     (reads_then d m e c.begin.ensures.reads (reads_then m n e c.first.ensures.reads c.replay.ensures.reads)))
 
-pub returns-clause-lines : goal.returns-clause-lines
-returns-clause-lines g c =
+pub returns-in-Ok-clause-lines : goal.returns-in-Ok-clause-lines
+returns-in-Ok-clause-lines g c =
     let d = g.D.Disk.view c.args.disk.now in
     let m = g.D.Disk.view c.begin.new.disk in
     let n = g.D.Disk.view c.first.new.disk in
     let e = g.D.Disk.view c.replay.new.disk in
     let s = c.replay.new.state.lists in
-    subst (λ (j : JournalState). Each d.reads (HasLastLines j.guid c.in_ok-lines.lines.items)) (sym c.finish.ensures)
-    (read_lines d e c.replay.new.scan s c.in_ok-lines.lines.items c.in_ok-lines.ensures.read c.in_ok-lines.ensures.ended
+    subst (λ (j : JournalState). Each d.reads (HasLastLines j.guid c.in-Ok.lines.items)) (sym c.finish.ensures)
+    (read_lines d e c.replay.new.scan s c.in-Ok.lines.items c.in-Ok.ensures.read c.in-Ok.ensures.ended
     (reads_then d m e c.begin.ensures.reads (reads_then m n e c.first.ensures.reads c.replay.ensures.reads)))
 
-pub returns-in_err-lines-clause-reads : goal.returns-in_err-lines-clause-reads
-returns-in_err-lines-clause-reads g c =
+pub returns-in-Err-clause-reads : goal.returns-in-Err-clause-reads
+returns-in-Err-clause-reads g c =
     let d = g.D.Disk.view c.args.disk.now in
     let m = g.D.Disk.view c.begin.new.disk in
     let n = g.D.Disk.view c.first.new.disk in
     let e = g.D.Disk.view c.replay.new.disk in
     reads_then d m e c.begin.ensures.reads (reads_then m n e c.first.ensures.reads c.replay.ensures.reads)
 
-pub returns-clause-reads : goal.returns-clause-reads
-returns-clause-reads g c =
+pub returns-in-Ok-clause-reads : goal.returns-in-Ok-clause-reads
+returns-in-Ok-clause-reads g c =
     let d = g.D.Disk.view c.args.disk.now in
     let m = g.D.Disk.view c.begin.new.disk in
     let n = g.D.Disk.view c.first.new.disk in
     let e = g.D.Disk.view c.replay.new.disk in
     reads_then d m e c.begin.ensures.reads (reads_then m n e c.first.ensures.reads c.replay.ensures.reads)
 
-pub returns-in_err-lines-clause-cause : goal.returns-in_err-lines-clause-cause
-returns-in_err-lines-clause-cause g c =
-    let p = err_from_is_err_and c.from_residual-in_err-lines.result c.from_residual-in_err-lines.ensures.1 in
-    cause_of c.from_residual-in_err-lines.result c.in_err-lines.field-0.0 p.0 (g.D.Disk.view c.args.disk.now).faults
-    (g.D.Disk.view c.first.new.disk).faults (g.D.Disk.view c.replay.new.disk).faults p.1 p.2
-    (c.in_ok-state.ensures.cause ∙ c.in_ok-scan.ensures.cause) c.in_err-lines.ensures.cause
+pub returns-in-Err-clause-cause : goal.returns-in-Err-clause-cause
+returns-in-Err-clause-cause g c =
+    cause_of c.in-Err.fault (g.D.Disk.view c.args.disk.now).faults (g.D.Disk.view c.first.new.disk).faults
+    (g.D.Disk.view c.replay.new.disk).faults (c.in_ok-state.ensures.cause ∙ c.in_ok-scan.ensures.cause) c.in-Err.ensures.cause

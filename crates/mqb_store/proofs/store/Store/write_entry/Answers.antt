@@ -29,8 +29,8 @@ returns-in_err-prepared-clause-moments g c settled =
     quiet_opens (g.D.Disk.view c.args.disk.now) c.args.self.now.journal c.args.self.now.state (record_in c.args.entry.now)
     (g.met.D.Disk.lawful c.args.disk.now) c.requires.on settled
 
-pub returns-in_err-append-clause-moments : goal.returns-in_err-append-clause-moments
-returns-in_err-append-clause-moments g c settled =
+pub returns-in-Err-clause-moments : goal.returns-in-Err-clause-moments
+returns-in-Err-clause-moments g c settled =
     let d = g.D.Disk.view c.args.disk.now in
     let e = g.D.Disk.view c.append.new.disk in
     let o = record_in c.args.entry.now in
@@ -43,8 +43,8 @@ returns-in_err-append-clause-moments g c settled =
     subst (λ (w : StoreState). LeavesOnly d e (Opens w.journal w.state o)) c.self.view_is
     (written_moments c.records_join.ensures d e c.self.inside.journal c.self.inside.state.lists c.deref.result.now o at new c.append.ensures.moments settled)
 
-pub returns-clause-moments : goal.returns-clause-moments
-returns-clause-moments g c settled =
+pub returns-in-Ok-clause-moments : goal.returns-in-Ok-clause-moments
+returns-in-Ok-clause-moments g c settled =
     let d = g.D.Disk.view c.args.disk.now in
     let e = g.D.Disk.view c.append.new.disk in
     let o = record_in c.args.entry.now in
@@ -57,8 +57,8 @@ returns-clause-moments g c settled =
     subst (λ (w : StoreState). LeavesOnly d e (Opens w.journal w.state o)) c.self.view_is
     (written_moments c.records_join.ensures d e c.self.inside.journal c.self.inside.state.lists c.deref.result.now o at new c.append.ensures.moments settled)
 
-pub returns-clause-on : goal.returns-clause-on
-returns-clause-on g c =
+pub returns-in-Ok-clause-on : goal.returns-in-Ok-clause-on
+returns-in-Ok-clause-on g c =
     let d = g.D.Disk.view c.args.disk.now in
     let e = g.D.Disk.view c.append.new.disk in
     let s = c.self.inside.state.lists in
@@ -71,6 +71,6 @@ returns-clause-on g c =
       fit = subst (λ (w : StoreState). IsSomeAnd o (λ r. fits w.state r ≡ true)) (sym c.self.view_is) c.requires.can.fits;
     } in
     written_on c.records_join.ensures d e c.self.inside.journal c.append.new.journal s c.install.new.state.lists c.deref.result.now o b at new
-    c.in_ok-append.ensures.done (ap (λ (j : JournalState). j.guid) c.in_ok-append.ensures.appended)
+    c.in-Ok.ensures.done (ap (λ (j : JournalState). j.guid) c.in-Ok.ensures.appended)
     (subst (λ (w : StoreState). LeavesStore w.state (Some c.args.entry.now) b) (sym c.self.view_is) c.requires.stored)
     (c.install.ensures.state ∙ c.in_ok-prepared.ensures.ok.gives)
