@@ -19,6 +19,11 @@ fn append<D: Disk>(
     Ok((refused, journal.append(disk, second)))
 }
 
+/// What is written, in this order.
+const WRITTEN: &[u8] =
+    b"MQBJ\x01\0\0\0\x09\x09\x09\x09\x09\x09\x09\x09\x09\x09\x09\x09\x09\x09\x09\x09\0\
+\x03\0\0\0\x01\x02\x03\0\x01";
+
 /// The header with the gate; nothing for a record over the limit; the length, the record and the next gate; and the gate.
 #[test]
 fn the_calls_of_an_append(rt: HostRuntime) -> Result<(), Fail> {
@@ -40,8 +45,7 @@ fn the_calls_of_an_append(rt: HostRuntime) -> Result<(), Fail> {
         ]
         .as_slice()
     );
-    let (_, appended) = disk.written().split_at(25.min(disk.written().len()));
-    assert_eq!(rt; appended, [3, 0, 0, 0, 1, 2, 3, 0, 1].as_slice());
+    assert_eq!(rt; disk.written(), WRITTEN);
     Ok(())
 }
 

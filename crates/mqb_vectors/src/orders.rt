@@ -88,6 +88,37 @@ fn manager(alloc: Global, guid: Guid) -> Result<Identity, Memory>
     })
 }
 
+/// Adds the administration message that a message asks for where it meets a class at a manager.
+fn put_admin(
+    alloc: Global,
+    message: &Message,
+    class: Class,
+    own: Guid,
+    out: &mut Vec<u8>,
+) -> Result<(), Memory> {
+    match admin_for(alloc, message, class, own, 9, 1002) {
+        Ok(admin) => put_value(alloc, &admin, out),
+        Err(memory) => Err(memory),
+    }
+}
+
+/// Adds the final acknowledgement that is due to the source of a message where it meets a class at a manager.
+fn put_final(
+    alloc: Global,
+    message: &Message,
+    class: Class,
+    own: &Identity,
+    source: &Identity,
+    out: &mut Vec<u8>,
+) -> Result<(), Memory>
+    requires { source.now.guid ≡ message.now.id.qm }
+{
+    match final_for(alloc, message, class, own, source, 1, 1001) {
+        Ok(told) => put_value(alloc, &told, out),
+        Err(memory) => Err(memory),
+    }
+}
+
 /// Adds the dead-letter queue into which a message goes that meets a class at a manager, whether it was sent to an order layer, the administration
 /// message and the final acknowledgement.
 fn put_fate(
@@ -99,12 +130,10 @@ fn put_fate(
 ) -> Result<(), Memory> {
     put_value(alloc, &goes_dead(message, class, own), out)?;
     put_value(alloc, &names_order_layer(&message.destination), out)?;
-    let admin = admin_for(alloc, message, class, own, 9, 1002)?;
-    put_value(alloc, &admin, out)?;
+    put_admin(alloc, message, class, own, out)?;
     let own = manager(alloc, own)?;
     let source = manager(alloc, message.id.qm)?;
-    let told = final_for(alloc, message, class, &own, &source, 1, 1001)?;
-    put_value(alloc, &told, out)
+    put_final(alloc, message, class, &own, &source, out)
 }
 
 /// `fate CLASS BYTES`: what follows where the manager to which a user packet goes meets a class with its message.

@@ -69,16 +69,18 @@ fn put_count(alloc: Global, packet: &Packet, out: &mut Vec<u8>) -> Result<(), Me
     put_value(alloc, &again.len(), out)
 }
 
-/// Adds the sizes of a user packet's message with another body, and of the packet.
-fn put_with_body(
-    alloc: Global,
-    mut user: UserPacket,
-    body: Bytes,
-    out: &mut Vec<u8>,
-) -> Result<(), Memory>
-    requires { IsWellFormedUser user }
+/// Gives a packet another body.
+fn change_body(user: &mut UserPacket, body: Bytes)
+    requires { IsWellFormedUser user.old }
+    ensures { IsWellFormedUser user.new }
 {
     user.message.body = body;
+}
+
+/// Adds the sizes of the message of a packet, and of the packet.
+fn put_all_sizes(alloc: Global, user: UserPacket, out: &mut Vec<u8>) -> Result<(), Memory>
+    requires { IsWellFormedUser user }
+{
     put_sizes(alloc, &user, out)?;
     put_count(alloc, &Packet::User(user), out)
 }
@@ -89,7 +91,10 @@ pub(crate) fn show_body(alloc: Global, text: &str, out: &mut Vec<u8>) -> Result<
     let bytes = bytes_of(alloc, digits)?;
     let body = Bytes::from_slice(alloc, bytes_of(alloc, body)?.as_slice())?;
     match user_packet(alloc, bytes.as_slice())? {
-        Some(user) => put_with_body(alloc, user, body, out),
+        Some(mut user) => {
+            change_body(&mut user, body);
+            put_all_sizes(alloc, user, out)
+        }
         None => put(b"no user packet", out),
     }
 }

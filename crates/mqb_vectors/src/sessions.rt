@@ -2,7 +2,7 @@
 
 use crate::bytes::{put, put_value};
 use mqb_base::{Cause, Guid, Memory, SessionHead};
-use mqb_session::{HeadHeard, Kind, Session};
+use mqb_session::{Kind, Session};
 use mqb_setup::{Establish, Parameters};
 use std::alloc::Global;
 
@@ -48,13 +48,13 @@ fn hear_parameters(session: &mut Session, window: &str) {
     });
 }
 
-/// Hears a header, and notes that its packet is stored where it is the next one.
-fn hear_and_store(session: &mut Session, head: &SessionHead) -> HeadHeard {
-    let heard = session.hear_head(head);
-    if heard == HeadHeard::InOrder {
+/// Notes that a recoverable packet is stored, where one was got that an acknowledgement would not tell as stored.
+fn store(session: &mut Session) {
+    let mut copy = *session;
+    let told = copy.stamp(Kind::Ack);
+    if told.stored < told.ack {
         session.note_stored();
     }
-    heard
 }
 
 /// Sends a packet of a kind, where one may go, and adds its header.
@@ -99,7 +99,7 @@ fn take_step(
         "establish" => hear_establish(session, rest),
         "parameters" => hear_parameters(session, rest),
         "head" => put_value(alloc, &session.hear_head(&session_head(rest)), out)?,
-        "store" => put_value(alloc, &hear_and_store(session, &session_head(rest)), out)?,
+        "stored" => store(session),
         "plain" => send(alloc, session, Kind::Plain, out)?,
         "recoverable" => send(alloc, session, Kind::Recoverable, out)?,
         "ack" => send(alloc, session, Kind::Ack, out)?,

@@ -1,9 +1,10 @@
 use crate::bytes::{put_fault, put_read, put_value};
 use mqb_base::{
-    Bytes, Class, Draft, Guid, Memory, MessageId, Name, Parts, UNLIMITED, Units, is_due, remaining,
+    Bytes, Class, Draft, Guid, MachineQueue, Memory, MessageId, Name, Parts, QueueName, UNLIMITED,
+    Units, is_due, remaining,
 };
 use mqb_fate::{is_final_class, is_order_name, names_order_layer, order_layer};
-use mqb_names::{NameFault, read_name, write_name};
+use mqb_names::write_name;
 use std::alloc::Global;
 use std::str::SplitWhitespace;
 
@@ -72,6 +73,22 @@ pub(crate) fn show_time(alloc: Global, text: &str, out: &mut Vec<u8>) -> Result<
     put_value(alloc, &is_due(moment, time, now), out)
 }
 
+/// The dead-letter queue of a machine where the word is `machine`, and else a public queue.
+fn queue_name(word: Option<&str>) -> QueueName {
+    let guid = Guid([1; 16]);
+    if word.unwrap_or_default() == "machine" {
+        QueueName::Machine {
+            qm: guid,
+            kind: MachineQueue::DeadLetter,
+        }
+    } else {
+        QueueName::Public {
+            guid,
+            journal: false,
+        }
+    }
+}
+
 /// A label of so many units, at most 251.
 fn label(alloc: Global, count: u32) -> Result<Units, Memory> {
     let units = [0x41; 251];
@@ -80,19 +97,16 @@ fn label(alloc: Global, count: u32) -> Result<Units, Memory> {
 
 /// The parts of a draft that words tell: the names of the destination, of the admin and of the response queue, the priority, the bits of the
 /// acknowledgement and of the journal, and how many units the label has.
-fn parts<'a>(alloc: Global, words: &mut std::str::SplitWhitespace<'a>) -> Result<Parts, NameFault> {
-    let destination = read_name(alloc, words.next().unwrap_or_default().as_bytes())?;
-    let admin = read_name(alloc, words.next().unwrap_or_default().as_bytes())?;
-    let response = read_name(alloc, words.next().unwrap_or_default().as_bytes())?;
+fn parts(alloc: Global, words: &mut SplitWhitespace<'_>) -> Result<Parts, Memory> {
     Ok(Parts {
-        destination,
+        destination: queue_name(words.next()),
+        admin: Some(queue_name(words.next())),
+        response: Some(queue_name(words.next())),
         priority: number(words.next()).min(255) as u8,
-        reach: UNLIMITED,
-        life: 0,
-        admin: Some(admin),
-        response: Some(response),
         ack: number(words.next()).min(255) as u8,
         journal: number(words.next()).min(255) as u8,
+        reach: UNLIMITED,
+        life: 0,
         correlation: MessageId {
             qm: Guid([1; 16]),
             number: 0,
@@ -107,8 +121,6 @@ fn parts<'a>(alloc: Global, words: &mut std::str::SplitWhitespace<'a>) -> Result
 
 /// `draft DESTINATION ADMIN RESPONSE PRIORITY ACK JOURNAL UNITS`: the draft of these parts.
 pub(crate) fn show_draft(alloc: Global, text: &str, out: &mut Vec<u8>) -> Result<(), Memory> {
-    match parts(alloc, &mut text.split_whitespace()) {
-        Ok(parts) => put_read(alloc, &Draft::build(parts), out),
-        Err(fault) => put_fault(alloc, &fault, out),
-    }
+    let parts = parts(alloc, &mut text.split_whitespace())?;
+    put_read(alloc, &Draft::build(parts), out)
 }
