@@ -59,7 +59,7 @@ fn serve_piped<S: Source, K: Sink, D: Disk>(
         (K.write_faults out.new) result }
 {
     let mut piped = Piped { input, out };
-    serve_one(alloc, disk, manager, Purpose::Serve, &mut piped, now)
+    serve_one(alloc, disk, manager, &mut piped, now)
 }
 
 /// Serves one connection over the input and the output, on which nothing else is written.

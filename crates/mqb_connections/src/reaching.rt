@@ -8,17 +8,17 @@ ghost use Rattle.mqb_connections.specs.Reached.{CompletesReach, IsReach, Reaches
 ghost use Rattle.mqb_connections.specs.Statuses.{reach_status};
 ghost use Rattle.mqb_journal.specs.Causes.{FaultsAsSaid};
 ghost use Rattle.mqb_manager.specs.Keeping.{KeepsDisk};
-ghost use Rattle.mqb_manager.specs.States.{IsOnDisk, IsUp};
+ghost use Rattle.mqb_manager.specs.States.{IsOnDisk, IsUp, manager_of};
 ghost use Rattle.mqb_outside.specs.Faults.{HasCause, Rose};
-ghost use Rattle.mqb_serving.specs.Serving.{is_disk_fault};
+ghost use Rattle.mqb_serving.specs.Serving.{Serves, ServesWhole, is_disk_fault, is_read_fault, is_write_fault};
 ghost use Rattle.mqb_commands.specs.Outputs.{WriteFaultHasCause};
 
 use crate::lines::end_line;
 use mqb_base::{Failed, Identity, Memory, Name};
 use mqb_commands::{Status, open, tell};
 use mqb_manager::Manager;
-use mqb_outside::{Clock, Disk, Net, Sink};
-use mqb_serve::serve_one;
+use mqb_outside::{Clock, Conn, Disk, Net, Sink};
+use mqb_serve::{fetch_one, push_one};
 use mqb_serving::{ConnFault, Errand, Purpose};
 use std::alloc::Global;
 
@@ -64,6 +64,42 @@ fn reach_status(end: Result<(), ConnFault>) -> Status
     }
 }
 
+/// Pushes to the peer at an index over a connection, or fetches.
+fn serve_peer<D: Disk, C: Conn>(
+    alloc: Global,
+    why: Errand,
+    peer: u32,
+    disk: &mut D,
+    manager: &mut Manager,
+    conn: &mut C,
+    now: u32,
+) -> Result<(), ConnFault>
+    requires up { IsUp manager.old }
+    requires on { IsOnDisk (D.view disk.old) manager.old }
+    ensures served { Serves (Purpose.Reach why peer) now (manager_of manager.old)
+        (manager_of manager.new) (C.held conn.old) (C.held conn.new) (C.taken conn.old)
+        (C.taken conn.new) result }
+    ensures whole { ServesWhole result (Purpose.Reach why peer) now (manager_of manager.old)
+        (manager_of manager.new) (C.held conn.old) (C.taken conn.old) (C.taken conn.new) }
+    ensures unlinked { manager.new.session ≡ None }
+    ensures up { result ≢ Err ConnFault.DiskFault → IsUp manager.new }
+    ensures disk { KeepsDisk (D.view disk.old) (D.view disk.new) manager.old manager.new }
+    ensures disk_faults { FaultsAsSaid is_disk_fault (D.view disk.old).faults
+        (D.view disk.new).faults result }
+    ensures read_faults { FaultsAsSaid is_read_fault (C.read_faults conn.old)
+        (C.read_faults conn.new) result }
+    ensures write_faults { FaultsAsSaid is_write_fault (C.write_faults conn.old)
+        (C.write_faults conn.new) result }
+    ensures given { C.given conn.new ≡ C.given conn.old }
+    ensures address { C.address conn.new ≡ C.address conn.old }
+    ensures lent { C.lent conn.new ≡ C.lent conn.old }
+{
+    match why {
+        Errand::Push => push_one(alloc, disk, manager, peer, conn, now),
+        Errand::Fetch => fetch_one(alloc, disk, manager, peer, conn, now),
+    }
+}
+
 /// Reaches the peer at an index over a connection to it, and says how it ended.
 fn reach_over<D: Disk, N: Net, C: Clock>(
     alloc: Global,
@@ -98,11 +134,7 @@ fn reach_over<D: Disk, N: Net, C: Clock>(
     let address = address_for(named, manager.state().contents().peers(), peer);
     let mut conn = net.connect(address)?;
     let now = clock.now();
-    let purpose = Purpose::Reach {
-        errand: why,
-        peer: peer as u32,
-    };
-    let end = serve_one(alloc, disk, manager, purpose, &mut conn, now);
+    let end = serve_peer(alloc, why, peer as u32, disk, manager, &mut conn, now);
     net.finish(conn);
     Ok(end)
 }

@@ -92,7 +92,7 @@ fn serve_next<D: Disk, N: Net, C: Clock>(
 {
     let mut conn = net.accept()?;
     let now = clock.now();
-    let end = serve_one(alloc, disk, manager, Purpose::Serve, &mut conn, now);
+    let end = serve_one(alloc, disk, manager, &mut conn, now);
     net.finish(conn);
     Ok(end)
 }

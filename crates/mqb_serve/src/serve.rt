@@ -10,7 +10,7 @@ ghost use Rattle.mqb_serving.specs.Conversations.{Conversation, no_bytes};
 use crate::talk::{End, Talk};
 use mqb_manager::Manager;
 use mqb_outside::{Conn, Disk};
-use mqb_serving::{ConnFault, Purpose, WINDOW};
+use mqb_serving::{ConnFault, Errand, Purpose, WINDOW};
 use std::alloc::Global;
 
 /// The most bytes that are read at a time.
@@ -63,12 +63,8 @@ fn is_disk_fault(fault: &ConnFault) -> bool
     matches!(fault, ConnFault::DiskFault)
 }
 
-/// Serves one connection: the manager is linked, converses, and forgets the connection. A manager that is down has forgotten it. All calls have the moment
-/// `now`, in seconds.
-///
-/// # Errors
-/// `Peer`: the connection ended badly, by what the peer did. `ReadFault`, `WriteFault`, `Memory`: it was cut short. `DiskFault`: the manager is down.
-pub fn serve_one<D: Disk, C: Conn>(
+/// Links a manager, converses for a purpose, and forgets the connection. A manager that is down has forgotten it.
+fn serve<D: Disk, C: Conn>(
     alloc: Global,
     disk: &mut D,
     manager: &mut Manager,
@@ -109,4 +105,127 @@ pub fn serve_one<D: Disk, C: Conn>(
             Err(fault)
         }
     }
+}
+
+/// Serves one connection that a peer made: the manager waits to be asked for a session. All calls have the moment `now`, in seconds.
+///
+/// # Errors
+/// `Peer`: the connection ended badly, by what the peer did. `ReadFault`, `WriteFault`, `Memory`: it was cut short. `DiskFault`: the manager is down.
+pub fn serve_one<D: Disk, C: Conn>(
+    alloc: Global,
+    disk: &mut D,
+    manager: &mut Manager,
+    conn: &mut C,
+    now: u32,
+) -> Result<(), ConnFault>
+    requires up { IsUp manager.old }
+    requires on { IsOnDisk (D.view disk.old) manager.old }
+    ensures served { Serves Purpose.Serve now (manager_of manager.old) (manager_of manager.new)
+        (C.held conn.old) (C.held conn.new) (C.taken conn.old) (C.taken conn.new) result }
+    ensures whole { ServesWhole result Purpose.Serve now (manager_of manager.old)
+        (manager_of manager.new) (C.held conn.old) (C.taken conn.old) (C.taken conn.new) }
+    ensures unlinked { manager.new.session ≡ None }
+    ensures up { result ≢ Err ConnFault.DiskFault → IsUp manager.new }
+    ensures disk { KeepsDisk (D.view disk.old) (D.view disk.new) manager.old manager.new }
+    ensures disk_faults { FaultsAsSaid is_disk_fault (D.view disk.old).faults
+        (D.view disk.new).faults result }
+    ensures read_faults { FaultsAsSaid is_read_fault (C.read_faults conn.old)
+        (C.read_faults conn.new) result }
+    ensures write_faults { FaultsAsSaid is_write_fault (C.write_faults conn.old)
+        (C.write_faults conn.new) result }
+    ensures given { C.given conn.new ≡ C.given conn.old }
+    ensures address { C.address conn.new ≡ C.address conn.old }
+    ensures lent { C.lent conn.new ≡ C.lent conn.old }
+{
+    serve(alloc, disk, manager, Purpose::Serve, conn, now)
+}
+
+/// Pushes to the peer at an index, over a connection to it: the manager asks for a session, and the connection ends as soon as nothing for the peer is
+/// outstanding. All calls have the moment `now`, in seconds.
+///
+/// # Errors
+/// As of `serve_one`.
+pub fn push_one<D: Disk, C: Conn>(
+    alloc: Global,
+    disk: &mut D,
+    manager: &mut Manager,
+    peer: u32,
+    conn: &mut C,
+    now: u32,
+) -> Result<(), ConnFault>
+    requires up { IsUp manager.old }
+    requires on { IsOnDisk (D.view disk.old) manager.old }
+    ensures served { Serves (Purpose.Reach Errand.Push peer) now (manager_of manager.old) (manager_of manager.new)
+        (C.held conn.old) (C.held conn.new) (C.taken conn.old) (C.taken conn.new) result }
+    ensures whole { ServesWhole result (Purpose.Reach Errand.Push peer) now (manager_of manager.old)
+        (manager_of manager.new) (C.held conn.old) (C.taken conn.old) (C.taken conn.new) }
+    ensures unlinked { manager.new.session ≡ None }
+    ensures up { result ≢ Err ConnFault.DiskFault → IsUp manager.new }
+    ensures disk { KeepsDisk (D.view disk.old) (D.view disk.new) manager.old manager.new }
+    ensures disk_faults { FaultsAsSaid is_disk_fault (D.view disk.old).faults
+        (D.view disk.new).faults result }
+    ensures read_faults { FaultsAsSaid is_read_fault (C.read_faults conn.old)
+        (C.read_faults conn.new) result }
+    ensures write_faults { FaultsAsSaid is_write_fault (C.write_faults conn.old)
+        (C.write_faults conn.new) result }
+    ensures given { C.given conn.new ≡ C.given conn.old }
+    ensures address { C.address conn.new ≡ C.address conn.old }
+    ensures lent { C.lent conn.new ≡ C.lent conn.old }
+{
+    serve(
+        alloc,
+        disk,
+        manager,
+        Purpose::Reach {
+            errand: Errand::Push,
+            peer,
+        },
+        conn,
+        now,
+    )
+}
+
+/// Pushes to the peer at an index, and goes on when it is through, for what waits there: the connection ends where no more bytes come. All calls have the
+/// moment `now`, in seconds.
+///
+/// # Errors
+/// As of `serve_one`.
+pub fn fetch_one<D: Disk, C: Conn>(
+    alloc: Global,
+    disk: &mut D,
+    manager: &mut Manager,
+    peer: u32,
+    conn: &mut C,
+    now: u32,
+) -> Result<(), ConnFault>
+    requires up { IsUp manager.old }
+    requires on { IsOnDisk (D.view disk.old) manager.old }
+    ensures served { Serves (Purpose.Reach Errand.Fetch peer) now (manager_of manager.old) (manager_of manager.new)
+        (C.held conn.old) (C.held conn.new) (C.taken conn.old) (C.taken conn.new) result }
+    ensures whole { ServesWhole result (Purpose.Reach Errand.Fetch peer) now (manager_of manager.old)
+        (manager_of manager.new) (C.held conn.old) (C.taken conn.old) (C.taken conn.new) }
+    ensures unlinked { manager.new.session ≡ None }
+    ensures up { result ≢ Err ConnFault.DiskFault → IsUp manager.new }
+    ensures disk { KeepsDisk (D.view disk.old) (D.view disk.new) manager.old manager.new }
+    ensures disk_faults { FaultsAsSaid is_disk_fault (D.view disk.old).faults
+        (D.view disk.new).faults result }
+    ensures read_faults { FaultsAsSaid is_read_fault (C.read_faults conn.old)
+        (C.read_faults conn.new) result }
+    ensures write_faults { FaultsAsSaid is_write_fault (C.write_faults conn.old)
+        (C.write_faults conn.new) result }
+    ensures given { C.given conn.new ≡ C.given conn.old }
+    ensures address { C.address conn.new ≡ C.address conn.old }
+    ensures lent { C.lent conn.new ≡ C.lent conn.old }
+{
+    serve(
+        alloc,
+        disk,
+        manager,
+        Purpose::Reach {
+            errand: Errand::Fetch,
+            peer,
+        },
+        conn,
+        now,
+    )
 }

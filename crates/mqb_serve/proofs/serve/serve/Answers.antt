@@ -6,7 +6,7 @@ use Rattle.mqb_serving.specs.declared.faults.ConnFault.{ConnFault}
 use Rattle.mqb_serving.specs.Serving.{Answer, Serves, ServesWhole, is_disk_fault, is_read_fault, is_write_fault}
 use Rattle.mqb_serve.specs.Talking.{Keeps}
 use Rattle.mqb_serve.proofs.Closing.{cut_served, cut_whole, disk_is, down_keeps, down_served, down_unlinked, down_whole, end_served, end_whole, gone_keeps, gone_unlinked, gone_up, linked_on, linked_up, not_disk, said_end, up_but}
-use Rattle.mqb_serve.proofs.serve.serve_one.Goals as goal
+use Rattle.mqb_serve.proofs.serve.serve.Goals as goal
 
 pub converse-requires-clause-up : goal.converse-requires-clause-up
 converse-requires-clause-up g c =
