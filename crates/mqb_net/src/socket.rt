@@ -3,7 +3,7 @@ ghost use Rattle.std.specs.Prelude.{◌≡◌, ◌≤◌, ℕ, List, Option, Non
 ghost use Rattle.mqb_outside.specs.Told.{Reads, Writes};
 
 use std::io::{self, ErrorKind, Read, Write};
-use std::net::TcpStream;
+use std::net::{Shutdown, TcpStream};
 use std::time::{Duration, Instant};
 
 /// Why a call to a socket gave or took nothing.
@@ -39,6 +39,11 @@ pub trait Socket {
 
 /// The wait of a write, and of a read in place of it, in milliseconds.
 pub const SHORT_WAIT: u64 = 10;
+
+/// How long a connection that has ended waits for its peer to end it too: for each byte, and in all, in milliseconds.
+const LAST_WAIT: u64 = 1000;
+
+const LAST_WAITS: u64 = 5000;
 
 /// How often a read that a signal interrupted is made again.
 const MAX_TRIES: u32 = 1000;
@@ -90,6 +95,22 @@ impl TcpSocket {
             self.wait = wait;
         }
         Ok(())
+    }
+
+    /// Nothing more goes, and what still comes is let go until the peer ends the connection, too, for some seconds. So the peer finds the end of what came: a
+    /// connection that is closed over bytes that were not read is reset.
+    pub(crate) fn linger(&mut self) {
+        let began = self.millis();
+        if self.stream.shutdown(Shutdown::Write).is_err() || self.set_wait(LAST_WAIT).is_err() {
+            return;
+        }
+        let mut buffer = [0; 4096];
+        for _ in 0..u64::MAX {
+            match self.listen(&mut buffer) {
+                Ok(n) if n > 0 && self.millis().saturating_sub(began) < LAST_WAITS => {}
+                _ => return,
+            }
+        }
     }
 
     // Reads, again where a signal interrupts it.

@@ -33,6 +33,11 @@ impl TcpConn {
     {
         self.ends.had_faults()
     }
+
+    /// Ends it, so that its peer finds the end of what came.
+    pub(crate) fn end(self) {
+        self.ends.into_socket().linger();
+    }
 }
 
 impl Source for TcpConn {

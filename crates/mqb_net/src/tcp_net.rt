@@ -182,6 +182,8 @@ impl Net for TcpNet {
     fn finish(&mut self, conn: TcpConn) {
         if conn.had_faults() {
             self.lost = self.lost.saturating_add(1);
+        } else {
+            conn.end();
         }
     }
 }

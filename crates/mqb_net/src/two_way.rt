@@ -47,6 +47,11 @@ impl<S: Socket + Drop> TwoWay<S> {
         }
     }
 
+    /// Its socket, where it is not used any more.
+    pub(crate) fn into_socket(self) -> S {
+        self.socket
+    }
+
     /// Whether one of its counts of faults is not 0.
     pub(crate) fn had_faults(&self) -> bool
         ensures { IsTrue result ↔ (0 < self.now.read_faults + self.now.write_faults) }
