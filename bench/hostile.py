@@ -100,7 +100,8 @@ def main():
         bytes_ = greeting(alpha)
         ways = [reset] * RESETS + [(stop, trickle)[at % 2] for at in range(SLOW)]
         pushes = [at for at in range(len(ways)) if (at % 1000 == 999 if at < RESETS else (at - RESETS) % 100 == 99)]
-        serving = subprocess.Popen([MQB, "serve", beta, str(len(ways) + len(pushes))], stdout=subprocess.PIPE, text=True)
+        said = open(f"{folder}/said", "w+")  # a pipe that is not read would hold the server
+        serving = subprocess.Popen([MQB, "serve", beta, str(len(ways) + len(pushes))], stdout=said)
         while not any(line.split()[1].endswith(f":{PORT:04X}") and line.split()[3] == "0A" for line in open("/proc/net/tcp").readlines()[1:]):
             assert serving.poll() is None, "the server ended"
             time.sleep(0.005)
@@ -110,7 +111,9 @@ def main():
             if at in pushes:
                 asked("commit", alpha, rf"send,DIRECT=OS:beta\PRIVATE$\orders,-,-,-,-,-,order{at}")
                 assert asked("push", alpha, "beta") == ["connection 1: ended"]
-        lines = serving.communicate(timeout=120)[0].splitlines()
+        serving.wait(120)
+        said.seek(0)
+        lines = said.read().splitlines()
         assert serving.returncode == 0 and len(lines) == len(ways) + len(pushes), (serving.returncode, lines[-3:])
         ends = {}
         for line in lines:
@@ -118,8 +121,8 @@ def main():
             ends[how] = ends.get(how, 0) + 1
         queue = next(line.split()[3:] for line in asked("list", beta) if line.startswith("beta queue orders"))
         assert len(set(queue)) == len(queue) == len(pushes), (len(queue), len(pushes))
-        said = ", ".join(f"{count} {how}" for how, count in sorted(ends.items()))
-        print(f"{RESETS} that were reset, {SLOW} that were slow, {len(pushes)} pushes, {time.time() - began:.0f} s: {said}; each message is there once")
+        counts = ", ".join(f"{count} {how}" for how, count in sorted(ends.items()))
+        print(f"{RESETS} that were reset, {SLOW} that were slow, {len(pushes)} pushes, {time.time() - began:.0f} s: {counts}; each message is there once")
 
 
 main()
