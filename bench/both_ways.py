@@ -4,6 +4,9 @@ loads (40) of both sides. Each load goes by a push and a fetch, and once more by
 (another program with the same words, which need not take in what comes while it writes) at either end, where one is named. At the end each message is in its queue once,
 each row is acknowledged, and no line is `netfault`; else it is said what is so, and the status is 1. A connection that takes over 30 seconds (LIMIT) is cut off and BLOCKS.
 
+Seen: all of 215 rows went well, beside this program and beside another one at either end, each in under 5 seconds on a busy machine; two ends of that other program, which writes all
+before it reads, block in each of the first three loads.
+
 It stands outside the gate. Its port must be free: 1801, or MQB_PORT. MQB names another program, PEER the other one.
 """
 import os, pathlib, random, re, subprocess, sys, tempfile, time

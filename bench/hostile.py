@@ -3,6 +3,8 @@
 a byte now and then, over the loopback. Every thousand of the first and hundred of the others a message is committed and pushed. The server must go on to the end, each
 push must end well, and what was acknowledged must be there. A server waits MQB_WAIT milliseconds for a silent peer, here 90, and a slow peer sends a byte each 30.
 
+Seen: 10,000 and 1,000 in 104 seconds, 20 pushes in between; these 20 ended well, the others were `netfault`, and each message was there once.
+
 It stands outside the gate. Its port must be free: 1801, or MQB_PORT. MQB names another program.
 """
 import os, pathlib, random, re, socket, struct, subprocess, sys, tempfile, time
