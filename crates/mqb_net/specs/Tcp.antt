@@ -13,3 +13,7 @@ faults_of net = net.faults
 -- how many of its connections were lost
 abbrev pub lost_by : TcpNet → ℕ
 lost_by net = net.lost
+
+-- how often it was waited for a peer and none came
+abbrev pub idle_of : TcpNet → ℕ
+idle_of net = net.idle

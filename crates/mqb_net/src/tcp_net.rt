@@ -1,13 +1,14 @@
-ghost use Rattle.std.specs.Prelude.{◌≡◌, None, Ok, IfOk, OnErr};
-ghost use Rattle.mqb_outside.specs.Faults.{HasCause};
-ghost use Rattle.mqb_net.specs.Tcp.{IsFaultless, faults_of, lost_by};
+ghost use Rattle.std.specs.Prelude.{◌≡◌, ◌≢◌, None, Ok, false, IfOk, OnErr};
+ghost use Rattle.mqb_outside.specs.Faults.{HasCause, Rose};
+ghost use Rattle.mqb_net.specs.Tcp.{IsFaultless, faults_of, idle_of, lost_by};
 
 use crate::quiet::Waits;
+use crate::socket::SHORT_WAIT;
 use crate::tcp_conn::TcpConn;
 use mqb_base::Failed;
 use mqb_outside::Net;
 use std::net::{Ipv4Addr, SocketAddr, SocketAddrV4, TcpListener, TcpStream};
-use std::time::Duration;
+use std::time::{Duration, Instant};
 use std::{io, thread};
 
 /// The port of managers.
@@ -22,14 +23,17 @@ const MAX_TRIES: u32 = 100;
 /// The milliseconds between one such accept and the next.
 const PAUSE: u64 = 100;
 
-/// A net over TCP. From its first `accept` or `listen` on it listens on all addresses of the machine. It tells nothing of its connections.
+/// A net over TCP. From its first `accept`, `await_peer` or `listen` on it listens on all addresses of the machine. It tells nothing of its connections.
 #[derive(Drop)]
 pub struct TcpNet {
     rt: HostRuntime,
     port: u16,
     waits: Waits,
     listener: Option<TcpListener>,
+    // A connection that came while it was waited for a peer.
+    came: Option<TcpStream>,
     faults: u64,
+    idle: u64,
     lost: u64,
 }
 
@@ -55,7 +59,9 @@ impl TcpNet {
                 last: None,
             },
             listener: None,
+            came: None,
             faults: 0,
+            idle: 0,
             lost: 0,
         }
     }
@@ -89,6 +95,7 @@ impl TcpNet {
     // Begins to listen, unless it does already.
     fn begin(&mut self) -> io::Result<()>
         ensures faults { faults_of self.new ≡ faults_of self.old }
+        ensures idle { idle_of self.new ≡ idle_of self.old }
         ensures lost { lost_by self.new ≡ lost_by self.old }
     {
         if self.listener.is_none() {
@@ -100,12 +107,34 @@ impl TcpNet {
         Ok(())
     }
 
+    // Waits so many seconds at most for a connection that a peer makes, and says whether one came.
+    fn find_peer(&mut self, seconds: u32) -> io::Result<bool>
+        ensures faults { faults_of self.new ≡ faults_of self.old }
+        ensures idle { idle_of self.new ≡ idle_of self.old }
+        ensures lost { lost_by self.new ≡ lost_by self.old }
+    {
+        if self.came.is_none() {
+            self.begin()?;
+            if let Some(listener) = &self.listener {
+                listener.set_nonblocking(true)?;
+                let found = poll(&self.rt, listener, seconds);
+                listener.set_nonblocking(false)?;
+                self.came = found?;
+            }
+        }
+        Ok(self.came.is_some())
+    }
+
     // Waits for the next connection that a peer makes.
     fn next_conn(&mut self) -> io::Result<TcpConn>
         ensures faultless { IfOk result (λ conn. IsFaultless conn) }
         ensures faults { faults_of self.new ≡ faults_of self.old }
+        ensures idle { idle_of self.new ≡ idle_of self.old }
         ensures lost { lost_by self.new ≡ lost_by self.old }
     {
+        if let Some(stream) = self.came.take() {
+            return TcpConn::over(&self.rt, stream, self.waits);
+        }
         self.begin()?;
         match &self.listener {
             Some(listener) => accept_from(&self.rt, listener, self.waits),
@@ -117,6 +146,7 @@ impl TcpNet {
     fn note<T>(&mut self, done: io::Result<T>) -> Result<T, Failed>
         ensures cause { HasCause (faults_of self.old) (faults_of self.new) result }
         ensures same { IfOk result (λ value. done ≡ Ok value) }
+        ensures idle { idle_of self.new ≡ idle_of self.old }
         ensures lost { lost_by self.new ≡ lost_by self.old }
     {
         match done {
@@ -148,6 +178,32 @@ fn accept_from(rt: &HostRuntime, listener: &TcpListener, waits: Waits) -> io::Re
     accept_one(rt, listener, waits)
 }
 
+// Waits so many seconds at most for a connection, by a listener that does not block.
+fn poll(rt: &HostRuntime, listener: &TcpListener, seconds: u32) -> io::Result<Option<TcpStream>> {
+    let began = Instant::now(rt)?;
+    let longest = Duration::from_secs(u64::from(seconds));
+    let mut tries = 0u32;
+    for _ in 0..u64::MAX {
+        let pause = match listener.accept() {
+            Ok((stream, _)) => {
+                stream.set_nonblocking(false)?;
+                return Ok(Some(stream));
+            }
+            Err(error) if error.kind() == io::ErrorKind::WouldBlock => SHORT_WAIT,
+            Err(error) if tries >= MAX_TRIES => return Err(error),
+            Err(_) => {
+                tries = tries.saturating_add(1);
+                PAUSE
+            }
+        };
+        if began.elapsed(rt)? >= longest {
+            return Ok(None);
+        }
+        thread::sleep(rt, Duration::from_millis(pause));
+    }
+    Ok(None)
+}
+
 fn reach(rt: &HostRuntime, address: [u8; 4], port: u16, waits: Waits) -> io::Result<TcpConn>
     ensures { IfOk result (λ conn. IsFaultless conn) }
 {
@@ -161,6 +217,8 @@ impl Net for TcpNet {
 
     ghost faults = { faults_of };
 
+    ghost idle = { idle_of };
+
     ghost lost = { lost_by };
 
     ghost finished = { λ _. None };
@@ -168,6 +226,15 @@ impl Net for TcpNet {
     ghost unfinished = { λ _. None };
 
     ghost tells = { λ _ told. told };
+
+    fn await_peer(&mut self, seconds: u32) -> Result<bool, Failed> {
+        let found = self.find_peer(seconds);
+        let came = self.note(found)?;
+        if !came {
+            self.idle = self.idle.saturating_add(1);
+        }
+        Ok(came)
+    }
 
     fn accept(&mut self) -> Result<TcpConn, Failed> {
         let made = self.next_conn();

@@ -22,3 +22,7 @@ faults_of net = net.faults
 -- how many connections were lost
 abbrev pub lost_by : MemoryNet → ℕ
 lost_by net = net.lost
+
+-- how often it was waited for a peer and none came
+abbrev pub idle_of : MemoryNet → ℕ
+idle_of net = net.idle

@@ -18,6 +18,7 @@ pub struct MemoryNet {
     finished: Vec<MemoryConn>,
     unfinished: usize,
     faults: u64,
+    idle: u64,
     lost: u64,
     ghost within: { next ≤ vec_len plans },
     ghost room: { vec_len finished + unfinished + (vec_len plans - next) ≤ vec_capacity finished },
@@ -34,6 +35,7 @@ impl MemoryNet {
         ensures finished { IfOk result (λ net. ⟦<MemoryNet as Net>⟧.finished net ≡ Some []) }
         ensures unfinished { IfOk result (λ net. ⟦<MemoryNet as Net>⟧.unfinished net ≡ Some 0) }
         ensures faults { IfOk result (λ net. ⟦<MemoryNet as Net>⟧.faults net ≡ 0) }
+        ensures idle { IfOk result (λ net. ⟦<MemoryNet as Net>⟧.idle net ≡ 0) }
         ensures lost { IfOk result (λ net. ⟦<MemoryNet as Net>⟧.lost net ≡ 0) }
         ensures upcoming { IfOk result (λ net. upcoming net ≡ planned_all plans.items) }
     {
@@ -44,6 +46,7 @@ impl MemoryNet {
             next: 0,
             unfinished: 0,
             faults: 0,
+            idle: 0,
             lost: 0,
         })
     }
@@ -79,6 +82,7 @@ impl MemoryNet {
         ensures unchanged { OnErr result (self.new.unfinished ≡ self.old.unfinished) }
         ensures finished { self.new.finished ≡ self.old.finished }
         ensures lost { self.new.lost ≡ self.old.lost }
+        ensures idle { self.new.idle ≡ self.old.idle }
         ensures cause { HasCause self.old.faults self.new.faults result }
     {
         let at = self.pass();
@@ -126,6 +130,7 @@ impl MemoryNet {
         ensures finished { self.new.finished ≡ self.old.finished }
         ensures unfinished { self.new.unfinished ≡ self.old.unfinished }
         ensures faults { self.new.faults ≡ self.old.faults }
+        ensures idle { self.new.idle ≡ self.old.idle }
         ensures lost { self.new.lost ≡ self.old.lost }
     {
         let at = self.next;
@@ -137,12 +142,14 @@ impl MemoryNet {
 impl Net for MemoryNet {
     type C = MemoryConn;
 
-    ghost use Rattle.std.specs.Prelude.{◌<◌, ◌∷◌, ◌++◌, drop, IsErr};
+    ghost use Rattle.std.specs.Prelude.{◌<◌, ◌∷◌, ◌++◌, ◌≢◌, ◌↔◌, Ok, drop, false, length, IsErr, IsTrue};
     ghost use Rattle.mqb_outside.specs.ConnPlans.{first_of};
-    ghost use Rattle.mqb_outside.specs.NetPlans.{faults_of, lost_by, still_out, taken_back, upcoming};
+    ghost use Rattle.mqb_outside.specs.NetPlans.{faults_of, idle_of, lost_by, still_out, taken_back, upcoming};
     ghost use Rattle.mqb_outside.specs.Conns.{IsAsPlanned, address_of, held_by, read_faults_of, taken_on, write_faults_of};
 
     ghost faults = { faults_of };
+
+    ghost idle = { idle_of };
 
     ghost lost = { lost_by };
 
@@ -159,6 +166,24 @@ impl Net for MemoryNet {
 
     ghost tells = { λ n told. told };
 
+    /// A peer comes where a plan is left, be it one that fails.
+    fn await_peer(&mut self, _seconds: u32) -> Result<bool, Failed>
+        ensures planned { IfOk result (λ came. IsTrue came ↔ (0 < length (upcoming self.old))) }
+        ensures none_came { result ≡ Ok false → Rose (idle_of self.old) (idle_of self.new) }
+        ensures came { result ≢ Ok false → idle_of self.new ≡ idle_of self.old }
+        ensures upcoming { upcoming self.new ≡ upcoming self.old }
+        ensures unfinished { still_out self.new ≡ still_out self.old }
+        ensures finished { taken_back self.new ≡ taken_back self.old }
+        ensures lost { lost_by self.new ≡ lost_by self.old }
+        ensures cause { HasCause (faults_of self.old) (faults_of self.new) result }
+    {
+        let comes = self.next < self.plans.len();
+        if !comes {
+            self.idle = self.idle.saturating_add(1);
+        }
+        Ok(comes)
+    }
+
     fn accept(&mut self) -> Result<MemoryConn, Failed>
         ensures planned { IfOk result
             (λ c. IfSome (first_of (upcoming self.old)) (λ plan. IsAsPlanned plan c)) }
@@ -172,6 +197,7 @@ impl Net for MemoryNet {
         ensures unchanged { OnErr result (still_out self.new ≡ still_out self.old) }
         ensures finished { taken_back self.new ≡ taken_back self.old }
         ensures lost { lost_by self.new ≡ lost_by self.old }
+        ensures idle { idle_of self.new ≡ idle_of self.old }
         ensures cause { HasCause (faults_of self.old) (faults_of self.new) result }
     {
         self.give()
@@ -190,6 +216,7 @@ impl Net for MemoryNet {
         ensures unchanged { OnErr result (still_out self.new ≡ still_out self.old) }
         ensures finished { taken_back self.new ≡ taken_back self.old }
         ensures lost { lost_by self.new ≡ lost_by self.old }
+        ensures idle { idle_of self.new ≡ idle_of self.old }
         ensures cause { HasCause (faults_of self.old) (faults_of self.new) result }
     {
         let conn = self.give()?;
@@ -205,6 +232,7 @@ impl Net for MemoryNet {
             → lost_by self.new ≡ lost_by self.old }
         ensures closed { still_out self.new ≡ still_out self.old - 1 }
         ensures upcoming { upcoming self.new ≡ upcoming self.old }
+        ensures idle { idle_of self.new ≡ idle_of self.old }
         ensures faults { faults_of self.new ≡ faults_of self.old }
     {
         if conn.had_faults() {
