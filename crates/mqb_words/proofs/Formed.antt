@@ -13,9 +13,9 @@ use Rattle.mqb_words.specs.declared.commands.Call.{Call}
 use Rattle.mqb_words.specs.declared.commands.Command.{Command}
 use Rattle.mqb_words.specs.declared.commands.Command.TheVariants as command
 use Rattle.mqb_words.specs.Table.{form_of}
-use Rattle.mqb_words.specs.Values.{MOST_ORDERS, MOST_CONNECTIONS, MOST_SECONDS, connections_of, seconds_of, address_of, address_in, either_of, wait_in, identity_of}
+use Rattle.mqb_words.specs.Values.{MOST_ORDERS, MOST_CONNECTIONS, MOST_MESSAGES, MOST_SECONDS, connections_of, messages_of, count_in, seconds_of, address_of, address_in, either_of, wait_in, identity_of}
 use Rattle.mqb_words.specs.Calls.{peer_from, create_from, sent_with, send_from, commit_from, take_from, purge_from, tick_from, roll_from}
-use Rattle.mqb_words.specs.Words.{alone, of_store, orders_from, making, trying, init_from, calling, serve_from, push_from, fetch_from, command_with, command_from}
+use Rattle.mqb_words.specs.Words.{alone, of_store, orders_from, making, trying, init_from, calling, peek_from, serve_from, attend_from, push_from, fetch_from, command_with, command_from}
 use Rattle.mqb_words.specs.Stores.{has_store}
 use Rattle.mqb_words.specs.Formed.{IsFormedCall, IsFormed}
 
@@ -130,6 +130,30 @@ serve_good (store ∷ count ∷ []) =
     (λ connections is. let bounds = number_bounds 1 MOST_CONNECTIONS connections count is in ((bounds.low, bounds.high), λ _. omega arith))
 serve_good _ = tt
 
+-- so many messages are shown
+abbrev IsCount : ℕ → Type 0
+IsCount count = (1 ≤ count) × (count ≤ MOST_MESSAGES)
+
+count_bounds : (words : List (List ℕ)) (count : ℕ) → count_in words ≡ Ok count → IsCount count
+unfolding count_in
+count_bounds [] count is = let one : 1 ≡ count = cc in (omega arith, omega arith)
+count_bounds (word ∷ []) count is = let bounds = number_bounds 1 MOST_MESSAGES count word is in (bounds.low, bounds.high)
+count_bounds (word ∷ more ∷ words) count is = absurd (let never : ⊥ = cc in never)
+
+peek_good : (words : List (List ℕ)) → IfOk (peek_from words) (IsGood words)
+unfolding peek_from
+peek_good (store ∷ place ∷ behind) =
+    then_gives (IsGood (store ∷ place ∷ behind)) _ (place_of place)
+    (λ from _. then_gives (IsGood (store ∷ place ∷ behind)) _ (count_in behind) (λ count is. (count_bounds behind count is, λ _. omega arith)))
+peek_good _ = tt
+
+attend_good : (words : List (List ℕ)) → IfOk (attend_from words) (IsGood words)
+unfolding attend_from
+attend_good (store ∷ wait ∷ []) =
+    then_gives (IsGood (store ∷ wait ∷ [])) _ (seconds_of wait)
+    (λ seconds is. let bounds = number_bounds 1 MOST_SECONDS seconds wait is in ((bounds.low, bounds.high), λ _. omega arith))
+attend_good _ = tt
+
 push_good : (words : List (List ℕ)) → IfOk (push_from words) (IsGood words)
 unfolding push_from
 push_good (store ∷ host ∷ behind) =
@@ -178,8 +202,10 @@ command_good form.Purge words = calling_good words (purge_from words) (purge_goo
 command_good form.Tick words = calling_good words (tick_from words) (tick_good words)
 command_good form.Roll words = calling_good words (roll_from words) (roll_good words)
 command_good form.List words = of_store_good command.List words tt
+command_good form.Peek words = peek_good words
 command_good form.Probe words = of_store_good command.Probe words tt
 command_good form.Serve words = serve_good words
+command_good form.Attend words = attend_good words
 command_good form.Push words = push_good words
 command_good form.Fetch words = fetch_good words
 command_good form.Help words = alone_good command.Help words tt (λ none. cc)

@@ -22,6 +22,19 @@ MOST_CONNECTIONS = 1000000
 abbrev pub connections_of : List ℕ → Result ℕ LineKind
 connections_of word = number_in 1 MOST_CONNECTIONS word
 
+-- the most messages that are shown, which is as many as a place holds
+abbrev pub MOST_MESSAGES : ℕ
+MOST_MESSAGES = 4294967295
+
+abbrev pub messages_of : List ℕ → Result ℕ LineKind
+messages_of word = number_in 1 MOST_MESSAGES word
+
+-- a count of messages, or one
+unfoldable pub count_in : List (List ℕ) → Result ℕ LineKind
+count_in [] = Ok 1
+count_in (count ∷ []) = messages_of count
+count_in _ = Err Value
+
 -- how many seconds a fetch waits where no word says it
 abbrev pub SECONDS : ℕ
 SECONDS = 5

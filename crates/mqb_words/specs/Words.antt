@@ -6,7 +6,7 @@ use Rattle.mqb_forms.specs.declared.faults.LineKind.{LineKind}
 use Rattle.mqb_forms.specs.declared.faults.LineKind.TheVariants.{Word, Value}
 use Rattle.mqb_forms.specs.declared.faults.LineFault.{LineFault}
 use Rattle.mqb_forms.specs.declared.faults.LineFault.TheVariants as line
-use Rattle.mqb_forms.specs.Values.{name_of}
+use Rattle.mqb_forms.specs.Values.{name_of, place_of}
 use Rattle.mqb_words.specs.declared.faults.WordsFault.{WordsFault}
 use Rattle.mqb_words.specs.declared.faults.WordsFault.TheVariants.{Usage, Memory}
 use Rattle.mqb_words.specs.declared.forms.Form.{Form}
@@ -15,7 +15,7 @@ use Rattle.mqb_words.specs.declared.commands.Call.{Call}
 use Rattle.mqb_words.specs.declared.commands.Command.{Command}
 use Rattle.mqb_words.specs.declared.commands.Command.TheVariants as command
 use Rattle.mqb_words.specs.Table.{form_of}
-use Rattle.mqb_words.specs.Values.{orders_of, connections_of, identity_of, address_in, wait_in}
+use Rattle.mqb_words.specs.Values.{orders_of, connections_of, count_in, seconds_of, identity_of, address_in, wait_in}
 use Rattle.mqb_words.specs.Calls.{peer_from, create_from, send_from, commit_from, take_from, purge_from, tick_from, roll_from}
 
 -- The words behind the first one.
@@ -62,6 +62,19 @@ serve_from (store ∷ count ∷ []) = do
   Ok (command.Serve connections)
 serve_from _ = Err Value
 
+unfoldable pub peek_from : List (List ℕ) → Result Command LineKind
+peek_from (store ∷ place ∷ words) = do
+  from ← place_of place
+  count ← count_in words
+  Ok (command.Peek from count)
+peek_from _ = Err Value
+
+unfoldable pub attend_from : List (List ℕ) → Result Command LineKind
+attend_from (store ∷ wait ∷ []) = do
+  seconds ← seconds_of wait
+  Ok (command.Attend seconds)
+attend_from _ = Err Value
+
 unfoldable pub push_from : List (List ℕ) → Result Command LineKind
 push_from (store ∷ host ∷ words) = do
   name ← name_of host
@@ -92,8 +105,10 @@ command_with form.Purge words = calling (purge_from words)
 command_with form.Tick words = calling (tick_from words)
 command_with form.Roll words = calling (roll_from words)
 command_with form.List words = of_store command.List words
+command_with form.Peek words = peek_from words
 command_with form.Probe words = of_store command.Probe words
 command_with form.Serve words = serve_from words
+command_with form.Attend words = attend_from words
 command_with form.Push words = push_from words
 command_with form.Fetch words = fetch_from words
 command_with form.Help words = alone command.Help words

@@ -27,11 +27,20 @@ pub enum Command {
     Call(Call),
     /// `list STORE`
     List,
+    /// `peek STORE PLACE [COUNT]`, 1 where there is no count
+    Peek {
+        place: Place,
+        count: u32,
+    },
     /// `probe STORE`
     Probe,
     /// `serve STORE COUNT`, from 1 to 1000000
     Serve {
         count: u32,
+    },
+    /// `attend STORE SECONDS`, from 1 to 3600
+    Attend {
+        seconds: u32,
     },
     /// `push STORE HOST [ADDRESS]`
     Push {
@@ -80,8 +89,10 @@ impl Command {
             Command::Init { .. }
             | Command::Call(_)
             | Command::List
+            | Command::Peek { .. }
             | Command::Probe
             | Command::Serve { .. }
+            | Command::Attend { .. }
             | Command::Push { .. }
             | Command::Fetch { .. } => true,
             Command::Replay

@@ -1,7 +1,7 @@
 ghost use Rattle.std.specs.Prelude.{◌≡◌, ◌≤◌, length, map, IfOk, IsTrue};
 ghost use Rattle.std.specs.String.{string_bytes};
 ghost use Rattle.mqb_forms.specs.Faults.{Reads};
-ghost use Rattle.mqb_words.specs.Words.{alone, of_store, orders_from, init_from, serve_from, push_from, fetch_from, command_with, command_from, command_of, Answers};
+ghost use Rattle.mqb_words.specs.Words.{alone, of_store, orders_from, init_from, peek_from, serve_from, attend_from, push_from, fetch_from, command_with, command_from, command_of, Answers};
 ghost use Rattle.mqb_words.specs.Stores.{has_store};
 ghost use Rattle.mqb_words.specs.Formed.{IsFormed};
 
@@ -11,8 +11,10 @@ use crate::calls::{
 use crate::commands::{Call, Command};
 use crate::faults::WordsFault;
 use crate::forms::{Form, form_of};
-use crate::values::{address_in, connections_of, identity_of, orders_of, wait_in};
-use mqb_forms::{LineFault, LineKind, name_of};
+use crate::values::{
+    address_in, connections_of, count_in, identity_of, orders_of, seconds_of, wait_in,
+};
+use mqb_forms::{LineFault, LineKind, name_of, place_of};
 use std::alloc::{AllocError, Global};
 
 /// A command whose first word stands alone.
@@ -70,6 +72,29 @@ fn serve_from(words: &[&[u8]]) -> Result<Command, LineKind>
     Ok(Command::Serve { count })
 }
 
+#[tactic(auto, unfolding(crate::specs::Words::peek_from))]
+fn peek_from(alloc: Global, words: &[&[u8]]) -> Result<Command, LineFault>
+    ensures { Reads (peek_from (map (λ word. word.now) words.now)) result }
+{
+    let [_store, place, words @ ..] = words else {
+        return Err(LineFault::VALUE);
+    };
+    let place = place_of(alloc, place)?;
+    let count = count_in(words)?;
+    Ok(Command::Peek { place, count })
+}
+
+#[tactic(auto, unfolding(crate::specs::Words::attend_from))]
+fn attend_from(words: &[&[u8]]) -> Result<Command, LineKind>
+    ensures { result ≡ attend_from (map (λ word. word.now) words.now) }
+{
+    let [_store, wait] = words else {
+        return Err(LineKind::Value);
+    };
+    let seconds = seconds_of(wait)?;
+    Ok(Command::Attend { seconds })
+}
+
 #[tactic(auto, unfolding(crate::specs::Words::push_from))]
 fn push_from(alloc: Global, words: &[&[u8]]) -> Result<Command, LineFault>
     ensures { Reads (push_from (map (λ word. word.now) words.now)) result }
@@ -122,8 +147,10 @@ fn command_with(alloc: Global, form: Form, words: &[&[u8]]) -> Result<Command, L
         Form::Tick => Ok(Command::Call(tick_from(words)?)),
         Form::Roll => Ok(Command::Call(roll_from(words)?)),
         Form::List => Ok(of_store(Command::List, words)?),
+        Form::Peek => peek_from(alloc, words),
         Form::Probe => Ok(of_store(Command::Probe, words)?),
         Form::Serve => Ok(serve_from(words)?),
+        Form::Attend => Ok(attend_from(words)?),
         Form::Push => push_from(alloc, words),
         Form::Fetch => fetch_from(alloc, words),
         Form::Help => Ok(alone(Command::Help, words)?),

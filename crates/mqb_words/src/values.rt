@@ -1,6 +1,6 @@
 ghost use Rattle.std.specs.Prelude.{◌≡◌, ◌<◌, map, IfOk};
 ghost use Rattle.mqb_forms.specs.Faults.{Reads};
-ghost use Rattle.mqb_words.specs.Values.{orders_of, connections_of, seconds_of, octet_of, address_from, address_of, address_in, either_of, wait_in, identity_of};
+ghost use Rattle.mqb_words.specs.Values.{orders_of, connections_of, messages_of, count_in, seconds_of, octet_of, address_from, address_of, address_in, either_of, wait_in, identity_of};
 
 use mqb_base::Identity;
 use mqb_forms::{LineFault, LineKind, guid_of, name_of, number_in, parts};
@@ -22,11 +22,29 @@ pub(crate) fn connections_of(word: &[u8]) -> Result<u32, LineKind>
     number_in(1, MAX_CONNECTIONS, word)
 }
 
+fn messages_of(word: &[u8]) -> Result<u32, LineKind>
+    ensures { result ≡ messages_of word.now }
+{
+    number_in(1, u32::MAX, word)
+}
+
+/// The count of messages that the words are, or 1.
+#[tactic(auto, unfolding(crate::specs::Values::count_in))]
+pub(crate) fn count_in(words: &[&[u8]]) -> Result<u32, LineKind>
+    ensures { result ≡ count_in (map (λ word. word.now) words.now) }
+{
+    match words {
+        [] => Ok(1),
+        [count] => messages_of(count),
+        _ => Err(LineKind::Value),
+    }
+}
+
 const SECONDS: u32 = 5;
 
 const MAX_SECONDS: u32 = 3600;
 
-fn seconds_of(word: &[u8]) -> Result<u32, LineKind>
+pub(crate) fn seconds_of(word: &[u8]) -> Result<u32, LineKind>
     ensures { result ≡ seconds_of word.now }
 {
     number_in(1, MAX_SECONDS, word)
