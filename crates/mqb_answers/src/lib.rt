@@ -12,4 +12,5 @@ mod told;
 
 pub use answering::answer;
 pub use laws::outcomes_are_told;
+pub use lines::hosts_of;
 pub use told::{CallEnd, Said, Taken, Told};

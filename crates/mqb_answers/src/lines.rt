@@ -51,7 +51,7 @@ fn known_hosts(
 }
 
 /// The managers that are printed as their hosts: a manager and its peers.
-pub(crate) fn hosts_of(alloc: Global, manager: &Manager) -> Result<Vec<Identity>, Memory>
+pub fn hosts_of(alloc: Global, manager: &Manager) -> Result<Vec<Identity>, Memory>
     ensures { IfOk result (λ hosts. hosts.items ≡ hosts_of manager.now.store.state) }
 {
     let state = manager.state();
