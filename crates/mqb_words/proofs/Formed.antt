@@ -13,7 +13,7 @@ use Rattle.mqb_words.specs.declared.commands.Call.{Call}
 use Rattle.mqb_words.specs.declared.commands.Command.{Command}
 use Rattle.mqb_words.specs.declared.commands.Command.TheVariants as command
 use Rattle.mqb_words.specs.Table.{form_of}
-use Rattle.mqb_words.specs.Values.{MOST_ORDERS, MOST_CONNECTIONS, MOST_MESSAGES, MOST_SECONDS, connections_of, messages_of, count_in, seconds_of, address_of, address_in, either_of, wait_in, identity_of}
+use Rattle.mqb_words.specs.Values.{MOST_ORDERS, MOST_CONNECTIONS, MOST_MESSAGES, MOST_SECONDS, connections_of, count_in, seconds_of, address_of, address_in, either_of, wait_in, identity_of}
 use Rattle.mqb_words.specs.Calls.{peer_from, create_from, sent_with, send_from, commit_from, take_from, purge_from, tick_from, roll_from}
 use Rattle.mqb_words.specs.Words.{alone, of_store, orders_from, making, trying, init_from, calling, peek_from, serve_from, attend_from, push_from, fetch_from, command_with, command_from}
 use Rattle.mqb_words.specs.Stores.{has_store}

@@ -4,3 +4,4 @@ pub mod Calls
 pub mod Words
 pub mod Stores
 pub mod Formed
+pub mod Misfits

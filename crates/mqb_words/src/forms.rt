@@ -1,6 +1,7 @@
 ghost use Rattle.std.specs.Prelude.{◌≡◌};
 ghost use Rattle.std.specs.Option.{option_copied};
 ghost use Rattle.mqb_base.specs.Same.{same_bytes};
+ghost use Rattle.mqb_words.specs.Misfits.{sample_of};
 ghost use Rattle.mqb_words.specs.Table.{form_among, form_of, word_of};
 
 use mqb_forms::{LineKind, is_word};
@@ -82,6 +83,37 @@ impl Form {
             Form::Attend => b"attend",
             Form::Push => b"push",
             Form::Fetch => b"fetch",
+            Form::Help => b"--help",
+            Form::Version => b"--version",
+        }
+    }
+
+    /// A command of this form.
+    pub(crate) fn sample(self) -> &'static [u8]
+        ensures { result.now ≡ sample_of self }
+    {
+        match self {
+            Form::Replay => b"replay",
+            Form::Make => b"make 1",
+            Form::Trial => b"trial 1",
+            Form::Show => b"show",
+            Form::Init => b"init STORE alpha 0a0b0c0d-1112-1314-1516-1718191a1b1c 10.0.0.1",
+            Form::Peer => b"peer STORE beta 2a2b2c2d-3132-3334-3536-3738393a3b3c 10.0.0.2",
+            Form::Create => b"create STORE orders tx 100 none 0a0b0c0d-1112-1314-1516-1718191a1b1c",
+            Form::Send =>
+                b"send STORE express 3 send,PUBLIC=0a0b0c0d-1112-1314-1516-1718191a1b1c,-,-,-,-,-,hello",
+            Form::Commit => b"commit STORE take,orders",
+            Form::Take => b"take STORE orders",
+            Form::Purge => b"purge STORE orders",
+            Form::Tick => b"tick STORE",
+            Form::Roll => b"roll STORE 1000",
+            Form::List => b"list STORE",
+            Form::Peek => b"peek STORE orders 1",
+            Form::Probe => b"probe STORE",
+            Form::Serve => b"serve STORE 1",
+            Form::Attend => b"attend STORE 60",
+            Form::Push => b"push STORE beta 10.0.0.2",
+            Form::Fetch => b"fetch STORE beta 10.0.0.2 5",
             Form::Help => b"--help",
             Form::Version => b"--version",
         }

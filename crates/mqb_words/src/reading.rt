@@ -159,7 +159,7 @@ fn command_with(alloc: Global, form: Form, words: &[&[u8]]) -> Result<Command, L
 }
 
 #[tactic(auto, unfolding(crate::specs::Words::command_from))]
-fn command_from(alloc: Global, words: &[&[u8]]) -> Result<Command, LineFault>
+pub(crate) fn command_from(alloc: Global, words: &[&[u8]]) -> Result<Command, LineFault>
     ensures { Reads (command_from (map (λ word. word.now) words.now)) result }
 {
     let [word, words @ ..] = words else {
@@ -169,7 +169,7 @@ fn command_from(alloc: Global, words: &[&[u8]]) -> Result<Command, LineFault>
     command_with(alloc, form, words)
 }
 
-fn bytes_of(alloc: Global, words: &[String]) -> Result<Vec<&[u8]>, AllocError>
+pub(crate) fn bytes_of(alloc: Global, words: &[String]) -> Result<Vec<&[u8]>, AllocError>
     ensures { IfOk result (λ bytes. map (λ word. word.now) bytes.items
         ≡ map string_bytes words.now) }
 {
