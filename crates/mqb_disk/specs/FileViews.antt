@@ -1,4 +1,4 @@
-use Rattle.std.specs.Prelude.{false, None}
+use Rattle.std.specs.Prelude.{Bool, false, None}
 use Rattle.mqb_outside.specs.Disk.{View}
 use Rattle.mqb_disk.specs.declared.file_disk.FileDisk.{FileDisk}
 
@@ -14,3 +14,7 @@ file_view d = record {
   faults = d.faults;
   switch = record { arms = 0; restarts = 0; last_pick = None };
 }
+
+-- whether it only reads its file, as others may at the same time
+abbrev pub is_shared : FileDisk → Bool
+is_shared d = d.is_shared

@@ -1,6 +1,7 @@
-ghost use Rattle.std.specs.Prelude.{◌≡◌, ◌+◌, ◌^◌, ◌<◌, ◌≤◌, Ok, IfOk, OnOk, length};
+ghost use Rattle.std.specs.Prelude.{◌≡◌, ◌+◌, ◌^◌, ◌<◌, ◌≤◌, Ok, IfOk, IsErr, OnOk, false, length, true};
 ghost use Rattle.mqb_outside.specs.Faults.{HasCause};
 ghost use Rattle.mqb_outside.specs.Disk.{Counted};
+ghost use Rattle.mqb_disk.specs.FileViews.{file_view, is_shared};
 
 use crate::open_fault::{OpenFault, fault_of};
 use mqb_base::Failed;
@@ -11,45 +12,61 @@ use std::os::unix::fs::FileExt;
 
 /// A disk in a file of the operating system. It tells nothing of its contents.
 ///
-/// From when it is opened until it is dropped it holds the system's lock on the file, so that no other one is opened in it, here or in another program.
+/// From when it is opened until it is dropped it holds the system's lock on the file, so that no other one is opened in it, here or in another program; but where both
+/// are shared, which only read it.
 #[derive(Drop)]
 pub struct FileDisk {
     file: File,
+    is_shared: bool,
     calls: u64,
     faults: u64,
 }
 
 impl FileDisk {
-    ghost use Rattle.mqb_disk.specs.FileViews.{file_view};
-
     /// Opens a file that is there.
     pub fn open(rt: &HostRuntime, path: &str) -> Result<FileDisk, OpenFault>
+        ensures shared { IfOk result (λ disk. is_shared disk ≡ false) }
         ensures calls { IfOk result (λ disk. (file_view disk).calls ≡ 0) }
         ensures faults { IfOk result (λ disk. (file_view disk).faults ≡ 0) }
     {
         match open_locked(rt, path) {
-            Ok(file) => Ok(FileDisk::over(file)),
+            Ok(file) => Ok(FileDisk::over(file, false)),
+            Err(error) => Err(fault_of(&error)),
+        }
+    }
+
+    /// Opens a file that is there for reading alone, beside others that only read it. No write, cut or sync of it is made.
+    pub fn open_shared(rt: &HostRuntime, path: &str) -> Result<FileDisk, OpenFault>
+        ensures shared { IfOk result (λ disk. is_shared disk ≡ true) }
+        ensures calls { IfOk result (λ disk. (file_view disk).calls ≡ 0) }
+        ensures faults { IfOk result (λ disk. (file_view disk).faults ≡ 0) }
+    {
+        match open_to_read(rt, path) {
+            Ok(file) => Ok(FileDisk::over(file, true)),
             Err(error) => Err(fault_of(&error)),
         }
     }
 
     /// Opens a file, and makes it where it is not there. Its folder is synced, so that a crash does not take its name away.
     pub fn create(rt: &HostRuntime, path: &str) -> Result<FileDisk, OpenFault>
+        ensures shared { IfOk result (λ disk. is_shared disk ≡ false) }
         ensures calls { IfOk result (λ disk. (file_view disk).calls ≡ 0) }
         ensures faults { IfOk result (λ disk. (file_view disk).faults ≡ 0) }
     {
         match make(rt, path) {
-            Ok(file) => Ok(FileDisk::over(file)),
+            Ok(file) => Ok(FileDisk::over(file, false)),
             Err(error) => Err(fault_of(&error)),
         }
     }
 
-    fn over(file: File) -> FileDisk
+    fn over(file: File, shared: bool) -> FileDisk
+        ensures shared { is_shared result ≡ shared }
         ensures calls { (file_view result).calls ≡ 0 }
         ensures faults { (file_view result).faults ≡ 0 }
     {
         FileDisk {
             file,
+            is_shared: shared,
             calls: 0,
             faults: 0,
         }
@@ -70,6 +87,40 @@ impl FileDisk {
             }
         }
     }
+
+    // The file, where it may be changed.
+    fn changeable(&self) -> io::Result<&File>
+        ensures { is_shared self.now ≡ true → IsErr result }
+    {
+        if self.is_shared {
+            return Err(io::ErrorKind::PermissionDenied.into());
+        }
+        Ok(&self.file)
+    }
+
+    fn put(&self, at: u64, bytes: &[u8]) -> io::Result<()>
+        requires { at + length bytes.now < 2 ^ 64 }
+        ensures bound { OnOk result (at + length bytes.now ≤ MAX_DISK) }
+        ensures refused { is_shared self.now ≡ true → IsErr result }
+    {
+        let file = self.changeable()?;
+        if at + bytes.len() as u64 > MAX_DISK {
+            return Err(too_long());
+        }
+        file.write_all_at(bytes, at)
+    }
+
+    fn shorten(&self, len: u64) -> io::Result<()>
+        ensures { is_shared self.now ≡ true → IsErr result }
+    {
+        self.changeable()?.set_len(len)
+    }
+
+    fn settle(&self) -> io::Result<()>
+        ensures { is_shared self.now ≡ true → IsErr result }
+    {
+        self.changeable()?.sync_data()
+    }
 }
 
 // Takes the system's lock on a file, without waiting. The system takes it back once the file is closed, also where the program was killed.
@@ -82,6 +133,15 @@ fn locked(file: File) -> io::Result<File> {
 
 fn open_locked(rt: &HostRuntime, path: &str) -> io::Result<File> {
     locked(OpenOptions::new().read(true).write(true).open(rt, path)?)
+}
+
+// Takes the lock that those who only read a file have together.
+fn open_to_read(rt: &HostRuntime, path: &str) -> io::Result<File> {
+    let file = File::open(rt, path)?;
+    match file.try_lock_shared() {
+        Ok(()) => Ok(file),
+        Err(error) => Err(error.into()),
+    }
 }
 
 // Makes a file where none is there, takes its lock, and syncs the folder that names it.
@@ -112,18 +172,7 @@ fn measured(file: &File) -> io::Result<u64>
     Ok(len)
 }
 
-fn written(file: &File, at: u64, bytes: &[u8]) -> io::Result<()>
-    requires { at + length bytes.now < 2 ^ 64 }
-    ensures { OnOk result (at + length bytes.now ≤ MAX_DISK) }
-{
-    if at + bytes.len() as u64 > MAX_DISK {
-        return Err(too_long());
-    }
-    file.write_all_at(bytes, at)
-}
-
 impl Disk for FileDisk {
-    ghost use Rattle.mqb_disk.specs.FileViews.{file_view};
     ghost use Rattle.mqb_disk.specs.lemmas.FileViews.{file_lawful};
 
     ghost view = { file_view };
@@ -140,18 +189,32 @@ impl Disk for FileDisk {
         self.note(done)
     }
 
-    fn write_at(&mut self, at: u64, bytes: &[u8]) -> Result<(), Failed> {
-        let done = written(&self.file, at, bytes);
+    fn write_at(&mut self, at: u64, bytes: &[u8]) -> Result<(), Failed>
+        requires { at + length bytes.now < 2 ^ 64 }
+        ensures refused { is_shared self.old ≡ true → IsErr result }
+        ensures bound { OnOk result (at + length bytes.now ≤ MAX_DISK) }
+        ensures calls { Counted 1 (file_view self.old).calls (file_view self.new).calls }
+        ensures cause { HasCause (file_view self.old).faults (file_view self.new).faults result }
+    {
+        let done = self.put(at, bytes);
         self.note(done)
     }
 
-    fn cut(&mut self, len: u64) -> Result<(), Failed> {
-        let done = self.file.set_len(len);
+    fn cut(&mut self, len: u64) -> Result<(), Failed>
+        ensures refused { is_shared self.old ≡ true → IsErr result }
+        ensures calls { Counted 1 (file_view self.old).calls (file_view self.new).calls }
+        ensures cause { HasCause (file_view self.old).faults (file_view self.new).faults result }
+    {
+        let done = self.shorten(len);
         self.note(done)
     }
 
-    fn sync(&mut self) -> Result<(), Failed> {
-        let done = self.file.sync_data();
+    fn sync(&mut self) -> Result<(), Failed>
+        ensures refused { is_shared self.old ≡ true → IsErr result }
+        ensures calls { Counted 1 (file_view self.old).calls (file_view self.new).calls }
+        ensures cause { HasCause (file_view self.old).faults (file_view self.new).faults result }
+    {
+        let done = self.settle();
         self.note(done)
     }
 }

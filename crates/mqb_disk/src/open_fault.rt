@@ -6,6 +6,8 @@ use thiserror::Error;
 pub enum OpenFault {
     #[error("another disk is open in the file")]
     InUse,
+    #[error("no such file")]
+    Missing,
     #[error("the file cannot be opened")]
     Failed,
 }
@@ -14,6 +16,7 @@ pub enum OpenFault {
 pub(crate) fn fault_of(error: &io::Error) -> OpenFault {
     match error.kind() {
         ErrorKind::WouldBlock => OpenFault::InUse,
+        ErrorKind::NotFound => OpenFault::Missing,
         _ => OpenFault::Failed,
     }
 }

@@ -100,7 +100,7 @@ fn a_disk_in_a_file(rt: HostRuntime) -> Result<(), Fail> {
     let _gone = fs::remove_file(&rt, path);
     assert_eq!(rt;
         FileDisk::open(&rt, path).map(|_| ()),
-        Err(OpenFault::Failed)
+        Err(OpenFault::Missing)
     );
     let Ok(mut disk) = FileDisk::create(&rt, path) else {
         return Err(Fail::new("no file"));
@@ -111,11 +111,25 @@ fn a_disk_in_a_file(rt: HostRuntime) -> Result<(), Fail> {
     let in_use = Err(OpenFault::InUse);
     assert_eq!(rt; FileDisk::open(&rt, path).map(|_| ()), in_use);
     assert_eq!(rt; FileDisk::create(&rt, path).map(|_| ()), in_use);
+    assert_eq!(rt; FileDisk::open_shared(&rt, path).map(|_| ()), in_use);
     drop(disk);
     let Ok(mut again) = FileDisk::open(&rt, path) else {
         return Err(Fail::new("no file again"));
     };
     assert!(rt; holds(rt.alloc(), &mut again, b"aBCde")?);
+    drop(again);
+    let (Ok(mut one), Ok(mut other)) = (
+        FileDisk::open_shared(&rt, path),
+        FileDisk::open_shared(&rt, path),
+    ) else {
+        return Err(Fail::new("no file that two read"));
+    };
+    assert_eq!(rt; FileDisk::open(&rt, path).map(|_| ()), in_use);
+    assert_eq!(rt;
+        (write(&mut one, 0, b"x"), cut(&mut one, 0), one.sync()),
+        (Err(Failed), Err(Failed), Err(Failed))
+    );
+    assert!(rt; holds(rt.alloc(), &mut other, b"aBCde")?);
     fs::remove_file(&rt, path)?;
     Ok(())
 }
