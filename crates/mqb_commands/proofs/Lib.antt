@@ -4,3 +4,6 @@ pub mod TextLines
 pub mod Going
 pub mod Inputs
 pub mod Ending
+mod Order
+mod Putting
+mod Looking

@@ -12,3 +12,6 @@ pub mod Cuts
 pub mod Viewing
 pub mod Shown
 pub mod Showing
+pub mod Messages
+pub mod Turns
+pub mod Peeked

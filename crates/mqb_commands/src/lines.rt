@@ -10,7 +10,7 @@ use mqb_transcript::Printer;
 use std::alloc::Global;
 
 #[tactic(auto, unfolding(crate::specs::Lines::delivery_text))]
-fn delivery_text(transaction: bool, recoverable: bool) -> &'static [u8]
+pub(crate) fn delivery_text(transaction: bool, recoverable: bool) -> &'static [u8]
     ensures { result.now ≡ delivery_text transaction recoverable }
 {
     if transaction {

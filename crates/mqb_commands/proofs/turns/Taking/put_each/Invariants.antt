@@ -1,0 +1,6 @@
+use Rattle.std.proofs.Common.{take}
+use Rattle.mqb_commands.specs.Turns.{PutsFree}
+use Rattle.mqb_commands.proofs.turns.Taking.put_each.Given as goal
+
+abbrev pub invariant-loop-message : goal.invariant-loop-message
+invariant-loop-message l = PutsFree l.self.at l.self.now l.priority l.count (take l.message-index l.messages) l.initial.printer l.printer l.more
