@@ -69,3 +69,9 @@ asks_then {k} {count} {total} {ended} {ended_mid} {ended_now} {asked} {asked_mid
   counted = rose_then first.served second.served asked asked_mid asked_now first.counted second.counted;
   finished = tells_then first.served second.served ended ended_mid ended_now more is first.finished second.finished;
 }
+
+-- it was waited for a peer
+pub asks_wait : {count : ℕ} {ended ended_mid ended_now : Option (List Ended)} {asked asked_now : ℕ} → ended_now ≡ ended_mid
+    → AsksForEach count ended ended_mid asked asked_now → AsksForEach count ended ended_now asked asked_now
+asks_wait {count} {ended} {ended_mid} {ended_now} {asked} {asked_now} same asks =
+    subst (λ (o : Option (List Ended)). AsksForEach count ended o asked asked_now) (sym same) asks

@@ -37,11 +37,11 @@ net_ends before after status.Memory told = tt
 net_ends before after status.WriteFault told = tt
 net_ends before after _ told = told
 
-serving_ends : (number count served faults faults_now : ℕ) (before after : Option (List ℕ)) (r : Status) (last : Option Visit)
-    → EndsServing number count served faults faults_now before after r last → IsServeEnd r
-serving_ends number count served faults faults_now before after r (Some v) cut = told_ends _ _ _ _ r cut.1
-serving_ends number count served faults faults_now before after r None (inl done) = subst IsServeEnd (sym done.1) tt
-serving_ends number count served faults faults_now before after r None (inr cut) = net_ends _ _ r cut.2
+serving_ends : (idle : Type 0) (number count served faults faults_now : ℕ) (before after : Option (List ℕ)) (r : Status) (last : Option Visit)
+    → EndsServing idle number count served faults faults_now before after r last → IsServeEnd r
+serving_ends idle number count served faults faults_now before after r (Some v) cut = told_ends _ _ _ _ r cut.1
+serving_ends idle number count served faults faults_now before after r None (inl done) = subst IsServeEnd (sym done.1) tt
+serving_ends idle number count served faults faults_now before after r None (inr cut) = net_ends _ _ r cut.2
 
 by_causes : (d e : View) (faults faults_now writes writes_now : ℕ) (r : Status) → IsServeEnd r → WriteFaultHasCause writes writes_now r
     → DiskFaultHasCause d.faults e.faults r → NetFaultHasCause (Rose faults faults_now) r → Completes d e faults faults_now writes writes_now r
@@ -52,9 +52,9 @@ by_causes d e faults faults_now writes writes_now status.DiskFault end write dis
 by_causes d e faults faults_now writes writes_now status.WriteFault end write disk net = λ _ _ _ no_write. absurd (no_write write)
 by_causes d e faults faults_now writes writes_now _ end write disk net = absurd end
 
-pub served_completes : (d f e : View) (number count served faults faults_now writes writes_now : ℕ) (before after : Option (List ℕ)) (r : Status) (last : Option Visit)
-    → EndsServing number count served faults faults_now before after r last → f.faults ≡ d.faults → WriteFaultHasCause writes writes_now r
+pub served_completes : (idle : Type 0) (d f e : View) (number count served faults faults_now writes writes_now : ℕ) (before after : Option (List ℕ)) (r : Status) (last : Option Visit)
+    → EndsServing idle number count served faults faults_now before after r last → f.faults ≡ d.faults → WriteFaultHasCause writes writes_now r
     → DiskFaultHasCause f.faults e.faults r → NetFaultHasCause (Rose faults faults_now) r → Completes d e faults faults_now writes writes_now r
-served_completes d f e number count served faults faults_now writes writes_now before after r last ends same write disk net =
-    by_causes d e faults faults_now writes writes_now r (serving_ends number count served faults faults_now before after r last ends) write
+served_completes idle d f e number count served faults faults_now writes writes_now before after r last ends same write disk net =
+    by_causes d e faults faults_now writes writes_now r (serving_ends idle number count served faults faults_now before after r last ends) write
     (subst (λ (k : ℕ). DiskFaultHasCause k e.faults r) same disk) net

@@ -11,10 +11,10 @@ use Rattle.mqb_commands.specs.declared.status.Status.TheVariants as status
 use Rattle.mqb_connections.specs.Served.{ServesPeers, ServesStore}
 use Rattle.mqb_connections.proofs.Opening.{opened_keeps}
 
-pub store_served : {count : ℕ} {steady : Option ℕ} {d f e : View} {m n : ManagerState} {ended ended_now : Option (List Ended)} {faults faults_now : ℕ}
-    {before after : Option (List ℕ)} {r : Status} → OpensAs d m → OnlyReads d f → ServesPeers 1 count steady m n ended ended_now faults faults_now before after r
-    → KeepsDisk f e m n → (r ≢ status.DiskFault → IsUp n) → ServesStore count steady d e ended ended_now faults faults_now before after r
-store_served {count} {steady} {d} {f} {e} {m} {n} opened reads serves disk up = record {
+pub store_served : {idle : Type 0} {count : ℕ} {steady : Option ℕ} {d f e : View} {m n : ManagerState} {ended ended_now : Option (List Ended)} {faults faults_now : ℕ}
+    {before after : Option (List ℕ)} {r : Status} → OpensAs d m → OnlyReads d f → ServesPeers idle 1 count steady m n ended ended_now faults faults_now before after r
+    → KeepsDisk f e m n → (r ≢ status.DiskFault → IsUp n) → ServesStore idle count steady d e ended ended_now faults faults_now before after r
+store_served {idle} {count} {steady} {d} {f} {e} {m} {n} opened reads serves disk up = record {
   first = m;
   left = n;
   opened = opened;

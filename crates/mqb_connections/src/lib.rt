@@ -3,12 +3,14 @@
 //! Of the definitions, `Visits` has what is served over connections one after another, and `Served` how each command ends.
 #![tactic(auto)]
 
+mod attending;
 mod lines;
 mod piped;
 mod probing;
 mod reaching;
 mod serving;
 
+pub use attending::attend;
 pub use probing::probe;
 pub use reaching::reach;
 pub use serving::serve;

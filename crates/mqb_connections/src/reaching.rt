@@ -181,6 +181,8 @@ fn reach_at<K: Sink, D: Disk, N: Net, C: Clock>(
           faults_now = N.faults net.new;
           lost = N.lost net.old;
           lost_now = N.lost net.new;
+          idle = N.idle net.old;
+          idle_now = N.idle net.new;
         }) (K.taken out.old) (K.taken out.new) result }
     ensures write_faults { WriteFaultHasCause (K.write_faults out.old) (K.write_faults out.new)
         result }
@@ -214,6 +216,8 @@ pub fn reach<K: Sink, D: Disk, N: Net, C: Clock>(
           faults_now = N.faults net.new;
           lost = N.lost net.old;
           lost_now = N.lost net.new;
+          idle = N.idle net.old;
+          idle_now = N.idle net.new;
         }) (K.taken out.old) (K.taken out.new) result }
     ensures unfinished { N.unfinished net.new ≡ N.unfinished net.old }
     ensures complete { CompletesReach (D.view disk.old) (D.view disk.new) (record {
@@ -223,6 +227,8 @@ pub fn reach<K: Sink, D: Disk, N: Net, C: Clock>(
       faults_now = N.faults net.new;
       lost = N.lost net.old;
       lost_now = N.lost net.new;
+      idle = N.idle net.old;
+      idle_now = N.idle net.new;
     }) (K.write_faults out.old) (K.write_faults out.new) result }
     ensures write_faults { WriteFaultHasCause (K.write_faults out.old) (K.write_faults out.new)
         result }

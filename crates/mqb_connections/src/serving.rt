@@ -54,7 +54,7 @@ fn tell_end<K: Sink>(
 
 /// Ends where the net gave no connection.
 #[tactic(auto, using(crate::proofs::Ending::told_net))]
-fn tell_net_fault<K: Sink>(alloc: Global, out: &mut K) -> Status
+pub(crate) fn tell_net_fault<K: Sink>(alloc: Global, out: &mut K) -> Status
     ensures told { TellsNetFault (K.taken out.old) (K.taken out.new) result }
     ensures write_faults { WriteFaultHasCause (K.write_faults out.old) (K.write_faults out.new)
         result }
@@ -85,6 +85,7 @@ fn serve_next<D: Disk, N: Net, C: Clock>(
     ensures unchanged { OnErr result ((disk.new ≡ disk.old) × (manager.new ≡ manager.old)
         × (N.finished net.new ≡ N.finished net.old)) }
     ensures net_faults { HasCause (N.faults net.old) (N.faults net.new) result }
+    ensures idle { N.idle net.new ≡ N.idle net.old }
     ensures unfinished { N.unfinished net.new ≡ N.unfinished net.old }
     ensures clock { C.steady clock.new ≡ C.steady clock.old }
     ensures asked { MatchResult result (λ _. RoseBy 1 (C.asked clock.old) (C.asked clock.new))
@@ -98,7 +99,7 @@ fn serve_next<D: Disk, N: Net, C: Clock>(
 }
 
 /// Serves the next connection that a peer makes, and writes its line.
-fn serve_and_tell<K: Sink, D: Disk, N: Net, C: Clock>(
+pub(crate) fn serve_and_tell<K: Sink, D: Disk, N: Net, C: Clock>(
     alloc: Global,
     number: u32,
     manager: &mut Manager,
@@ -110,13 +111,14 @@ fn serve_and_tell<K: Sink, D: Disk, N: Net, C: Clock>(
     requires up { IsUp manager.old }
     requires on { IsOnDisk (D.view disk.old) manager.old }
     requires unlinked { manager.old.session ≡ None }
-    ensures served { ServesPeers number 1 (C.steady clock.old) manager.old manager.new
+    ensures served { ServesPeers ⊥ number 1 (C.steady clock.old) manager.old manager.new
         (N.finished net.old) (N.finished net.new) (N.faults net.old) (N.faults net.new)
         (K.taken out.old) (K.taken out.new) (end_of result) }
     ensures stops { result ≢ Err Status.Done }
     ensures unlinked { manager.new.session ≡ None }
     ensures up { end_of result ≢ Status.DiskFault → IsUp manager.new }
     ensures disk { KeepsDisk (D.view disk.old) (D.view disk.new) manager.old manager.new }
+    ensures idle { N.idle net.new ≡ N.idle net.old }
     ensures unfinished { N.unfinished net.new ≡ N.unfinished net.old }
     ensures write_faults { MatchResult result
         (λ _. K.write_faults out.new ≡ K.write_faults out.old)
@@ -151,7 +153,7 @@ fn serve_all<K: Sink, D: Disk, N: Net, C: Clock>(
     requires up { IsUp manager.old }
     requires on { IsOnDisk (D.view disk.old) manager.old }
     requires unlinked { manager.old.session ≡ None }
-    ensures served { ServesPeers 1 count (C.steady clock.old) manager.old manager.new
+    ensures served { ServesPeers ⊥ 1 count (C.steady clock.old) manager.old manager.new
         (N.finished net.old) (N.finished net.new) (N.faults net.old) (N.faults net.new)
         (K.taken out.old) (K.taken out.new) (end_of result) }
     ensures up { end_of result ≢ Status.DiskFault → IsUp manager.new }
@@ -194,6 +196,8 @@ pub fn serve<K: Sink, D: Disk, N: Net, C: Clock>(
           faults_now = N.faults net.new;
           lost = N.lost net.old;
           lost_now = N.lost net.new;
+          idle = N.idle net.old;
+          idle_now = N.idle net.new;
         }) (K.taken out.old) (K.taken out.new) result }
     ensures unfinished { N.unfinished net.new ≡ N.unfinished net.old }
     ensures complete { Completes (D.view disk.old) (D.view disk.new) (N.faults net.old)

@@ -1,7 +1,7 @@
 //! The commands, of which nothing is said here. So a test that calls them over forms in memory has nothing to carry, and nothing to prove of a manager.
 use mqb_base::Name;
 use mqb_commands::{Status, list};
-use mqb_connections::{probe, reach, serve};
+use mqb_connections::{attend, probe, reach, serve};
 use mqb_outside::{Disk, FixedClock, Net, Sink, Source};
 use mqb_serving::Errand;
 use std::alloc::Global;
@@ -28,6 +28,16 @@ pub(crate) fn serves<K: Sink, D: Disk, N: Net>(
     net: &mut N,
 ) -> Status {
     serve(alloc, count, out, disk, net, &mut FixedClock(NOW))
+}
+
+/// Serves each peer that comes.
+pub(crate) fn attends<K: Sink, D: Disk, N: Net>(
+    alloc: Global,
+    out: &mut K,
+    disk: &mut D,
+    net: &mut N,
+) -> Status {
+    attend(alloc, 1, out, disk, net, &mut FixedClock(NOW))
 }
 
 /// Pushes to a host.

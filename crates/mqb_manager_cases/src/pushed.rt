@@ -1,5 +1,5 @@
 //! Connections over a net in memory, whose calls fail or which gives none, and the lines that are said of them.
-use crate::asking::serves;
+use crate::asking::{attends, serves};
 use crate::orders::{
     ALPHA, BETA, IS_ACKNOWLEDGED, IS_OFFERED, WAITS, answers, asking, disk_of, order,
 };
@@ -69,15 +69,18 @@ fn a_call_fails_that_pushes(rt: HostRuntime) -> Result<(), Fail> {
     Ok(())
 }
 
-/// What is printed where so many connections are served, and the exit status.
+/// What is printed where so many connections are served, or as many as come, and the exit status.
 fn served_all(
     alloc: Global,
-    count: u32,
+    count: Option<u32>,
     disk: &mut MemoryDisk,
     net: &mut MemoryNet,
 ) -> Result<(Vec<u8>, u8), Memory> {
     let mut out = MemorySink::new(alloc, &[])?;
-    let end = serves(alloc, count, &mut out, disk, net);
+    let end = match count {
+        Some(count) => serves(alloc, count, &mut out, disk, net),
+        None => attends(alloc, &mut out, disk, net),
+    };
     Ok((Vec::from_slice(alloc, out.as_slice())?, end.exit()))
 }
 
@@ -105,14 +108,24 @@ fn four(alloc: Global) -> Result<MemoryNet, Memory> {
 const LINES: &str = "connection 1: ended\nconnection 2: netfault\nconnection 3: netfault
 connection 4: ended\n";
 
+/// How many are to be served, or as many as come, what is printed, and the exit status. One net goes through two of these.
+type Serving = (Option<u32>, &'static str, u8);
+
+static SERVINGS: [[Serving; 2]; 2] = [
+    [(Some(4), LINES, 0), (Some(1), "fault: netfault\n", 7)],
+    [(None, LINES, 0), (None, "", 0)],
+];
+
 #[test]
 fn connections_are_lost(rt: HostRuntime) -> Result<(), Fail> {
-    let mut disk = disk_of(rt.alloc(), &BETA)?;
-    let mut net = four(rt.alloc())?;
-    for (count, text, exit) in [(4, LINES, 0), (1, "fault: netfault\n", 7)] {
-        let (said, how) = served_all(rt.alloc(), count, &mut disk, &mut net)?;
-        assert!(rt; said.as_slice() == text.as_bytes());
-        assert_eq!(rt; (how, net.finished().len()), (exit, 4));
+    for servings in SERVINGS {
+        let mut disk = disk_of(rt.alloc(), &BETA)?;
+        let mut net = four(rt.alloc())?;
+        for (count, text, exit) in servings {
+            let (said, how) = served_all(rt.alloc(), count, &mut disk, &mut net)?;
+            assert!(rt; said.as_slice() == text.as_bytes());
+            assert_eq!(rt; (how, net.finished().len()), (exit, 4));
+        }
     }
     Ok(())
 }

@@ -14,6 +14,8 @@ returns-clause-reaches g c =
       faults_now = g.N.Net.faults c.reach_at-end.new.net;
       lost = g.N.Net.lost c.args.net.now;
       lost_now = g.N.Net.lost c.reach_at-end.new.net;
+      idle = g.N.Net.idle c.args.net.now;
+      idle_now = g.N.Net.idle c.reach_at-end.new.net;
     }) (g.K.Sink.taken c.args.out.now) (g.K.Sink.taken c.reach_at-end.new.out) c.reach_at-end.result
     c.in-Ok.ensures.opened c.in-Ok.ensures.reads c.in-Ok.ensures.cause c.in-Some.ensures.index c.reach_at-end.ensures.reaches
 
@@ -43,7 +45,7 @@ returns-in_default-clause-reaches g c =
     store_without_peer c.args.why c.args.named c.args.host.now (g.C.Clock.steady c.args.clock.now) c.in-Ok.manager (g.D.Disk.view c.args.disk.now) (g.D.Disk.view c.open.new.disk) _
     (g.K.Sink.taken c.args.out.now) (g.K.Sink.taken c.tell.new.out) c.tell.result
     c.in-Ok.ensures.opened c.open.ensures.reads c.in-Ok.ensures.cause c.in_default.ensures.index
-    (record { finished = refl; faults = refl; lost = refl }) c.tell.ensures.told
+    (record { finished = refl; faults = refl; lost = refl; idle = refl }) c.tell.ensures.told
 
 pub returns-in_default-clause-complete : goal.returns-in_default-clause-complete
 returns-in_default-clause-complete g c =
@@ -64,7 +66,7 @@ returns-in_default-clause-asked g c = asks_none 1 _ _ _ _ refl refl
 -- the store was not opened
 
 pub returns-in-Err-clause-reaches : goal.returns-in-Err-clause-reaches
-returns-in-Err-clause-reaches g c = inr ((c.in-Err.ensures.fails, refl), record { finished = refl; faults = refl; lost = refl })
+returns-in-Err-clause-reaches g c = inr ((c.in-Err.ensures.fails, refl), record { finished = refl; faults = refl; lost = refl; idle = refl })
 
 pub returns-in-Err-clause-complete : goal.returns-in-Err-clause-complete
 returns-in-Err-clause-complete g c = λ sound failed _ _ _. unopened_faultless _ _ c.in-Err.status c.in-Err.ensures.fails sound failed

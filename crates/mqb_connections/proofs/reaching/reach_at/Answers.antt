@@ -12,6 +12,8 @@ returns-in-Ok-clause-reaches g c =
       faults_now = g.N.Net.faults c.reach_over.new.net;
       lost = g.N.Net.lost c.args.net.now;
       lost_now = g.N.Net.lost c.reach_over.new.net;
+      idle = g.N.Net.idle c.args.net.now;
+      idle_now = g.N.Net.idle c.reach_over.new.net;
     }) (g.K.Sink.taken c.args.out.now) (g.K.Sink.taken c.tell_reach.new.out) c.in-Ok.end c.tell_reach.result
     c.in-Ok.ensures.reach c.reach_over.ensures.disk c.in-Ok.ensures.up c.in-Ok.ensures.disk_faults c.in-Ok.ensures.net_faults c.in-Ok.ensures.lost
     c.tell_reach.ensures.told

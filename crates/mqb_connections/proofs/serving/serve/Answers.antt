@@ -6,7 +6,7 @@ use Rattle.mqb_connections.proofs.Unopened.{unopened_completes, unopened_disk, u
 use Rattle.mqb_connections.proofs.serving.serve.Goals as goal
 
 pub returns-in-Err-clause-served : goal.returns-in-Err-clause-served
-returns-in-Err-clause-served g c = inl ((c.in-Err.ensures.fails, refl), record { finished = refl; faults = refl; lost = refl })
+returns-in-Err-clause-served g c = inl ((c.in-Err.ensures.fails, refl), record { finished = refl; faults = refl; lost = refl; idle = refl })
 
 pub returns-in-Ok-served-clause-served : goal.returns-in-Ok-served-clause-served
 returns-in-Ok-served-clause-served g c =
@@ -27,7 +27,7 @@ returns-in-Ok-served-clause-complete g c = λ _ _ _ _. inl refl
 pub returns-in-Err-served-clause-complete : goal.returns-in-Err-served-clause-complete
 returns-in-Err-served-clause-complete g c =
     let served = c.in-Err-served.ensures in
-    served_completes (g.D.Disk.view c.args.disk.now) (g.D.Disk.view c.open.new.disk) (g.D.Disk.view c.serve_all-served.new.disk)
+    served_completes _ (g.D.Disk.view c.args.disk.now) (g.D.Disk.view c.open.new.disk) (g.D.Disk.view c.serve_all-served.new.disk)
     _ _ _ _ _ _ _ _ _ c.in-Err-served.status _ served.served.ends c.in-Ok.ensures.cause served.write_faults served.disk_faults served.net_faults
 
 pub returns-in-Err-clause-write_faults : goal.returns-in-Err-clause-write_faults

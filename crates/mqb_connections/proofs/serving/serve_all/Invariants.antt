@@ -10,7 +10,7 @@ use Rattle.mqb_connections.proofs.serving.serve_all.Given as goal
 -- as many as the index says were served, and the program goes on
 abbrev pub invariant-loop-index : goal.invariant-loop-index
 invariant-loop-index g l = record {
-  served : ServesPeers 1 l.index (g.C.Clock.steady l.fn.clock) l.fn.manager l.manager (g.N.Net.finished l.fn.net) (g.N.Net.finished l.net)
+  served : ServesPeers ⊥ 1 l.index (g.C.Clock.steady l.fn.clock) l.fn.manager l.manager (g.N.Net.finished l.fn.net) (g.N.Net.finished l.net)
       (g.N.Net.faults l.fn.net) (g.N.Net.faults l.net) (g.K.Sink.taken l.fn.out) (g.K.Sink.taken l.out) status.Done;
   up : IsUp l.manager;
   unlinked : l.manager.session ≡ None;
