@@ -1,28 +1,23 @@
 -- A script is played over managers that were just made: what was counted before counts too.
-use Rattle.std.proofs.Common.{◌≡◌, List, [], Option, refl, subst, ap, ℕ, inl, inr, sym}
+use Rattle.std.proofs.Common.{◌≡◌, List, Option, refl, subst, ℕ, inl, inr}
 use Rattle.std.specs.Prelude.{Err, Ok, Result}
 use Rattle.mqb_outside.specs.Disk.{Switch, View}
 use Rattle.mqb_network.specs.Runs.{beginning}
 use Rattle.mqb_runs.specs.Hosts.{hosts}
-use Rattle.mqb_run_laws.specs.Continuing.{RunsContinue}
-use Rattle.mqb_runs.specs.Guarantees.{RunsKeepGuarantees}
 use Rattle.mqb_runs.specs.Runs.{Played}
 use Rattle.mqb_script.specs.declared.events.Event.{Event}
-use Rattle.mqb_script.specs.declared.faults.ScriptFault.{ScriptFault}
-use Rattle.mqb_script.specs.declared.faults.ScriptFault.TheVariants as script
 use Rattle.mqb_script.specs.declared.managers.Which.{Which}
 use Rattle.mqb_script.specs.declared.managers.Which.TheVariants.{Alpha, Beta}
 use Rattle.mqb_world.specs.declared.faults.WorldFault.{WorldFault}
 use Rattle.mqb_world.specs.declared.faults.WorldFault.TheVariants as world
 use Rattle.mqb_replay.specs.Devices.{Devices}
 use Rattle.mqb_replay.specs.Disks.{IsSwitchedBy, RoseBy, failures}
-use Rattle.mqb_replay.specs.Faults.{script_fault, world_fault}
+use Rattle.mqb_replay.specs.Faults.{world_fault}
 use Rattle.mqb_replay.specs.Plays.{IsCountedBy, IsFull, IsPlayed, IsShort, IsSwitchedNearly}
-use Rattle.mqb_replay.specs.Replays.{AreEmpty, HasBytes, HasFailed, IsUntouched, PlaysWhole, StartsEmpty, Tells}
+use Rattle.mqb_replay.specs.Replays.{AreEmpty, Begins, HasBytes, HasFailed, IsUnplayed, Play, PlaysWhole}
 use Rattle.mqb_replay.specs.Trials.{TriesLines}
 use Rattle.mqb_replay.specs.declared.faults.ReplayFault.{ReplayFault}
 use Rattle.mqb_replay.specs.declared.faults.ReplayFault.TheVariants as fault
-use Rattle.mqb_replay.proofs.Ending.{none_played, none_short}
 
 -- what was counted since a disk is that of one with the same counts
 counted_before : (which : Which) (lines : List (ℕ × Event)) (run : List Played) (b d e : View) → d.faults ≡ b.faults → d.switch ≡ b.switch → IsCountedBy which lines run d e
@@ -78,75 +73,39 @@ module _ (b d a : Devices) (alpha_faults : d.alpha.faults ≡ b.alpha.faults) (b
     guarantees = s.guarantees;
   }
 
-  pub plays_before : (lines : List (ℕ × Event)) (before after : Option (List ℕ)) (r : Result (Unit {0}) ReplayFault) → (r ≡ Err fault.NotEmpty → ⊥) → (r ≡ Err fault.DiskFault → ⊥)
-      → PlaysWhole lines d a before after r → PlaysWhole lines b a before after r
-  plays_before lines before after (Ok done) not_empty not_failed plays = (played_before lines plays.0, plays.1)
-  plays_before lines before after (Err fault.WriteFault) not_empty not_failed plays =
+  pub plays_before : (lines : List (ℕ × Event)) (before after : Option (List ℕ)) (r : Result (Unit {0}) ReplayFault) → PlaysWhole lines d a before after r → PlaysWhole lines b a before after r
+  plays_before lines before after (Ok done) plays = (played_before lines plays.0, plays.1)
+  plays_before lines before after (Err fault.WriteFault) plays =
       record { first = plays.first; rest = plays.rest; split = plays.split; played = played_before plays.first plays.played; written = plays.written }
-  plays_before lines before after (Err fault.NetFull) not_empty not_failed plays = (full_before lines plays.0, plays.1)
-  plays_before lines before after (Err fault.Memory) not_empty not_failed plays = (short_before lines plays.0, plays.1)
-  plays_before lines before after (Err fault.NotEmpty) not_empty not_failed plays = absurd (not_empty refl)
-  plays_before lines before after (Err fault.DiskFault) not_empty not_failed plays = absurd (not_failed refl)
-  plays_before lines before after (Err f) not_empty not_failed plays = absurd plays
+  plays_before lines before after (Err fault.NetFull) plays = (full_before lines plays.0, plays.1)
+  plays_before lines before after (Err fault.Memory) plays = (short_before lines plays.0, plays.1)
+  plays_before lines before after (Err f) plays = absurd plays
 
-  pub tries_before : (lines : List (ℕ × Event)) (before after : Option (List ℕ)) (r : Result (Unit {0}) ReplayFault) → (r ≡ Err fault.NotEmpty → ⊥) → (r ≡ Err fault.DiskFault → ⊥)
-      → TriesLines lines d a before after r → TriesLines lines b a before after r
-  tries_before lines before after (Ok done) not_empty not_failed tries = (played_before lines tries.0, tries.1)
-  tries_before lines before after (Err fault.WriteFault) not_empty not_failed tries = (played_before lines tries.0, tries.1)
-  tries_before lines before after (Err fault.NetFull) not_empty not_failed tries = (full_before lines tries.0, tries.1)
-  tries_before lines before after (Err fault.Memory) not_empty not_failed tries = (short_before lines tries.0, tries.1)
-  tries_before lines before after (Err fault.NotEmpty) not_empty not_failed tries = absurd (not_empty refl)
-  tries_before lines before after (Err fault.DiskFault) not_empty not_failed tries = absurd (not_failed refl)
-  tries_before lines before after (Err f) not_empty not_failed tries = absurd tries
+  pub tries_before : (lines : List (ℕ × Event)) (before after : Option (List ℕ)) (r : Result (Unit {0}) ReplayFault) → TriesLines lines d a before after r → TriesLines lines b a before after r
+  tries_before lines before after (Ok done) tries = (played_before lines tries.0, tries.1)
+  tries_before lines before after (Err fault.WriteFault) tries = (played_before lines tries.0, tries.1)
+  tries_before lines before after (Err fault.NetFull) tries = (full_before lines tries.0, tries.1)
+  tries_before lines before after (Err fault.Memory) tries = (short_before lines tries.0, tries.1)
+  tries_before lines before after (Err f) tries = absurd tries
 
 -- The managers were not made.
 
 pub err_world : {A : Type 0} (f g : WorldFault) → f ≡ g → ◌≡◌ {A = Result A WorldFault} (Err f) (Err g)
 err_world f g is = cc
 
-module _ (keep : RunsKeepGuarantees) (lines : List (ℕ × Event)) (b a : Devices) (before after : Option (List ℕ)) (strings : a.strings ≡ []) (alpha_switch : a.alpha.switch ≡ b.alpha.switch)
-    (beta_switch : a.beta.switch ≡ b.beta.switch) (same : after ≡ before) where
-  untouched : IsUntouched b a
-  untouched = record {
-    strings = strings;
-    alpha = (ap (λ (s : Switch). s.arms) alpha_switch, ap (λ (s : Switch). s.restarts) alpha_switch);
-    beta = (ap (λ (s : Switch). s.arms) beta_switch, ap (λ (s : Switch). s.restarts) beta_switch);
-  }
+module _ (plays : Play) (b a : Devices) (before after : Option (List ℕ)) where
+  pub not_begun : IsUnplayed b a before after → (f : WorldFault) → (f ≡ world.NotEmpty → HasBytes b) → (f ≡ world.DiskFault → HasFailed b a) → (f ≡ world.Memory → AreEmpty b)
+      → (f ≡ world.NetFull → ⊥) → Begins plays b a before after (Err (world_fault f))
+  not_begun still world.NotEmpty bytes failed empty full = (bytes refl, still)
+  not_begun still world.DiskFault bytes failed empty full = (failed refl, still)
+  not_begun still world.NetFull bytes failed empty full = absurd (full refl)
+  not_begun still world.Memory bytes failed empty full = (empty refl, inl still)
 
-  pub not_made : RunsContinue → (f : WorldFault) → (f ≡ world.NotEmpty → HasBytes b) → (f ≡ world.DiskFault → HasFailed b a) → (f ≡ world.NetFull → ⊥) → PlaysWhole lines b a before after (Err (world_fault f))
-  not_made continue world.NotEmpty bytes failed full = (bytes refl, untouched, same)
-  not_made continue world.DiskFault bytes failed full = (failed refl, untouched, same)
-  not_made continue world.NetFull bytes failed full = absurd (full refl)
-  not_made continue world.Memory bytes failed full = none_played keep continue lines b a before after strings alpha_switch beta_switch same
-
-  pub not_tried : (f : WorldFault) → (f ≡ world.NotEmpty → HasBytes b) → (f ≡ world.DiskFault → HasFailed b a) → (f ≡ world.NetFull → ⊥) → TriesLines lines b a before after (Err (world_fault f))
-  not_tried world.NotEmpty bytes failed full = (bytes refl, untouched, same)
-  not_tried world.DiskFault bytes failed full = (failed refl, untouched, same)
-  not_tried world.NetFull bytes failed full = absurd (full refl)
-  not_tried world.Memory bytes failed full = (none_short keep lines b a strings alpha_switch beta_switch, same)
-
--- Where a run ended, both disks were empty.
-
-pub starts_empty : (b : Devices) (r : Result (Unit {0}) ReplayFault) → AreEmpty b → StartsEmpty b r
-starts_empty b (Ok done) empty = empty
-starts_empty b (Err fault.NetFull) empty = empty
-starts_empty b (Err f) empty = tt
-
-pub not_made_empty : (b : Devices) (f : WorldFault) → (f ≡ world.NetFull → ⊥) → StartsEmpty b (Err (world_fault f))
-not_made_empty b world.NotEmpty full = tt
-not_made_empty b world.DiskFault full = tt
-not_made_empty b world.NetFull full = absurd (full refl)
-not_made_empty b world.Memory full = tt
-
-pub not_read_empty : (b : Devices) (f : ScriptFault) → StartsEmpty b (Err (script_fault f))
-not_read_empty b (script.Line number kind) = tt
-not_read_empty b script.TooLong = tt
-not_read_empty b script.TooManyLines = tt
-not_read_empty b script.ReadFault = tt
-not_read_empty b script.Memory = tt
-
-pub told_empty : (b : Devices) (end r : Result (Unit {0}) ReplayFault) (before after : Option (List ℕ)) → Tells end before after r → StartsEmpty b end → StartsEmpty b r
-told_empty b (Ok done) r before after told starts = subst (StartsEmpty b) (sym told.0) starts
-told_empty b (Err why) r before after (inl told) starts = subst (StartsEmpty b) (sym told.0) starts
-told_empty b (Err why) r before after (inr (inl told)) starts = subst (StartsEmpty b) (sym told.0) tt
-told_empty b (Err why) r before after (inr (inr told)) starts = subst (StartsEmpty b) (sym told.0) tt
+  -- They were made, over empty disks.
+  pub begun : (plays b a before after (Err fault.NotEmpty) → ⊥) → (plays b a before after (Err fault.DiskFault) → ⊥) → AreEmpty b → (r : Result (Unit {0}) ReplayFault)
+      → plays b a before after r → Begins plays b a before after r
+  begun no_bytes no_fault empty (Ok done) is = (empty, is)
+  begun no_bytes no_fault empty (Err fault.NotEmpty) is = absurd (no_bytes is)
+  begun no_bytes no_fault empty (Err fault.DiskFault) is = absurd (no_fault is)
+  begun no_bytes no_fault empty (Err fault.Memory) is = (empty, inr is)
+  begun no_bytes no_fault empty (Err f) is = (empty, is)

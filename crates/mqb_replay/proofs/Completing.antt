@@ -15,10 +15,10 @@ use Rattle.mqb_outside.specs.Told.{Gave}
 use Rattle.mqb_packet.specs.Plain.{plain_spelling}
 use Rattle.mqb_packet.specs.declared.packet.Packet.{Packet}
 use Rattle.mqb_posts.specs.declared.posting.TheConstants.{MAX_MEDIUM}
-use Rattle.mqb_run_laws.specs.lemmas.Growing.{course_one, run_one}
 use Rattle.mqb_runs.specs.Events.{event_of}
 use Rattle.mqb_runs.specs.Hosts.{hosts}
 use Rattle.mqb_runs.specs.Runs.{Played, lines_of, moves_of}
+use Rattle.mqb_runs.specs.lemmas.Growing.{course_one, run_one}
 use Rattle.mqb_script.specs.Reading.{LONGEST, MOST_LINES, line_count}
 use Rattle.mqb_script.specs.Script.{script_of}
 use Rattle.mqb_script.specs.declared.events.Event.{Event}
@@ -27,7 +27,7 @@ use Rattle.mqb_world.specs.Standing.{strings_in}
 use Rattle.mqb_replay.specs.Completeness.{AskFor, Completes, CompletesTrial, FitMedium, HoldsScript, IsDoneOr}
 use Rattle.mqb_replay.specs.Devices.{Devices}
 use Rattle.mqb_replay.specs.Plays.{IsFull}
-use Rattle.mqb_replay.specs.Replays.{AreEmpty, Ends, HasBytes, IsAtEnd, IsScript, Replays, Tells}
+use Rattle.mqb_replay.specs.Replays.{AreEmpty, Begins, Ends, HasBytes, IsAtEnd, IsScript, Replays, Tells}
 use Rattle.mqb_replay.specs.Trials.{EndsTrial, Tries, TriesLines}
 use Rattle.mqb_replay.specs.declared.faults.ReplayFault.{ReplayFault}
 use Rattle.mqb_replay.specs.declared.faults.ReplayFault.TheVariants as fault
@@ -151,7 +151,7 @@ module _ (text taken : List ℕ) (rest before after : Option (List ℕ)) (b a : 
   by_fault fault.WriteFault no_read no_write ends = absurd (no_write refl)
   by_fault fault.NotEmpty no_read no_write ends = absurd (bytes ends.2.0)
   by_fault fault.DiskFault no_read no_write ends = inr refl
-  by_fault fault.NetFull no_read no_write ends = absurd (not_full ends.0 (fits ends.0 ends.1) b a ends.2.0)
+  by_fault fault.NetFull no_read no_write ends = absurd (not_full ends.0 (fits ends.0 ends.1) b a ends.2.1.0)
   by_fault fault.Memory no_read no_write ends = inl refl
 
 err_is : (r : Result (Unit {0}) ReplayFault) (f g : ReplayFault) → r ≡ Err f → f ≡ g → r ≡ Err g
@@ -175,6 +175,8 @@ module _ (held rest before after : Option (List ℕ)) (b a : Devices) (reads rea
   by_end : (taken : Option (List ℕ)) (lines : List (ℕ × Event)) → HoldsScript held lines → FitMedium lines → AreEmpty b → (Rose reads reads_now → ⊥) → (Rose writes writes_now → ⊥)
       → (text : List ℕ) → Gave held rest text → (end : Result (Unit {0}) ReplayFault) → Ends text rest b a before taken end → Tells end taken after r → IsDoneOr r
   by_end taken lines holds fit empty no_read no_write text gave (Ok done) ends told = inl told.0
+  by_end taken lines holds fit empty no_read no_write text gave (Err fault.WriteFault) ends told = absurd (no_write (write told.0))
+  by_end taken lines holds fit empty no_read no_write text gave (Err fault.Memory) ends told = inr (inl told.0)
   by_end taken lines holds fit empty no_read no_write text gave (Err why) ends (inl told) = by_why taken lines holds fit empty no_read no_write text gave why ends told.0
   by_end taken lines holds fit empty no_read no_write text gave (Err why) ends (inr (inl told)) = absurd (no_write (write told.0))
   by_end taken lines holds fit empty no_read no_write text gave (Err why) ends (inr (inr told)) = inr (inl told.0)
@@ -192,21 +194,28 @@ module _ (n : ℕ) (before after : Option (List ℕ)) (b a : Devices) (writes wr
   no_bytes empty (inr some) = has_none b.beta beta empty.1 some
 
   by_lines : (taken : Option (List ℕ)) (lines : List (ℕ × Event)) → FitMedium lines → AreEmpty b → (Rose writes writes_now → ⊥)
-      → (why : ReplayFault) → TriesLines lines b a before taken (Err why) → r ≡ Err why → IsDoneOr r
+      → (why : ReplayFault) → Begins (TriesLines lines) b a before taken (Err why) → r ≡ Err why → IsDoneOr r
   by_lines taken lines fit empty no_write fault.WriteFault tries is = absurd (no_write (write is))
   by_lines taken lines fit empty no_write fault.NotEmpty tries is = absurd (no_bytes empty tries.0)
   by_lines taken lines fit empty no_write fault.DiskFault tries is = inr (inr is)
-  by_lines taken lines fit empty no_write fault.NetFull tries is = absurd (not_full lines fit b a tries.0)
+  by_lines taken lines fit empty no_write fault.NetFull tries is = absurd (not_full lines fit b a tries.1.0)
   by_lines taken lines fit empty no_write fault.Memory tries is = inr (inl is)
-  by_lines taken lines fit empty no_write _ tries is = absurd tries
+  by_lines taken lines fit empty no_write _ tries is = absurd tries.1
 
   by_trial : (taken : Option (List ℕ)) (lines : List (ℕ × Event)) → script_of (generated n) ≡ Ok lines → FitMedium lines → AreEmpty b → (Rose writes writes_now → ⊥)
+      → (why : ReplayFault) → EndsTrial n b a before taken (Err why) → r ≡ Err why → IsDoneOr r
+  by_trial taken lines script fit empty no_write fault.Memory ends is = inr (inl is)
+  by_trial taken lines script fit empty no_write why ends is =
+      by_lines taken ends.0 (subst FitMedium (read_once (script_of (generated n)) lines ends.0 script ends.1) fit) empty no_write why ends.2 is
+
+  by_told : (taken : Option (List ℕ)) (lines : List (ℕ × Event)) → script_of (generated n) ≡ Ok lines → FitMedium lines → AreEmpty b → (Rose writes writes_now → ⊥)
       → (end : Result (Unit {0}) ReplayFault) → EndsTrial n b a before taken end → Tells end taken after r → IsDoneOr r
-  by_trial taken lines script fit empty no_write (Ok done) ends told = inl told.0
-  by_trial taken lines script fit empty no_write (Err why) ends (inl told) =
-      by_lines taken ends.0 (subst FitMedium (read_once (script_of (generated n)) lines ends.0 script ends.1) fit) empty no_write why ends.2 told.0
-  by_trial taken lines script fit empty no_write (Err why) ends (inr (inl told)) = absurd (no_write (write told.0))
-  by_trial taken lines script fit empty no_write (Err why) ends (inr (inr told)) = inr (inl told.0)
+  by_told taken lines script fit empty no_write (Ok done) ends told = inl told.0
+  by_told taken lines script fit empty no_write (Err fault.WriteFault) ends told = absurd (no_write (write told.0))
+  by_told taken lines script fit empty no_write (Err fault.Memory) ends told = inr (inl told.0)
+  by_told taken lines script fit empty no_write (Err why) ends (inl told) = by_trial taken lines script fit empty no_write why ends told.0
+  by_told taken lines script fit empty no_write (Err why) ends (inr (inl told)) = absurd (no_write (write told.0))
+  by_told taken lines script fit empty no_write (Err why) ends (inr (inr told)) = inr (inl told.0)
 
   pub trial_completes : Tries n b a before after r → CompletesTrial n b writes writes_now r
-  trial_completes tries lines script fit empty no_write = by_trial tries.taken lines script fit empty no_write tries.end tries.ends tries.told
+  trial_completes tries lines script fit empty no_write = by_told tries.taken lines script fit empty no_write tries.end tries.ends tries.told

@@ -4,7 +4,6 @@ use Rattle.std.specs.Prelude.{Err, Ok, Result}
 use Rattle.mqb_world.specs.Seats.{IsHeldOn}
 use Rattle.mqb_network.specs.Network.{Network}
 use Rattle.mqb_outside.specs.Told.{Took}
-use Rattle.mqb_run_laws.specs.Continuing.{RunsContinue}
 use Rattle.mqb_runs.specs.Guarantees.{RunsKeepGuarantees}
 use Rattle.mqb_runs.specs.Runs.{IsRunOf, Played, course_of}
 use Rattle.mqb_runs.specs.Texts.{end_lines, reply_lines, text_of}
@@ -17,11 +16,11 @@ use Rattle.mqb_world.specs.Worlds.{WorldState, network_of}
 use Rattle.mqb_replay.specs.Devices.{Devices}
 use Rattle.mqb_replay.specs.Disks.{RoseBy}
 use Rattle.mqb_replay.specs.Plays.{HasPlayed, HasRun, IsShort, Wrote, strings_next}
-use Rattle.mqb_replay.specs.Replays.{IsCut, IsDone, IsFront, IsOutOfMemory, PlaysLines, PlaysWhole}
+use Rattle.mqb_replay.specs.Replays.{IsCut, IsDone, IsOutOfMemory, PlaysLines, PlaysWhole}
 use Rattle.mqb_replay.specs.declared.faults.ReplayFault.{ReplayFault}
 use Rattle.mqb_replay.specs.declared.faults.ReplayFault.TheVariants as fault
 use Rattle.mqb_replay.proofs.Counting.{switched_none}
-use Rattle.mqb_replay.proofs.Fronts.{front_of, front_still, front_whole}
+use Rattle.mqb_replay.proofs.Fronts.{took_all}
 use Rattle.mqb_replay.proofs.Playing.{played_so_far}
 use Rattle.mqb_replay.proofs.Turning.{short_of}
 
@@ -67,16 +66,11 @@ none_short keep lines b a strings alpha beta = record {
   guarantees = keep [] tt;
 }
 
-pub none_played : RunsKeepGuarantees → RunsContinue → (lines : List (ℕ × Event)) (b a : Devices) (before after : Option (List ℕ)) → a.strings ≡ [] → a.alpha.switch ≡ b.alpha.switch
+pub none_played : RunsKeepGuarantees → (lines : List (ℕ × Event)) (b a : Devices) (before after : Option (List ℕ)) → a.strings ≡ [] → a.alpha.switch ≡ b.alpha.switch
     → a.beta.switch ≡ b.beta.switch → after ≡ before → IsOutOfMemory lines b a before after
 unfolding none_short
-none_played keep continue lines b a before after strings alpha beta same =
-    (none_short keep lines b a strings alpha beta, front_of continue lines [] lines refl [] no_run before after (front_still before after [] same))
-
-pub none_behind : RunsKeepGuarantees → RunsContinue → (lines : List (ℕ × Event)) (w : WorldState) (b a : Devices) (before after : Option (List ℕ)) → HasRun [] w b a → after ≡ before
-    → IsOutOfMemory lines b a before after
-none_behind keep continue lines w b a before after h same = let s = short_of keep lines [] lines refl w b a h in
-    (s.0, front_of continue lines s.0.first s.0.rest s.0.split s.0.run s.0.is_run before after (front_still before after (reply_lines s.0.run) same))
+none_played keep lines b a before after strings alpha beta same =
+    (none_short keep lines b a strings alpha beta, took_all [] before after (subst (λ (t : Option (List ℕ)). Took before t []) (sym same) (took_none before)))
 
 -- All lines were played.
 
@@ -84,9 +78,6 @@ module _ (keep : RunsKeepGuarantees) (lines : List (ℕ × Event)) (w : WorldSta
     (written : Took before now (reply_lines h.run)) where
   abbrev behind : List ℕ
   behind = end_lines (course_of h.run).network
-
-  whole_front : TookFront now after behind → TookFront before after (text_of h.run)
-  whole_front front = front_then before now after (reply_lines h.run) behind written front
 
   done : Took now after behind → IsDone lines b a before after
   done took = let p = played_so_far keep lines w b a h in
@@ -98,13 +89,14 @@ module _ (keep : RunsKeepGuarantees) (lines : List (ℕ × Event)) (w : WorldSta
     rest = [];
     split = sym (append-nil lines);
     played = p.0;
-    written = front_whole lines p.0.run before after p.0.is_run (subst (λ (ps : List Played). TookFront before after (text_of ps)) (sym p.1) (whole_front front));
+    written = subst (λ (ps : List Played). TookFront before after (text_of ps)) (sym p.1) (front_then before now after (reply_lines h.run) behind written front);
   }
 
   short_end : after ≡ now → IsOutOfMemory lines b a before after
   short_end same = let s = short_of keep lines lines [] (sym (append-nil lines)) w b a h in (
     s.0,
-    subst (λ (ps : List Played). IsFront lines ps before after) (sym s.1) (front_whole lines h.run before after h.is_run (whole_front (front_still now after behind same))),
+    took_all s.0.run before after (subst (λ (ps : List Played). Took before after (reply_lines ps)) (sym s.1)
+        (subst (λ (t : Option (List ℕ)). Took before t (reply_lines h.run)) (sym same) written)),
   )
 
   by_end : (r : Result (Unit {0}) ReplayFault) → Wrote now after behind r → PlaysWhole lines b a before after r
@@ -123,9 +115,3 @@ stopped lines w b a before after fault.WriteFault plays = plays
 stopped lines w b a before after fault.NetFull plays = plays
 stopped lines w b a before after fault.Memory plays = plays
 stopped lines w b a before after f plays = absurd plays
-
--- and not by its disks
-pub not_by_disks : (lines : List (ℕ × Event)) (w : WorldState) (b a : Devices) (before after : Option (List ℕ)) (r : Result (Unit {0}) ReplayFault) → PlaysLines lines w b a before after r
-    → (r ≡ Err fault.NotEmpty → ⊥) × (r ≡ Err fault.DiskFault → ⊥)
-not_by_disks lines w b a before after r plays =
-    ((λ is. subst (PlaysLines lines w b a before after) is plays), (λ is. subst (PlaysLines lines w b a before after) is plays))

@@ -10,12 +10,12 @@ use Rattle.mqb_world.specs.Seats.{IsHeldOn, SeatState, seated}
 use Rattle.mqb_network.specs.Courses.{Course}
 use Rattle.mqb_network.specs.Network.{Network, Note, manager_at}
 use Rattle.mqb_network.specs.Runs.{after_run, beginning, moved_on}
-use Rattle.mqb_run_laws.specs.lemmas.Growing.{course_one}
 use Rattle.mqb_runs.specs.Events.{event_of}
 use Rattle.mqb_runs.specs.Guarantees.{RunsKeepGuarantees}
 use Rattle.mqb_runs.specs.Hosts.{hosts}
 use Rattle.mqb_runs.specs.Runs.{Played, course_of, move_of, moves_of}
 use Rattle.mqb_runs.specs.Texts.{reply_lines}
+use Rattle.mqb_runs.specs.lemmas.Growing.{course_one}
 use Rattle.mqb_script.specs.declared.events.Event.{Event}
 use Rattle.mqb_script.specs.declared.managers.Which.{Which}
 use Rattle.mqb_script.specs.declared.managers.Which.TheVariants.{Alpha, Beta}
@@ -109,7 +109,8 @@ module _ (lines : List (ℕ × Event)) (line : ℕ × Event) (w w_now : WorldSta
     switch = switched_more which lines line d.switch e.switch f.switch so_far.switch (by.armed, by.switch);
   }
 
-  pub goes_on : (more : HasRun (lines ++ line ∷ []) w_now b a) × (reply_lines more.run ≡ reply_lines h.run ++ printed hosts (Some line.0) given)
+  pub goes_on : (more : HasRun (lines ++ line ∷ []) w_now b a) × (last : Played) × (more.run ≡ h.run ++ last ∷ [])
+      × (reply_lines more.run ≡ reply_lines h.run ++ printed hosts (Some line.0) given)
   goes_on = (
     record {
       run = h.run ++ one ∷ [];
@@ -120,5 +121,7 @@ module _ (lines : List (ℕ × Event)) (line : ℕ × Event) (w w_now : WorldSta
       alpha_held = answers.alpha.held;
       beta_held = answers.beta.held;
     },
+    one,
+    refl,
     text_one h.run one,
   )

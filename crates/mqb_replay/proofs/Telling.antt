@@ -1,6 +1,8 @@
 -- What was read, and how a replay ends.
 use Rattle.std.proofs.Common.{ap, ◌≡◌, List, Option, inl, inr, refl, sym, subst, ◌∙◌, ℕ}
 use Rattle.std.specs.Prelude.{Err, Ok, Result}
+use Rattle.mqb_outside.specs.Disk.{View}
+use Rattle.mqb_outside.specs.lemmas.Runs.{unchanged_none}
 use Rattle.mqb_outside.specs.Told.{Took}
 use Rattle.mqb_outside.specs.Faults.{Rose}
 use Rattle.mqb_script.specs.Reading.{ReadCause, ReadsScript}
@@ -10,39 +12,46 @@ use Rattle.mqb_script.specs.declared.faults.ScriptFault.TheVariants as script
 use Rattle.mqb_commands.specs.Outputs.{TookFront}
 use Rattle.mqb_commands.specs.Texts.{fault_text}
 use Rattle.mqb_commands.specs.declared.status.Status.{Status}
-use Rattle.mqb_replay.specs.Devices.{Devices}
+use Rattle.mqb_replay.specs.Devices.{Devices, IsUncalled}
 use Rattle.mqb_replay.specs.Faults.{fault_status, script_fault}
-use Rattle.mqb_replay.specs.Replays.{Ends, EndsSo, IsScript, IsUntouched, PlaysWhole, Tells}
+use Rattle.mqb_replay.specs.Replays.{Begins, Ends, EndsSo, IsScript, IsUntouched, PlaysWhole, Tells, TellsLine}
 use Rattle.mqb_replay.specs.declared.faults.ReplayFault.{ReplayFault}
 use Rattle.mqb_replay.specs.declared.faults.ReplayFault.TheVariants as fault
 
--- there is no script, and nothing was done
-unread : (text : List ℕ) (held rest : Option (List ℕ)) (b a : Devices) (before after : Option (List ℕ)) (f : ScriptFault) (reads : ReadsScript held rest (Err f)) → reads.text ≡ text
-    → IsUntouched b a → after ≡ before → Ends reads.text rest b a before after (Err (script_fault f))
-unread text held rest b a before after (script.Line number kind) reads is untouched same =
-    (record { short = reads.answers.0; few_lines = reads.answers.1; script = reads.answers.2; ended = reads.ended }, untouched, same)
-unread text held rest b a before after script.TooLong reads is untouched same = (reads.answers, untouched, same)
-unread text held rest b a before after script.TooManyLines reads is untouched same = ((reads.answers.0, reads.answers.1, reads.ended), untouched, same)
-unread text held rest b a before after script.ReadFault reads is untouched same = (reads.answers, untouched, same)
-unread text held rest b a before after script.Memory reads is untouched same = inl (reads.answers, untouched, same)
+-- nothing was called
+pub untouched : (b : Devices) (taken : Option (List ℕ)) → IsUntouched b b taken taken
+untouched b taken = record { strings = refl; alpha = uncalled b.alpha; beta = uncalled b.beta; output = refl }
+  where
+    uncalled : (d : View) → IsUncalled d d
+    uncalled d = record { unchanged = unchanged_none d; calls = refl; faults = refl; switch = refl }
 
-pub not_read : (held rest : Option (List ℕ)) (b a : Devices) (before after : Option (List ℕ)) (f : ScriptFault) → ReadsScript held rest (Err f) → IsUntouched b a → after ≡ before
-    → EndsSo held rest b a before after (Err (script_fault f))
-not_read held rest b a before after f reads untouched same = (reads.text, reads.gave, unread reads.text held rest b a before after f reads refl untouched same)
+-- there is no script, and nothing was done
+unread : (text : List ℕ) (held rest : Option (List ℕ)) (b : Devices) (taken : Option (List ℕ)) (f : ScriptFault) (reads : ReadsScript held rest (Err f)) → reads.text ≡ text
+    → Ends reads.text rest b b taken taken (Err (script_fault f))
+unread text held rest b taken (script.Line number kind) reads is =
+    (record { short = reads.answers.0; few_lines = reads.answers.1; script = reads.answers.2; ended = reads.ended }, untouched b taken)
+unread text held rest b taken script.TooLong reads is = (reads.answers, untouched b taken)
+unread text held rest b taken script.TooManyLines reads is = ((reads.answers.0, reads.answers.1, reads.ended), untouched b taken)
+unread text held rest b taken script.ReadFault reads is = (reads.answers, untouched b taken)
+unread text held rest b taken script.Memory reads is = inl (reads.answers, untouched b taken)
+
+pub not_read : (held rest : Option (List ℕ)) (b : Devices) (taken : Option (List ℕ)) (f : ScriptFault) → ReadsScript held rest (Err f)
+    → EndsSo held rest b b taken taken (Err (script_fault f))
+not_read held rest b taken f reads = (reads.text, reads.gave, unread reads.text held rest b taken f reads refl)
 
 -- a script was played
 ends_by : (text : List ℕ) (rest : Option (List ℕ)) (b a : Devices) (before after : Option (List ℕ)) (lines : List (ℕ × Event)) (r : Result (Unit {0}) ReplayFault)
-    → IsScript text rest lines → PlaysWhole lines b a before after r → Ends text rest b a before after r
+    → IsScript text rest lines → Begins (PlaysWhole lines) b a before after r → Ends text rest b a before after r
 ends_by text rest b a before after lines (Ok done) is plays = (lines, is, plays)
 ends_by text rest b a before after lines (Err fault.WriteFault) is plays = (lines, is, plays)
 ends_by text rest b a before after lines (Err fault.NetFull) is plays = (lines, is, plays)
 ends_by text rest b a before after lines (Err fault.NotEmpty) is plays = (lines, is, plays)
 ends_by text rest b a before after lines (Err fault.DiskFault) is plays = (lines, is, plays)
 ends_by text rest b a before after lines (Err fault.Memory) is plays = inr (lines, is, plays)
-ends_by text rest b a before after lines (Err f) is plays = absurd plays
+ends_by text rest b a before after lines (Err f) is plays = absurd plays.1
 
 pub was_read : (held rest : Option (List ℕ)) (b a : Devices) (before after : Option (List ℕ)) (lines : List (ℕ × Event)) (r : Result (Unit {0}) ReplayFault) → ReadsScript held rest (Ok lines)
-    → PlaysWhole lines b a before after r → EndsSo held rest b a before after r
+    → Begins (PlaysWhole lines) b a before after r → EndsSo held rest b a before after r
 was_read held rest b a before after lines r reads plays = (
   reads.text,
   reads.gave,
@@ -56,21 +65,28 @@ line_is : (f : ReplayFault) (s : Status) (text : List ℕ) → s ≡ fault_statu
 line_is f s text same is = is ∙ ap fault_text same
 
 pub told_whole : (f : ReplayFault) (s : Status) (before after : Option (List ℕ)) (text : List ℕ) → s ≡ fault_status f → text ≡ fault_text s → Took before after text
-    → Tells (Err f) before after (Err f)
+    → TellsLine f before after (Err f)
 told_whole f s before after text same is took = inl (refl, subst (Took before after) (line_is f s text same is) took)
 
 pub told_cut : (f : ReplayFault) (s : Status) (before after : Option (List ℕ)) (text : List ℕ) → s ≡ fault_status f → text ≡ fault_text s → TookFront before after text
-    → Tells (Err f) before after (Err fault.WriteFault)
+    → TellsLine f before after (Err fault.WriteFault)
 told_cut f s before after text same is front = inr (inl (refl, subst (TookFront before after) (line_is f s text same is) front))
 
-pub told_short : (f : ReplayFault) (taken : Option (List ℕ)) → Tells (Err f) taken taken (Err fault.Memory)
+pub told_short : (f : ReplayFault) (taken : Option (List ℕ)) → TellsLine f taken taken (Err fault.Memory)
 told_short f taken = inr (inr (refl, refl))
+
+-- it has one but where the output failed or memory ran out
+pub told_line : (why : ReplayFault) (before after : Option (List ℕ)) (r : Result (Unit {0}) ReplayFault) → (why ≡ fault.WriteFault → ⊥) → (why ≡ fault.Memory → ⊥)
+    → TellsLine why before after r → Tells (Err why) before after r
+told_line fault.WriteFault before after r no_write no_memory told = absurd (no_write refl)
+told_line fault.Memory before after r no_write no_memory told = absurd (no_memory refl)
+told_line why before after r no_write no_memory told = told
 
 -- Which ends are told.
 
 -- no play ends as if its input had failed
-pub plays_not_read : (lines : List (ℕ × Event)) (b a : Devices) (before after : Option (List ℕ)) (r : Result (Unit {0}) ReplayFault) → PlaysWhole lines b a before after r → r ≡ Err fault.ReadFault → ⊥
-plays_not_read lines b a before after r plays is = subst (PlaysWhole lines b a before after) is plays
+pub plays_not_read : (lines : List (ℕ × Event)) (b a : Devices) (before after : Option (List ℕ)) (r : Result (Unit {0}) ReplayFault) → Begins (PlaysWhole lines) b a before after r → r ≡ Err fault.ReadFault → ⊥
+plays_not_read lines b a before after r plays is = (subst (Begins (PlaysWhole lines) b a before after) is plays).1
 
 err_one : (f g : ReplayFault) → ◌≡◌ {A = Result (Unit {0}) ReplayFault} (Err f) (Err g) → f ≡ g
 err_one f g is = cc
@@ -92,6 +108,8 @@ clash r f g one other apart = apart (err_one f g (sym one ∙ other))
 -- and it is told only then
 pub told_read : (end r : Result (Unit {0}) ReplayFault) (before after : Option (List ℕ)) → Tells end before after r → r ≡ Err fault.ReadFault → end ≡ Err fault.ReadFault
 told_read (Ok done) r before after told is = sym told.0 ∙ is
+told_read (Err fault.WriteFault) r before after told is = sym told.0 ∙ is
+told_read (Err fault.Memory) r before after told is = sym told.0 ∙ is
 told_read (Err why) r before after (inl told) is = sym told.0 ∙ is
 told_read (Err why) r before after (inr (inl told)) is = absurd (clash r fault.WriteFault fault.ReadFault told.0 is (λ x. let none : ⊥ = cc in none))
 told_read (Err why) r before after (inr (inr told)) is = absurd (clash r fault.Memory fault.ReadFault told.0 is (λ x. let none : ⊥ = cc in none))

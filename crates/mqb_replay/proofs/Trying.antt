@@ -1,5 +1,5 @@
 -- A script that is made is read, unless memory runs out.
-use Rattle.std.proofs.Common.{◌≡◌, ◌≤◌, List, [], Option, Some, append-nil, arith, length, refl, sym, ap, subst, ◌∙◌, ℕ}
+use Rattle.std.proofs.Common.{◌≡◌, ◌≤◌, List, [], Option, Some, append-nil, arith, inr, length, refl, sym, ap, subst, ◌∙◌, ℕ}
 use Rattle.std.specs.Prelude.{Err, Ok, Result}
 use Rattle.mqb_script.specs.Made.{IsMade}
 use Rattle.mqb_outside.specs.Faults.{Rose}
@@ -15,8 +15,8 @@ use Rattle.mqb_runs.specs.Runs.{Played, course_of}
 use Rattle.mqb_world.specs.Worlds.{WorldState}
 use Rattle.mqb_replay.specs.Devices.{Devices}
 use Rattle.mqb_replay.specs.Plays.{HasRun, IsPlayed, Wrote}
-use Rattle.mqb_replay.specs.Replays.{IsAtEnd, PlaysLines}
-use Rattle.mqb_replay.specs.Trials.{TriesLines, trial_text, tried_text}
+use Rattle.mqb_replay.specs.Replays.{Begins, IsAtEnd, PlaysLines}
+use Rattle.mqb_replay.specs.Trials.{EndsTrial, TriesLines, trial_text, tried_text}
 use Rattle.mqb_replay.specs.declared.faults.ReplayFault.{ReplayFault}
 use Rattle.mqb_replay.specs.declared.faults.ReplayFault.TheVariants as fault
 use Rattle.mqb_replay.proofs.Playing.{played_so_far}
@@ -70,3 +70,10 @@ not_played lines w b a before taken after fault.WriteFault no_write plays = absu
 not_played lines w b a before taken after fault.NetFull no_write plays = (plays.0, refl)
 not_played lines w b a before taken after fault.Memory no_write plays = (plays.0, refl)
 not_played lines w b a before taken after f no_write plays = absurd plays
+
+-- The script was made, and its lines were tried.
+pub made_tried : (n : ℕ) (lines : List (ℕ × Event)) (b a : Devices) (before after : Option (List ℕ)) (r : Result (Unit {0}) ReplayFault) → script_of (generated n) ≡ Ok lines
+    → Begins (TriesLines lines) b a before after r → EndsTrial n b a before after r
+made_tried n lines b a before after (Ok done) script tries = (lines, script, tries)
+made_tried n lines b a before after (Err fault.Memory) script tries = inr (lines, script, tries)
+made_tried n lines b a before after (Err f) script tries = (lines, script, tries)

@@ -5,18 +5,17 @@ use Rattle.mqb_outside.specs.Disk.{Switch, View}
 use Rattle.mqb_network.specs.Runs.{Move}
 use Rattle.mqb_outside.specs.Told.{Took}
 use Rattle.mqb_posts.specs.Posting.{HasFront, IsCutOff}
-use Rattle.mqb_run_laws.specs.Continuing.{RunsContinue}
 use Rattle.mqb_runs.specs.Events.{event_of}
 use Rattle.mqb_runs.specs.Guarantees.{RunsKeepGuarantees}
 use Rattle.mqb_runs.specs.Hosts.{hosts}
-use Rattle.mqb_runs.specs.Runs.{Played, course_of, moves_of}
+use Rattle.mqb_runs.specs.Runs.{Played, moves_of}
 use Rattle.mqb_runs.specs.Texts.{reply_lines}
 use Rattle.mqb_script.specs.declared.events.Event.{Event}
 use Rattle.mqb_script.specs.declared.events.Event.TheVariants as event
 use Rattle.mqb_script.specs.declared.managers.Which.{Which}
 use Rattle.mqb_script.specs.declared.managers.Which.TheVariants.{Alpha, Beta}
 use Rattle.mqb_commands.specs.Outputs.{TookFront}
-use Rattle.mqb_commands.specs.lemmas.Taking.{front_more, front_then, took_then}
+use Rattle.mqb_commands.specs.lemmas.Taking.{front_then, took_then}
 use Rattle.mqb_transcript.specs.Texts.{printed}
 use Rattle.mqb_transcript.specs.declared.replies.Reply.{Reply}
 use Rattle.mqb_world.specs.Disks.{LeavesIt, SwitchGoes, switching}
@@ -28,7 +27,7 @@ use Rattle.mqb_replay.specs.Replays.{IsCut, IsNetFull, IsOutOfMemory, PlaysLines
 use Rattle.mqb_replay.specs.declared.faults.ReplayFault.{ReplayFault}
 use Rattle.mqb_replay.specs.declared.faults.ReplayFault.TheVariants as fault
 use Rattle.mqb_replay.proofs.Counting.{rose_stays, switched_more, switched_stays}
-use Rattle.mqb_replay.proofs.Fronts.{front_of, took_front}
+use Rattle.mqb_replay.proofs.Fronts.{front_before, took_all, took_but_last}
 use Rattle.mqb_replay.proofs.Playing.{goes_on, played_so_far}
 
 -- No event that arms a disk, or starts it again, sends a packet.
@@ -70,7 +69,7 @@ short_of keep lines first rest split w b a h = (
 
 -- The ends of a loop over lines.
 
-module _ (keep : RunsKeepGuarantees) (continue : RunsContinue) (lines first rest : List (ℕ × Event)) (line : ℕ × Event) (split : lines ≡ first ++ line ∷ rest) (w w_now : WorldState) (b m a : Devices)
+module _ (keep : RunsKeepGuarantees) (lines first rest : List (ℕ × Event)) (line : ℕ × Event) (split : lines ≡ first ++ line ∷ rest) (w w_now : WorldState) (b m a : Devices)
     (before now after : Option (List ℕ)) (h : HasRun first w b m) (written : Took before now (reply_lines h.run)) where
   -- those before the next one, and that
   split_after : lines ≡ (first ++ line ∷ []) ++ rest
@@ -126,8 +125,14 @@ module _ (keep : RunsKeepGuarantees) (continue : RunsContinue) (lines first rest
     abbrev more : HasRun (first ++ line ∷ []) w_now b a
     more = (goes_on first line w w_now b m a given h answers).0
 
+    abbrev last : Played
+    last = (goes_on first line w w_now b m a given h answers).1
+
+    more_is : more.run ≡ h.run ++ last ∷ []
+    more_is = (goes_on first line w w_now b m a given h answers).2
+
     more_text : reply_lines more.run ≡ reply_lines h.run ++ printed hosts (Some line.0) given
-    more_text = (goes_on first line w w_now b m a given h answers).1
+    more_text = (goes_on first line w w_now b m a given h answers).3
 
     -- and memory ran out behind it
     pub short_behind : (s : IsShort lines b a) × (s.run ≡ more.run)
@@ -143,41 +148,30 @@ module _ (keep : RunsKeepGuarantees) (continue : RunsContinue) (lines first rest
       rest = rest;
       split = split_after;
       played = played.0;
-      written = front_of continue lines (first ++ line ∷ []) rest split_after played.0.run played.0.is_run before after
+      written = front_before rest played.0.run before after
           (subst (TookFront before after) (sym (ap reply_lines played.1 ∙ more_text))
           (front_then before now after (reply_lines h.run) (printed hosts (Some line.0) given) written front));
     }
 
   -- What becomes of the line ends the loop.
 
-  out_of_memory : (s : IsShort lines b a) (run : List Played) → s.run ≡ run → TookFront before after (reply_lines run) → IsOutOfMemory lines b a before after
-  out_of_memory s run is_run front = (
-    s,
-    front_of continue lines s.first s.rest s.split s.run s.is_run before after (subst (λ (ps : List Played). TookFront before after (reply_lines ps)) (sym is_run) front),
-  )
-
-  written_still : after ≡ now → TookFront before after (reply_lines h.run)
-  written_still same = subst (λ (t : Option (List ℕ)). TookFront before t (reply_lines h.run)) (sym same) (took_front before now (reply_lines h.run) written)
+  written_still : after ≡ now → Took before after (reply_lines h.run)
+  written_still same = subst (λ (t : Option (List ℕ)). Took before t (reply_lines h.run)) (sym same) written
 
   memory_in : (given : Reply) (answers : Answers line.1 w m w_now a given) → after ≡ now → IsOutOfMemory lines b a before after
   memory_in given answers same = let s = short_behind given answers in
-      out_of_memory s.0 (more given answers).run s.1
-      (subst (TookFront before after) (sym (more_text given answers))
-      (front_more before after (reply_lines h.run) (printed hosts (Some line.0) given) (written_still same)))
+      (s.0, took_but_last s.0.run h.run (last given answers) before after (s.1 ∙ more_is given answers) (written_still same))
 
   memory_out : RunsOut line.1 w m a → after ≡ now → IsOutOfMemory lines b a before after
-  memory_out out same = let s = short out in out_of_memory s.0 h.run s.1 (written_still same)
+  memory_out out same = let s = short out in
+      (s.0, took_all s.0.run before after (subst (λ (ps : List Played). Took before after (reply_lines ps)) (sym s.1) (written_still same)))
 
   memory : (((given : Reply) × Answers line.1 w m w_now a given) ⊎ RunsOut line.1 w m a) → after ≡ now → IsOutOfMemory lines b a before after
   memory (inl answered) same = memory_in answered.0 answered.1 same
   memory (inr out) same = memory_out out same
 
   net_full : Overflows line.1 w m a → after ≡ now → IsNetFull lines b a before after
-  net_full over same = let f = full over in (
-    f.0,
-    subst (λ (ps : List Played). Took before after (reply_lines ps)) (sym f.1)
-        (subst (λ (t : Option (List ℕ)). Took before t (reply_lines h.run)) (sym same) written),
-  )
+  net_full over same = let f = full over in (f.0, subst (λ (ps : List Played). Took before after (reply_lines ps)) (sym f.1) (written_still same))
 
   pub turn_stops : (f : ReplayFault) → Turned line w w_now m a now after (Err f) → PlaysLines lines w_now b a before after (Err f)
   turn_stops fault.WriteFault turned = cut_in turned.0 turned.1 turned.2

@@ -52,10 +52,6 @@ pub record IsSwitchedBy (which : Which) (lines : List (ℕ × Event)) (s t : Swi
   pub arms : WentUpBy (arms which lines) s.arms t.arms
   pub restarts : WentUpBy (restarts which lines) s.restarts t.restarts
 
--- nothing was asked of it
-abbrev pub IsUnswitched : Switch → Switch → Type 0
-IsUnswitched s t = (t.arms ≡ s.arms) × (t.restarts ≡ s.restarts)
-
 -- What stands on it: each image opens to what the store keeps of the manager's state; or, where a record is in doubt, to what it would keep with that.
 pub record StandsOn (m : Manager) (d : View) : Type 0 where
   pub journal : JournalState

@@ -1,10 +1,8 @@
 -- What becomes of the input of a replay.
 use Rattle.std.specs.Prelude.{[], ◌++◌, ◌<◌, ◌∷◌, ◌≡◌, ◌≤◌, ◌⊎◌, Err, IfSome, List, Ok, Option, Result, length, ℕ}
-use Rattle.mqb_outside.specs.Images.{Each}
 use Rattle.mqb_forms.specs.declared.faults.LineKind.{LineKind}
 use Rattle.mqb_outside.specs.Faults.{Rose}
 use Rattle.mqb_outside.specs.Told.{Gave, Took}
-use Rattle.mqb_run_laws.specs.Continuing.{Continues}
 use Rattle.mqb_runs.specs.Runs.{Played}
 use Rattle.mqb_runs.specs.Texts.{reply_lines, text_of}
 use Rattle.mqb_script.specs.Reading.{LONGEST, MOST_LINES, line_count}
@@ -12,9 +10,9 @@ use Rattle.mqb_script.specs.Script.{script_of}
 use Rattle.mqb_script.specs.declared.events.Event.{Event}
 use Rattle.mqb_commands.specs.Outputs.{TookFront}
 use Rattle.mqb_commands.specs.Texts.{fault_text}
+use Rattle.mqb_world.specs.Making as making
 use Rattle.mqb_world.specs.Worlds.{WorldState}
-use Rattle.mqb_replay.specs.Devices.{Devices}
-use Rattle.mqb_replay.specs.Disks.{IsUnswitched}
+use Rattle.mqb_replay.specs.Devices.{Devices, IsUncalled}
 use Rattle.mqb_replay.specs.Faults.{fault_status}
 use Rattle.mqb_replay.specs.Plays.{HasPlayed, IsFull, IsPlayed, IsShort}
 use Rattle.mqb_replay.specs.declared.faults.ReplayFault.{ReplayFault}
@@ -46,36 +44,32 @@ HasManyLines text rest = (length text ≤ LONGEST) × (MOST_LINES < line_count t
 
 -- The devices.
 
--- Nothing was replayed: nothing was sent, and no disk was armed or started again.
-pub record IsUntouched (b a : Devices) : Type 0 where
-  pub strings : a.strings ≡ []
-  pub alpha : IsUnswitched b.alpha.switch a.alpha.switch
-  pub beta : IsUnswitched b.beta.switch a.beta.switch
-
 -- both disks are empty
 abbrev pub AreEmpty : Devices → Type 0
-AreEmpty b = Each b.alpha.reads (λ c. c ≡ []) × Each b.beta.reads (λ c. c ≡ [])
+AreEmpty b = making.IsEmpty b.alpha × making.IsEmpty b.beta
 
 -- one of the disks has bytes
 abbrev pub HasBytes : Devices → Type 0
-HasBytes b = Each b.alpha.reads (λ c. 0 < length c) ⊎ Each b.beta.reads (λ c. 0 < length c)
+HasBytes b = making.HasBytes b.alpha ⊎ making.HasBytes b.beta
 
 -- the count of faults of one of the disks rose
 abbrev pub HasFailed : Devices → Devices → Type 0
 HasFailed b a = Rose b.alpha.faults a.alpha.faults ⊎ Rose b.beta.faults a.beta.faults
 
--- Where a run was made both disks were empty.
-abbrev pub StartsEmpty : Devices → Result (Unit {0}) ReplayFault → Type 0
-StartsEmpty b (Ok done) = AreEmpty b
-StartsEmpty b (Err fault.NetFull) = AreEmpty b
-StartsEmpty b (Err _) = Unit {0}
-
 -- The output.
 
--- What was written is a front of the text of a run of all these lines, which begins with this one.
-pub record IsFront (lines : List (ℕ × Event)) (run : List Played) (before after : Option (List ℕ)) : Type 0 where
-  pub continued : Continues lines run
-  pub written : TookFront before after (text_of (run ++ continued.more))
+-- what is to be written of a run, by the lines of the script that are left behind it: its replies, and where none is left, what the managers hold
+abbrev pub text_before : List (ℕ × Event) → List Played → List ℕ
+text_before [] run = text_of run
+text_before (line ∷ rest) run = reply_lines run
+
+-- The replies of a run were written, or all but the last one.
+pub record TookReplies (run : List Played) (before after : Option (List ℕ)) : Type 0 where
+  pub told : List Played
+  pub untold : List Played
+  pub split : run ≡ told ++ untold
+  pub at_most_one : length untold ≤ 1
+  pub took : Took before after (reply_lines told)
 
 -- A script was played whole, and the whole text of its run was written.
 abbrev pub IsDone : List (ℕ × Event) → Devices → Devices → (before after : Option (List ℕ)) → Type 0
@@ -85,20 +79,24 @@ IsDone lines b a before after = (played : IsPlayed lines b a) × Took before aft
 abbrev pub IsNetFull : List (ℕ × Event) → Devices → Devices → (before after : Option (List ℕ)) → Type 0
 IsNetFull lines b a before after = (full : IsFull lines b a) × Took before after (reply_lines full.run)
 
--- The output failed behind a run of the first lines.
+-- The output failed behind a run of the first lines, and a front of its text was written.
 pub record IsCut (lines : List (ℕ × Event)) (b a : Devices) (before after : Option (List ℕ)) : Type 0 where
   pub first : List (ℕ × Event)
   pub rest : List (ℕ × Event)
   pub split : lines ≡ first ++ rest
   pub played : IsPlayed first b a
-  pub written : IsFront lines played.run before after
+  pub written : TookFront before after (text_before rest played.run)
 
 -- Memory ran out behind a run of the first lines.
 abbrev pub IsOutOfMemory : List (ℕ × Event) → Devices → Devices → (before after : Option (List ℕ)) → Type 0
-IsOutOfMemory lines b a before after = (short : IsShort lines b a) × IsFront lines short.run before after
+IsOutOfMemory lines b a before after = (short : IsShort lines b a) × TookReplies short.run before after
+
+-- what becomes of devices, before and after, and of an output, and how that ends
+abbrev pub Play : Type 1
+Play = Devices → Devices → Option (List ℕ) → Option (List ℕ) → Result (Unit {0}) ReplayFault → Type 0
 
 -- What becomes of the lines of a script over two new managers.
-abbrev pub PlaysLines : List (ℕ × Event) → WorldState → Devices → Devices → (before after : Option (List ℕ)) → Result (Unit {0}) ReplayFault → Type 0
+abbrev pub PlaysLines : List (ℕ × Event) → WorldState → Play
 PlaysLines lines w b a before after (Ok done) = HasPlayed lines w b a before after
 PlaysLines lines w b a before after (Err fault.WriteFault) = IsCut lines b a before after
 PlaysLines lines w b a before after (Err fault.NetFull) = IsNetFull lines b a before after
@@ -106,38 +104,70 @@ PlaysLines lines w b a before after (Err fault.Memory) = IsOutOfMemory lines b a
 PlaysLines lines w b a before after (Err _) = ⊥
 
 -- And of the script whole.
-abbrev pub PlaysWhole : List (ℕ × Event) → Devices → Devices → (before after : Option (List ℕ)) → Result (Unit {0}) ReplayFault → Type 0
+abbrev pub PlaysWhole : List (ℕ × Event) → Play
 PlaysWhole lines b a before after (Ok done) = IsDone lines b a before after
 PlaysWhole lines b a before after (Err fault.WriteFault) = IsCut lines b a before after
 PlaysWhole lines b a before after (Err fault.NetFull) = IsNetFull lines b a before after
 PlaysWhole lines b a before after (Err fault.Memory) = IsOutOfMemory lines b a before after
-PlaysWhole lines b a before after (Err fault.NotEmpty) = HasBytes b × IsUntouched b a × (after ≡ before)
-PlaysWhole lines b a before after (Err fault.DiskFault) = HasFailed b a × IsUntouched b a × (after ≡ before)
 PlaysWhole lines b a before after (Err _) = ⊥
 
--- a script was read, and this became of it
-abbrev pub EndsPlay : List ℕ → Option (List ℕ) → Devices → Devices → (before after : Option (List ℕ)) → Result (Unit {0}) ReplayFault → Type 0
-EndsPlay text rest b a before after r = (lines : List (ℕ × Event)) × IsScript text rest lines × PlaysWhole lines b a before after r
+-- Before anything is played.
 
--- How a replay ends before the line of a fault is written. What was not read to its end has no output.
-abbrev pub Ends : List ℕ → Option (List ℕ) → Devices → Devices → (before after : Option (List ℕ)) → Result (Unit {0}) ReplayFault → Type 0
-Ends text rest b a before after (Err (fault.Script line kind)) = IsNoScript text rest line kind × IsUntouched b a × (after ≡ before)
-Ends text rest b a before after (Err fault.TooLong) = (LONGEST < length text) × IsUntouched b a × (after ≡ before)
-Ends text rest b a before after (Err fault.TooManyLines) = HasManyLines text rest × IsUntouched b a × (after ≡ before)
-Ends text rest b a before after (Err fault.ReadFault) = (length text ≤ LONGEST) × IsUntouched b a × (after ≡ before)
-Ends text rest b a before after (Err fault.Memory) = ((length text ≤ LONGEST) × IsUntouched b a × (after ≡ before))
+-- Nothing was done: the devices are as they were, and nothing was written.
+pub record IsUntouched (b a : Devices) (before after : Option (List ℕ)) : Type 0 where
+  pub strings : a.strings ≡ b.strings
+  pub alpha : IsUncalled b.alpha a.alpha
+  pub beta : IsUncalled b.beta a.beta
+  pub output : after ≡ before
+
+-- Nothing was played: nothing was sent or written, no disk was armed or started again, and where one has bytes both were only read.
+pub record IsUnplayed (b a : Devices) (before after : Option (List ℕ)) : Type 0 where
+  pub strings : a.strings ≡ b.strings
+  pub alpha_switch : a.alpha.switch ≡ b.alpha.switch
+  pub beta_switch : a.beta.switch ≡ b.beta.switch
+  pub kept : making.KeepBytes b.alpha a.alpha b.beta a.beta
+  pub output : after ≡ before
+
+-- A play begins over two managers that are made on empty disks, and this becomes of it. Where a disk has bytes, or fails while they are made, nothing is played.
+abbrev pub Begins : Play → Play
+Begins plays b a before after (Err fault.NotEmpty) = HasBytes b × IsUnplayed b a before after
+Begins plays b a before after (Err fault.DiskFault) = HasFailed b a × IsUnplayed b a before after
+Begins plays b a before after (Err fault.Memory) = AreEmpty b × (IsUnplayed b a before after ⊎ plays b a before after (Err fault.Memory))
+Begins plays b a before after r = AreEmpty b × plays b a before after r
+
+-- The whole replay.
+
+-- a script was read, and this became of it
+abbrev pub EndsPlay : List ℕ → Option (List ℕ) → Play
+EndsPlay text rest b a before after r = (lines : List (ℕ × Event)) × IsScript text rest lines
+    × Begins (PlaysWhole lines) b a before after r
+
+-- How a replay ends before the line of a fault is written. Where its input was not read to its end, or is no script, nothing was done.
+abbrev pub Ends : List ℕ → Option (List ℕ) → Play
+Ends text rest b a before after (Err (fault.Script line kind)) = IsNoScript text rest line kind × IsUntouched b a before after
+Ends text rest b a before after (Err fault.TooLong) = (LONGEST < length text) × IsUntouched b a before after
+Ends text rest b a before after (Err fault.TooManyLines) = HasManyLines text rest × IsUntouched b a before after
+Ends text rest b a before after (Err fault.ReadFault) = (length text ≤ LONGEST) × IsUntouched b a before after
+Ends text rest b a before after (Err fault.Memory) = ((length text ≤ LONGEST) × IsUntouched b a before after)
     ⊎ EndsPlay text rest b a before after (Err fault.Memory)
 Ends text rest b a before after r = EndsPlay text rest b a before after r
 
 -- what was read of an input, and how it ended
-abbrev pub EndsSo : (held rest : Option (List ℕ)) → Devices → Devices → (before after : Option (List ℕ)) → Result (Unit {0}) ReplayFault → Type 0
+abbrev pub EndsSo : (held rest : Option (List ℕ)) → Play
 EndsSo held rest b a before after r = (text : List ℕ) × Gave held rest text × Ends text rest b a before after r
 
--- The line of a fault was written, where it has one, and the replay ended so. Or the output failed in it; or memory ran out before it.
-abbrev pub Tells : Result (Unit {0}) ReplayFault → (before after : Option (List ℕ)) → Result (Unit {0}) ReplayFault → Type 0
+-- The line of a fault was written, and the replay ended so. Or the output failed in it; or memory ran out before it.
+abbrev pub TellsLine : ReplayFault → (before after : Option (List ℕ)) → Result (Unit {0}) ReplayFault → Type 0
+TellsLine why before after r = ((r ≡ Err why) × Took before after (fault_text (fault_status why)))
+    ⊎ ((r ≡ Err fault.WriteFault) × TookFront before after (fault_text (fault_status why)))
+    ⊎ ((r ≡ Err fault.Memory) × (after ≡ before))
+
+-- How a replay ended is told by the line of its fault, where it has one.
+abbrev pub Tells : (end : Result (Unit {0}) ReplayFault) → (before after : Option (List ℕ)) → Result (Unit {0}) ReplayFault → Type 0
 Tells (Ok done) before after r = (r ≡ Ok done) × (after ≡ before)
-Tells (Err why) before after r = ((r ≡ Err why) × Took before after (fault_text (fault_status why)))
-    ⊎ ((r ≡ Err fault.WriteFault) × TookFront before after (fault_text (fault_status why))) ⊎ ((r ≡ Err fault.Memory) × (after ≡ before))
+Tells (Err fault.WriteFault) before after r = (r ≡ Err fault.WriteFault) × (after ≡ before)
+Tells (Err fault.Memory) before after r = (r ≡ Err fault.Memory) × (after ≡ before)
+Tells (Err why) before after r = TellsLine why before after r
 
 -- A replay: what the input held and holds, the devices before and after it, what the output had taken and has taken, and how it ends.
 pub record Replays (held rest : Option (List ℕ)) (b a : Devices) (before after : Option (List ℕ)) (r : Result (Unit {0}) ReplayFault) : Type 0 where

@@ -1,6 +1,6 @@
 -- What becomes of a script that is made and replayed for its ledger.
 use Rattle.std.specs.Fmt.{decimal}
-use Rattle.std.specs.Prelude.{◌++◌, ◌≡◌, Bool, Err, List, Ok, Option, Result, codes, count_by, false, length, true, ℕ}
+use Rattle.std.specs.Prelude.{◌++◌, ◌≡◌, ◌⊎◌, Bool, Err, List, Ok, Option, Result, codes, count_by, false, length, true, ℕ}
 use Rattle.mqb_base.specs.declared.ledger.Line.{Line}
 use Rattle.mqb_base.specs.declared.ledger.Line.TheVariants as line
 use Rattle.mqb_outside.specs.Told.{Took}
@@ -11,7 +11,7 @@ use Rattle.mqb_commands.specs.Outputs.{TookFront}
 use Rattle.mqb_transcript.specs.Generator.{generated}
 use Rattle.mqb_replay.specs.Devices.{Devices}
 use Rattle.mqb_replay.specs.Plays.{IsFull, IsPlayed, IsShort}
-use Rattle.mqb_replay.specs.Replays.{HasBytes, HasFailed, IsUntouched, Tells}
+use Rattle.mqb_replay.specs.Replays.{Begins, IsUntouched, Play, Tells}
 use Rattle.mqb_replay.specs.declared.faults.ReplayFault.{ReplayFault}
 use Rattle.mqb_replay.specs.declared.trials.Tally.{Tally}
 use Rattle.mqb_replay.specs.declared.trials.Tally.TheVariants.{Committed, Expired, Put, Refused}
@@ -45,18 +45,22 @@ abbrev pub tried_text : (lines : List (ℕ × Event)) (b a : Devices) → IsPlay
 tried_text lines b a played = trial_text (length lines) (course_of played.run).network.ledger
 
 -- What becomes of the lines of a script that is tried over two new managers.
-abbrev pub TriesLines : List (ℕ × Event) → Devices → Devices → (before after : Option (List ℕ)) → Result (Unit {0}) ReplayFault → Type 0
+abbrev pub TriesLines : List (ℕ × Event) → Play
 TriesLines lines b a before after (Ok done) = (played : IsPlayed lines b a) × Took before after (tried_text lines b a played)
 TriesLines lines b a before after (Err fault.WriteFault) = (played : IsPlayed lines b a) × TookFront before after (tried_text lines b a played)
-TriesLines lines b a before after (Err fault.NotEmpty) = HasBytes b × IsUntouched b a × (after ≡ before)
-TriesLines lines b a before after (Err fault.DiskFault) = HasFailed b a × IsUntouched b a × (after ≡ before)
 TriesLines lines b a before after (Err fault.NetFull) = IsFull lines b a × (after ≡ before)
 TriesLines lines b a before after (Err fault.Memory) = IsShort lines b a × (after ≡ before)
 TriesLines lines b a before after (Err _) = ⊥
 
--- How a trial of n orders ends before the line of a fault is written: so it becomes of the lines of its script.
-abbrev pub EndsTrial : ℕ → Devices → Devices → (before after : Option (List ℕ)) → Result (Unit {0}) ReplayFault → Type 0
-EndsTrial n b a before after r = (lines : List (ℕ × Event)) × (script_of (generated n) ≡ Ok lines) × TriesLines lines b a before after r
+-- the script of n orders was made, and this became of its lines
+abbrev pub EndsTry : ℕ → Play
+EndsTry n b a before after r = (lines : List (ℕ × Event)) × (script_of (generated n) ≡ Ok lines)
+    × Begins (TriesLines lines) b a before after r
+
+-- How a trial of n orders ends before the line of a fault is written. Where memory runs out while its script is made, nothing was done.
+abbrev pub EndsTrial : ℕ → Play
+EndsTrial n b a before after (Err fault.Memory) = IsUntouched b a before after ⊎ EndsTry n b a before after (Err fault.Memory)
+EndsTrial n b a before after r = EndsTry n b a before after r
 
 -- A trial of n orders.
 pub record Tries (n : ℕ) (b a : Devices) (before after : Option (List ℕ)) (r : Result (Unit {0}) ReplayFault) : Type 0 where

@@ -1,17 +1,17 @@
 //! The line of a fault, which is written last.
 ghost use Rattle.std.specs.Prelude.{Err};
 ghost use Rattle.mqb_replay.specs.Faults.{TellCause};
-ghost use Rattle.mqb_replay.specs.Replays.{Tells};
+ghost use Rattle.mqb_replay.specs.Replays.{Tells, TellsLine};
 
 use crate::faults::ReplayFault;
 use mqb_commands::{append_fault, write_all};
 use mqb_outside::Sink;
 use std::alloc::Global;
 
-/// Writes the line of a fault, where it has one, and says how the replay ended.
+/// Writes the line of a fault, and says how the replay ended.
 #[tactic(auto, using(crate::proofs::Telling::told_whole, crate::proofs::Telling::told_cut, crate::proofs::Telling::told_short))]
 fn tell_fault<K: Sink>(alloc: Global, fault: ReplayFault, out: &mut K) -> ReplayFault
-    ensures told { Tells (Err fault) (K.taken out.old) (K.taken out.new) (Err result) }
+    ensures told { TellsLine fault (K.taken out.old) (K.taken out.new) (Err result) }
     ensures cause { TellCause (K.write_faults out.old) (K.write_faults out.new) (Err fault)
         (Err result) }
 {
@@ -25,7 +25,7 @@ fn tell_fault<K: Sink>(alloc: Global, fault: ReplayFault, out: &mut K) -> Replay
     }
 }
 
-/// Ends a replay: the line of its fault is written.
+/// Ends a replay: the line of its fault is written, where it has one.
 pub(crate) fn tell<K: Sink>(
     alloc: Global,
     end: Result<(), ReplayFault>,
@@ -36,6 +36,8 @@ pub(crate) fn tell<K: Sink>(
 {
     match end {
         Ok(()) => Ok(()),
+        Err(ReplayFault::WriteFault) => Err(ReplayFault::WriteFault),
+        Err(ReplayFault::Memory) => Err(ReplayFault::Memory),
         Err(fault) => Err(tell_fault(alloc, fault, out)),
     }
 }

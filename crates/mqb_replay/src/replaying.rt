@@ -3,7 +3,7 @@ ghost use Rattle.mqb_outside.specs.Faults.{Rose};
 ghost use Rattle.mqb_replay.specs.Completeness.{Completes};
 ghost use Rattle.mqb_replay.specs.Devices.{devices};
 ghost use Rattle.mqb_replay.specs.Faults.{WriteCause};
-ghost use Rattle.mqb_replay.specs.Replays.{EndsSo, Replays, StartsEmpty};
+ghost use Rattle.mqb_replay.specs.Replays.{EndsSo, Replays};
 
 use crate::fault_lines::tell;
 use crate::faults::ReplayFault;
@@ -26,8 +26,6 @@ fn read_and_play<S: Source, K: Sink, P: Power, M: Medium>(
         (devices (M.strings medium.old) (P.view first.old) (P.view second.old))
         (devices (M.strings medium.new) (P.view first.new) (P.view second.new))
         (K.taken out.old) (K.taken out.new) result }
-    ensures empty { StartsEmpty
-        (devices (M.strings medium.old) (P.view first.old) (P.view second.old)) result }
     ensures read { result ≡ Err ReplayFault.ReadFault
         → Rose (S.read_faults input.old) (S.read_faults input.new) }
     ensures write { WriteCause (K.write_faults out.old) (K.write_faults out.new) result }
@@ -51,10 +49,6 @@ pub fn replay<S: Source, K: Sink, P: Power, M: Medium>(
         (devices (M.strings medium.old) (P.view first.old) (P.view second.old))
         (devices (M.strings medium.new) (P.view first.new) (P.view second.new))
         (K.taken out.old) (K.taken out.new) result }
-
-    // A run is made over empty disks alone.
-    ensures empty { StartsEmpty
-        (devices (M.strings medium.old) (P.view first.old) (P.view second.old)) result }
 
     // A script whose packets fit the medium is replayed whole, where no device fails that must not.
     ensures complete { Completes (S.held input.old)

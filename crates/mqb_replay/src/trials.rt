@@ -1,6 +1,6 @@
 //! The replay of a script that is made, for its ledger.
 ghost use Rattle.std.specs.List.{AllByRecursion};
-ghost use Rattle.std.specs.Prelude.{[], ◌++◌, ◌≡◌, ◌≢◌, ◌≤◌, Err, OnOk, count_by};
+ghost use Rattle.std.specs.Prelude.{[], ◌++◌, ◌≡◌, ◌≤◌, Err, OnOk, count_by};
 ghost use Rattle.mqb_world.specs.Seats.{IsHeldOn};
 ghost use Rattle.mqb_outside.specs.Faults.{Rose};
 ghost use Rattle.mqb_script.specs.Formed.{IsFormed};
@@ -10,7 +10,7 @@ ghost use Rattle.mqb_replay.specs.Completeness.{CompletesTrial};
 ghost use Rattle.mqb_replay.specs.Devices.{devices};
 ghost use Rattle.mqb_replay.specs.Faults.{WriteCause};
 ghost use Rattle.mqb_replay.specs.Plays.{Wrote};
-ghost use Rattle.mqb_replay.specs.Replays.{StartsEmpty};
+ghost use Rattle.mqb_replay.specs.Replays.{Begins};
 ghost use Rattle.mqb_replay.specs.Trials.{EndsTrial, Tries, TriesLines, counted_text, is_counted, trial_text, word_of};
 
 use crate::fault_lines::tell;
@@ -142,8 +142,6 @@ fn try_in<K: Sink, P: Power, M: Medium>(
         (devices (M.strings medium.old) (P.view first.old) (P.view second.old))
         (devices (M.strings medium.new) (P.view first.new) (P.view second.new))
         (K.taken out.old) (K.taken out.new) result }
-    ensures not_empty { result ≢ Err ReplayFault.NotEmpty }
-    ensures disk_fault { result ≢ Err ReplayFault.DiskFault }
     ensures cause { WriteCause (K.write_faults out.old) (K.write_faults out.new) result }
 {
     runs_keep_guarantees();
@@ -162,15 +160,12 @@ fn try_lines<K: Sink, P: Power, M: Medium>(
 ) -> Result<(), ReplayFault>
     requires formed { AllByRecursion (λ line. IsFormed line.1) script.now }
     requires empty { M.strings medium.old ≡ [] }
-    ensures tried { TriesLines script.now
+    ensures tried { Begins (TriesLines script.now)
         (devices (M.strings medium.old) (P.view first.old) (P.view second.old))
         (devices (M.strings medium.new) (P.view first.new) (P.view second.new))
         (K.taken out.old) (K.taken out.new) result }
-    ensures empty { StartsEmpty
-        (devices (M.strings medium.old) (P.view first.old) (P.view second.old)) result }
     ensures cause { WriteCause (K.write_faults out.old) (K.write_faults out.new) result }
 {
-    runs_keep_guarantees();
     let mut world = World::new(alloc, first, second)?;
     let tried = try_in(alloc, &mut world, script, out, first, second, medium);
     world.close();
@@ -193,11 +188,8 @@ fn make_and_try<K: Sink, P: Power, M: Medium>(
         (devices (M.strings medium.old) (P.view first.old) (P.view second.old))
         (devices (M.strings medium.new) (P.view first.new) (P.view second.new))
         (K.taken out.old) (K.taken out.new) result }
-    ensures empty { StartsEmpty
-        (devices (M.strings medium.old) (P.view first.old) (P.view second.old)) result }
     ensures cause { WriteCause (K.write_faults out.old) (K.write_faults out.new) result }
 {
-    runs_keep_guarantees();
     made_scripts_are_scripts();
     let mut text = Vec::new(alloc);
     make_script(alloc, n, &mut text)?;
@@ -221,8 +213,6 @@ pub fn trial<K: Sink, P: Power, M: Medium>(
         (devices (M.strings medium.old) (P.view first.old) (P.view second.old))
         (devices (M.strings medium.new) (P.view first.new) (P.view second.new))
         (K.taken out.old) (K.taken out.new) result }
-    ensures empty { StartsEmpty
-        (devices (M.strings medium.old) (P.view first.old) (P.view second.old)) result }
     // Where its packets fit the medium it comes to its end, where no device fails that must not.
     ensures complete { CompletesTrial n
         (devices (M.strings medium.old) (P.view first.old) (P.view second.old))

@@ -5,12 +5,11 @@ use Rattle.mqb_history.specs.Laws.{HistoriesAreOrderly, RunsHaveHistories}
 use Rattle.mqb_history.specs.Orderly.{IsOrderly}
 use Rattle.mqb_network.specs.Runs.{IsRun, Move, after_run}
 use Rattle.mqb_runs.specs.Hosts.{hosts}
+use Rattle.mqb_runs.specs.lemmas.Growing.{played, run_more}
 use Rattle.mqb_runs.specs.lemmas.Orderly.{run_is_orderly}
 use Rattle.mqb_runs.specs.Runs.{IsRunOf, Played, course_of, moves_of}
 use Rattle.mqb_script.specs.declared.events.Event.{Event}
 use Rattle.mqb_run_laws.specs.Continuing.{Continues, RunsContinue}
-use Rattle.mqb_run_laws.specs.Growing.{played}
-use Rattle.mqb_run_laws.specs.lemmas.Growing.{run_more}
 use Rattle.mqb_run_laws.proofs.Events.{CanBePlayed, can_be_played}
 
 module _ (told : OutcomesAreTold) (runs : RunsHaveHistories) (histories : HistoriesAreOrderly) where

@@ -1,3 +1,1 @@
 pub mod Continuing
-pub mod Growing
-pub mod lemmas

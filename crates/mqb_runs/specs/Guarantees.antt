@@ -13,6 +13,7 @@ use Rattle.mqb_history.specs.Expired.{AreExpiredDuly}
 use Rattle.mqb_history.specs.Invariants.{HaveOneStreamWorld}
 use Rattle.mqb_history.specs.Late.{AreRefusedLate}
 use Rattle.mqb_history.specs.Laws.{DecisionsHaveReasons}
+use Rattle.mqb_history.specs.Leading.{AreStreamsLed}
 use Rattle.mqb_history.specs.Ledger.{IsExactlyOnceTold}
 use Rattle.mqb_history.specs.Pumps.{HasPumped}
 use Rattle.mqb_history.specs.Put.{ArePutTruly}
@@ -52,6 +53,8 @@ pub record KeepsGuarantees (ms : List Move) (c : Course) : Type 0 where
   pub exactly_once : DeliversExactlyOnce ms c
   -- each stream is a run of the stream world, which is shown
   pub streams : HaveOneStreamWorld c
+  -- and no stream is left out: each in the ledger goes from one manager to another
+  pub led : AreStreamsLed c
   -- a message which says that a committed one did not arrive is true, and so is one which says that one was not received
   pub truthful : IsTruthful c
   pub received_truly : IsReceivedTruly c

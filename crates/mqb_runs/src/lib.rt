@@ -6,8 +6,8 @@
 ghost use Rattle.mqb_runs.specs.Guarantees.{RunsKeepGuarantees};
 
 use mqb_history::{
-    always_machine_invariant, always_refused_late, committed_is_asked, decisions_have_reasons,
-    ledger_is_exactly_once, notes_tell_pumps,
+    always_machine_invariant, always_refused_late, commitments_lead_to_managers,
+    committed_is_asked, decisions_have_reasons, ledger_is_exactly_once, notes_tell_pumps,
 };
 use mqb_network::ledger_is_written;
 
@@ -22,4 +22,5 @@ pub fn runs_keep_guarantees()
     always_refused_late();
     notes_tell_pumps();
     ledger_is_written();
+    commitments_lead_to_managers();
 }

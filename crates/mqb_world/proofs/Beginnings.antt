@@ -1,5 +1,5 @@
 -- A manager on an empty disk, which then knows one peer.
-use Rattle.std.proofs.Common.{◌≡◌, ℕ, Bool, true, false, cond, List, [], ◌∷◌, Option, None, Some, Result, Ok, Err, length, inl, inr, refl, sym, ap, ◌∙◌, arith}
+use Rattle.std.proofs.Common.{◌≡◌, ◌<◌, ℕ, Bool, true, false, cond, List, [], ◌∷◌, Option, None, Some, Result, Ok, Err, length, inl, inr, refl, sym, ap, ◌∙◌, arith}
 use Rattle.std.specs.Cmp.Lexicographic.{bytes_decides}
 use Rattle.std.specs.Prelude.{◌||◌, nat_le, option_and_then}
 use Rattle.mqb_base.specs.Same.{same_guid}
@@ -25,6 +25,8 @@ use Rattle.mqb_moves.specs.lemmas.Calling.{not_up_of, went_well}
 use Rattle.mqb_moves.specs.Seats.{IsHeldOn}
 use Rattle.mqb_network.specs.Network.{formatted}
 use Rattle.mqb_store_laws.specs.Images.{state_by, state_in}
+use Rattle.mqb_world.specs.Making.{HasBytes, IsEmpty, KeepBytes}
+use Rattle.mqb_world.specs.declared.faults.WorldFault.{WorldFault}
 
 guid_is : (a b : Guid) → same_guid a b ≡ true → a ≡ b
 guid_is a b same = ap (λ (x : List ℕ). record { 0 = x }) ((bytes_decides a.0 b.0).0 same)
@@ -45,6 +47,22 @@ entries_one : (g : Guid) (own : Identity) (entries : List (List ℕ)) → length
 entries_one g own [] one is = absurd (omega (arith, one))
 entries_one g own (e ∷ []) one is = record_one g own (record_of e) is
 entries_one g own (e ∷ f ∷ entries) one is = absurd (omega (arith, one))
+
+-- the same fault, where something else was to be made
+pub err_still : {A B : Type 0} (f g : WorldFault) → ◌≡◌ {A = Result A WorldFault} (Err f) (Err g) → ◌≡◌ {A = Result B WorldFault} (Err f) (Err g)
+err_still f g is = let same : f ≡ g = cc in cc
+
+-- Disks without bytes have none to keep.
+
+has_none : (d : View) → (c : List ℕ) × d.reads c → IsEmpty d → HasBytes d → ⊥
+has_none d tells empty bytes =
+    let none : length tells.0 ≡ 0 = ap length (empty tells.0 tells.1) in
+    let some : 0 < length tells.0 = bytes tells.0 tells.1 in
+    omega (arith, some, none)
+
+pub none_to_keep : (d d_now e e_now : View) → (c : List ℕ) × d.reads c → (c : List ℕ) × e.reads c → IsEmpty d → IsEmpty e → KeepBytes d d_now e e_now
+none_to_keep d d_now e e_now first second none_there none_here (inl bytes) = absurd (has_none d first none_there bytes)
+none_to_keep d d_now e e_now first second none_there none_here (inr bytes) = absurd (has_none e second none_here bytes)
 
 -- The disk of a manager that was just made is held.
 pub held_new : (d : View) (n : ManagerState) (own : Identity) → length own.guid.0 ≡ 16 → manager_of n ≡ new_manager own → IsOnDisk d n → IsUp n → IsSettled d

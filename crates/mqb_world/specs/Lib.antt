@@ -1,5 +1,6 @@
 pub mod Faults
 pub mod Worlds
+pub mod Making
 pub mod Standing
 pub mod Disks
 pub mod Acting

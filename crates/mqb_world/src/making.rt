@@ -1,6 +1,6 @@
 //! How a manager is made on an empty disk, with the other one as its peer.
-ghost use Rattle.std.specs.Prelude.{[], ◌∷◌, ◌≡◌, ◌≢◌, ◌<◌, Err, IfOk, OnOk, false, length};
-ghost use Rattle.mqb_outside.specs.Images.{Each};
+ghost use Rattle.std.specs.Prelude.{[], ◌∷◌, ◌≡◌, ◌≢◌, Err, IfOk, OnOk, false, length};
+ghost use Rattle.mqb_outside.specs.Disk.{OnlyReads};
 ghost use Rattle.mqb_journal.specs.Causes.{FaultsAsSaid};
 ghost use Rattle.mqb_moves.specs.States.{manager_of};
 ghost use Rattle.mqb_model.specs.managers.Manager.{new_manager};
@@ -9,6 +9,7 @@ ghost use Rattle.mqb_moves.specs.Calling.{seat_of};
 ghost use Rattle.mqb_moves.specs.Seats.{IsHeldOn, seated};
 ghost use Rattle.mqb_network.specs.Network.{formatted};
 ghost use Rattle.mqb_world.specs.Faults.{making_failed};
+ghost use Rattle.mqb_world.specs.Making.{HasBytes, IsEmpty};
 
 use crate::faults::WorldFault;
 use mqb_base::Identity;
@@ -18,14 +19,31 @@ use mqb_outside::Power;
 use mqb_seats::Seat;
 use std::alloc::Global;
 
+/// Finds that a disk has no bytes.
+pub(crate) fn find_empty<P: Power>(disk: &mut P) -> Result<(), WorldFault>
+    ensures empty { OnOk result (IsEmpty (P.view disk.old)) }
+    ensures not_empty { result ≡ Err WorldFault.NotEmpty → HasBytes (P.view disk.old) }
+    ensures never { result ≢ Err WorldFault.NetFull }
+    ensures rich { result ≢ Err WorldFault.Memory }
+    ensures reads { OnlyReads (P.view disk.old) (P.view disk.new) }
+    ensures switch { (P.view disk.new).switch ≡ (P.view disk.old).switch }
+    ensures cause { FaultsAsSaid making_failed (P.view disk.old).faults (P.view disk.new).faults result }
+{
+    let Ok(len) = disk.len() else {
+        return Err(WorldFault::DiskFault);
+    };
+    if len > 0 {
+        return Err(WorldFault::NotEmpty);
+    }
+    Ok(())
+}
+
 /// A manager with nothing but its identity.
 fn format<P: Power>(alloc: Global, disk: &mut P, own: &Identity) -> Result<Manager, WorldFault>
     requires whole { length own.now.guid.0 ≡ 16 }
     ensures manager { IfOk result (λ n. manager_of n ≡ new_manager own.now) }
     ensures held { IfOk result (λ n. IsHeldOn (P.view disk.new) (seat_of n)) }
-    ensures empty { OnOk result (Each (P.view disk.old).reads (λ c. c ≡ [])) }
-    ensures not_empty { result ≡ Err WorldFault.NotEmpty
-        → Each (P.view disk.old).reads (λ c. 0 < length c) }
+    ensures not_empty { result ≡ Err WorldFault.NotEmpty → HasBytes (P.view disk.old) }
     ensures never { result ≢ Err WorldFault.NetFull }
     ensures switch { (P.view disk.new).switch ≡ (P.view disk.old).switch }
     ensures cause { FaultsAsSaid making_failed (P.view disk.old).faults (P.view disk.new).faults result }
@@ -77,9 +95,7 @@ pub(crate) fn make<P: Power>(
     requires apart { is_met own.now peer.now ≡ false }
     ensures manager { IfOk result (λ seat. seated seat ≡ formatted own.now (peer.now ∷ [])) }
     ensures held { IfOk result (IsHeldOn (P.view disk.new)) }
-    ensures empty { OnOk result (Each (P.view disk.old).reads (λ c. c ≡ [])) }
-    ensures not_empty { result ≡ Err WorldFault.NotEmpty
-        → Each (P.view disk.old).reads (λ c. 0 < length c) }
+    ensures not_empty { result ≡ Err WorldFault.NotEmpty → HasBytes (P.view disk.old) }
     ensures never { result ≢ Err WorldFault.NetFull }
     ensures switch { (P.view disk.new).switch ≡ (P.view disk.old).switch }
     ensures cause { FaultsAsSaid making_failed (P.view disk.old).faults (P.view disk.new).faults result }

@@ -1,5 +1,4 @@
-ghost use Rattle.std.specs.Prelude.{[], ◌≡◌, ◌≢◌, ◌<◌, ◌⊎◌, Err, IfOk, List, None, OnOk, Some, false, length, option_copied, true};
-ghost use Rattle.mqb_outside.specs.Images.{Each};
+ghost use Rattle.std.specs.Prelude.{[], ◌≡◌, ◌≢◌, ◌⊎◌, Err, IfOk, List, None, OnOk, Some, false, option_copied, true};
 ghost use Rattle.mqb_model.specs.managers.Manager.{is_down};
 ghost use Rattle.mqb_moves.specs.Seats.{IsHeldOn, seated};
 ghost use Rattle.mqb_network.specs.Runs.{Move};
@@ -10,13 +9,14 @@ ghost use Rattle.mqb_script.specs.Formed.{IsFormed};
 ghost use Rattle.mqb_traffic.specs.Networks.{notes_of};
 ghost use Rattle.mqb_turns.specs.Starts.{records_of};
 ghost use Rattle.mqb_world.specs.Disks.{FaultsGo, RecordsGo, SwitchGoes, failures_told, switching};
+ghost use Rattle.mqb_world.specs.Making.{HasBytes, IsEmpty, KeepBytes};
 ghost use Rattle.mqb_world.specs.Standing.{Applied, Stands};
 ghost use Rattle.mqb_world.specs.Worlds.{seat_at};
 
 use crate::applying::proceed;
 use crate::faults::WorldFault;
 use crate::identities::{alpha, beta};
-use crate::making::make;
+use crate::making::{find_empty, make};
 use mqb_base::Line;
 use mqb_history::{histories_are_orderly, runs_have_histories};
 use mqb_moves::Manager;
@@ -47,19 +47,21 @@ impl Model for World {
 }
 
 impl World {
-    /// Makes both managers on empty disks.
+    /// Makes both managers on empty disks. Both are looked at before one is written.
     ///
     /// # Errors
-    /// `NotEmpty`: one of the disks has bytes. `DiskFault`, `Memory`.
+    /// `NotEmpty`: one of the disks has bytes, and both were only read. `DiskFault`, `Memory`.
     pub fn new<P: Power>(alloc: Global, first: &mut P, second: &mut P) -> Result<World, WorldFault>
         ensures stands { IfOk result (λ world. Stands world [] []) }
         ensures alpha { IfOk result (λ world. IsHeldOn (P.view first.new) world.alpha) }
         ensures beta { IfOk result (λ world. IsHeldOn (P.view second.new) world.beta) }
-        ensures empty { OnOk result (Each (P.view first.old).reads (λ c. c ≡ [])
-            × Each (P.view second.old).reads (λ c. c ≡ [])) }
+        ensures empty { OnOk result (IsEmpty (P.view first.old) × IsEmpty (P.view second.old)) }
         ensures not_empty { result ≡ Err WorldFault.NotEmpty
-            → Each (P.view first.old).reads (λ c. 0 < length c)
-            ⊎ Each (P.view second.old).reads (λ c. 0 < length c) }
+            → HasBytes (P.view first.old) ⊎ HasBytes (P.view second.old) }
+        ensures memory { result ≡ Err WorldFault.Memory
+            → IsEmpty (P.view first.old) × IsEmpty (P.view second.old) }
+        ensures kept { KeepBytes (P.view first.old) (P.view first.new)
+            (P.view second.old) (P.view second.new) }
         ensures disk_fault { result ≡ Err WorldFault.DiskFault
             → Rose (P.view first.old).faults (P.view first.new).faults
             ⊎ Rose (P.view second.old).faults (P.view second.new).faults }
@@ -69,6 +71,8 @@ impl World {
         ensures alpha_switch { (P.view first.new).switch ≡ (P.view first.old).switch }
         ensures beta_switch { (P.view second.new).switch ≡ (P.view second.old).switch }
     {
+        find_empty(first)?;
+        find_empty(second)?;
         let own = alpha(alloc)?;
         let other = beta(alloc)?;
         let alpha = make(alloc, first, &own, &other)?;

@@ -1,7 +1,8 @@
 use Rattle.std.proofs.Common.{refl}
 use Rattle.std.proofs.lemmas.Result.{err_from_is_err_and}
-use Rattle.mqb_replay.proofs.Before.{err_world, not_made, not_made_empty, plays_before, starts_empty}
+use Rattle.mqb_replay.proofs.Before.{begun, err_world, not_begun, plays_before}
 use Rattle.mqb_replay.specs.Devices.{Devices, devices}
+use Rattle.mqb_replay.specs.Replays.{PlaysWhole}
 use Rattle.mqb_replay.proofs.plays.play.Goals as goal
 
 pub returns-in_err-world-clause-played : goal.returns-in_err-world-clause-played
@@ -9,25 +10,23 @@ returns-in_err-world-clause-played g c =
     let p = err_from_is_err_and c.from_residual.result c.from_residual.ensures.1 in
     let b : Devices = devices (g.M.Medium.strings c.args.medium.now) (g.P.Disk.view c.args.first.now) (g.P.Disk.view c.args.second.now) in
     let a : Devices = devices (g.M.Medium.strings c.args.medium.now) (g.P.Disk.view c.new.new.first) (g.P.Disk.view c.new.new.second) in
-    rw (p.1, p.2) (not_made c.runs_keep_guarantees.ensures c.args.script.now b a (g.K.Sink.taken c.args.out.now) (g.K.Sink.taken c.args.out.now) c.requires.empty
-    c.in_err-world.ensures.alpha_switch c.in_err-world.ensures.beta_switch refl c.runs_continue.ensures c.in_err-world.field-0.0 (λ is. c.in_err-world.ensures.not_empty (err_world _ _ is))
-    (λ is. c.in_err-world.ensures.disk_fault (err_world _ _ is)) (λ is. c.in_err-world.ensures.never (err_world _ _ is)))
+    rw (p.1, p.2) (not_begun (PlaysWhole c.args.script.now) b a (g.K.Sink.taken c.args.out.now) (g.K.Sink.taken c.args.out.now)
+    (record {
+      strings = refl;
+      alpha_switch = c.in_err-world.ensures.alpha_switch;
+      beta_switch = c.in_err-world.ensures.beta_switch;
+      kept = c.in_err-world.ensures.kept;
+      output = refl;
+    })
+    c.in_err-world.field-0.0 (λ is. c.in_err-world.ensures.not_empty (err_world _ _ is)) (λ is. c.in_err-world.ensures.disk_fault (err_world _ _ is))
+    (λ is. c.in_err-world.ensures.memory (err_world _ _ is)) (λ is. c.in_err-world.ensures.never (err_world _ _ is)))
 
 pub returns-clause-played : goal.returns-clause-played
 returns-clause-played g c =
     let b : Devices = devices (g.M.Medium.strings c.args.medium.now) (g.P.Disk.view c.args.first.now) (g.P.Disk.view c.args.second.now) in
     let d : Devices = devices (g.M.Medium.strings c.args.medium.now) (g.P.Disk.view c.new.new.first) (g.P.Disk.view c.new.new.second) in
     let a : Devices = devices (g.M.Medium.strings c.play_in-played.new.medium) (g.P.Disk.view c.play_in-played.new.first) (g.P.Disk.view c.play_in-played.new.second) in
-    plays_before b d a c.in_ok-world.ensures.alpha_faults c.in_ok-world.ensures.beta_faults c.in_ok-world.ensures.alpha_switch c.in_ok-world.ensures.beta_switch c.args.script.now
-    (g.K.Sink.taken c.args.out.now) (g.K.Sink.taken c.play_in-played.new.out) c.play_in-played.result c.play_in-played.ensures.not_empty c.play_in-played.ensures.disk_fault
-    c.play_in-played.ensures.played
-
-pub returns-in_err-world-clause-empty : goal.returns-in_err-world-clause-empty
-returns-in_err-world-clause-empty g c =
-    let p = err_from_is_err_and c.from_residual.result c.from_residual.ensures.1 in
-    rw (p.1, p.2) (not_made_empty (devices (g.M.Medium.strings c.args.medium.now) (g.P.Disk.view c.args.first.now) (g.P.Disk.view c.args.second.now)) c.in_err-world.field-0.0
-    (λ is. c.in_err-world.ensures.never (err_world _ _ is)))
-
-pub returns-clause-empty : goal.returns-clause-empty
-returns-clause-empty g c = starts_empty (devices (g.M.Medium.strings c.args.medium.now) (g.P.Disk.view c.args.first.now) (g.P.Disk.view c.args.second.now)) c.play_in-played.result
-    c.in_ok-world.ensures.empty
+    begun (PlaysWhole c.args.script.now) b a (g.K.Sink.taken c.args.out.now) (g.K.Sink.taken c.play_in-played.new.out) (λ none. none) (λ none. none) c.in_ok-world.ensures.empty
+    c.play_in-played.result
+    (plays_before b d a c.in_ok-world.ensures.alpha_faults c.in_ok-world.ensures.beta_faults c.in_ok-world.ensures.alpha_switch c.in_ok-world.ensures.beta_switch c.args.script.now
+    (g.K.Sink.taken c.args.out.now) (g.K.Sink.taken c.play_in-played.new.out) c.play_in-played.result c.play_in-played.ensures.played)

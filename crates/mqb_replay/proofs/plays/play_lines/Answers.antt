@@ -7,7 +7,7 @@ use Rattle.mqb_script.specs.declared.events.Event.{Event}
 use Rattle.mqb_replay.specs.Devices.{Devices, devices}
 use Rattle.mqb_replay.specs.Plays.{HasPlayed}
 use Rattle.mqb_replay.proofs.Causing.{cause_then}
-use Rattle.mqb_replay.proofs.Ending.{begins, none_behind, none_run}
+use Rattle.mqb_replay.proofs.Ending.{begins, none_played}
 use Rattle.mqb_replay.proofs.Lines.{line_at, split_at, taken_one}
 use Rattle.mqb_replay.proofs.Turning.{played_one, turn_stops}
 use Rattle.mqb_replay.proofs.plays.play_lines.Goals as goal
@@ -15,8 +15,8 @@ use Rattle.mqb_replay.proofs.plays.play_lines.Goals as goal
 pub returns-in_err-hosts-clause-played : goal.returns-in_err-hosts-clause-played
 returns-in_err-hosts-clause-played g c =
     let p = err_from_is_err_and c.from_residual.result c.from_residual.ensures.1 in
-    rw (p.1, p.2) (none_behind c.runs_keep_guarantees.ensures c.runs_continue.ensures c.args.script.now c.args.world.now _ _ (g.K.Sink.taken c.args.out.now) (g.K.Sink.taken c.args.out.now)
-    (none_run c.args.world.now _ _ c.requires.stands c.requires.alpha c.requires.beta refl refl refl refl) refl)
+    let b : Devices = devices (g.M.Medium.strings c.args.medium.now) (g.P.Disk.view c.args.first.now) (g.P.Disk.view c.args.second.now) in
+    rw (p.1, p.2) (none_played c.runs_keep_guarantees.ensures c.args.script.now b b (g.K.Sink.taken c.args.out.now) (g.K.Sink.taken c.args.out.now) c.requires.stands.stands.spelled refl refl refl)
 
 pub loop-line-init : goal.loop-line-init
 loop-line-init g c = record {
@@ -34,7 +34,7 @@ returns-in_err-turn-clause-played g c =
     let i : ℕ = c.loop-line.line-index in
     let line : ℕ × Event = c.line-item.result in
     let p = err_from_is_err_and c.from_residual-in_err-turn.result c.from_residual-in_err-turn.ensures.1 in
-    rw (p.1, p.2) (turn_stops c.runs_keep_guarantees.ensures c.runs_continue.ensures lines (take i lines) (drop (i + 1) lines) line (split_at lines i line c.loop-line-test.true c.line-item.is)
+    rw (p.1, p.2) (turn_stops c.runs_keep_guarantees.ensures lines (take i lines) (drop (i + 1) lines) line (split_at lines i line c.loop-line-test.true c.line-item.is)
     c.loop-line.world c.turn.new.world _ _ _ (g.K.Sink.taken c.args.out.now) (g.K.Sink.taken c.loop-line.out) (g.K.Sink.taken c.turn.new.out)
     c.loop-line.invariant.played.0 c.loop-line.invariant.played.1 c.in_err-turn.field-0.0 c.in_err-turn.ensures.turned)
 
@@ -55,7 +55,7 @@ loop-line-preserved g c =
     record {
       played = subst (λ (ls : List (ℕ × Event)). HasPlayed ls c.turn.new.world b a (g.K.Sink.taken c.args.out.now) (g.K.Sink.taken c.turn.new.out))
           (sym (taken_one lines i line c.loop-line-test.true c.line-item.is))
-          (played_one c.runs_keep_guarantees.ensures c.runs_continue.ensures lines (take i lines) (drop (i + 1) lines) line (split_at lines i line c.loop-line-test.true c.line-item.is)
+          (played_one c.runs_keep_guarantees.ensures lines (take i lines) (drop (i + 1) lines) line (split_at lines i line c.loop-line-test.true c.line-item.is)
           c.loop-line.world c.turn.new.world _ _ _ (g.K.Sink.taken c.args.out.now) (g.K.Sink.taken c.loop-line.out) (g.K.Sink.taken c.turn.new.out)
           c.loop-line.invariant.played.0 c.loop-line.invariant.played.1 turned.0 turned.1 turned.2);
       formed = (subst (λ (ls : List (ℕ × Event)). AllByRecursion (λ l. IsFormed l.1) ls) (line_at lines i line c.loop-line-test.true c.line-item.is)

@@ -1,4 +1,3 @@
-use Rattle.mqb_replay.proofs.Before.{told_empty}
 use Rattle.mqb_replay.proofs.Causing.{write_cause}
 use Rattle.mqb_replay.proofs.Completing.{completes}
 use Rattle.mqb_replay.proofs.Telling.{told_read}
@@ -16,7 +15,3 @@ returns-clause-complete g c =
     (write_cause (g.K.Sink.write_faults c.args.out.now) (g.K.Sink.write_faults c.read_and_play-end.new.out) (g.K.Sink.write_faults c.tell.new.out) c.read_and_play-end.result c.tell.result
     c.read_and_play-end.ensures.write c.tell.ensures.cause)
     (record { taken = g.K.Sink.taken c.read_and_play-end.new.out; end = c.read_and_play-end.result; ends = c.read_and_play-end.ensures.ends; told = c.tell.ensures.told })
-
-pub returns-clause-empty : goal.returns-clause-empty
-returns-clause-empty g c = told_empty (devices (g.M.Medium.strings c.args.medium.now) (g.P.Disk.view c.args.first.now) (g.P.Disk.view c.args.second.now)) c.read_and_play-end.result c.tell.result
-    (g.K.Sink.taken c.read_and_play-end.new.out) (g.K.Sink.taken c.tell.new.out) c.tell.ensures.told c.read_and_play-end.ensures.empty

@@ -13,8 +13,11 @@ use Rattle.mqb_runs.specs.Hosts.{hosts}
 use Rattle.mqb_runs.specs.Runs.{IsRunOf, Played, course_of, lines_of, move_of, moves_of}
 use Rattle.mqb_script.specs.declared.events.Event.{Event}
 use Rattle.mqb_transcript.specs.declared.replies.Reply.{Reply}
-use Rattle.mqb_runs.specs.Replies.{told}
-use Rattle.mqb_run_laws.specs.Growing.{played}
+use Rattle.mqb_turns.specs.Replies.{told}
+
+-- the line that was played, by what was chosen in it
+abbrev pub played : ℕ × Event → Choice → Reply → Played
+played line choice given = record { line = line.0; event = line.1; choice = choice; reply = given }
 
 pub course_one : (c : Course) (ms : List Move) (m : Move) → course_after c (ms ++ m ∷ []) ≡ moved_on (course_after c ms) m
 course_one c ms m = fold-append moved_on c ms (m ∷ [])
