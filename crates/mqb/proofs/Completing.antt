@@ -1,10 +1,12 @@
 -- Where no device failed and the store is sound, a command ends well, or memory ran out.
 use Rattle.std.proofs.Common.{◌≡◌, ◌⊎◌, ◌∙◌, ◌<◌, [], ℕ, List, Option, Result, Some, None, Ok, Err, ap, inl, inr, refl, sym, subst, arith}
 use Rattle.mqb_base.specs.declared.ids.Identity.{Identity}
+use Rattle.mqb_base.specs.declared.queues.Place.{Place}
 use Rattle.mqb_answers.specs.declared.told.CallEnd.{CallEnd}
 use Rattle.mqb_answers.specs.declared.told.CallEnd.TheVariants as call
 use Rattle.mqb_commands.specs.Called.{Calls, CallsAt, status_of}
 use Rattle.mqb_commands.specs.Opened.{IsNotOpened}
+use Rattle.mqb_commands.specs.Peeked.{Peeks}
 use Rattle.mqb_commands.specs.Said.{Inits, Lists, Makes}
 use Rattle.mqb_connections.specs.Probed.{CompletesProbe, ProbesStore}
 use Rattle.mqb_connections.specs.Reached.{CompletesReach}
@@ -31,6 +33,7 @@ use Rattle.mqb_transcript.specs.Generator.{generated}
 use Rattle.mqb_words.specs.declared.commands.Call as words
 use Rattle.mqb_words.specs.declared.commands.Command.{Command}
 use Rattle.mqb_words.specs.declared.commands.Command.TheVariants as command
+use Rattle.mqb.proofs.Peeking.{IsAnswer, peek_answers}
 use Rattle.mqb.specs.Completeness.{Completes, Faults, IsDoneOrPeer, IsReplayed, IsSound}
 
 -- what was told where the output did not fail
@@ -72,9 +75,6 @@ lists_ends : (d e : View) (text : List ℕ) (end : Status) → Lists d e text en
 lists_ends d e text end (inl listed) calm = inl (λ sound. listed.0)
 lists_ends d e text end (inr failed) calm = not_opened_ends (λ r. r ≡ status.Done) d e end failed.0 calm
 
-abbrev IsAnswer : Status → Type 0
-IsAnswer r = (r ≡ status.Done) ⊎ (r ≡ status.Refused)
-
 answer_ends : (end : CallEnd) → IsAnswer (status_of end)
 answer_ends call.Done = inl refl
 answer_ends call.Refused = inr refl
@@ -85,6 +85,13 @@ calls_ends asked now d e text end (inl answered) calm = inl (λ sound. subst IsA
 calls_ends asked now d e text end (inr (inl broken)) calm = absurd (calm broken.1.rose)
 calls_ends asked now d e text end (inr (inr (inl none))) calm = inr none.0
 calls_ends asked now d e text end (inr (inr (inr failed))) calm = not_opened_ends IsAnswer d e end failed.0 calm
+
+peeks_ends : (place : Place) (count : ℕ) (steady : Option ℕ) (d e : View) (text : List ℕ) (end : Status) → Peeks place count steady d e text end
+    → (Rose d.faults e.faults → ⊥) → Unless (λ r. IsSound d → IsAnswer r) end
+peeks_ends place count steady d e text end peeks calm = elim (peek_answers place count steady d e text end peeks) [
+  | inl answered ↦ inl (λ sound. answered)
+  | inr failed ↦ not_opened_ends IsAnswer d e end failed.0 calm
+]
 
 -- The commands of connections, whose own clauses say what they come to.
 
@@ -180,6 +187,12 @@ module _ (d e : View) (b : Devices) (held : Option (List ℕ)) (reads reads_now 
       said_well (Unless (λ r. IsSound d → IsAnswer r)) (CallsAt asked steady d e) before after writes writes_now r said cause calm.output
       (λ text end called. calls_ends asked called.now d e text end called.calls calm.disk)
 
+  pub peek_completes : (place : Place) (count : ℕ) (steady : Option ℕ) (before after : Option (List ℕ)) → Says (Peeks place count steady d e) before after r
+      → WriteFaultHasCause writes writes_now r → Completes (Some (command.Peek place count)) d b held old new r
+  peek_completes place count steady before after said cause calm =
+      said_well (Unless (λ r. IsSound d → IsAnswer r)) (Peeks place count steady d e) before after writes writes_now r said cause calm.output
+      (λ text end peeks. peeks_ends place count steady d e text end peeks calm.disk)
+
   pub help_completes : (text : List ℕ) (before after : Option (List ℕ)) → Tells text status.Done before after r → WriteFaultHasCause writes writes_now r → Completes (Some command.Help) d b held old new r
   help_completes text before after told cause calm = told_well (Unless (λ r. r ≡ status.Done)) text status.Done before after writes writes_now r told cause calm.output (inl refl)
 
@@ -202,15 +215,18 @@ module _ (d e : View) (b : Devices) (held : Option (List ℕ)) (reads reads_now 
   pub serve_completes : (count : ℕ) → served.Completes d e net net_now writes writes_now r → Completes (Some (command.Serve count)) d b held old new r
   serve_completes count ends calm = serve_ends (IsSound d) r (λ sound. ends sound calm.disk calm.net calm.output)
 
-  pub push_completes : (host : List ℕ) (address : Option (List ℕ)) (finished finished_now : Option (List Ended))
-      → CompletesReach d e (record { finished = finished; finished_now = finished_now; faults = net; faults_now = net_now; lost = lost; lost_now = lost_now }) writes writes_now r
-      → Completes (Some (command.Push host address)) d b held old new r
-  push_completes host address finished finished_now ends calm = reach_ends (IsSound d) r (λ sound. ends sound calm.disk calm.net calm.lost calm.output)
+  pub attend_completes : (seconds : ℕ) → served.Completes d e net net_now writes writes_now r → Completes (Some (command.Attend seconds)) d b held old new r
+  attend_completes seconds ends calm = serve_ends (IsSound d) r (λ sound. ends sound calm.disk calm.net calm.output)
 
-  pub fetch_completes : (host : List ℕ) (address : Option (List ℕ)) (seconds : ℕ) (finished finished_now : Option (List Ended))
-      → CompletesReach d e (record { finished = finished; finished_now = finished_now; faults = net; faults_now = net_now; lost = lost; lost_now = lost_now }) writes writes_now r
+  pub push_completes : (host : List ℕ) (address : Option (List ℕ)) (finished finished_now : Option (List Ended)) (idle idle_now : ℕ)
+      → CompletesReach d e (record { finished = finished; finished_now = finished_now; faults = net; faults_now = net_now; lost = lost; lost_now = lost_now; idle = idle; idle_now = idle_now }) writes writes_now r
+      → Completes (Some (command.Push host address)) d b held old new r
+  push_completes host address finished finished_now idle idle_now ends calm = reach_ends (IsSound d) r (λ sound. ends sound calm.disk calm.net calm.lost calm.output)
+
+  pub fetch_completes : (host : List ℕ) (address : Option (List ℕ)) (seconds : ℕ) (finished finished_now : Option (List Ended)) (idle idle_now : ℕ)
+      → CompletesReach d e (record { finished = finished; finished_now = finished_now; faults = net; faults_now = net_now; lost = lost; lost_now = lost_now; idle = idle; idle_now = idle_now }) writes writes_now r
       → Completes (Some (command.Fetch host address seconds)) d b held old new r
-  fetch_completes host address seconds finished finished_now ends calm = reach_ends (IsSound d) r (λ sound. ends sound calm.disk calm.net calm.lost calm.output)
+  fetch_completes host address seconds finished finished_now idle idle_now ends calm = reach_ends (IsSound d) r (λ sound. ends sound calm.disk calm.net calm.lost calm.output)
 
   pub replay_completes : (end : Result (Unit {0}) ReplayFault) → r ≡ playing.status_of end → replay.Completes held b reads reads_now writes writes_now end
       → Completes (Some command.Replay) d b held old new r

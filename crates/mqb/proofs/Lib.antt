@@ -1,6 +1,7 @@
 pub mod Asking
 pub mod DiskFaults
 pub mod Empty
+pub mod Peeking
 pub mod Completing
 pub mod Quiet
 pub mod Replaying

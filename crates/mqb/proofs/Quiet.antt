@@ -1,11 +1,13 @@
 -- The ends of commands that make one answer, and what they are not.
 use Rattle.std.proofs.Common.{inl, inr, ℕ, List, Option, sym, subst}
 use Rattle.mqb_base.specs.declared.ids.Identity.{Identity}
+use Rattle.mqb_base.specs.declared.queues.Place.{Place}
 use Rattle.mqb_answers.specs.declared.told.CallEnd.{CallEnd}
 use Rattle.mqb_answers.specs.declared.told.CallEnd.TheVariants as call
 use Rattle.mqb_commands.specs.Called.{Calls, status_of}
 use Rattle.mqb_commands.specs.Causes.{DiskFaultHasCause}
 use Rattle.mqb_commands.specs.Opened.{IsNotOpened}
+use Rattle.mqb_commands.specs.Peeked.{Peeks}
 use Rattle.mqb_commands.specs.Said.{Inits, Lists, Makes}
 use Rattle.mqb_connections.specs.Causes.{IsProbeEnd, NetFaultHasCause}
 use Rattle.mqb_outside.specs.Disk.{View}
@@ -15,6 +17,7 @@ use Rattle.mqb_commands.specs.declared.status.Status.{Status}
 use Rattle.mqb_commands.specs.declared.status.Status.TheVariants as status
 use Rattle.mqb_words.specs.declared.commands.Command.{Command}
 use Rattle.mqb_words.specs.declared.commands.Call as words
+use Rattle.mqb.proofs.Peeking.{IsAnswer, peek_answers}
 use Rattle.mqb.specs.Runs.{IsDiskFaultOf, IsQuiet, UsageHasCause}
 
 pub quiet_plain : (end : Status) → IsQuiet end → IsPlain end
@@ -144,6 +147,16 @@ calls_quiet asked now d e text end (inl answered) = subst IsQuiet (sym answered.
 calls_quiet asked now d e text end (inr (inl broken)) = fault_quiet text end broken.0
 calls_quiet asked now d e text end (inr (inr (inl none))) = subst IsQuiet (sym none.0) tt
 calls_quiet asked now d e text end (inr (inr (inr failed))) = not_opened_quiet d e end failed.0
+
+answer_quiet : (r : Status) → IsAnswer r → IsQuiet r
+answer_quiet r (inl done) = subst IsQuiet (sym done) tt
+answer_quiet r (inr refused) = subst IsQuiet (sym refused) tt
+
+pub peeks_quiet : (place : Place) (count : ℕ) (steady : Option ℕ) (d e : View) (text : List ℕ) (end : Status) → Peeks place count steady d e text end → IsQuiet end
+peeks_quiet place count steady d e text end peeks = elim (peek_answers place count steady d e text end peeks) [
+  | inl answered ↦ answer_quiet end answered
+  | inr failed ↦ not_opened_quiet d e end failed.0
+]
 
 -- The commands that read the input.
 

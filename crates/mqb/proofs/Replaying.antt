@@ -75,6 +75,8 @@ disk_of cause end r is because = subst (IsDiskFaultOf cause) (sym is) (disk_by c
 told_before : (P : End → Type 0) (end r : End) (taken after : Option (List ℕ)) (why : ReplayFault) → Tells end taken after r → r ≡ Err why
     → (◌≡◌ {A = End} (Err why) (Err fault.WriteFault) → ⊥) → (◌≡◌ {A = End} (Err why) (Err fault.Memory) → ⊥) → P end → P (Err why)
 told_before P (Ok done) r taken after why told is no_write no_memory given = absurd (let none : ⊥ = cc in none)
+told_before P (Err fault.WriteFault) r taken after why told is no_write no_memory given = absurd (no_write (sym is ∙ told.0))
+told_before P (Err fault.Memory) r taken after why told is no_write no_memory given = absurd (no_memory (sym is ∙ told.0))
 told_before P (Err f) r taken after why (inl told) is no_write no_memory given = subst P (sym told.0 ∙ is) given
 told_before P (Err f) r taken after why (inr (inl told)) is no_write no_memory given = absurd (no_write (sym is ∙ told.0))
 told_before P (Err f) r taken after why (inr (inr told)) is no_write no_memory given = absurd (no_memory (sym is ∙ told.0))
@@ -97,7 +99,7 @@ module _ (b a : Devices) (before after : Option (List ℕ)) (end : End) where
   trial_read orders tries is =
       let ends : EndsTrial orders b a before tries.taken (Err fault.ReadFault) =
       told_before (EndsTrial orders b a before tries.taken) tries.end end tries.taken after fault.ReadFault tries.told is (λ e. cc) (λ e. cc) tries.ends in
-      ends.2
+      ends.2.1
 
   pub replay_disk : (asked : Command) (faults faults_now : ℕ) (held rest : Option (List ℕ)) (r : Status) → asked ≡ command.Replay → r ≡ status_of end
       → Replays held rest b a before after end → IsDiskFaultOf (DiskCause (Some asked) faults faults_now b a) r

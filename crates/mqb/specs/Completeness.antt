@@ -30,7 +30,7 @@ NoneLost (Some (command.Push host address)) lost lost_now = Rose lost lost_now �
 NoneLost (Some (command.Fetch host address seconds)) lost lost_now = Rose lost lost_now → ⊥
 NoneLost _ lost lost_now = Unit {0}
 
--- No device of a command failed but the disks of a replay. Connections of `serve` may be lost.
+-- No device of a command failed but the disks of a replay. Connections of `serve` and `attend` may be lost.
 pub record NoneFailed (asked : Option Command) (before now : Faults) : Type 0 where
   pub input : Rose before.input now.input → ⊥
   pub output : Rose before.output now.output → ⊥
@@ -61,8 +61,10 @@ EndsWell (Some command.Show) store devices held r = IsDoneOrPeer r
 EndsWell (Some (command.Init identity)) store devices held r = store.reads [] → r ≡ status.Done
 EndsWell (Some (command.Call asked)) store devices held r = IsSound store → (r ≡ status.Done) ⊎ (r ≡ status.Refused)
 EndsWell (Some command.List) store devices held r = IsSound store → r ≡ status.Done
+EndsWell (Some (command.Peek place count)) store devices held r = IsSound store → (r ≡ status.Done) ⊎ (r ≡ status.Refused)
 EndsWell (Some command.Probe) store devices held r = IsSound store → IsDoneOrPeer r
 EndsWell (Some (command.Serve count)) store devices held r = IsSound store → r ≡ status.Done
+EndsWell (Some (command.Attend seconds)) store devices held r = IsSound store → r ≡ status.Done
 EndsWell (Some (command.Push host address)) store devices held r = IsSound store → IsDoneOrPeer r ⊎ (r ≡ status.Refused)
 EndsWell (Some (command.Fetch host address seconds)) store devices held r = IsSound store → IsDoneOrPeer r ⊎ (r ≡ status.Refused)
 EndsWell (Some command.Help) store devices held r = r ≡ status.Done

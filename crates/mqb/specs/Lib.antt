@@ -1,4 +1,5 @@
 pub mod Completeness
 pub mod Disks
 pub mod Runs
+pub mod Uses
 pub mod lemmas

@@ -2,11 +2,12 @@
 use Rattle.std.specs.Prelude.{◌≡◌, ◌⊎◌, List, None, Option, Result, Some, codes, ℕ}
 use Rattle.mqb_commands.specs.Called.{CallsAt}
 use Rattle.mqb_commands.specs.Helps.{help_text, version_text}
+use Rattle.mqb_commands.specs.Peeked.{Peeks}
 use Rattle.mqb_commands.specs.Said.{Inits, Lists, Makes}
 use Rattle.mqb_connections.specs.Asked.{AsksForEach, AsksOnce}
 use Rattle.mqb_connections.specs.Probed.{ProbesStore}
 use Rattle.mqb_connections.specs.Reached.{ReachesStore}
-use Rattle.mqb_connections.specs.Served.{Nets, ServesFrom}
+use Rattle.mqb_connections.specs.Served.{AttendsFrom, MOST_ATTENDED, Nets, ServesFrom}
 use Rattle.mqb_outside.specs.Disk.{View}
 use Rattle.mqb_outside.specs.Net.{Ended}
 use Rattle.mqb_outside.specs.Faults.{Rose}
@@ -37,10 +38,6 @@ pub record Outside : Type 1 where
   pub net : Nets
   pub moment : Option ℕ
 
--- memory ran out before the words were read
-abbrev pub IsUnread : Outside → Status → Type 0
-IsUnread o r = (r ≡ status.Memory) × (o.taken_now ≡ o.taken)
-
 -- a replay ended so, and the program with it
 abbrev pub EndsWith : (Result (Unit {0}) ReplayFault → Type 0) → Status → Type 0
 EndsWith replay r = (end : Result (Unit {0}) ReplayFault) × (r ≡ status_of end) × replay end
@@ -54,8 +51,11 @@ Does command.Show o r = Shows o.held o.held_now o.taken o.taken_now r
 Does (command.Init identity) o r = Says (Inits identity o.disk o.disk_now) o.taken o.taken_now r
 Does (command.Call asked) o r = Says (CallsAt asked o.moment o.disk o.disk_now) o.taken o.taken_now r
 Does command.List o r = Says (Lists o.disk o.disk_now) o.taken o.taken_now r
+Does (command.Peek place count) o r = Says (Peeks place count o.moment o.disk o.disk_now) o.taken o.taken_now r
 Does command.Probe o r = ProbesStore o.moment o.disk o.disk_now o.held o.held_now o.taken o.taken_now r
 Does (command.Serve count) o r = ServesFrom count o.moment o.disk o.disk_now o.net o.taken o.taken_now r
+-- the seconds are how long it is waited for a peer, which no clause says
+Does (command.Attend seconds) o r = AttendsFrom o.moment o.disk o.disk_now o.net o.taken o.taken_now r
 Does (command.Push host address) o r = ReachesStore errand.Push address host o.moment o.disk o.disk_now o.net o.taken o.taken_now r
 -- the seconds are how long it is waited for more, which no clause says
 Does (command.Fetch host address seconds) o r = ReachesStore errand.Fetch address host o.moment o.disk o.disk_now o.net o.taken o.taken_now r
@@ -75,6 +75,7 @@ UsageHasCause asked _ = Unit {0}
 -- The net's counts by which a command may end with a net fault: those of calls that gave no connection, and of connections that were lost. Others use no net.
 abbrev pub NetCause : Option Command → (faults faults_now lost lost_now : ℕ) → Type 0
 NetCause (Some (command.Serve count)) faults faults_now lost lost_now = Rose faults faults_now
+NetCause (Some (command.Attend seconds)) faults faults_now lost lost_now = Rose faults faults_now
 NetCause (Some (command.Push host address)) faults faults_now lost lost_now = Rose faults faults_now ⊎ Rose lost lost_now
 NetCause (Some (command.Fetch host address seconds)) faults faults_now lost lost_now = Rose faults faults_now ⊎ Rose lost lost_now
 NetCause _ faults faults_now lost lost_now = ⊥
@@ -90,13 +91,15 @@ abbrev pub IsDiskFaultOf : Type 0 → Status → Type 0
 IsDiskFaultOf cause status.DiskFault = cause
 IsDiskFaultOf cause _ = Unit {0}
 
--- How often a command asks the clock, by what the net tells as finished: once for each connection, once for a call, and else never.
+-- How often a command asks the clock, by what the net tells as finished: once for each connection, once at most for a call, a peek and a probe, and else never.
 abbrev pub Asks : Option Command → (ended ended_now : Option (List Ended)) → (asked asked_now : ℕ) → Type 0
 Asks (Some (command.Serve count)) ended ended_now asked asked_now = AsksForEach count ended ended_now asked asked_now
+Asks (Some (command.Attend seconds)) ended ended_now asked asked_now = AsksForEach MOST_ATTENDED ended ended_now asked asked_now
 Asks (Some (command.Push host address)) ended ended_now asked asked_now = AsksForEach 1 ended ended_now asked asked_now
 Asks (Some (command.Fetch host address seconds)) ended ended_now asked asked_now = AsksForEach 1 ended ended_now asked asked_now
 Asks (Some command.Probe) ended ended_now asked asked_now = AsksOnce asked asked_now
 Asks (Some (command.Call call)) ended ended_now asked asked_now = AsksOnce asked asked_now
+Asks (Some (command.Peek place count)) ended ended_now asked asked_now = AsksOnce asked asked_now
 Asks _ ended ended_now asked asked_now = asked_now ≡ asked
 
 -- an end of a command that makes one answer: it comes of no fault of the input, of the output, of the net or of the words

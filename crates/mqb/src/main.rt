@@ -1,23 +1,27 @@
 //! `mqb` replays scripts over two message queue managers, and is one such manager on a file.
 #![tactic(auto)]
 
+mod hints;
 mod no_disk;
 mod run;
 mod saying;
+mod settings;
 
+use hints::{Ending, say_memory, say_misfit, say_next, say_setting};
 use mqb_base::Memory;
 use mqb_commands::Status;
-use mqb_disk::{FileDisk, MemoryDisk};
-use mqb_net::{MAX_WAIT, PORT, SystemClock, TcpNet};
+use mqb_disk::{FileDisk, MemoryDisk, OpenFault};
+use mqb_net::{SystemClock, TcpNet};
 use mqb_outside::{Disk, MemoryMedium, Power, StdSink, StdSource};
 use mqb_words::{Command, WordsFault, command_of};
 use no_disk::NoDisk;
 use run::run;
+use settings::Settings;
 use std::alloc::Global;
-use std::env::VarError;
 use std::process::ExitCode;
 use std::rt::Env;
-use std::{env, io};
+use std::time::Duration;
+use std::{env, io, thread};
 
 /// The words of the command line, without the program's name; none where one is not UTF-8, since no command has such a word.
 fn words_of(rt: &(impl Env + AllocGlobal), alloc: Global) -> Result<Vec<String>, Memory> {
@@ -34,34 +38,6 @@ fn words_of(rt: &(impl Env + AllocGlobal), alloc: Global) -> Result<Vec<String>,
     Ok(words)
 }
 
-/// What the environment has under a name; none where it has nothing, or no text.
-fn value_of(rt: &(impl Env + AllocGlobal), name: &str) -> Result<Option<String>, Memory> {
-    match env::var(rt, name) {
-        Ok(value) => Ok(Some(value)),
-        Err(VarError::OutOfMemory) => Err(Memory),
-        Err(VarError::NotPresent | VarError::NotUnicode) => Ok(None),
-    }
-}
-
-/// The port of managers, unless MQB_PORT names another.
-fn port_of(rt: &(impl Env + AllocGlobal)) -> Result<u16, Memory> {
-    match value_of(rt, "MQB_PORT")? {
-        Some(port) => Ok(port.as_str().parse().unwrap_or(PORT)),
-        None => Ok(PORT),
-    }
-}
-
-/// How many milliseconds a silent peer is waited for, unless MQB_WAIT names another number than 0.
-fn wait_of(rt: &(impl Env + AllocGlobal)) -> Result<u64, Memory> {
-    match value_of(rt, "MQB_WAIT")? {
-        Some(wait) => match wait.as_str().parse::<u32>() {
-            Ok(wait) if wait > 0 => Ok(u64::from(wait)),
-            _ => Ok(MAX_WAIT),
-        },
-        None => Ok(MAX_WAIT),
-    }
-}
-
 /// The room of each of the two disks of a replay, in bytes.
 const MAX_REPLAY_DISK: usize = 67_108_864;
 
@@ -71,51 +47,69 @@ enum Disks {
     Store(FileDisk),
     /// Alpha's and beta's.
     Replay(MemoryDisk, MemoryDisk),
-    /// It has none, or its store cannot be opened.
-    None,
+    /// It has none, or its store is not open.
+    None(Option<OpenFault>),
 }
 
-/// The file that is the store of a command, which `init` makes where it is not there.
-fn store_of(rt: &HostRuntime, command: &Command, words: &[String]) -> Disks {
-    let Some(store) = command.store_of(words) else {
-        return Disks::None;
-    };
-    let file = match command {
-        Command::Init { .. } => FileDisk::create(rt, store.as_str()),
-        _ => FileDisk::open(rt, store.as_str()),
-    };
-    match file {
-        Ok(disk) => Disks::Store(disk),
-        Err(_) => Disks::None,
+/// Opens the file that is the store of a command. `init` makes it where it is not there, and what only reads it shares it.
+fn open(rt: &HostRuntime, command: &Command, store: &str) -> Result<FileDisk, OpenFault> {
+    match command {
+        Command::Init { .. } => FileDisk::create(rt, store),
+        Command::List | Command::Peek { .. } => FileDisk::open_shared(rt, store),
+        _ => FileDisk::open(rt, store),
     }
+}
+
+/// How often a store in use is tried in a second, and the milliseconds between.
+const TRIES: u64 = 10;
+
+const PAUSE: u64 = 100;
+
+/// Opens the store of a command, for so many seconds again and again while another program holds it.
+fn open_within(
+    rt: &HostRuntime,
+    command: &Command,
+    store: &str,
+    seconds: u32,
+) -> Result<FileDisk, OpenFault> {
+    for _ in 0..u64::from(seconds) * TRIES {
+        match open(rt, command, store) {
+            Err(OpenFault::InUse) => thread::sleep(rt, Duration::from_millis(PAUSE)),
+            opened => return opened,
+        }
+    }
+    open(rt, command, store)
 }
 
 fn disks_of(
     rt: &HostRuntime,
     alloc: Global,
-    asked: &Result<Command, WordsFault>,
+    command: &Command,
     words: &[String],
+    settings: Settings,
 ) -> Result<Disks, Memory> {
-    match asked {
-        Ok(Command::Replay | Command::Trial { .. }) => {
-            let alpha = MemoryDisk::new(alloc, MAX_REPLAY_DISK)?;
-            let beta = MemoryDisk::new(alloc, MAX_REPLAY_DISK)?;
-            Ok(Disks::Replay(alpha, beta))
-        }
-        Ok(command) => Ok(store_of(rt, command, words)),
-        Err(WordsFault::Memory) => Err(Memory),
-        Err(WordsFault::Usage) => Ok(Disks::None),
+    if matches!(command, Command::Replay | Command::Trial { .. }) {
+        let alpha = MemoryDisk::new(alloc, MAX_REPLAY_DISK)?;
+        let beta = MemoryDisk::new(alloc, MAX_REPLAY_DISK)?;
+        return Ok(Disks::Replay(alpha, beta));
+    }
+    let Some(store) = command.store_of(words) else {
+        return Ok(Disks::None(None));
+    };
+    match open_within(rt, command, store.as_str(), settings.hold) {
+        Ok(disk) => Ok(Disks::Store(disk)),
+        Err(fault) => Ok(Disks::None(Some(fault))),
     }
 }
 
 /// The net of a command: of a fetch its connections end by silence.
-fn net_of(rt: &HostRuntime, asked: &Result<Command, WordsFault>) -> Result<TcpNet, Memory> {
-    let mut net = TcpNet::with_port(rt, port_of(rt)?);
-    net.set_max_wait(wait_of(rt)?);
-    if let Ok(Command::Fetch { seconds, .. }) = asked {
+fn net_of(rt: &HostRuntime, command: &Command, settings: Settings) -> TcpNet {
+    let mut net = TcpNet::with_port(rt, settings.port);
+    net.set_max_wait(settings.wait);
+    if let Command::Fetch { seconds, .. } = command {
         net.end_by_silence(*seconds);
     }
-    Ok(net)
+    net
 }
 
 /// Does what the words ask for, over these disks, this net and the other real objects.
@@ -146,19 +140,30 @@ fn run_over<D: Disk, P: Power>(
     )
 }
 
-/// Does what the words ask for.
-fn run_words(rt: &HostRuntime, alloc: Global) -> Result<Status, Memory> {
-    let words = words_of(rt, alloc)?;
-    let asked = command_of(alloc, &words);
-    let mut net = net_of(rt, &asked)?;
+/// Does what the words ask for over no disk at all.
+fn run_bare(rt: &HostRuntime, alloc: Global, words: &[String], net: &mut TcpNet) -> Status {
     let mut none = NoDisk::new();
     let (mut first, mut second) = (NoDisk::new(), NoDisk::new());
-    Ok(match disks_of(rt, alloc, &asked, &words)? {
+    run_over(rt, alloc, words, &mut none, &mut first, &mut second, net)
+}
+
+/// Does a command that the words are, and says why it did not come to its end.
+fn run_command(
+    rt: &HostRuntime,
+    alloc: Global,
+    command: &Command,
+    words: &[String],
+    settings: Settings,
+) -> Result<Status, Memory> {
+    let mut net = net_of(rt, command, settings);
+    let mut fault = None;
+    let status = match disks_of(rt, alloc, command, words, settings)? {
         Disks::Store(mut disk) => {
+            let (mut first, mut second) = (NoDisk::new(), NoDisk::new());
             run_over(
                 rt,
                 alloc,
-                &words,
+                words,
                 &mut disk,
                 &mut first,
                 &mut second,
@@ -166,29 +171,58 @@ fn run_words(rt: &HostRuntime, alloc: Global) -> Result<Status, Memory> {
             )
         }
         Disks::Replay(mut alpha, mut beta) => {
-            run_over(
-                rt, alloc, &words, &mut none, &mut alpha, &mut beta, &mut net,
-            )
+            let mut none = NoDisk::new();
+            run_over(rt, alloc, words, &mut none, &mut alpha, &mut beta, &mut net)
         }
-        Disks::None => {
-            run_over(
-                rt,
-                alloc,
-                &words,
-                &mut none,
-                &mut first,
-                &mut second,
-                &mut net,
-            )
+        Disks::None(why) => {
+            fault = why;
+            run_bare(rt, alloc, words, &mut net)
         }
-    })
+    };
+    let store = match command.store_of(words) {
+        Some(store) => store.as_str(),
+        None => "",
+    };
+    say_next(
+        rt,
+        &Ending {
+            asked: command,
+            store,
+            fault,
+            port: settings.port,
+            status,
+        },
+    );
+    Ok(status)
+}
+
+/// Does what the words ask for.
+fn run_words(rt: &HostRuntime, alloc: Global) -> Result<Status, Memory> {
+    let settings = match Settings::of_environment(rt) {
+        Ok(settings) => settings,
+        Err(fault) => return Ok(say_setting(rt, fault)),
+    };
+    let words = words_of(rt, alloc)?;
+    match command_of(alloc, &words) {
+        Ok(command) => run_command(rt, alloc, &command, &words, settings),
+        Err(WordsFault::Memory) => Err(Memory),
+        Err(WordsFault::Usage) => {
+            let mut net = TcpNet::with_port(rt, settings.port);
+            let status = run_bare(rt, alloc, &words, &mut net);
+            say_misfit(rt, alloc, &words);
+            Ok(status)
+        }
+    }
 }
 
 fn main(rt: HostRuntime) -> ExitCode {
     let alloc = rt.alloc();
     let status = match run_words(&rt, alloc) {
         Ok(status) => status,
-        Err(Memory) => Status::Memory,
+        Err(Memory) => {
+            say_memory(&rt);
+            Status::Memory
+        }
     };
     ExitCode::from(status.exit())
 }

@@ -1,16 +1,18 @@
-ghost use Rattle.std.specs.Prelude.{◌≡◌, ◌⊎◌, [], map, Some};
+ghost use Rattle.std.specs.Prelude.{◌≡◌, ◌⊎◌, [], false, map, IfSome, Some};
 ghost use Rattle.std.specs.String.{string_bytes};
 ghost use Rattle.mqb.specs.Completeness.{Completes};
-ghost use Rattle.mqb.specs.Runs.{Asks, DiskCause, Does, IsDiskFaultOf, IsUnread, NetCause, Runs, UsageHasCause};
+ghost use Rattle.mqb.specs.Runs.{Asks, DiskCause, Does, IsDiskFaultOf, NetCause, Outside, Runs, UsageHasCause};
+ghost use Rattle.mqb.specs.Uses.{has_input, has_net, has_script};
 ghost use Rattle.mqb_connections.specs.Causes.{NetFaultHasCause};
 ghost use Rattle.mqb_replay.specs.Devices.{devices};
 ghost use Rattle.mqb_commands.specs.Outputs.{ReadFaultHasCause, WriteFaultHasCause};
 ghost use Rattle.mqb_words.specs.Formed.{IsFormed};
+ghost use Rattle.mqb_words.specs.Stores.{has_store};
 ghost use Rattle.mqb_words.specs.Words.{command_of};
 
-use crate::saying::{say_called, say_formatted, say_listed, say_made};
+use crate::saying::{say_called, say_formatted, say_listed, say_made, say_peeked};
 use mqb_commands::{Status, help, show, tell, version};
-use mqb_connections::{probe, reach, serve};
+use mqb_connections::{attend, probe, reach, serve};
 use mqb_outside::{Clock, Disk, Medium, Net, Power, Sink, Source};
 use mqb_replay::{replay, status_of, trial};
 use mqb_serving::Errand;
@@ -32,7 +34,7 @@ fn run_command<S: Source, K: Sink, D: Disk, P: Power, M: Medium, N: Net, C: Cloc
 ) -> Status
     requires formed { IsFormed asked.now }
     requires medium { M.strings medium.old ≡ [] }
-    ensures does { Does asked.now (record {
+    ensures does { let io : Outside = record {
       held = S.held input.old;
       held_now = S.held input.new;
       taken = K.taken out.old;
@@ -48,9 +50,17 @@ fn run_command<S: Source, K: Sink, D: Disk, P: Power, M: Medium, N: Net, C: Cloc
         faults_now = N.faults net.new;
         lost = N.lost net.old;
         lost_now = N.lost net.new;
+        idle = N.idle net.old;
+        idle_now = N.idle net.new;
       };
       moment = C.steady clock.old;
-    }) result }
+    } in
+        Does asked.now io result }
+    ensures input { has_input asked.now ≡ false → input.new ≡ input.old }
+    ensures store { has_store asked.now ≡ false → disk.new ≡ disk.old }
+    ensures devices { has_script asked.now ≡ false
+        → (first.new ≡ first.old) × (second.new ≡ second.old) × (medium.new ≡ medium.old) }
+    ensures net { has_net asked.now ≡ false → net.new ≡ net.old }
     ensures complete { Completes (Some asked.now) (D.view disk.old)
         (devices (M.strings medium.old) (P.view first.old) (P.view second.old))
         (S.held input.old) (record {
@@ -89,8 +99,10 @@ fn run_command<S: Source, K: Sink, D: Disk, P: Power, M: Medium, N: Net, C: Cloc
         Command::Init { identity } => say_formatted(alloc, identity, out, disk),
         Command::Call(call) => say_called(alloc, call, out, disk, clock),
         Command::List => say_listed(alloc, out, disk),
+        Command::Peek { place, count } => say_peeked(alloc, place, *count, out, disk, clock),
         Command::Probe => probe(alloc, input, out, disk, clock),
         Command::Serve { count } => serve(alloc, *count, out, disk, net, clock),
+        Command::Attend { seconds } => attend(alloc, *seconds, out, disk, net, clock),
         Command::Push { host, address } => {
             reach(alloc, Errand::Push, *address, host, out, disk, net, clock)
         }
@@ -117,8 +129,9 @@ pub fn run<S: Source, K: Sink, D: Disk, P: Power, M: Medium, N: Net, C: Clock>(
     clock: &mut C,
 ) -> Status
     requires { M.strings medium.old ≡ [] }
-    // What is written, by command, and what the disks and the medium are left as.
-    ensures ran { IsUnread (record {
+    // What is written, by command, and what the disks and the medium are left as; or memory ran out
+    // before the words were read, and everything outside is as it was.
+    ensures ran { let io : Outside = record {
       held = S.held input.old;
       held_now = S.held input.new;
       taken = K.taken out.old;
@@ -134,27 +147,25 @@ pub fn run<S: Source, K: Sink, D: Disk, P: Power, M: Medium, N: Net, C: Clock>(
         faults_now = N.faults net.new;
         lost = N.lost net.old;
         lost_now = N.lost net.new;
+        idle = N.idle net.old;
+        idle_now = N.idle net.new;
       };
       moment = C.steady clock.old;
-    }) result ⊎ Runs (command_of (map string_bytes words.now)) (record {
-      held = S.held input.old;
-      held_now = S.held input.new;
-      taken = K.taken out.old;
-      taken_now = K.taken out.new;
-      disk = D.view disk.old;
-      disk_now = D.view disk.new;
-      devices = devices (M.strings medium.old) (P.view first.old) (P.view second.old);
-      devices_now = devices (M.strings medium.new) (P.view first.new) (P.view second.new);
-      net = record {
-        finished = N.finished net.old;
-        finished_now = N.finished net.new;
-        faults = N.faults net.old;
-        faults_now = N.faults net.new;
-        lost = N.lost net.old;
-        lost_now = N.lost net.new;
-      };
-      moment = C.steady clock.old;
-    }) result }
+    } in
+        Runs (command_of (map string_bytes words.now)) io result ⊎ ((result ≡ Status.Memory)
+        × (input.new ≡ input.old) × (out.new ≡ out.old) × (disk.new ≡ disk.old)
+        × (first.new ≡ first.old) × (second.new ≡ second.old) × (medium.new ≡ medium.old)
+        × (net.new ≡ net.old) × (clock.new ≡ clock.old)) }
+
+    // What a command does not use stays as it was.
+    ensures input { IfSome (command_of (map string_bytes words.now)) (λ c. has_input c ≡ false)
+        → input.new ≡ input.old }
+    ensures store { IfSome (command_of (map string_bytes words.now)) (λ c. has_store c ≡ false)
+        → disk.new ≡ disk.old }
+    ensures devices { IfSome (command_of (map string_bytes words.now)) (λ c. has_script c ≡ false)
+        → (first.new ≡ first.old) × (second.new ≡ second.old) × (medium.new ≡ medium.old) }
+    ensures net { IfSome (command_of (map string_bytes words.now)) (λ c. has_net c ≡ false)
+        → net.new ≡ net.old }
 
     // Where no device fails and the store is sound, each command ends well, or memory ran out.
     ensures complete { Completes (command_of (map string_bytes words.now)) (D.view disk.old)

@@ -2,12 +2,13 @@
 ghost use Rattle.std.specs.Prelude.{◌≢◌, ◌≤◌};
 ghost use Rattle.mqb_commands.specs.Called.{CallsAt};
 ghost use Rattle.mqb_commands.specs.Causes.{DiskFaultHasCause};
+ghost use Rattle.mqb_commands.specs.Peeked.{Peeks};
 ghost use Rattle.mqb_commands.specs.Said.{Inits, Lists, Makes};
 ghost use Rattle.mqb_outside.specs.Disk.{Counted};
 ghost use Rattle.mqb_commands.specs.Outputs.{Says, WriteFaultHasCause};
 ghost use Rattle.mqb_words.specs.Formed.{IsFormedCall};
 
-use mqb_base::Identity;
+use mqb_base::{Identity, Place};
 use mqb_commands::Status;
 use mqb_outside::{Clock, Disk, Sink};
 use mqb_words::Call;
@@ -76,5 +77,27 @@ pub(crate) fn say_called<K: Sink, D: Disk, C: Clock>(
     ensures asked { Counted 1 (C.asked clock.old) (C.asked clock.new) }
 {
     let answer = mqb_commands::call(alloc, disk, clock, call);
+    answer.write(out)
+}
+
+/// Tells the messages of a place that would be taken next.
+#[tactic(auto, using(crate::proofs::Quiet::peeks_quiet, crate::proofs::Quiet::quiet_plain))]
+pub(crate) fn say_peeked<K: Sink, D: Disk, C: Clock>(
+    alloc: Global,
+    place: &Place,
+    count: u32,
+    out: &mut K,
+    disk: &mut D,
+    clock: &mut C,
+) -> Status
+    requires { 1 ≤ count }
+    ensures says { Says (Peeks place.now count (C.steady clock.old) (D.view disk.old)
+        (D.view disk.new)) (K.taken out.old) (K.taken out.new) result }
+    ensures cause { WriteFaultHasCause (K.write_faults out.old) (K.write_faults out.new) result }
+    ensures net { result ≢ Status.NetFault }
+    ensures disk { DiskFaultHasCause (D.view disk.old).faults (D.view disk.new).faults result }
+    ensures asked { Counted 1 (C.asked clock.old) (C.asked clock.new) }
+{
+    let answer = mqb_commands::peek(alloc, disk, clock, place, count);
     answer.write(out)
 }

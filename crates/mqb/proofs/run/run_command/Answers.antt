@@ -1,6 +1,6 @@
 use Rattle.std.proofs.Common.{refl, sym, subst}
 use Rattle.std.specs.Prelude.{Some}
-use Rattle.mqb.proofs.Completing.{call_completes, fetch_completes, help_completes, init_completes, list_completes, make_completes, of_command, probe_completes, push_completes, replay_completes, serve_completes, show_completes, trial_completes, version_completes}
+use Rattle.mqb.proofs.Completing.{attend_completes, call_completes, fetch_completes, help_completes, init_completes, list_completes, make_completes, of_command, peek_completes, probe_completes, push_completes, replay_completes, serve_completes, show_completes, trial_completes, version_completes}
 use Rattle.mqb.proofs.DiskFaults.{none_disk, store_disk}
 use Rattle.mqb.proofs.Quiet.{probe_net, probe_usage, shows_disk, told_disk}
 use Rattle.mqb.proofs.Replaying.{replay_disk, replay_does, replay_net, replay_read, replay_usage, replay_write, trial_disk, trial_does, trial_read}
@@ -21,6 +21,11 @@ pub returns-in-Serve-clause-net_fault : goal.returns-in-Serve-clause-net_fault
 returns-in-Serve-clause-net_fault g c =
     subst (λ (asked : Command). NetFaultHasCause (NetCause (Some asked) (g.N.Net.faults c.args.net.now) (g.N.Net.faults c.serve.new.net)
     (g.N.Net.lost c.args.net.now) (g.N.Net.lost c.serve.new.net)) c.serve.result) (sym c.in-Serve.is) c.serve.ensures.net_faults
+
+pub returns-in-Attend-clause-net_fault : goal.returns-in-Attend-clause-net_fault
+returns-in-Attend-clause-net_fault g c =
+    subst (λ (asked : Command). NetFaultHasCause (NetCause (Some asked) (g.N.Net.faults c.args.net.now) (g.N.Net.faults c.attend.new.net)
+    (g.N.Net.lost c.args.net.now) (g.N.Net.lost c.attend.new.net)) c.attend.result) (sym c.in-Attend.is) c.attend.ensures.net_faults
 
 pub returns-in-Push-clause-net_fault : goal.returns-in-Push-clause-net_fault
 returns-in-Push-clause-net_fault g c =
@@ -116,6 +121,20 @@ returns-in-Call-clause-complete g c =
     (g.K.Sink.write_faults c.args.out.now) (g.K.Sink.write_faults c.say_called.new.out) (g.N.Net.faults c.args.net.now) (g.N.Net.faults c.args.net.now)
     (g.N.Net.lost c.args.net.now) (g.N.Net.lost c.args.net.now) c.say_called.result c.in-Call.call (g.C.Clock.steady c.args.clock.now) (g.K.Sink.taken c.args.out.now) (g.K.Sink.taken c.say_called.new.out) c.say_called.ensures.says c.say_called.ensures.cause)
 
+pub returns-in-Peek-clause-complete : goal.returns-in-Peek-clause-complete
+returns-in-Peek-clause-complete g c =
+    let d = g.D.Disk.view c.args.disk.now in
+    let e = g.D.Disk.view c.say_peeked.new.disk in
+    let b = devices (g.M.Medium.strings c.args.medium.now) (g.P.Disk.view c.args.first.now) (g.P.Disk.view c.args.second.now) in
+    let held = g.S.Source.held c.args.input.now in
+    of_command c.args.asked.now (command.Peek c.in-Peek.place c.in-Peek.count) d b held
+    (record { input = g.S.Source.read_faults c.args.input.now; output = g.K.Sink.write_faults c.args.out.now; disk = (g.D.Disk.view c.args.disk.now).faults; net = g.N.Net.faults c.args.net.now; lost = g.N.Net.lost c.args.net.now })
+    (record { input = g.S.Source.read_faults c.args.input.now; output = g.K.Sink.write_faults c.say_peeked.new.out; disk = (g.D.Disk.view c.say_peeked.new.disk).faults; net = g.N.Net.faults c.args.net.now; lost = g.N.Net.lost c.args.net.now })
+    c.say_peeked.result c.in-Peek.is
+    (peek_completes d e b held (g.S.Source.read_faults c.args.input.now) (g.S.Source.read_faults c.args.input.now)
+    (g.K.Sink.write_faults c.args.out.now) (g.K.Sink.write_faults c.say_peeked.new.out) (g.N.Net.faults c.args.net.now) (g.N.Net.faults c.args.net.now)
+    (g.N.Net.lost c.args.net.now) (g.N.Net.lost c.args.net.now) c.say_peeked.result c.in-Peek.place c.in-Peek.count (g.C.Clock.steady c.args.clock.now) (g.K.Sink.taken c.args.out.now) (g.K.Sink.taken c.say_peeked.new.out) c.say_peeked.ensures.says c.say_peeked.ensures.cause)
+
 pub returns-in-List-clause-complete : goal.returns-in-List-clause-complete
 returns-in-List-clause-complete g c =
     let d = g.D.Disk.view c.args.disk.now in
@@ -158,6 +177,20 @@ returns-in-Serve-clause-complete g c =
     (g.K.Sink.write_faults c.args.out.now) (g.K.Sink.write_faults c.serve.new.out) (g.N.Net.faults c.args.net.now) (g.N.Net.faults c.serve.new.net)
     (g.N.Net.lost c.args.net.now) (g.N.Net.lost c.serve.new.net) c.serve.result c.in-Serve.count c.serve.ensures.complete)
 
+pub returns-in-Attend-clause-complete : goal.returns-in-Attend-clause-complete
+returns-in-Attend-clause-complete g c =
+    let d = g.D.Disk.view c.args.disk.now in
+    let e = g.D.Disk.view c.attend.new.disk in
+    let b = devices (g.M.Medium.strings c.args.medium.now) (g.P.Disk.view c.args.first.now) (g.P.Disk.view c.args.second.now) in
+    let held = g.S.Source.held c.args.input.now in
+    of_command c.args.asked.now (command.Attend c.in-Attend.seconds) d b held
+    (record { input = g.S.Source.read_faults c.args.input.now; output = g.K.Sink.write_faults c.args.out.now; disk = (g.D.Disk.view c.args.disk.now).faults; net = g.N.Net.faults c.args.net.now; lost = g.N.Net.lost c.args.net.now })
+    (record { input = g.S.Source.read_faults c.args.input.now; output = g.K.Sink.write_faults c.attend.new.out; disk = (g.D.Disk.view c.attend.new.disk).faults; net = g.N.Net.faults c.attend.new.net; lost = g.N.Net.lost c.attend.new.net })
+    c.attend.result c.in-Attend.is
+    (attend_completes d e b held (g.S.Source.read_faults c.args.input.now) (g.S.Source.read_faults c.args.input.now)
+    (g.K.Sink.write_faults c.args.out.now) (g.K.Sink.write_faults c.attend.new.out) (g.N.Net.faults c.args.net.now) (g.N.Net.faults c.attend.new.net)
+    (g.N.Net.lost c.args.net.now) (g.N.Net.lost c.attend.new.net) c.attend.result c.in-Attend.seconds c.attend.ensures.complete)
+
 pub returns-in-Push-clause-complete : goal.returns-in-Push-clause-complete
 returns-in-Push-clause-complete g c =
     let d = g.D.Disk.view c.args.disk.now in
@@ -170,7 +203,7 @@ returns-in-Push-clause-complete g c =
     c.reach.result c.in-Push.is
     (push_completes d e b held (g.S.Source.read_faults c.args.input.now) (g.S.Source.read_faults c.args.input.now)
     (g.K.Sink.write_faults c.args.out.now) (g.K.Sink.write_faults c.reach.new.out) (g.N.Net.faults c.args.net.now) (g.N.Net.faults c.reach.new.net)
-    (g.N.Net.lost c.args.net.now) (g.N.Net.lost c.reach.new.net) c.reach.result c.in-Push.host c.in-Push.address (g.N.Net.finished c.args.net.now) (g.N.Net.finished c.reach.new.net) c.reach.ensures.complete)
+    (g.N.Net.lost c.args.net.now) (g.N.Net.lost c.reach.new.net) c.reach.result c.in-Push.host c.in-Push.address (g.N.Net.finished c.args.net.now) (g.N.Net.finished c.reach.new.net) (g.N.Net.idle c.args.net.now) (g.N.Net.idle c.reach.new.net) c.reach.ensures.complete)
 
 pub returns-in-Fetch-clause-complete : goal.returns-in-Fetch-clause-complete
 returns-in-Fetch-clause-complete g c =
@@ -184,7 +217,7 @@ returns-in-Fetch-clause-complete g c =
     c.reach-in-Fetch.result c.in-Fetch.is
     (fetch_completes d e b held (g.S.Source.read_faults c.args.input.now) (g.S.Source.read_faults c.args.input.now)
     (g.K.Sink.write_faults c.args.out.now) (g.K.Sink.write_faults c.reach-in-Fetch.new.out) (g.N.Net.faults c.args.net.now) (g.N.Net.faults c.reach-in-Fetch.new.net)
-    (g.N.Net.lost c.args.net.now) (g.N.Net.lost c.reach-in-Fetch.new.net) c.reach-in-Fetch.result c.in-Fetch.host c.in-Fetch.address _ (g.N.Net.finished c.args.net.now) (g.N.Net.finished c.reach-in-Fetch.new.net) c.reach-in-Fetch.ensures.complete)
+    (g.N.Net.lost c.args.net.now) (g.N.Net.lost c.reach-in-Fetch.new.net) c.reach-in-Fetch.result c.in-Fetch.host c.in-Fetch.address _ (g.N.Net.finished c.args.net.now) (g.N.Net.finished c.reach-in-Fetch.new.net) (g.N.Net.idle c.args.net.now) (g.N.Net.idle c.reach-in-Fetch.new.net) c.reach-in-Fetch.ensures.complete)
 
 pub returns-in-Help-clause-complete : goal.returns-in-Help-clause-complete
 returns-in-Help-clause-complete g c =
@@ -272,6 +305,10 @@ pub returns-in-Call-clause-disk_fault : goal.returns-in-Call-clause-disk_fault
 returns-in-Call-clause-disk_fault g c =
     store_disk c.args.asked.now (command.Call c.in-Call.call) (g.D.Disk.view c.args.disk.now).faults (g.D.Disk.view c.say_called.new.disk).faults _ _ c.say_called.result c.in-Call.is refl c.say_called.ensures.disk
 
+pub returns-in-Peek-clause-disk_fault : goal.returns-in-Peek-clause-disk_fault
+returns-in-Peek-clause-disk_fault g c =
+    store_disk c.args.asked.now (command.Peek c.in-Peek.place c.in-Peek.count) (g.D.Disk.view c.args.disk.now).faults (g.D.Disk.view c.say_peeked.new.disk).faults _ _ c.say_peeked.result c.in-Peek.is refl c.say_peeked.ensures.disk
+
 pub returns-in-List-clause-disk_fault : goal.returns-in-List-clause-disk_fault
 returns-in-List-clause-disk_fault g c =
     store_disk c.args.asked.now command.List (g.D.Disk.view c.args.disk.now).faults (g.D.Disk.view c.say_listed.new.disk).faults _ _ c.say_listed.result c.in-List.is refl c.say_listed.ensures.disk
@@ -283,6 +320,10 @@ returns-in-Probe-clause-disk_fault g c =
 pub returns-in-Serve-clause-disk_fault : goal.returns-in-Serve-clause-disk_fault
 returns-in-Serve-clause-disk_fault g c =
     store_disk c.args.asked.now (command.Serve c.in-Serve.count) (g.D.Disk.view c.args.disk.now).faults (g.D.Disk.view c.serve.new.disk).faults _ _ c.serve.result c.in-Serve.is refl c.serve.ensures.disk_faults
+
+pub returns-in-Attend-clause-disk_fault : goal.returns-in-Attend-clause-disk_fault
+returns-in-Attend-clause-disk_fault g c =
+    store_disk c.args.asked.now (command.Attend c.in-Attend.seconds) (g.D.Disk.view c.args.disk.now).faults (g.D.Disk.view c.attend.new.disk).faults _ _ c.attend.result c.in-Attend.is refl c.attend.ensures.disk_faults
 
 pub returns-in-Push-clause-disk_fault : goal.returns-in-Push-clause-disk_fault
 returns-in-Push-clause-disk_fault g c =
