@@ -1,160 +1,216 @@
 #!/usr/bin/env python3
-"""kill.py [ROUNDS]: kills `mqb commit`, `mqb push` and `mqb serve` by signal 9 at random moments, ROUNDS of each (100), on real files and over the loopback.
+"""kill.py [ROUNDS [WORD ..]]: kills each word that writes a store by signal 9, at random moments, ROUNDS times each (100), on real files and over the loopback.
 
-After each kill both stores must open; a commit whose line was printed must be there, and at most one that was not; what the sender has as acknowledged must be
-decided at the receiver. At the end every message is pushed and taken: each once, in the order of its commits. It stands outside the gate.
+After each kill the store must open, and what the word did is there whole or not at all; a call whose line was printed is there. Of a word that has a connection both
+stores must agree: what one has as acknowledged is decided at the other, and nothing is twice or out of order. Behind fifty rounds of such a word everything is
+brought over and taken: each message once, in the order of the commits. It prints for each word how often its line was printed (`said`), the call was made and its line
+was not (`made`), and nothing was done (`not`); `part` is an `init` that left a file which is no store. Of connections: all that waited on both sides was acknowledged
+(`whole`), something was decided that its sender had not heard of (`ahead`), or neither (`short`).
 
-Seen twice: of 100 commits 62 and 60 had printed their line, 9 and 6 were there and had not, 29 and 34 were not there; in 23 and 100 of 100 pushes and in 10 and 66 of
-100 serves that were killed something was decided of which the sender had not heard; 676 and 671 messages came once each, in the order of their commits.
- Its port must be free: 1801, or MQB_PORT. MQB names another program than `./mqb --where` does.
+Seen, of 1,000 kills each, by the released program from before `attend`, on a machine with five to ten times as many busy programs as processors (said, made, not): peer 350, 58,
+592; create 442, 33, 525; send 401, 29, 570; commit 452, 27, 521; take 520, 38, 442; purge 533, 24, 443; init 729, 43, 99, and 129 part; (whole, ahead, short): serve 328, 459, 213; probe
+177, 627, 196; push 161, 560, 279, and the 18,000 messages of these three came once each, in order. Of tick, roll and fetch five kills each were run to their end; attend was not run.
+
+It stands outside the gate. Its port must be free: 1801, or MQB_PORT. MQB names another program than `./mqb --where` does.
 """
-import os, pathlib, random, re, subprocess, sys, tempfile, time
+import collections, pathlib, random, socket, subprocess, sys, time
+from managers import GUIDS, MQB, PORT, Ends, asked, folder, has, ids_of, listening, marks_of, mqb, send, started
 
-TOP = pathlib.Path(__file__).resolve().parent.parent
-MQB = os.environ.get("MQB") or subprocess.check_output([TOP / "mqb", "--where"], text=True).strip()
-PORT = int(os.environ.get("MQB_PORT", "1801"))
 ROUNDS = int(sys.argv[1]) if len(sys.argv) > 1 else 100
-ALPHA = ("alpha", "0a0b0c0d-0e0f-1011-1213-141516171819", "127.0.0.1")
-BETA = ("beta", "1a1b1c1d-1e1f-2021-2223-242526272829", "127.0.0.1")
-ORDERS = r"DIRECT=OS:beta\PRIVATE$\orders"
+BATCH = 50  # rounds over one pair of stores: a manager knows 64 peers
+HERE = ("127.0.0.1",)
 
 
-def mqb(*words, **more):
-    return subprocess.run([MQB, *words], capture_output=True, text=True, **more)
+def killed(wait, word, *words):
+    """What a command prints that is killed after so many seconds."""
+    running = started(word, *words)
+    time.sleep(wait)
+    running.kill()
+    return running.communicate()[0]
 
 
-def asked(*words):
-    """The lines of a command that must go well."""
-    done = mqb(*words)
-    assert done.returncode == 0, (words, done.returncode, done.stdout, done.stderr)
-    return done.stdout.splitlines()
+def outcome(printed, made):
+    """How a call ended whose line may have been printed, and which was made or not."""
+    assert made or not printed.endswith("\n"), printed
+    return "said" if printed.endswith("\n") else "made" if made else "not"
 
 
-class Stores:
-    """The stores of two managers, and what was committed."""
+class Calls(Ends):
+    """A round of each word that makes one call: what it needs is made ready, it is killed, and the store is looked at."""
 
     def __init__(self, folder):
-        self.alpha, self.beta = f"{folder}/alpha.store", f"{folder}/beta.store"
-        asked("init", self.alpha, *ALPHA)
-        asked("init", self.beta, *BETA)
-        asked("peer", self.alpha, *BETA)
-        asked("peer", self.beta, *ALPHA)
-        asked("create", self.beta, "orders", "tx", "1000000", "none")
-        self.committed = 0
-        self.bodies = []
-        self.tried = 0
+        super().__init__(folder)
+        self.store, self.rounds = self.stores["alpha"], 0
+        asked("create", self.store, "notes", "plain", "1000000", "none")
+        asked("create", self.store, "done", "tx", "1000000", "none")
 
-    def sender(self):
-        """How many messages alpha has committed, and how many were acknowledged."""
-        for line in asked("list", self.alpha):
-            if found := re.match(r"alpha out 1 \S+ (\d+) (\d+) (\d+)", line):
-                return int(found[1]), int(found[3])
-        return 0, 0
+    def ids(self, queue):
+        return ids_of(self.list("alpha")).get(queue)
 
-    def receiver(self):
-        """The numbers in beta's queue, and the last that is decided."""
-        numbers, last = [], 0
-        for line in asked("list", self.beta):
-            if line.startswith("beta queue orders"):
-                numbers = line.split()[3:]
-            if found := re.match(r"beta in alpha \S+ 1 (\d+)", line):
-                last = int(found[1])
-        return numbers, last
+    def lives(self, wait, word, *words):
+        self.rounds += 1
+        return killed(wait, word, self.store, *words)
 
-    def commit(self, wait=None):
-        """Commits a message, and is killed after a time, where one is given. Says whether it was killed before it had printed its line."""
-        self.tried += 1
-        body = f"order{self.tried}"
-        running = subprocess.Popen([MQB, "commit", self.alpha, f"send,{ORDERS},-,-,-,-,-,{body}"], stdout=subprocess.PIPE, text=True)
-        if wait is not None:
-            time.sleep(wait)
-            running.kill()
-        printed = running.communicate()[0]
-        count, _ = self.sender()
-        said = re.match(r"committed \[committed 1 (\d+) alpha\.\d+\]\n", printed)
-        if said:
-            assert count == int(said[1]) == self.committed + 1, (printed, count, self.committed)
-        assert count in (self.committed, self.committed + 1), (count, self.committed)
-        if count > self.committed:
-            self.bodies.append(body)
-        kept = count > self.committed
-        self.committed = count
-        return "said" if said else "kept" if kept else "lost"
+    def init(self, wait):
+        fresh = pathlib.Path(f"{self.store}.{self.rounds}")
+        self.rounds += 1
+        printed = killed(wait, "init", str(fresh), "gamma", GUIDS["alpha"], *HERE)
+        status = mqb("list", str(fresh)).returncode
+        part = fresh.exists() and fresh.stat().st_size > 0 and status != 0
+        assert status in (0, 6, 8) and (status == 6) <= (not fresh.exists()), status
+        if part:
+            fresh.unlink()
+        if status != 0:
+            asked("init", str(fresh), "gamma", GUIDS["alpha"], *HERE)
+        assert not (part and printed.endswith("\n"))
+        return "part" if part else outcome(printed, status == 0)
 
-    def agree(self):
-        """What both stores say fits together."""
-        numbers, last = self.receiver()
-        assert len(numbers) == len(set(numbers)) == last, (len(numbers), last)
-        assert numbers == sorted(numbers, key=lambda name: int(name.split(".")[1])), numbers
-        _, acknowledged = self.sender()
-        assert acknowledged <= last, (acknowledged, last)
-        return acknowledged, last
+    def peer(self, wait):
+        peer = (f"peer{self.rounds}", f"{self.rounds:08x}-0e0f-1011-1213-141516171819", *HERE)
+        printed = self.lives(wait, "peer", *peer)
+        again = mqb("peer", self.store, *peer).stdout
+        assert again in ("ok\n", "peerthere\n"), again
+        return outcome(printed, again == "peerthere\n")
+
+    def create(self, wait):
+        name = f"queue{self.rounds}"
+        printed = self.lives(wait, "create", name, "tx", "10", "none")
+        return outcome(printed, self.ids(name) is not None)
+
+    def send(self, wait):
+        before = self.ids("notes")
+        printed = self.lives(wait, "send", "recoverable", "3", send(".", "notes"))
+        more = [name for name in self.ids("notes") if name not in before]
+        assert len(more) <= 1 and (not printed.endswith("\n") or printed.split()[1] == more[0]), (printed, more)
+        return outcome(printed, bool(more))
+
+    def commit(self, wait):
+        """It takes a message and sends one here and one to the peer: all of it or nothing."""
+        asked("commit", self.store, send(".", "orders"))
+        before = self.list("alpha")
+        printed = self.lives(wait, "commit", "take,orders", send(".", "done"), send("beta", "orders"))
+        after = self.list("alpha")
+        steps = [len(ids_of(before)["orders"]) - len(ids_of(after)["orders"]), len(ids_of(after)["done"]) - len(ids_of(before)["done"]), marks_of(after)[0] - marks_of(before)[0]]
+        assert steps in ([0, 0, 0], [1, 1, 1]), steps
+        return outcome(printed, steps == [1, 1, 1])
+
+    def take(self, wait):
+        asked("commit", self.store, send(".", "orders"))
+        before = self.ids("orders")
+        printed = self.lives(wait, "take", "orders")
+        after = self.ids("orders")
+        assert after in (before, before[1:]), (before, after)
+        assert not printed.endswith("\n") or printed.split()[1] == before[0], (printed, before)
+        return outcome(printed, after != before)
+
+    def purge(self, wait):
+        asked("commit", self.store, *[send(".", "orders")] * 3)
+        before = self.ids("orders")
+        printed = self.lives(wait, "purge", "orders")
+        after = self.ids("orders")
+        assert after in (before, []), (before, after)
+        return outcome(printed, after == [])
+
+    def tick(self, wait):
+        """Three messages are due at once."""
+        asked("commit", self.store, *[send(".", "done", life=0)] * 3)
+        before = self.ids("done")
+        printed = self.lives(wait, "tick")
+        after = self.ids("done")
+        assert after in (before, []), (before, after)
+        return outcome(printed, after == [])
+
+    def roll(self, wait):
+        """A sequence that is full at one message shows in the ordinal of the next but one."""
+        asked("roll", self.store, "65535")
+        asked("commit", self.store, send("beta", "orders"))
+        printed = self.lives(wait, "roll", "1")
+        first, second = (asked("commit", self.store, send("beta", "orders"))[0].split() for _ in range(2))
+        return outcome(printed, first[2] != second[2])
 
 
-def started(*words):
-    return subprocess.Popen([MQB, *words], stdout=subprocess.PIPE, stderr=subprocess.DEVNULL, text=True)
+def bridged(store):
+    """A probe of a store whose input and output are the first connection that comes; the listener is there behind this call."""
+    listener = socket.socket()
+    listener.setsockopt(socket.SOL_SOCKET, socket.SO_REUSEADDR, 1)
+    listener.bind(("127.0.0.1", PORT))
+    listener.listen(1)
+
+    def probing():
+        conn, _ = listener.accept()
+        listener.close()
+        with conn:
+            return started("probe", store, stdin=conn, stdout=conn)
+    return probing
 
 
-def listening():
-    """Waits until somebody listens on the port, without connecting: a connection would be served."""
-    for _ in range(200):
-        if any(line.split()[1].endswith(f":{PORT:04X}") and line.split()[3] == "0A" for line in open("/proc/net/tcp").readlines()[1:]):
-            return
-        time.sleep(0.005)
-    raise SystemExit("nobody listens")
-
-
-def exchange(stores, victim, wait):
-    """One connection, in which one of the two is killed."""
-    serving = started("serve", stores.beta, "1000")
-    listening()
-    pushing = started("push", stores.alpha, "beta")
+def exchange(ends, victim, wait):
+    """One connection from alpha to beta, of which the victim is killed, and then the other side."""
+    word = "push" if victim in ("serve", "push") else "fetch"
+    client = (word, ends.stores["alpha"], "beta") + (("1",) if word == "fetch" else ())
+    if victim == "probe":
+        probing = bridged(ends.stores["beta"])
+        reaching = started(*client, stdout=subprocess.DEVNULL)
+        serving = probing()
+    else:
+        serving = started(*(("attend", ends.stores["beta"], "60") if victim == "attend" else ("serve", ends.stores["beta"], "1000")), stdout=subprocess.DEVNULL)
+        listening(serving)
+        reaching = started(*client, stdout=subprocess.DEVNULL)
+    first, second = (reaching, serving) if victim in ("push", "fetch") else (serving, reaching)
     time.sleep(wait)
-    (serving if victim == "serve" else pushing).kill()
-    if victim == "serve":
-        serving.wait()
-    pushed = pushing.communicate()[0]
-    time.sleep(0.02)
-    serving.kill()
-    serving.wait()
-    return pushed.strip()
+    first.kill()
+    first.wait()
+    time.sleep(0.01)
+    second.kill()
+    second.wait()
 
 
-def timed(action):
-    start = time.time()
-    action()
-    return time.time() - start
+def batches():
+    """How many rounds there are over each pair of stores, until all are there."""
+    return [min(BATCH, ROUNDS - at) for at in range(0, ROUNDS, BATCH)]
+
+
+def calls(word):
+    """The rounds of a word that makes one call."""
+    ends = collections.Counter()
+    for count in batches():
+        with folder() as name:
+            stores = Calls(name)
+            began = time.time()
+            asked("list", stores.store)
+            least = time.time() - began
+            for _ in range(count):
+                ends[getattr(stores, word)(random.uniform(0, 2 * least))] += 1
+    return ends
+
+
+def connections(word):
+    """The rounds of a word that has a connection."""
+    ends = collections.Counter()
+    for count in batches():
+        with folder() as name:
+            stores = Ends(name)
+            for _ in range(count):
+                for host in stores.stores:
+                    stores.commit(host, 3)
+                exchange(stores, word, random.uniform(0, 0.12))
+                acknowledged, decided = stores.agree()
+                ends["ahead" if acknowledged < decided else "whole" if decided == stores.count() else "short"] += 1
+            stores.drain()
+            ends["messages"] += stores.count()
+    return ends
 
 
 def main():
-    random.seed(int(time.time()))
-    with tempfile.TemporaryDirectory() as folder:
-        stores = Stores(folder)
-        least = min(timed(stores.commit) for _ in range(5))
-        ends = {"said": 0, "kept": 0, "lost": 0}
-        for _ in range(ROUNDS):
-            ends[stores.commit(random.uniform(0, 1.2 * least))] += 1
-        print(f"commit: {ROUNDS} kills: {ends['said']} had printed their line, {ends['kept']} are there and had not, {ends['lost']} are not there")
-        for victim in ("push", "serve"):
-            decided = 0
-            for _ in range(ROUNDS):
-                for _ in range(3):
-                    stores.commit()
-                exchange(stores, victim, random.uniform(0, 0.06))
-                acknowledged, last = stores.agree()
-                decided += acknowledged < last
-            print(f"{victim}: {ROUNDS} kills: in {decided} of them something was decided of which the sender had not heard")
-        serving = started("serve", stores.beta, "1")
-        listening()
-        assert asked("push", stores.alpha, "beta") == ["connection 1: ended"]
-        assert serving.communicate()[0] == "connection 1: ended\n"
-        acknowledged, last = stores.agree()
-        assert acknowledged == last == stores.committed == len(stores.bodies), (acknowledged, last, stores.committed)
-        for body in stores.bodies:
-            lines = asked("take", stores.beta, "orders")
-            assert bytes.fromhex(lines[1].split()[1]).decode() == body, (lines, body)
-        assert mqb("take", stores.beta, "orders").stdout == "queueempty\n"
-        print(f"{len(stores.bodies)} messages: each came once, in the order of its commit")
+    ways = {word: calls for word in ("init", "peer", "create", "send", "commit", "take", "purge", "tick", "roll")}
+    ways |= {word: connections for word in ("serve", "attend", "probe", "push", "fetch") if has(word)}
+    seed = int(time.time())
+    random.seed(seed)
+    print(f"seed {seed}, {MQB}", flush=True)
+    for word in sys.argv[2:] or ways:
+        began, ends = time.time(), ways[word](word)
+        counts = ", ".join(f"{count} {name}" for name, count in sorted(ends.items()))
+        print(f"{word}: {ROUNDS} kills: {counts}; {time.time() - began:.0f} s", flush=True)
 
 
 main()

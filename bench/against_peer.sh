@@ -1,0 +1,145 @@
+#!/bin/sh
+# Computes beside another program of the same words, scripts, stores and packets, which PEER names: user time of both, in one run, of which the least of ROUNDS (3) counts.
+# Prints a line a load, and the greatest ratio. MQB names another program than ./mqb --where does; ONLY=WORD takes the loads whose names have that word.
+# What is wanted: 3 at most for what is put and taken, 2 at `trial`, `show` and `list`, 2.5 at the three replays of commits; 163,840 messages at most 4.6 times
+# 40,960, and 81,920 with priorities or due messages, purged, swept or expired, at most 2.4 times 40,960; an empty replay at most 20 milliseconds in all.
+# Seen on a busy machine, one round each: `trial 10000` 3.9 times, `show` of 100,000 packets 1.5, `list` of 20,000 records 2.7, an empty replay 28 to 44 milliseconds; of takes
+# none, since they grow with the square of the queue: 2,560 messages put and taken by 64 took 0.31 seconds beside 0.013.
+# It stands outside the gate.
+set -e
+top=$(cd "$(dirname "$0")/.." && pwd)
+MQB=${MQB:-$("$top/mqb" --where)}
+export MQB
+: "${PEER:?names the other program}"
+exec python3 - <<'END'
+import os, resource, shutil, subprocess, tempfile
+
+MQB, PEER = os.environ["MQB"], os.environ["PEER"]
+ROUNDS, ONLY = int(os.environ.get("ROUNDS", "3")), os.environ.get("ONLY", "")
+SEND = b"send,DIRECT=OS:%s\\PRIVATE$\\%s,-,%s,-,-,-,%s"
+room = tempfile.mkdtemp(prefix="against-peer-", dir="/dev/shm" if os.path.isdir("/dev/shm") else None)  # a sync is no part of what is measured
+
+
+def user(program, words, given):
+    """The user seconds of one run, and what it wrote."""
+    with tempfile.TemporaryFile(dir=room) as script, tempfile.TemporaryFile(dir=room) as written:
+        script.write(given)
+        script.seek(0)
+        before = resource.getrusage(resource.RUSAGE_CHILDREN).ru_utime
+        subprocess.run([program, *words], stdin=script, stdout=written, stderr=subprocess.DEVNULL, check=True)
+        seconds = resource.getrusage(resource.RUSAGE_CHILDREN).ru_utime - before
+        written.seek(0)
+        return seconds, written.read()
+
+
+def least(program, words, given):
+    runs = [user(program, words, given) for _ in range(ROUNDS)]
+    return min(seconds for seconds, _ in runs), runs[0][1]
+
+
+def local(queue, life=b"-", body=b"one"):
+    return SEND % (b".", queue, life, body)
+
+
+def lines(*found):
+    return b"".join(line + b"\n" for line in found)
+
+
+def put(count, life=b"-"):
+    """So many messages put into a transactional queue by commits of 64."""
+    return [b"commit alpha 1000 " + b" ".join([local(b"q", life)] * 64)] * (count // 64)
+
+
+def put_and_taken(count, at_once):
+    taken = [b"commit alpha 1001 " + b" ".join([b"take,q"] * 64)] * (count // 64) if at_once else [b"take alpha 1001 q"] * count
+    return lines(b"queue alpha q tx 4294967295 none", *put(count), *taken)
+
+
+def in_turn(count):
+    """So many messages of priorities 0 to 7 in turn, each then taken."""
+    sent = [b"send alpha 1000 recoverable %d " % (k % 8) + local(b"p") for k in range(count)]
+    return lines(b"queue alpha p plain 4294967295 none", *sent, *[b"take alpha 1001 p"] * count)
+
+
+def half_due(count):
+    """A queue whose front half is due when what stands behind it is taken."""
+    return lines(b"queue alpha q tx 4294967295 none", *put(count // 2, b"5"), *put(count), *[b"take alpha 2000 q"] * count)
+
+
+def emptied(count, line, life=b"-"):
+    return lines(b"queue alpha q tx 4294967295 none", *put(count, life), line)
+
+
+def expired(count):
+    return lines(*[b"commit alpha 1000 " + b" ".join([SEND % (b"beta", b"orders", b"5", b"one")] * 64)] * (count // 64), b"tick alpha 2000")
+
+
+def acknowledged(commits):
+    found, packet = [b"queue beta orders tx 4294967295 none", b"connect alpha 1000 64 64"], 4
+    for _ in range(commits):
+        found += [b"commit alpha 1000 " + SEND % (b"beta", b"orders", b"-", b"one"), b"pump alpha 1000", b"deliver %d 1000" % (packet + 1), b"pump beta 1000", b"deliver %d 1000" % (packet + 2)]
+        packet += 2
+    return lines(*found)
+
+
+def kept(count):
+    return lines(b"queue beta orders tx 4294967295 none", b"connect alpha 1000 64 65535",
+                 *[b"commit alpha 1000 " + b" ".join([SEND % (b"beta", b"orders", b"-", b"one")] * 64)] * (count // 64), *[b"pump alpha 1000"] * (count // 64))
+
+
+def made_store(records):
+    """A store of so many records, which the peer makes."""
+    store = f"{room}/store"
+    for words in (["init", store, "alpha", "0a0b0c0d-0e0f-1011-1213-141516171819", "127.0.0.1"], ["peer", store, "beta", "1a1b1c1d-1e1f-2021-2223-242526272829", "127.0.0.2"],
+                  ["bench-commit", store, str(records), "1"]):
+        subprocess.run([PEER, *words], stdout=subprocess.DEVNULL, check=True)
+    return store
+
+
+def packets(count):
+    return subprocess.run([PEER, "bench-packets", str(count)], capture_output=True, check=True).stdout
+
+
+beside = [  # name, words, input, the greatest ratio that is wanted
+    ("put 40,960 by 64, taken by 64", lambda: (["replay"], put_and_taken(40960, True)), 3),
+    ("put 40,960 by 64, taken one by one", lambda: (["replay"], put_and_taken(40960, False)), 3),
+    ("put 163,840 by 64, taken by 64", lambda: (["replay"], put_and_taken(163840, True)), 3),
+    ("put 163,840 by 64, taken one by one", lambda: (["replay"], put_and_taken(163840, False)), 3),
+    ("trial 10000", lambda: (["trial", "10000"], b""), 2),
+    ("replay of made 10000", lambda: (["replay"], subprocess.run([PEER, "make", "10000"], capture_output=True, check=True).stdout), 2.5),
+    ("20,000 commits, acknowledged", lambda: (["replay"], acknowledged(20000)), 2.5),
+    ("57,600 kept and pumped", lambda: (["replay"], kept(57600)), 2.5),
+    ("show of 100,000 packets", lambda: (["show"], packets(100000)), 2),
+    ("list of 20,000 records", lambda: (["list", made_store(20000)], b""), 2),
+]
+grown = [  # name, a script of a count, the less count, the greater, the greatest ratio that is wanted
+    ("put and taken by 64, 163,840 beside 40,960", lambda n: put_and_taken(n, True), 40960, 163840, 4.6),
+    ("put and taken one by one, 163,840 beside 40,960", lambda n: put_and_taken(n, False), 40960, 163840, 4.6),
+    ("priorities in turn, 81,920 beside 40,960", in_turn, 40960, 81920, 2.4),
+    ("a front of which half is due, 81,920 beside 40,960", half_due, 40960, 81920, 2.4),
+    ("purged, 81,920 beside 40,960", lambda n: emptied(n, b"purge alpha 1001 q"), 40960, 81920, 2.4),
+    ("swept, 81,920 beside 40,960", lambda n: emptied(n, b"tick alpha 2000", b"5"), 40960, 81920, 2.4),
+    ("expired, 81,920 beside 40,960", expired, 40960, 81920, 2.4),
+]
+worst = []
+try:
+    seconds, _ = least(MQB, ["replay"], b"")
+    print(f"an empty replay: {seconds * 1000:.0f} ms of user time", flush=True)
+    for name, load, wanted in beside:
+        if ONLY not in name:
+            continue
+        words, given = load()
+        (ours, said), (theirs, answered) = least(MQB, words, given), least(PEER, words, given)
+        worst.append((ours / max(theirs, 0.001) / wanted, name))
+        differs = "" if said == answered else ", AND THEIR ANSWERS DIFFER"
+        print(f"{name}: {ours:.3f} s beside {theirs:.3f}, {ours / max(theirs, 0.001):.2f} times ({wanted} wanted){differs}", flush=True)
+    for name, script, less, more, wanted in grown:
+        if ONLY not in name:
+            continue
+        low, high = least(MQB, ["replay"], script(less))[0], least(MQB, ["replay"], script(more))[0]
+        worst.append((high / max(low, 0.001) / wanted, name))
+        print(f"{name}: {high:.3f} s beside {low:.3f}, {high / max(low, 0.001):.2f} times ({wanted} wanted)", flush=True)
+    print("the greatest share of what is wanted: %.2f, %s" % max(worst))
+finally:
+    shutil.rmtree(room)
+END
