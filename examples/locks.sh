@@ -19,7 +19,7 @@ declare -A call=(
   [send]='send alpha.store recoverable 3 send,DIRECT=OS:.\PRIVATE$\notes,-,-,-,-,-,one'
   [commit]='commit alpha.store take,orders send,DIRECT=OS:beta\PRIVATE$\orders,-,-,-,-,-,one'
   [take]='take alpha.store orders' [purge]='purge alpha.store orders' [tick]='tick alpha.store' [roll]='roll alpha.store 10'
-  [serve]='serve alpha.store 1' [attend]='attend alpha.store 1' [probe]='probe alpha.store' [push]='push alpha.store beta' [fetch]='fetch alpha.store beta 1'
+  [serve]='serve alpha.store 1' [attend]='attend alpha.store 4' [probe]='probe alpha.store' [push]='push alpha.store beta' [fetch]='fetch alpha.store beta 1'
   [list]='list alpha.store' [peek]='peek alpha.store orders'
 )
 
