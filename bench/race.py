@@ -77,9 +77,12 @@ class Raced(Ends):
             port = PORT + 1 if word in ("serve", "attend") else PORT
             running.append(started(asks[0], self.store, *asks[1:], env={**os.environ, "MQB_PORT": str(port)}))
             time.sleep(wait)
-        called = 0
+        called, last = 0, time.time()
         while any(process.poll() is None for process in running):
-            if called < sum(word in ("serve", "attend") for word in words) and is_listening(PORT + 1):
+            is_wanted = called < sum(word in ("serve", "attend") for word in words)
+            is_late = time.time() - last > 2 and any(word == "serve" and process.poll() is None for word, process in zip(words, running))  # what attends took both
+            if (is_wanted or is_late) and is_listening(PORT + 1):
+                last = time.time()
                 pushing = started("push", self.stores["beta"], "alpha", stdout=subprocess.DEVNULL, env={**os.environ, "MQB_PORT": str(PORT + 1)})
                 called += pushing.wait() == 0  # else once more: beta's store may be in use, too
             if words.count("push") and running[words.index("push")].poll() is not None and len(set(words)) == 2:
