@@ -7,7 +7,8 @@ acknowledged: each message that was said to be put, once and in order, but those
 `list` and `peek` print is so before the other word, or behind it. At the end all is brought over and taken: each message once, in the order of the commits.
 
 Seen, of 200 rounds of seed 1, by the released program from before `attend`, which does not wait for a store in use: 208 words were done and 192 found it in use, and each of 218
-messages came once. With a program that waits, and with peek and attend, it was not run.
+messages came once. By the released program with `attend`, 200 rounds of seed 1: 399 done, 1 in use, each of 235
+messages once, 76 s.
 
 It stands outside the gate. Its port and the next one must be free: 1801, or MQB_PORT. MQB names another program than `./mqb --where` does. A store in use is waited for
 two seconds, or MQB_HOLD.
