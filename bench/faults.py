@@ -9,8 +9,8 @@ calls were failed, and with which status the program ended how often: 127 is the
 Seen, by the released program from before `attend`, on a busy machine: each of 67 calls of commit and of take, 118 of push and 121 of serve with each error, 1,119 in all (2 did not come): both stores
 agreed each time, and each message came once. The first calls are the loader's: 15 end with its status, 2 or 3 by a signal. Of EIO and ENOSPC the disk's end with 6 (30 of commit and take, 54 of the
 others), that of the output with 5, those of the net with 7 (22 of push, 5 of serve), and others do no harm. Of EINTR the disk's are made again, but that of its length, 6, and so is not that of the output, 5.
-`cut` was serve alone, where it could not set the time limits of a connection: it lets that one go, and waits for another. By the released
-program with `attend`, 119 calls of fetch: 54 end with 6, 23 with 7, 1 with 5, and others do no harm; both stores agreed. attend was begun.
+`cut` was serve alone, where it could not set the time limits of a connection: it lets that one go, and waits for another. By a proved
+program with `attend`, from before the one that is released with these words, 119 calls of fetch with each error (3 did not come), of EIO: 54 end with 6, 23 with 7, 1 with 5, and others do no harm; both stores agreed. attend was begun.
 
 A call that is failed is not made, and each run fails one: what a disk does that fails for good is not tried, nor what the system keeps behind a failed sync. A silent peer
 is waited for two seconds (MQB_WAIT), so which calls a connection makes differs a little from run to run: a call that did not come is counted as `not reached`.

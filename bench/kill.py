@@ -9,7 +9,8 @@ was not (`made`), and nothing was done (`not`); `part` is an `init` that left a 
 
 Seen, of 1,000 kills each, by the released program from before `attend`, on a machine with five to ten times as many busy programs as processors (said, made, not): peer 350, 58,
 592; create 442, 33, 525; send 401, 29, 570; commit 452, 27, 521; take 520, 38, 442; purge 533, 24, 443; init 729, 43, 99, and 129 part; (whole, ahead, short): serve 328, 459, 213; probe
-177, 627, 196; push 161, 560, 279, and the 18,000 messages of these three came once each, in order. By the released program with `attend`:
+177, 627, 196; push 161, 560, 279, and the 18,000 messages of these three came once each, in order. By a proved program with `attend`, from before
+the one that is released with these words:
 tick 580, 14, 406; roll 500, 9, 491; fetch 891, 23, 86; attend 832, 44, 124, and the 12,000 messages of these two came once each, in order.
 
 It stands outside the gate. Its port must be free: 1801, or MQB_PORT. MQB names another program than `./mqb --where` does.
