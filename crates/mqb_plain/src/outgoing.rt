@@ -2,6 +2,7 @@ ghost use Rattle.std.specs.Prelude.{◌≡◌, ◌+◌, ◌<◌, ◌≤◌, [], 
 ghost use Rattle.mqb_plain.specs.Lists.{InOrder, first_unsent, greatest_mark, is_sent_by, marked_next, marks_of, messages_of, unmarked, unsent};
 
 use mqb_base::{Memory, Message, Roomed};
+use mqb_deque::RoomedDeque;
 use std::alloc::Global;
 use std::marker::Model;
 
@@ -15,7 +16,7 @@ pub struct Outgoing {
 /// Messages in order, of which the first ones were sent in this connection.
 #[derive(Debug, Drop)]
 pub(crate) struct OutList {
-    messages: Roomed<Message>,
+    messages: RoomedDeque<Message>,
     /// The numbers of those that were sent.
     marks: Roomed<u16>,
 }
@@ -62,7 +63,7 @@ impl OutList {
         ensures { result ≡ record { items = []; room = 0 } }
     {
         OutList {
-            messages: Roomed::new(alloc),
+            messages: RoomedDeque::new(alloc),
             marks: Roomed::new(alloc),
         }
     }

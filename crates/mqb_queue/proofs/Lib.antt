@@ -1,5 +1,6 @@
 pub mod Positions
 pub mod Tops
+pub mod Levels
 pub mod Lanes
 pub mod Lens
 pub mod Changed

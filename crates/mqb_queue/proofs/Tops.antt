@@ -257,14 +257,3 @@ found_early free bound held k all is =
         behind_of : (xs : List Message) → All (λ n. n.priority ≤ bound) (xs ++ m ∷ behind) → All (λ n. n.priority ≤ bound) behind
         behind_of [] g = All-tail (λ n. n.priority ≤ bound) m behind g
         behind_of (x ∷ xs) g = behind_of xs (All-tail (λ n. n.priority ≤ bound) x (xs ++ m ∷ behind) g)
-
--- the greatest of all priorities
-greatest_floor : (low : ℕ) (held : List Message) → low ≤ fold max low (map (λ m. m.priority) held)
-greatest_floor low [] = omega arith
-greatest_floor low (m ∷ held) = omega (arith, greatest_floor (max low m.priority) held)
-
-pub all_at_most : (low : ℕ) (held : List Message) → All (λ m. m.priority ≤ fold max low (map (λ n. n.priority) held)) held
-all_at_most low [] = All-nil (λ m. m.priority ≤ low)
-all_at_most low (m ∷ held) =
-    All-cons (λ n. n.priority ≤ fold max (max low m.priority) (map (λ k. k.priority) held)) m held
-    (omega (arith, greatest_floor (max low m.priority) held)) (all_at_most (max low m.priority) held)

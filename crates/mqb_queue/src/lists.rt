@@ -1,4 +1,4 @@
-ghost use Rattle.std.specs.Prelude.{◌≡◌, ◌+◌, ◌<◌, ◌≤◌, ◌++◌, nat_lt, length, slice_get, Some, OnOk, OnErr, IfSome, IfErr, IsOk, IsErr, option_map, option_copied};
+ghost use Rattle.std.specs.Prelude.{◌≡◌, ◌+◌, ◌<◌, ◌≤◌, ◌++◌, nat_lt, length, slice_get, All, Some, OnOk, OnErr, IfSome, IfErr, IsOk, IsErr, option_map, option_copied};
 ghost use Rattle.mqb_base.specs.declared.message.Lane.TheVariants.{Durable, Express};
 ghost use Rattle.mqb_base.specs.declared.message.Message.{Message};
 ghost use Rattle.mqb_base.specs.declared.roomed.TheConstants.{MAX_MEMBERS};
@@ -73,6 +73,16 @@ impl Lists {
         match lane {
             Lane::Durable => self.durable.as_slice(),
             Lane::Express => self.express.as_slice(),
+        }
+    }
+
+    /// None of the messages of a lane has a greater priority.
+    pub(crate) fn bound(&self, lane: Lane) -> u8
+        ensures { All (λ m. m.priority ≤ result) (messages_in lane self.now.lists) }
+    {
+        match lane {
+            Lane::Durable => self.durable.bound(),
+            Lane::Express => self.express.bound(),
         }
     }
 

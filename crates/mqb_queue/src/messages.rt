@@ -1,15 +1,22 @@
-ghost use Rattle.std.specs.Prelude.{◌≡◌, ◌<◌, ◌≤◌, ◌+◌, [], ◌∷◌, ◌++◌, length, max, fold, map, insert, remove, slice_get, All, Some, IfSome, IsOk, OnOk, OnErr};
+ghost use Rattle.std.specs.Prelude.{◌≡◌, ◌<◌, ◌≤◌, ◌+◌, ◌-◌, ℕ, [], ◌∷◌, ◌++◌, length, max, insert, remove, set, slice_get, slice_index, All, Some, IfSome, IsOk, OnOk, OnErr};
 ghost use Rattle.mqb_queue.specs.First.{first_index, is_wanted};
+ghost use Rattle.mqb_queue.specs.Levels.{level};
 
 use crate::choice::{Choice, first_index};
-use mqb_base::{Memory, Message, Roomed};
+use mqb_base::{MAX_PRIORITY, Memory, Message};
+use mqb_deque::RoomedDeque;
 use std::alloc::Global;
 use std::marker::Model;
+
+/// How many levels of priorities are counted.
+const LEVELS: usize = 8;
 
 /// Messages, the oldest first. Contracts see the list, and its room.
 #[derive(Debug, Drop)]
 pub(crate) struct MessageList {
-    messages: Roomed<Message>,
+    messages: RoomedDeque<Message>,
+    /// How many messages have each priority from 0 to 6, and how many another one.
+    counts: [usize; LEVELS],
     /// None of the messages has a greater priority.
     top: u8,
 }
@@ -18,32 +25,56 @@ impl Model for MessageList {
     ghost use Rattle.std.specs.Prelude.{◌≤◌, All};
     ghost use Rattle.mqb_base.specs.Rooms.{Room};
     ghost use Rattle.mqb_base.specs.declared.message.Message.{Message};
+    ghost use Rattle.mqb_queue.specs.Levels.{Counted};
 
     ghost Value = { Room Message };
 
     ghost view = { λ l. l.messages };
 
-    ghost invariant = { λ l. All (λ m. m.priority ≤ l.top) l.messages.items };
+    ghost invariant = { λ l. All (λ m. m.priority ≤ l.top) l.messages.items ×
+        Counted l.counts l.messages.items };
 }
 
-/// The greatest priority of messages, of which none has a greater one than `bound`.
-fn top_of(messages: &[Message], bound: u8) -> u8
-    requires { All (λ m. m.priority ≤ bound) messages.now }
-    ensures { All (λ m. m.priority ≤ result) messages.now }
+/// The level at which a priority is counted.
+fn level(priority: u8) -> usize
+    ensures level { result ≡ level priority }
+    ensures within { result < 8 }
 {
-    if messages.iter().any(|message| message.priority == bound) {
-        return bound;
+    priority.min(MAX_PRIORITY) as usize
+}
+
+/// Counts one more message. There is room for more than are counted.
+fn count_more(counts: &mut [usize; LEVELS], priority: u8, room: usize)
+    requires { slice_index counts.old (level priority) < room }
+    ensures { counts.new ≡ set counts.old (level priority)
+        (slice_index counts.old (level priority) + 1) }
+{
+    counts[level(priority)] += 1;
+}
+
+/// Counts one message less.
+fn count_less(counts: &mut [usize; LEVELS], priority: u8)
+    requires { 0 < slice_index counts.old (level priority) }
+    ensures { counts.new ≡ set counts.old (level priority)
+        (slice_index counts.old (level priority) - 1) }
+{
+    counts[level(priority)] -= 1;
+}
+
+/// None of the messages that are counted has a greater priority, where none has a greater one than `top`.
+fn bound_of(counts: &[usize; LEVELS], top: u8) -> u8
+    ensures { (p : ℕ) → p ≤ top → 0 < slice_index counts.now (level p) → p ≤ result }
+{
+    if counts[7] > 0 {
+        return top;
     }
-    greatest_priority(messages)
-}
-
-fn greatest_priority(messages: &[Message]) -> u8
-    ensures { result ≡ fold max 0 (map (λ m. m.priority) messages.now) }
-{
-    messages
-        .iter()
-        .map(|message| message.priority)
-        .fold(0, |top, priority| top.max(priority))
+    let mut bound: u8 = 0;
+    for k in 0..7u8 {
+        if counts[k as usize] > 0 {
+            bound = k;
+        }
+    }
+    bound
 }
 
 impl MessageList {
@@ -51,7 +82,8 @@ impl MessageList {
         ensures { result ≡ record { items = []; room = 0 } }
     {
         MessageList {
-            messages: Roomed::new(alloc),
+            messages: RoomedDeque::new(alloc),
+            counts: [0; LEVELS],
             top: 0,
         }
     }
@@ -102,6 +134,7 @@ impl MessageList {
         ensures { self.new ≡ record self.old { items = self.old.items ++ message ∷ [] } }
     {
         self.top = self.top.max(message.priority);
+        count_more(&mut self.counts, message.priority, self.messages.room());
         self.messages.push(message);
     }
 
@@ -112,10 +145,11 @@ impl MessageList {
         ensures { self.new ≡ record self.old { items = insert self.old.items at message } }
     {
         self.top = self.top.max(message.priority);
+        count_more(&mut self.counts, message.priority, self.messages.room());
         self.messages.insert(at, message);
     }
 
-    /// Takes out the message at a place. The later ones move down.
+    /// Takes out the message at a place. The later ones move down, or those before it up, whichever are fewer.
     pub(crate) fn remove(&mut self, at: usize) -> Message
         requires { at < length self.old.items }
         ensures removed { slice_get self.old.items at ≡ Some result }
@@ -124,10 +158,15 @@ impl MessageList {
         ensures place { at ≤ length self.new.items }
     {
         let message = self.messages.remove(at);
-        if message.priority == self.top {
-            self.top = top_of(self.messages.as_slice(), self.top);
-        }
+        count_less(&mut self.counts, message.priority);
         message
+    }
+
+    /// None of the messages has a greater priority.
+    pub(crate) fn bound(&self) -> u8
+        ensures { All (λ m. m.priority ≤ result) self.now.items }
+    {
+        bound_of(&self.counts, self.top)
     }
 
     /// Where the first message stands of those that are wanted.
@@ -137,6 +176,6 @@ impl MessageList {
         ensures first { result ≡ first_index (is_wanted choice.now.at choice.now.moment
             choice.now.id) self.now.items }
     {
-        first_index(self.messages.as_slice(), choice, self.top)
+        first_index(self.messages.as_slice(), choice, self.bound())
     }
 }

@@ -1,5 +1,5 @@
 //! Places as the store names them: each call and the one that takes it back.
-ghost use Rattle.std.specs.Prelude.{◌≡◌, ◌+◌, ◌<◌, ◌≤◌, length, slice_get, Some, None, IsSome, IfSome, IsSomeAnd, OnOk, OnErr, IfErr, IsOk, IsErr, option_copied, option_and_then};
+ghost use Rattle.std.specs.Prelude.{◌≡◌, ◌+◌, ◌<◌, ◌≤◌, length, slice_get, All, Some, None, IsSome, IfSome, IsSomeAnd, OnOk, OnErr, IfErr, IsOk, IsErr, option_copied, option_and_then};
 ghost use Rattle.std.specs.Option.{option_map};
 ghost use Rattle.mqb_base.specs.declared.message.Lane.TheVariants.{Durable, Express};
 ghost use Rattle.mqb_base.specs.declared.roomed.TheConstants.{MAX_MEMBERS};
@@ -27,6 +27,17 @@ impl Queues {
         ensures within { IfSome (option_copied result) (λ m. length m ≤ MAX_MEMBERS) }
     {
         Some(self.lists(at)?.messages(lane))
+    }
+
+    /// None of the messages of a lane of a place has a greater priority.
+    pub fn bound_at(&self, at: EntryPlace, lane: Lane) -> u8
+        ensures { IfSome (lists_at self.now.lists at)
+            (λ l. All (λ m. m.priority ≤ result) (messages_in lane l)) }
+    {
+        match self.lists(at) {
+            Some(lists) => lists.bound(lane),
+            None => 0,
+        }
     }
 
     /// Where the first message of a place stands, where the place is there and has one that can be taken.
