@@ -1,6 +1,4 @@
-use mqb_base::{
-    Bytes, Class, Delivery, Guid, Memory, Message, MessageId, QueueName, Units,
-};
+use mqb_base::{Bytes, Class, Delivery, Guid, Memory, Message, MessageId, QueueName, Units};
 use std::alloc::Global;
 
 /// A value that can stand in a vacated slot.

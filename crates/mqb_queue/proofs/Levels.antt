@@ -40,44 +40,44 @@ at_level_removed k (suc at) m (x ∷ xs) is = omega (arith, at_level_removed k a
 pub counted_more : (counts : List ℕ) (xs ys : List Message) (l : ℕ) → Counted counts xs → ((k : ℕ) → at_level k ys ≡ at_level k xs + one_at k l)
     → Counted (set counts l (get_or counts l 0 + 1)) ys
 counted_more counts xs ys l c more = record {
-      eight = length-set counts l (get_or counts l 0 + 1) ∙ c.eight;
-      counted = λ k within. at k within (eqb k l) refl;
-    }
+  eight = length-set counts l (get_or counts l 0 + 1) ∙ c.eight;
+  counted = λ k within. at k within (eqb k l) refl;
+}
   where
     at : (k : ℕ) → k < 8 → (b : Bool) → eqb k l ≡ b → get_or (set counts l (get_or counts l 0 + 1)) k 0 ≡ at_level k ys
     at k within true is =
         let same : k ≡ l = eqb-true k l is in
         let one : one_at k l ≡ 1 = ap (λ (b : Bool). cond b 1 0) is in
         let stands : get_or (set counts l (get_or counts l 0 + 1)) k 0 ≡ get_or counts k 0 + 1 =
-            subst (λ (j : ℕ). get_or (set counts j (get_or counts j 0 + 1)) k 0 ≡ get_or counts k 0 + 1) same
-            (get_or-set_same counts k (get_or counts k 0 + 1) 0 (omega (arith, within, c.eight))) in
+        subst (λ (j : ℕ). get_or (set counts j (get_or counts j 0 + 1)) k 0 ≡ get_or counts k 0 + 1) same
+        (get_or-set_same counts k (get_or counts k 0 + 1) 0 (omega (arith, within, c.eight))) in
         omega (arith, stands, one, more k, c.counted k within)
     at k within false is =
         let one : one_at k l ≡ 0 = ap (λ (b : Bool). cond b 1 0) is in
         let stands : get_or (set counts l (get_or counts l 0 + 1)) k 0 ≡ get_or counts k 0 =
-            get_or-set_other counts l k (get_or counts l 0 + 1) 0 (λ e. true≢false (sym (eq-eqb k l e) ∙ is)) in
+        get_or-set_other counts l k (get_or counts l 0 + 1) 0 (λ e. true≢false (sym (eq-eqb k l e) ∙ is)) in
         omega (arith, stands, one, more k, c.counted k within)
 
 -- one less is counted
 pub counted_less : (counts : List ℕ) (xs ys : List Message) (l : ℕ) → Counted counts xs → ((k : ℕ) → at_level k ys + one_at k l ≡ at_level k xs)
     → Counted (set counts l (get_or counts l 0 - 1)) ys
 counted_less counts xs ys l c less = record {
-      eight = length-set counts l (get_or counts l 0 - 1) ∙ c.eight;
-      counted = λ k within. at k within (eqb k l) refl;
-    }
+  eight = length-set counts l (get_or counts l 0 - 1) ∙ c.eight;
+  counted = λ k within. at k within (eqb k l) refl;
+}
   where
     at : (k : ℕ) → k < 8 → (b : Bool) → eqb k l ≡ b → get_or (set counts l (get_or counts l 0 - 1)) k 0 ≡ at_level k ys
     at k within true is =
         let same : k ≡ l = eqb-true k l is in
         let one : one_at k l ≡ 1 = ap (λ (b : Bool). cond b 1 0) is in
         let stands : get_or (set counts l (get_or counts l 0 - 1)) k 0 ≡ get_or counts k 0 - 1 =
-            subst (λ (j : ℕ). get_or (set counts j (get_or counts j 0 - 1)) k 0 ≡ get_or counts k 0 - 1) same
-            (get_or-set_same counts k (get_or counts k 0 - 1) 0 (omega (arith, within, c.eight))) in
+        subst (λ (j : ℕ). get_or (set counts j (get_or counts j 0 - 1)) k 0 ≡ get_or counts k 0 - 1) same
+        (get_or-set_same counts k (get_or counts k 0 - 1) 0 (omega (arith, within, c.eight))) in
         omega (arith, stands, one, less k, c.counted k within)
     at k within false is =
         let one : one_at k l ≡ 0 = ap (λ (b : Bool). cond b 1 0) is in
         let stands : get_or (set counts l (get_or counts l 0 - 1)) k 0 ≡ get_or counts k 0 =
-            get_or-set_other counts l k (get_or counts l 0 - 1) 0 (λ e. true≢false (sym (eq-eqb k l e) ∙ is)) in
+        get_or-set_other counts l k (get_or counts l 0 - 1) 0 (λ e. true≢false (sym (eq-eqb k l e) ∙ is)) in
         omega (arith, stands, one, less k, c.counted k within)
 
 -- one that is there is counted

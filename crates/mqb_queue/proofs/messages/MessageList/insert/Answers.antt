@@ -11,7 +11,7 @@ count_more-requires c =
     let k : ℕ = level c.args.message.priority in
     let within : k < 8 = omega arith in
     let there : length c.self.inside.messages.items < c.self.inside.messages.room =
-        subst (λ (r : Room Message). length r.items < r.room) (sym c.self.view_is) c.requires.room in
+    subst (λ (r : Room Message). length r.items < r.room) (sym c.self.view_is) c.requires.room in
     omega (arith, c.self.invariant.1.counted k within, at_level_most k c.self.inside.messages.items, c.room.ensures.room, there)
 
 pub invariant_of-self : goal.invariant_of-self
@@ -19,9 +19,10 @@ invariant_of-self c =
     let old = c.self.inside.messages.items in
     let m = c.args.message in
     let items : c.insert.new.self.items ≡ insert old c.args.at m = ap (λ (r : Room Message). r.items) c.insert.ensures in
-    let top : c.max-self-inside.result ≡ max c.self.inside.top m.priority = c.max-self-inside.ensures in
-    (subst (λ (ms : List Message). All (λ n. n.priority ≤ c.max-self-inside.result) ms) (sym items)
-        (all_inserted c.self.inside.top c.max-self-inside.result c.args.at m old (omega (arith, top)) (omega (arith, top)) c.self.invariant.0),
-    subst (λ (ms : List Message). Counted c.count_more.new.counts ms) (sym items)
-        (subst (λ (ns : List ℕ). Counted ns (insert old c.args.at m)) (sym c.count_more.ensures)
-        (counted_more c.self.inside.counts old (insert old c.args.at m) (level m.priority) c.self.invariant.1 (λ k. at_level_inserted k c.args.at m old))))
+    let top : c.max-self-inside.result ≡ max c.self.inside.top m.priority = c.max-self-inside.ensures in (
+      subst (λ (ms : List Message). All (λ n. n.priority ≤ c.max-self-inside.result) ms) (sym items)
+          (all_inserted c.self.inside.top c.max-self-inside.result c.args.at m old (omega (arith, top)) (omega (arith, top)) c.self.invariant.0),
+      subst (λ (ms : List Message). Counted c.count_more.new.counts ms) (sym items)
+          (subst (λ (ns : List ℕ). Counted ns (insert old c.args.at m)) (sym c.count_more.ensures)
+          (counted_more c.self.inside.counts old (insert old c.args.at m) (level m.priority) c.self.invariant.1 (λ k. at_level_inserted k c.args.at m old))),
+    )

@@ -15,10 +15,11 @@ pub invariant_of-self : goal.invariant_of-self
 invariant_of-self c =
     let old = c.self.inside.messages.items in
     let m = c.remove-message.result in
-    let items : c.remove-message.new.self.items ≡ remove old c.args.at = ap (λ (r : Room Message). r.items) c.remove-message.ensures.rest in
-    (subst (λ (ms : List Message). All (λ n. n.priority ≤ c.self.inside.top) ms) (sym items)
-        (all_left (λ n. n.priority ≤ c.self.inside.top) old c.args.at c.self.invariant.0),
-    subst (λ (ms : List Message). Counted c.count_less.new.counts ms) (sym items)
-        (subst (λ (ns : List ℕ). Counted ns (remove old c.args.at)) (sym c.count_less.ensures)
-        (counted_less c.self.inside.counts old (remove old c.args.at) (level m.priority) c.self.invariant.1
-        (λ k. at_level_removed k c.args.at m old c.remove-message.ensures.removed))))
+    let items : c.remove-message.new.self.items ≡ remove old c.args.at = ap (λ (r : Room Message). r.items) c.remove-message.ensures.rest in (
+      subst (λ (ms : List Message). All (λ n. n.priority ≤ c.self.inside.top) ms) (sym items)
+          (all_left (λ n. n.priority ≤ c.self.inside.top) old c.args.at c.self.invariant.0),
+      subst (λ (ms : List Message). Counted c.count_less.new.counts ms) (sym items)
+          (subst (λ (ns : List ℕ). Counted ns (remove old c.args.at)) (sym c.count_less.ensures)
+          (counted_less c.self.inside.counts old (remove old c.args.at) (level m.priority) c.self.invariant.1
+          (λ k. at_level_removed k c.args.at m old c.remove-message.ensures.removed))),
+    )
