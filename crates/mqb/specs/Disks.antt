@@ -1,4 +1,5 @@
 use Rattle.std.specs.Prelude.{[], ◌≡◌, false}
+use Rattle.std.specs.Option.{option_map}
 use Rattle.mqb_outside.specs.Disk.{View}
 use Rattle.mqb.specs.declared.no_disk.NoDisk.{NoDisk}
 
@@ -12,5 +13,6 @@ no_disk_view d = record {
   keeps_calls = false;
   calls = d.calls;
   faults = d.faults;
-  switch = record { arms = d.arms; restarts = d.restarts; last_pick = d.last_pick };
+  reached = d.reached;
+  switch = record { arms = d.arms; restarts = d.restarts; last_pick = d.last_pick; last_left = option_map (λ pick. []) d.last_pick };
 }

@@ -4,7 +4,7 @@ ghost use Rattle.mqb_outside.specs.Faults.{Rose};
 ghost use Rattle.mqb.specs.Disks.{no_disk_view};
 
 use mqb_base::Failed;
-use mqb_outside::{Disk, Mode, Pick, Power};
+use mqb_outside::{Disk, Mode, Pick, Power, reach};
 
 /// A disk that is not there: each call fails.
 #[derive(Debug, Drop)]
@@ -15,6 +15,7 @@ pub struct NoDisk {
     arms: u64,
     restarts: u64,
     last_pick: Option<Pick>,
+    reached: u64,
 }
 
 impl NoDisk {
@@ -26,6 +27,7 @@ impl NoDisk {
             arms: 0,
             restarts: 0,
             last_pick: None,
+            reached: 0,
         }
     }
 
@@ -33,6 +35,7 @@ impl NoDisk {
     fn fail(&mut self) -> Failed
         ensures calls { Counted 1 self.old.calls self.new.calls }
         ensures faults { Rose self.old.faults self.new.faults }
+        ensures reached { self.new.reached ≡ self.old.reached }
         ensures switch { (no_disk_view self.new).switch ≡ (no_disk_view self.old).switch }
     {
         self.calls = self.calls.saturating_add(1);
@@ -53,7 +56,8 @@ impl Disk for NoDisk {
         Err(self.fail())
     }
 
-    fn read_at(&mut self, _at: u64, _buf: &mut [u8]) -> Result<(), Failed> {
+    fn read_at(&mut self, at: u64, buf: &mut [u8]) -> Result<(), Failed> {
+        self.reached = reach(self.reached, at, buf.len());
         Err(self.fail())
     }
 

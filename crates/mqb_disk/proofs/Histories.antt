@@ -47,24 +47,24 @@ cut_leaves_events events n c (inl is) = (held events, is_left events, inr is)
 cut_leaves_events events n c (inr from) = from
 
 -- a call that was not kept
-pub quiet_time : (events later : List Event) (calls calls_later before after : ℕ) → later ≡ events → Elapses (view_of events calls before) (view_of later calls_later after)
-quiet_time events later calls calls_later before after is = subst (λ (l : List Event). Elapses (view_of events calls before) (view_of l calls_later after)) (sym is) (record {
+pub quiet_time : (events later : List Event) (calls calls_later before after reached further : ℕ) → later ≡ events → Elapses (view_of events calls before reached) (view_of later calls_later after further)
+quiet_time events later calls calls_later before after reached further is = subst (λ (l : List Event). Elapses (view_of events calls before reached) (view_of l calls_later after further)) (sym is) (record {
   later = omega arith;
   nothing_else = λ t c le left. inl left;
   keeps = λ t c le left. left;
   keeping = λ _. true;
 })
 
-quiet_unchanged : (events : List Event) (calls calls_later before after : ℕ) → Unchanged (view_of events calls before) (view_of events calls_later after)
-quiet_unchanged events calls calls_later before after = record {
+quiet_unchanged : (events : List Event) (calls calls_later before after reached further : ℕ) → Unchanged (view_of events calls before reached) (view_of events calls_later after further)
+quiet_unchanged events calls calls_later before after reached further = record {
   reads = record { none_new = λ c told. told; none_lost = λ c told. told };
   leaves = record { none_new = λ c told. told; none_lost = λ c told. told };
 }
 
-pub quiet_reads : (room : ℕ) (events later : List Event) (calls calls_later before after : ℕ) → All (reaches_within room) events → room ≤ MAX_DISK → later ≡ events → OnlyReads (view_of events calls before) (view_of later calls_later after)
-quiet_reads room events later calls calls_later before after within small is = subst (λ (l : List Event). OnlyReads (view_of events calls before) (view_of l calls_later after)) (sym is)
-    (reads_once (view_of events calls before) (view_of events calls_later after) (lawful_of room events calls before within small)
-    (quiet_unchanged events calls calls_later before after) (quiet_time events events calls calls_later before after refl) refl)
+pub quiet_reads : (room : ℕ) (events later : List Event) (calls calls_later before after reached further : ℕ) → All (reaches_within room) events → room ≤ MAX_DISK → later ≡ events → OnlyReads (view_of events calls before reached) (view_of later calls_later after further)
+quiet_reads room events later calls calls_later before after reached further within small is = subst (λ (l : List Event). OnlyReads (view_of events calls before reached) (view_of l calls_later after further)) (sym is)
+    (reads_once (view_of events calls before reached) (view_of events calls_later after further) (lawful_of room events calls before reached within small)
+    (quiet_unchanged events calls calls_later before after reached further) (quiet_time events events calls calls_later before after reached further refl) refl)
 
 pub quiet_torn : (events later : List Event) (at n : ℕ) → later ≡ events → Follows (Torn at n) (ImageAt events) (ImageAt later)
 quiet_torn events later at n is c image = (c, subst (λ (l : List Event). ImageAt l c) is image, nothing_torn at n c)

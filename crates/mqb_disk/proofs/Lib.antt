@@ -1,3 +1,4 @@
 pub mod Contents
 pub mod Tears
 pub mod Histories
+pub mod Walks

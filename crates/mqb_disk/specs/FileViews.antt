@@ -2,7 +2,7 @@ use Rattle.std.specs.Prelude.{Bool, false, None}
 use Rattle.mqb_outside.specs.Disk.{View}
 use Rattle.mqb_disk.specs.declared.file_disk.FileDisk.{FileDisk}
 
--- what a disk in a file tells: its calls and its faults alone
+-- what a disk in a file tells: its calls, its faults and how far it was read
 abbrev pub file_view : FileDisk → View
 file_view d = record {
   reads = λ c. ⊥;
@@ -12,7 +12,8 @@ file_view d = record {
   keeps_calls = false;
   calls = d.calls;
   faults = d.faults;
-  switch = record { arms = 0; restarts = 0; last_pick = None };
+  reached = d.reached;
+  switch = record { arms = 0; restarts = 0; last_pick = None; last_left = None };
 }
 
 -- whether it only reads its file, as others may at the same time

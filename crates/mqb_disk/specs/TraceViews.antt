@@ -4,9 +4,9 @@ use Rattle.mqb_disk.specs.History.{Event, history, held, ImageAt, Since}
 use Rattle.mqb_disk.specs.declared.trace_disk.Call.{Call}
 use Rattle.mqb_disk.specs.declared.trace_disk.TraceDisk.{TraceDisk}
 
--- what a disk tells after these events, so many calls and so many faults
-abbrev pub view_of : List Event → ℕ → ℕ → View
-view_of events calls faults = record {
+-- what a disk tells after these events, so many calls and so many faults, read as far as that
+abbrev pub view_of : List Event → ℕ → ℕ → ℕ → View
+view_of events calls faults reached = record {
   reads = λ c. c ≡ held events;
   leaves = ImageAt events;
   moment = length events;
@@ -14,7 +14,8 @@ view_of events calls faults = record {
   keeps_calls = true;
   calls = calls;
   faults = faults;
-  switch = record { arms = 0; restarts = 0; last_pick = None };
+  reached = reached;
+  switch = record { arms = 0; restarts = 0; last_pick = None; last_left = None };
 }
 
 -- the calls that changed it, the last of them first
@@ -22,7 +23,7 @@ abbrev pub history_of : TraceDisk → List Event
 history_of d = history d.bytes.items d.calls.items
 
 abbrev pub trace_view : TraceDisk → View
-trace_view d = view_of (history_of d) d.made d.faults
+trace_view d = view_of (history_of d) d.made d.faults d.reached
 
 -- the calls that changed it so far, in order
 abbrev pub calls_of : TraceDisk → List Call

@@ -20,7 +20,8 @@ memory_view d = record {
   keeps_calls = false;
   calls = d.switch.calls;
   faults = d.switch.faults;
-  switch = record { arms = d.switch.arms; restarts = d.switch.restarts; last_pick = d.switch.last_pick };
+  reached = d.reached;
+  switch = record { arms = d.switch.arms; restarts = d.switch.restarts; last_pick = d.switch.last_pick; last_left = d.switch.last_left.contents };
 }
 
 -- what it keeps

@@ -5,7 +5,7 @@ ghost use Rattle.mqb_disk.specs.FileViews.{file_view, is_shared};
 
 use crate::open_fault::{OpenFault, fault_of};
 use mqb_base::Failed;
-use mqb_outside::{Disk, MAX_DISK};
+use mqb_outside::{Disk, MAX_DISK, reach};
 use std::fs::{self, File, OpenOptions};
 use std::io;
 use std::os::unix::fs::FileExt;
@@ -20,6 +20,8 @@ pub struct FileDisk {
     is_shared: bool,
     calls: u64,
     faults: u64,
+    // Where the furthest read ends.
+    reached: u64,
 }
 
 impl FileDisk {
@@ -28,6 +30,7 @@ impl FileDisk {
         ensures shared { IfOk result (λ disk. is_shared disk ≡ false) }
         ensures calls { IfOk result (λ disk. (file_view disk).calls ≡ 0) }
         ensures faults { IfOk result (λ disk. (file_view disk).faults ≡ 0) }
+        ensures reached { IfOk result (λ disk. (file_view disk).reached ≡ 0) }
     {
         match open_locked(rt, path) {
             Ok(file) => Ok(FileDisk::over(file, false)),
@@ -40,6 +43,7 @@ impl FileDisk {
         ensures shared { IfOk result (λ disk. is_shared disk ≡ true) }
         ensures calls { IfOk result (λ disk. (file_view disk).calls ≡ 0) }
         ensures faults { IfOk result (λ disk. (file_view disk).faults ≡ 0) }
+        ensures reached { IfOk result (λ disk. (file_view disk).reached ≡ 0) }
     {
         match open_to_read(rt, path) {
             Ok(file) => Ok(FileDisk::over(file, true)),
@@ -52,6 +56,7 @@ impl FileDisk {
         ensures shared { IfOk result (λ disk. is_shared disk ≡ false) }
         ensures calls { IfOk result (λ disk. (file_view disk).calls ≡ 0) }
         ensures faults { IfOk result (λ disk. (file_view disk).faults ≡ 0) }
+        ensures reached { IfOk result (λ disk. (file_view disk).reached ≡ 0) }
     {
         match make(rt, path) {
             Ok(file) => Ok(FileDisk::over(file, false)),
@@ -63,12 +68,14 @@ impl FileDisk {
         ensures shared { is_shared result ≡ shared }
         ensures calls { (file_view result).calls ≡ 0 }
         ensures faults { (file_view result).faults ≡ 0 }
+        ensures reached { (file_view result).reached ≡ 0 }
     {
         FileDisk {
             file,
             is_shared: shared,
             calls: 0,
             faults: 0,
+            reached: 0,
         }
     }
 
@@ -77,6 +84,7 @@ impl FileDisk {
         ensures calls { Counted 1 self.old.calls self.new.calls }
         ensures cause { HasCause self.old.faults self.new.faults result }
         ensures same { IfOk result (λ value. done ≡ Ok value) }
+        ensures reached { self.new.reached ≡ self.old.reached }
     {
         self.calls = self.calls.saturating_add(1);
         match done {
@@ -185,6 +193,7 @@ impl Disk for FileDisk {
     }
 
     fn read_at(&mut self, at: u64, buf: &mut [u8]) -> Result<(), Failed> {
+        self.reached = reach(self.reached, at, buf.len());
         let done = self.file.read_exact_at(buf, at);
         self.note(done)
     }
@@ -193,6 +202,7 @@ impl Disk for FileDisk {
         requires { at + length bytes.now < 2 ^ 64 }
         ensures refused { is_shared self.old ≡ true → IsErr result }
         ensures bound { OnOk result (at + length bytes.now ≤ MAX_DISK) }
+        ensures reached { (file_view self.new).reached ≡ (file_view self.old).reached }
         ensures calls { Counted 1 (file_view self.old).calls (file_view self.new).calls }
         ensures cause { HasCause (file_view self.old).faults (file_view self.new).faults result }
     {
@@ -202,6 +212,7 @@ impl Disk for FileDisk {
 
     fn cut(&mut self, len: u64) -> Result<(), Failed>
         ensures refused { is_shared self.old ≡ true → IsErr result }
+        ensures reached { (file_view self.new).reached ≡ (file_view self.old).reached }
         ensures calls { Counted 1 (file_view self.old).calls (file_view self.new).calls }
         ensures cause { HasCause (file_view self.old).faults (file_view self.new).faults result }
     {
@@ -211,6 +222,7 @@ impl Disk for FileDisk {
 
     fn sync(&mut self) -> Result<(), Failed>
         ensures refused { is_shared self.old ≡ true → IsErr result }
+        ensures reached { (file_view self.new).reached ≡ (file_view self.old).reached }
         ensures calls { Counted 1 (file_view self.old).calls (file_view self.new).calls }
         ensures cause { HasCause (file_view self.old).faults (file_view self.new).faults result }
     {

@@ -7,6 +7,7 @@
 mod change;
 mod file_disk;
 mod image;
+mod last_left;
 mod memory_disk;
 mod open_fault;
 mod switch;

@@ -10,7 +10,7 @@ use crate::change::{Change, replay};
 use crate::image::Image;
 use crate::switch::{PowerSwitch, Turn};
 use mqb_base::{Failed, Memory};
-use mqb_outside::{Disk, MAX_DISK, Mode, Pick, Power};
+use mqb_outside::{Disk, MAX_DISK, Mode, Pick, Power, reach};
 use std::alloc::Global;
 
 /// How many ranges a disk in memory keeps between two syncs.
@@ -28,6 +28,8 @@ pub struct MemoryDisk {
     // Up to here the two are alike.
     clean: usize,
     changes: Vec<Change>,
+    // Where the furthest read ends.
+    reached: u64,
     switch: PowerSwitch,
     ghost same_room: { current.room ≡ safe.room },
     ghost clean_current: { clean ≤ length current.contents },
@@ -52,6 +54,9 @@ impl MemoryDisk {
         ensures settled { IfOk result (λ disk. IsSettled (⟦<MemoryDisk as Disk>⟧.view disk)) }
         ensures faults { IfOk result (λ disk. (⟦<MemoryDisk as Disk>⟧.view disk).faults ≡ 0) }
         ensures calls { IfOk result (λ disk. (⟦<MemoryDisk as Disk>⟧.view disk).calls ≡ 0) }
+        ensures reached { IfOk result (λ disk. (⟦<MemoryDisk as Disk>⟧.view disk).reached ≡ 0) }
+        ensures last_left { IfOk result
+            (λ disk. (⟦<MemoryDisk as Disk>⟧.view disk).switch.last_left ≡ None) }
         ensures noted { IfOk result (λ disk. noted disk ≡ 0) }
         ensures power { IfOk result (λ disk. power_of disk ≡ switched_on) }
     {
@@ -61,6 +66,7 @@ impl MemoryDisk {
             safe: Image::new(alloc, room)?,
             clean: 0,
             changes: Vec::with_capacity(alloc, MAX_CHANGES)?,
+            reached: 0,
             switch: PowerSwitch::new(),
         })
     }
@@ -69,6 +75,7 @@ impl MemoryDisk {
     pub fn arm_restart(&mut self)
         ensures power { power_of self.new ≡ record (power_of self.old) { restart_is_armed = true } }
         ensures stored { stored self.new ≡ stored self.old }
+        ensures reached { (memory_view self.new).reached ≡ (memory_view self.old).reached }
         ensures calls { (memory_view self.new).calls ≡ (memory_view self.old).calls }
         ensures faults { (memory_view self.new).faults ≡ (memory_view self.old).faults }
         ensures switch { (memory_view self.new).switch ≡ (memory_view self.old).switch }
@@ -93,6 +100,7 @@ impl MemoryDisk {
         ensures noted { self.new.changes.items ≡ self.old.changes.items
             ++ Wrote at (length bytes.now) ∷ [] }
         ensures safe { self.new.safe ≡ self.old.safe }
+        ensures reached { self.new.reached ≡ self.old.reached }
         ensures switch { self.new.switch ≡ self.old.switch }
     {
         self.current.write(at, bytes);
@@ -113,6 +121,7 @@ impl MemoryDisk {
         ensures cut { IsCut len self.old.current.contents self.new.current.contents }
         ensures noted { self.new.changes.items ≡ self.old.changes.items ++ Cut len ∷ [] }
         ensures safe { self.new.safe ≡ self.old.safe }
+        ensures reached { self.new.reached ≡ self.old.reached }
         ensures switch { self.new.switch ≡ self.old.switch }
     {
         self.current.cut(len);
@@ -127,7 +136,7 @@ impl Disk for MemoryDisk {
     ghost use Rattle.std.specs.Prelude.{◌≢◌, drop, IsOk, OnOk, OnErr};
     ghost use Rattle.mqb_outside.specs.Faults.{HasCause};
     ghost use Rattle.mqb_outside.specs.Images.{Each, Same, Follows, Torn, MayBeCut};
-    ghost use Rattle.mqb_outside.specs.Disk.{OnlyReads, Elapses, Counted};
+    ghost use Rattle.mqb_outside.specs.Disk.{OnlyReads, Elapses, Counted, reached_by};
     ghost use Rattle.mqb_disk.specs.Turns.{turn_of, after_turn};
     ghost use Rattle.mqb_disk.specs.Views.{memory_view, stored, changes_of, contents, power_of, room, noted, Takes};
     ghost use Rattle.mqb_disk.specs.lemmas.Views.{memory_lawful};
@@ -144,6 +153,7 @@ impl Disk for MemoryDisk {
         ensures length { IfOk result (λ n. n ≡ length (contents self.old)) }
         ensures bound { IfOk result (λ n. n ≤ MAX_DISK) }
         ensures reads { OnlyReads (memory_view self.old) (memory_view self.new) }
+        ensures reached { (memory_view self.new).reached ≡ (memory_view self.old).reached }
         ensures calls { Counted 1 (memory_view self.old).calls (memory_view self.new).calls }
         ensures cause { HasCause (memory_view self.old).faults
             (memory_view self.new).faults result }
@@ -163,10 +173,13 @@ impl Disk for MemoryDisk {
         ensures bytes { OnOk result
             (buf.new ≡ take (length buf.old) (drop at (contents self.old))) }
         ensures reads { OnlyReads (memory_view self.old) (memory_view self.new) }
+        ensures reached { (memory_view self.new).reached
+            ≡ reached_by at (length buf.old) (memory_view self.old).reached }
         ensures calls { Counted 1 (memory_view self.old).calls (memory_view self.new).calls }
         ensures cause { HasCause (memory_view self.old).faults
             (memory_view self.new).faults result }
     {
+        self.reached = reach(self.reached, at, buf.len());
         let turn = self.switch.turn();
         if turn != Turn::Fails {
             self.current.read(at as usize, buf);
@@ -210,6 +223,7 @@ impl Disk for MemoryDisk {
             (memory_view self.new).leaves }
         ensures time { Elapses (memory_view self.old) (memory_view self.new) }
         ensures switch { (memory_view self.new).switch ≡ (memory_view self.old).switch }
+        ensures reached { (memory_view self.new).reached ≡ (memory_view self.old).reached }
         ensures calls { Counted 1 (memory_view self.old).calls (memory_view self.new).calls }
         ensures cause { HasCause (memory_view self.old).faults
             (memory_view self.new).faults result }
@@ -252,6 +266,7 @@ impl Disk for MemoryDisk {
             (memory_view self.new).leaves }
         ensures time { Elapses (memory_view self.old) (memory_view self.new) }
         ensures switch { (memory_view self.new).switch ≡ (memory_view self.old).switch }
+        ensures reached { (memory_view self.new).reached ≡ (memory_view self.old).reached }
         ensures calls { Counted 1 (memory_view self.old).calls (memory_view self.new).calls }
         ensures cause { HasCause (memory_view self.old).faults
             (memory_view self.new).faults result }
@@ -283,6 +298,7 @@ impl Disk for MemoryDisk {
         ensures leaves { Each (memory_view self.new).leaves (memory_view self.old).leaves }
         ensures time { Elapses (memory_view self.old) (memory_view self.new) }
         ensures switch { (memory_view self.new).switch ≡ (memory_view self.old).switch }
+        ensures reached { (memory_view self.new).reached ≡ (memory_view self.old).reached }
         ensures calls { Counted 1 (memory_view self.old).calls (memory_view self.new).calls }
         ensures cause { HasCause (memory_view self.old).faults
             (memory_view self.new).faults result }
@@ -320,8 +336,11 @@ impl Power for MemoryDisk {
             ≡ (memory_view self.old).switch.restarts }
         ensures pick { (memory_view self.new).switch.last_pick
             ≡ (memory_view self.old).switch.last_pick }
+        ensures last_left { (memory_view self.new).switch.last_left
+            ≡ (memory_view self.old).switch.last_left }
         ensures unchanged { Unchanged (memory_view self.old) (memory_view self.new) }
         ensures time { Elapses (memory_view self.old) (memory_view self.new) }
+        ensures reached { (memory_view self.new).reached ≡ (memory_view self.old).reached }
         ensures calls { (memory_view self.new).calls ≡ (memory_view self.old).calls }
         ensures faults { (memory_view self.new).faults ≡ (memory_view self.old).faults }
     {
@@ -343,13 +362,16 @@ impl Power for MemoryDisk {
         ensures restarts { Counted 1 (memory_view self.old).switch.restarts
             (memory_view self.new).switch.restarts }
         ensures pick { (memory_view self.new).switch.last_pick ≡ Some pick }
+        ensures last_left { Each (memory_view self.new).reads
+            (λ c. (memory_view self.new).switch.last_left ≡ Some c) }
+        ensures reached { (memory_view self.new).reached ≡ (memory_view self.old).reached }
         ensures calls { (memory_view self.new).calls ≡ (memory_view self.old).calls }
         ensures time { Elapses (memory_view self.old) (memory_view self.new) }
         ensures faults { (memory_view self.new).faults ≡ (memory_view self.old).faults }
     {
-        self.switch.restart(pick);
         replay(&mut self.safe, &self.current, &self.changes, pick);
         self.current.follow(&self.safe, 0);
+        self.switch.restart(pick, &self.current);
         self.changes.clear();
         self.clean = self.current.len();
     }

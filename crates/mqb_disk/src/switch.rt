@@ -2,6 +2,8 @@ ghost use Rattle.std.specs.Prelude.{◌≡◌, ◌≤◌, Some, None, true, fals
 ghost use Rattle.mqb_outside.specs.Faults.{Rose};
 ghost use Rattle.mqb_outside.specs.Disk.{Counted};
 
+use crate::image::Image;
+use crate::last_left::LastLeft;
 use mqb_outside::{Mode, Pick};
 
 /// What comes of a device call.
@@ -36,6 +38,7 @@ pub(crate) struct PowerSwitch {
     pub(crate) arms: u64,
     pub(crate) restarts: u64,
     pub(crate) last_pick: Option<Pick>,
+    pub(crate) last_left: LastLeft,
 }
 
 impl PowerSwitch {
@@ -49,6 +52,7 @@ impl PowerSwitch {
         ensures arms { result.arms ≡ 0 }
         ensures restarts { result.restarts ≡ 0 }
         ensures pick { result.last_pick ≡ None }
+        ensures last_left { result.last_left.contents ≡ None }
     {
         PowerSwitch {
             armed: None,
@@ -60,6 +64,7 @@ impl PowerSwitch {
             arms: 0,
             restarts: 0,
             last_pick: None,
+            last_left: LastLeft::none(),
         }
     }
 
@@ -74,6 +79,7 @@ impl PowerSwitch {
         ensures arms { self.new.arms ≡ self.old.arms }
         ensures restarts { self.new.restarts ≡ self.old.restarts }
         ensures pick { self.new.last_pick ≡ self.old.last_pick }
+        ensures last_left { self.new.last_left ≡ self.old.last_left }
     {
         self.calls = self.calls.saturating_add(1);
         let turn = self.next_turn();
@@ -91,6 +97,7 @@ impl PowerSwitch {
         ensures arms { self.new.arms ≡ self.old.arms }
         ensures restarts { self.new.restarts ≡ self.old.restarts }
         ensures pick { self.new.last_pick ≡ self.old.last_pick }
+        ensures last_left { self.new.last_left ≡ self.old.last_left }
     {
         if self.stopped {
             return Turn::Fails;
@@ -131,11 +138,12 @@ impl PowerSwitch {
         self.arms = self.arms.saturating_add(1);
     }
 
-    /// The power is on again.
-    pub(crate) fn restart(&mut self, pick: Pick)
+    /// The power is on again, over what the restart left.
+    pub(crate) fn restart(&mut self, pick: Pick, left: &Image)
         ensures power { power_in self.new ≡ after_restart (power_in self.old) }
         ensures counted { Counted 1 self.old.restarts self.new.restarts }
         ensures pick { self.new.last_pick ≡ Some pick }
+        ensures last_left { self.new.last_left.contents ≡ Some left.now.contents }
         ensures calls { self.new.calls ≡ self.old.calls }
         ensures faults { self.new.faults ≡ self.old.faults }
         ensures arms { self.new.arms ≡ self.old.arms }
@@ -146,5 +154,6 @@ impl PowerSwitch {
         self.restart_is_armed = false;
         self.restarts = self.restarts.saturating_add(1);
         self.last_pick = Some(pick);
+        self.last_left = LastLeft::of(left);
     }
 }

@@ -7,7 +7,7 @@ ghost use Rattle.mqb_outside.specs.declared.disk.TheConstants.{MAX_DISK};
 
 use crate::image::Image;
 use mqb_base::{Failed, Memory};
-use mqb_outside::{Disk, MAX_DISK};
+use mqb_outside::{Disk, MAX_DISK, reach};
 use std::alloc::Global;
 
 /// A call that changed a disk. The bytes of a write stand among those of all writes, from `from` on.
@@ -27,6 +27,8 @@ pub struct TraceDisk {
     calls: Vec<Call>,
     bytes: Vec<u8>,
     reads: Vec<(u64, u64)>,
+    // Where the furthest read ends.
+    reached: u64,
     made: u64,
     faults: u64,
     ghost within: { All (fits (vec_len bytes)) calls.items },
@@ -50,6 +52,7 @@ impl TraceDisk {
         ensures room { IfOk result (λ disk. room disk ≡ min capacity MAX_DISK) }
         ensures left { IfOk result (λ disk. calls_left disk ≡ calls) }
         ensures bytes_left { IfOk result (λ disk. bytes_left disk ≡ room disk) }
+        ensures reached { IfOk result (λ disk. (⟦<TraceDisk as Disk>⟧.view disk).reached ≡ 0) }
         ensures calls { IfOk result (λ disk. (⟦<TraceDisk as Disk>⟧.view disk).calls ≡ 0) }
         ensures settled { IfOk result (λ disk. IsSettled (⟦<TraceDisk as Disk>⟧.view disk)) }
         ensures faults { IfOk result (λ disk. (⟦<TraceDisk as Disk>⟧.view disk).faults ≡ 0) }
@@ -61,6 +64,7 @@ impl TraceDisk {
             calls: Vec::with_capacity(alloc, calls as usize)?,
             bytes: Vec::with_capacity(alloc, room)?,
             reads: Vec::with_capacity(alloc, calls as usize)?,
+            reached: 0,
             made: 0,
             faults: 0,
         })
@@ -94,6 +98,7 @@ impl TraceDisk {
         ensures left { calls_left self.new ≡ calls_left self.old }
         ensures written { written_of self.new ≡ written_of self.old }
         ensures room { room self.new ≡ room self.old }
+        ensures reached { self.new.reached ≡ self.old.reached }
         ensures made { self.new.made ≡ self.old.made }
     {
         self.faults = self.faults.saturating_add(1);
@@ -110,6 +115,7 @@ impl TraceDisk {
         ensures left { calls_left self.new + 1 ≡ calls_left self.old }
         ensures written { written_of self.new ≡ written_of self.old ++ bytes.now }
         ensures room { room self.new ≡ room self.old }
+        ensures reached { self.new.reached ≡ self.old.reached }
         ensures made { self.new.made ≡ self.old.made }
         ensures faults { self.new.faults ≡ self.old.faults }
     {
@@ -135,6 +141,7 @@ impl TraceDisk {
         ensures left { calls_left self.new + 1 ≡ calls_left self.old }
         ensures written { written_of self.new ≡ written_of self.old }
         ensures room { room self.new ≡ room self.old }
+        ensures reached { self.new.reached ≡ self.old.reached }
         ensures made { self.new.made ≡ self.old.made }
         ensures faults { self.new.faults ≡ self.old.faults }
     {
@@ -147,7 +154,7 @@ impl TraceDisk {
 impl Disk for TraceDisk {
     ghost use Rattle.std.specs.Prelude.{◌↔◌, ◌^◌, take, drop, IsOk};
     ghost use Rattle.mqb_outside.specs.Images.{Each, Same, Follows, Written, Torn, IsCut, MayBeCut};
-    ghost use Rattle.mqb_outside.specs.Disk.{OnlyReads, Elapses, Counted};
+    ghost use Rattle.mqb_outside.specs.Disk.{OnlyReads, Elapses, Counted, reached_by};
     ghost use Rattle.mqb_outside.specs.Faults.{HasCause};
     ghost use Rattle.mqb_disk.specs.History.{Wrote as wrote, WasCut as was_cut, Synced as was_synced};
     ghost use Rattle.mqb_disk.specs.TraceViews.{trace_view, history_of, written_of, reads_of, room, bytes_left, calls_left, Keeps, Lists, Uses};
@@ -167,6 +174,7 @@ impl Disk for TraceDisk {
         ensures length { IfOk result (λ n. Each (trace_view self.old).reads (λ c. n ≡ length c)) }
         ensures bound { IfOk result (λ n. n ≤ MAX_DISK) }
         ensures reads { OnlyReads (trace_view self.old) (trace_view self.new) }
+        ensures reached { (trace_view self.new).reached ≡ (trace_view self.old).reached }
         ensures calls { Counted 1 (trace_view self.old).calls (trace_view self.new).calls }
         ensures cause { HasCause (trace_view self.old).faults (trace_view self.new).faults result }
     {
@@ -189,10 +197,13 @@ impl Disk for TraceDisk {
         ensures bytes { OnOk result
             (Each (trace_view self.old).reads (λ c. buf.new ≡ take (length buf.old) (drop at c))) }
         ensures reads { OnlyReads (trace_view self.old) (trace_view self.new) }
+        ensures reached { (trace_view self.new).reached
+            ≡ reached_by at (length buf.old) (trace_view self.old).reached }
         ensures calls { Counted 1 (trace_view self.old).calls (trace_view self.new).calls }
         ensures cause { HasCause (trace_view self.old).faults (trace_view self.new).faults result }
     {
         self.made = self.made.saturating_add(1);
+        self.reached = reach(self.reached, at, buf.len());
         if self.left == 0 {
             return Err(self.fail());
         }
@@ -221,6 +232,7 @@ impl Disk for TraceDisk {
             (trace_view self.new).leaves }
         ensures time { Elapses (trace_view self.old) (trace_view self.new) }
         ensures switch { (trace_view self.new).switch ≡ (trace_view self.old).switch }
+        ensures reached { (trace_view self.new).reached ≡ (trace_view self.old).reached }
         ensures calls { Counted 1 (trace_view self.old).calls (trace_view self.new).calls }
         ensures cause { HasCause (trace_view self.old).faults (trace_view self.new).faults result }
     {
@@ -247,6 +259,7 @@ impl Disk for TraceDisk {
             (trace_view self.new).leaves }
         ensures time { Elapses (trace_view self.old) (trace_view self.new) }
         ensures switch { (trace_view self.new).switch ≡ (trace_view self.old).switch }
+        ensures reached { (trace_view self.new).reached ≡ (trace_view self.old).reached }
         ensures calls { Counted 1 (trace_view self.old).calls (trace_view self.new).calls }
         ensures cause { HasCause (trace_view self.old).faults (trace_view self.new).faults result }
     {
@@ -270,6 +283,7 @@ impl Disk for TraceDisk {
         ensures leaves { Each (trace_view self.new).leaves (trace_view self.old).leaves }
         ensures time { Elapses (trace_view self.old) (trace_view self.new) }
         ensures switch { (trace_view self.new).switch ≡ (trace_view self.old).switch }
+        ensures reached { (trace_view self.new).reached ≡ (trace_view self.old).reached }
         ensures calls { Counted 1 (trace_view self.old).calls (trace_view self.new).calls }
         ensures cause { HasCause (trace_view self.old).faults (trace_view self.new).faults result }
     {

@@ -1,4 +1,4 @@
-use Rattle.std.specs.Prelude.{◌≡◌, ◌⊎◌, ℕ, ◌+◌, ◌≤◌, min, Bool, true, List, length, Option}
+use Rattle.std.specs.Prelude.{◌≡◌, ◌⊎◌, ℕ, ◌+◌, ◌≤◌, min, max, Bool, true, List, length, Option}
 use Rattle.mqb_outside.specs.Faults.{END}
 use Rattle.mqb_outside.specs.declared.power.Pick.{Pick}
 use Rattle.mqb_outside.specs.Images.{Each, Same}
@@ -9,6 +9,8 @@ pub record Switch : Type 0 where
   pub arms : ℕ
   pub restarts : ℕ
   pub last_pick : Option Pick
+  -- what the last restart left
+  pub last_left : Option (List ℕ)
 
 -- all that is told of a disk; where contents are not told, there are none
 pub record View : Type 1 where
@@ -26,6 +28,8 @@ pub record View : Type 1 where
   pub calls : ℕ
   -- how often it has failed
   pub faults : ℕ
+  -- where the furthest read that was asked for ends
+  pub reached : ℕ
   pub switch : Switch
 
 -- a crash leaves nothing else than what a read gives
@@ -63,6 +67,15 @@ pub record OnlyReads (old new : View) : Type 0 where
 pub record Counted (n before now : ℕ) : Type 0 where
   pub later : before ≤ now
   pub sum : now ≡ min (before + n) END
+
+-- a count went up by n at most
+pub record AtMost (n before now : ℕ) : Type 0 where
+  pub later : before ≤ now
+  pub most : now ≤ before + n
+
+-- where reads end after one more, of n bytes from a place on; such places end where counts do
+abbrev pub reached_by : ℕ → ℕ → ℕ → ℕ
+reached_by at n reached = max reached (min (at + n) END)
 
 -- laws of what is told
 pub record Lawful (d : View) : Type 0 where

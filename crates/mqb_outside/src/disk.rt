@@ -1,12 +1,19 @@
 ghost use Rattle.std.specs.Prelude.{◌≡◌, ◌+◌, ◌^◌, ◌<◌, ◌≤◌, length, take, drop, IfOk, OnOk};
 ghost use Rattle.mqb_outside.specs.Faults.{HasCause};
 ghost use Rattle.mqb_outside.specs.Images.{Each, Same, Follows, Written, Torn, IsCut, MayBeCut};
-ghost use Rattle.mqb_outside.specs.Disk.{View, IsSettled, Unchanged, OnlyReads, Elapses, Counted, Lawful};
+ghost use Rattle.mqb_outside.specs.Disk.{View, IsSettled, Unchanged, OnlyReads, Elapses, Counted, Lawful, reached_by};
 
 use mqb_base::Failed;
 
 /// The greatest length of a disk, in bytes.
 pub const MAX_DISK: u64 = 1 << 62;
+
+/// Where the furthest read ends after one more, of `n` bytes from a place on.
+pub fn reach(reached: u64, at: u64, n: usize) -> u64
+    ensures { result ≡ reached_by at n reached }
+{
+    reached.max(at.saturating_add(n as u64))
+}
 
 /// A store of bytes that a crash may tear. What was written is safe once a sync after it has answered Ok.
 ///
@@ -19,6 +26,7 @@ pub trait Disk {
         ensures length { IfOk result (λ n. Each (view self.old).reads (λ c. n ≡ length c)) }
         ensures bound { IfOk result (λ n. n ≤ MAX_DISK) }
         ensures reads { OnlyReads (view self.old) (view self.new) }
+        ensures reached { (view self.new).reached ≡ (view self.old).reached }
         ensures calls { Counted 1 (view self.old).calls (view self.new).calls }
         ensures cause { HasCause (view self.old).faults (view self.new).faults result };
 
@@ -28,6 +36,8 @@ pub trait Disk {
         ensures bytes { OnOk result
             (Each (view self.old).reads (λ c. buf.new ≡ take (length buf.old) (drop at c))) }
         ensures reads { OnlyReads (view self.old) (view self.new) }
+        ensures reached { (view self.new).reached
+            ≡ reached_by at (length buf.old) (view self.old).reached }
         ensures calls { Counted 1 (view self.old).calls (view self.new).calls }
         ensures cause { HasCause (view self.old).faults (view self.new).faults result };
 
@@ -42,6 +52,7 @@ pub trait Disk {
             (view self.new).leaves }
         ensures time { Elapses (view self.old) (view self.new) }
         ensures switch { (view self.new).switch ≡ (view self.old).switch }
+        ensures reached { (view self.new).reached ≡ (view self.old).reached }
         ensures calls { Counted 1 (view self.old).calls (view self.new).calls }
         ensures cause { HasCause (view self.old).faults (view self.new).faults result };
 
@@ -53,6 +64,7 @@ pub trait Disk {
         ensures leaves { Follows (MayBeCut len) (view self.old).leaves (view self.new).leaves }
         ensures time { Elapses (view self.old) (view self.new) }
         ensures switch { (view self.new).switch ≡ (view self.old).switch }
+        ensures reached { (view self.new).reached ≡ (view self.old).reached }
         ensures calls { Counted 1 (view self.old).calls (view self.new).calls }
         ensures cause { HasCause (view self.old).faults (view self.new).faults result };
 
@@ -63,6 +75,7 @@ pub trait Disk {
         ensures leaves { Each (view self.new).leaves (view self.old).leaves }
         ensures time { Elapses (view self.old) (view self.new) }
         ensures switch { (view self.new).switch ≡ (view self.old).switch }
+        ensures reached { (view self.new).reached ≡ (view self.old).reached }
         ensures calls { Counted 1 (view self.old).calls (view self.new).calls }
         ensures cause { HasCause (view self.old).faults (view self.new).faults result };
 

@@ -23,7 +23,7 @@ mod source;
 pub use clock::{Clock, FixedClock};
 pub use conn::Conn;
 pub use conn_plan::ConnPlan;
-pub use disk::{Disk, MAX_DISK};
+pub use disk::{Disk, MAX_DISK, reach};
 pub use medium::{Medium, MemoryMedium};
 pub use memory_conn::MemoryConn;
 pub use memory_net::MemoryNet;

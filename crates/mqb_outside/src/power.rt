@@ -43,9 +43,12 @@ pub trait Power: Disk {
             ≡ (Self.view self.old).switch.restarts }
         ensures pick { (Self.view self.new).switch.last_pick
             ≡ (Self.view self.old).switch.last_pick }
+        ensures last_left { (Self.view self.new).switch.last_left
+            ≡ (Self.view self.old).switch.last_left }
         ensures stopped { is_stopped self.new ≡ is_stopped self.old }
         ensures unchanged { Unchanged (Self.view self.old) (Self.view self.new) }
         ensures time { Elapses (Self.view self.old) (Self.view self.new) }
+        ensures reached { (Self.view self.new).reached ≡ (Self.view self.old).reached }
         ensures calls { (Self.view self.new).calls ≡ (Self.view self.old).calls }
         ensures faults { (Self.view self.new).faults ≡ (Self.view self.old).faults };
 
@@ -61,8 +64,11 @@ pub trait Power: Disk {
         ensures restarts { Counted 1 (Self.view self.old).switch.restarts
             (Self.view self.new).switch.restarts }
         ensures pick { (Self.view self.new).switch.last_pick ≡ Some pick }
+        ensures last_left { Each (Self.view self.new).reads
+            (λ c. (Self.view self.new).switch.last_left ≡ Some c) }
         ensures stopped { is_stopped self.new ≡ false }
         ensures time { Elapses (Self.view self.old) (Self.view self.new) }
+        ensures reached { (Self.view self.new).reached ≡ (Self.view self.old).reached }
         ensures calls { (Self.view self.new).calls ≡ (Self.view self.old).calls }
         ensures faults { (Self.view self.new).faults ≡ (Self.view self.old).faults };
 

@@ -27,8 +27,8 @@ pub counts_now : (events : List Event) (t : ℕ) (c : List ℕ) → t ≤ length
 counts_now [] t c le image = (le, image)
 counts_now (event ∷ events) t c le image = inl (le, image)
 
-pub lawful_of : (room : ℕ) (events : List Event) (calls faults : ℕ) → All (reaches_within room) events → room ≤ MAX_DISK → Lawful (view_of events calls faults)
-lawful_of room events calls faults within small = record {
+pub lawful_of : (room : ℕ) (events : List Event) (calls faults reached : ℕ) → All (reaches_within room) events → room ≤ MAX_DISK → Lawful (view_of events calls faults reached)
+lawful_of room events calls faults reached within small = record {
   one = λ a b is other. is ∙ sym other;
   is_left = λ c is. subst (ImageAt events) (sym is) (is_left events);
   only_now = λ c left. since_now events c left;
@@ -38,4 +38,4 @@ lawful_of room events calls faults within small = record {
 }
 
 pub trace_lawful : (d : TraceDisk) → Lawful (trace_view d)
-trace_lawful d = lawful_of d.current.room (history_of d) d.made d.faults d.bounded d.small
+trace_lawful d = lawful_of d.current.room (history_of d) d.made d.faults d.reached d.bounded d.small

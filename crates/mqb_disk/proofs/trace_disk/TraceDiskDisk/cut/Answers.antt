@@ -3,7 +3,7 @@ use Rattle.mqb_disk.proofs.Histories.{quiet_time, quiet_cut, kept_cut}
 use Rattle.mqb_disk.proofs.trace_disk.TraceDiskDisk.cut.Goals as goal
 
 pub returns-then-self-eq0-clause-time : goal.returns-then-self-eq0-clause-time
-returns-then-self-eq0-clause-time c = quiet_time (history c.args.self.now.bytes.items c.args.self.now.calls.items) _ _ _ _ _ c.fail.ensures.kept
+returns-then-self-eq0-clause-time c = quiet_time (history c.args.self.now.bytes.items c.args.self.now.calls.items) _ _ _ _ _ _ _ c.fail.ensures.kept
 
 pub returns-then-self-eq0-clause-leaves : goal.returns-then-self-eq0-clause-leaves
 returns-then-self-eq0-clause-leaves c = quiet_cut (history c.args.self.now.bytes.items c.args.self.now.calls.items) _ c.args.len c.fail.ensures.kept

@@ -4,7 +4,7 @@ use Rattle.mqb_disk.proofs.Histories.{quiet_time, quiet_torn, kept_torn}
 use Rattle.mqb_disk.proofs.trace_disk.TraceDiskDisk.write_at.Goals as goal
 
 pub returns-then-self-eq0-clause-time : goal.returns-then-self-eq0-clause-time
-returns-then-self-eq0-clause-time c = quiet_time (history c.args.self.now.bytes.items c.args.self.now.calls.items) _ _ _ _ _ c.fail.ensures.kept
+returns-then-self-eq0-clause-time c = quiet_time (history c.args.self.now.bytes.items c.args.self.now.calls.items) _ _ _ _ _ _ _ c.fail.ensures.kept
 
 pub returns-then-self-eq0-clause-leaves : goal.returns-then-self-eq0-clause-leaves
 returns-then-self-eq0-clause-leaves c = quiet_torn (history c.args.self.now.bytes.items c.args.self.now.calls.items) _ _ _ c.fail.ensures.kept
