@@ -1,19 +1,20 @@
 -- How a scan goes on.
-use Rattle.std.proofs.Common.{◌≡◌, ℕ, ◌+◌, List, [], ◌∷◌, ◌++◌, length, take, drop, true, false, refl, sym, ◌∙◌, ap, subst, arith, length-append}
+use Rattle.std.proofs.Common.{◌≡◌, Bool, ℕ, ◌+◌, List, [], ◌∷◌, ◌++◌, length, take, drop, true, false, refl, sym, ◌∙◌, ap, subst, arith, length-append}
 use Rattle.std.proofs.lemmas.List.{take-append-drop, append-nil, take_at}
 use Rattle.std.proofs.lemmas.List.Elements.{All-push, All-nil}
 use Rattle.mqb_base.specs.declared.ids.Guid.{Guid}
 use Rattle.mqb_outside.specs.Images.{Each}
 use Rattle.mqb_outside.specs.Disk.{View, OnlyReads}
 use Rattle.mqb_journal.specs.Store.{IsFront, IsSmall, header, chain}
-use Rattle.mqb_journal.specs.Scan.{IsClosedAt, HasNext}
+use Rattle.mqb_journal.specs.Scan.{HasGate, HasNext}
 use Rattle.mqb_journal.specs.States.{ScanState, begun, ended}
 use Rattle.mqb_journal.specs.Journals.{Lent}
 use Rattle.mqb_journal.specs.declared.limits.TheConstants.{HEADER}
 use Rattle.mqb_journal.proofs.Records.{length-chain-more, chained_more}
 
-pub lent_none : (d e : View) (guid : Guid) (len : ℕ) → OnlyReads d e → Each d.reads (λ c. take 24 c ≡ header guid.0) → Each d.reads (λ c. len ≡ length c) → Lent e (begun guid len HEADER []) []
-lent_none d e guid len reads head long = record {
+pub lent_none : (d e : View) (guid : Guid) (len : ℕ) (is_open : Bool) → OnlyReads d e → Each d.reads (λ c. take 24 c ≡ header guid.0) → Each d.reads (λ c. len ≡ length c) → Each d.reads (HasGate HEADER is_open)
+    → Lent e (begun guid len HEADER is_open []) []
+lent_none d e guid len is_open reads head long gate = record {
   front = header guid.0;
   is_front = refl;
   begins = λ c told. sym (take-append-drop 24 c) ∙ ap (λ (l : List ℕ). l ++ drop 24 c) (head c (reads.unchanged.reads.none_new c told) ∙ sym (append-nil (header guid.0)));
@@ -21,12 +22,13 @@ lent_none d e guid len reads head long = record {
   small = All-nil IsSmall;
   place = omega arith;
   count = refl;
+  gate = λ c told. gate c (reads.unchanged.reads.none_new c told);
   shut = λ ended. absurd (let no : true ≡ false = sym ended in cc);
 }
 
 pub lent_more : (d e : View) (s t : ScanState) (records : List (List ℕ)) (entry : List ℕ) → Lent d s records → OnlyReads d e → Each d.reads (HasNext s.gate entry) → IsSmall entry
-    → t.guid ≡ s.guid → t.len ≡ s.len → t.gate ≡ s.gate + 5 + length entry → t.count ≡ s.count + 1 → t.ended ≡ false → Lent e t (records ++ entry ∷ [])
-lent_more d e s t records entry lent reads next fits guid len gate count going = record {
+    → Each d.reads (HasGate (s.gate + 5 + length entry) t.is_open) → t.guid ≡ s.guid → t.len ≡ s.len → t.gate ≡ s.gate + 5 + length entry → t.count ≡ s.count + 1 → t.ended ≡ false → Lent e t (records ++ entry ∷ [])
+lent_more d e s t records entry lent reads next fits behind guid len gate count going = record {
   front = lent.front;
   is_front = subst (λ (g : Guid). IsFront g.0 lent.front) (sym guid) lent.is_front;
   begins = λ c told.
@@ -36,19 +38,21 @@ lent_more d e s t records entry lent reads next fits guid len gate count going =
   small = All-push IsSmall records entry lent.small fits;
   place = omega (arith, gate, lent.place, length-chain-more records entry);
   count = omega (arith, count, lent.count, length-append records (entry ∷ []));
+  gate = λ c told. subst (λ (k : ℕ). HasGate k t.is_open c) (sym gate) (behind c (reads.unchanged.reads.none_new c told));
   shut = λ ended. absurd (let no : true ≡ false = sym ended ∙ going in cc);
 }
 
-pub lent_all : (d e : View) (s : ScanState) (records : List (List ℕ)) → Lent d s records → OnlyReads d e → Each d.reads (IsClosedAt s.gate) → Lent e (ended s) records
-lent_all d e s records lent reads shut = record {
+pub lent_all : (d : View) (s : ScanState) (records : List (List ℕ)) → Lent d s records → s.is_open ≡ false → Lent d (ended s) records
+lent_all d s records lent shut = record {
   front = lent.front;
   is_front = lent.is_front;
-  begins = λ c told. lent.begins c (reads.unchanged.reads.none_new c told);
-  long = λ c told. lent.long c (reads.unchanged.reads.none_new c told);
+  begins = lent.begins;
+  long = lent.long;
   small = lent.small;
   place = lent.place;
   count = lent.count;
-  shut = λ ended c told. shut c (reads.unchanged.reads.none_new c told);
+  gate = lent.gate;
+  shut = λ _. shut;
 }
 
 -- what stands at the front of a buffer whose contents were written as a whole

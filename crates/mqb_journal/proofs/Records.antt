@@ -2,7 +2,7 @@
 use Rattle.std.proofs.Common.{◌≡◌, inl, inr, ⊎_elim, ℕ, ◌+◌, List, [], ◌∷◌, ◌++◌, length, drop, sym, ◌∙◌, ap, subst, arith, append_assoc, length-append}
 use Rattle.std.specs.List.{All}
 use Rattle.mqb_fields.specs.Writing.{bytes_of}
-use Rattle.std.proofs.lemmas.List.{append-nil}
+use Rattle.std.proofs.lemmas.List.{append-nil, drop_all}
 use Rattle.std.proofs.lemmas.List.Elements.{All-push}
 use Rattle.mqb_outside.specs.Images.{Written}
 use Rattle.mqb_outside.specs.Disk.{View, IsSettled, LeavesOnly, Lawful}
@@ -80,6 +80,11 @@ formatted_gate guid store old new is written = record {
       ∙ append_assoc (header guid) (0 ∷ []) (drop (0 + length store) old)
       ∙ ap (λ (l : List ℕ). l ++ 0 ∷ drop (0 + length store) old) (sym (append-nil (header guid)));
 }
+
+-- on an empty disk it is all that stands there
+pub formatted_whole : (store old new : List ℕ) → length old ≡ 0 → Written 0 store old new → new ≡ store
+formatted_whole store [] new none written = written ∙ ap (λ (l : List ℕ). store ++ l) (drop_all (0 + length store) [] (omega arith)) ∙ append-nil store
+formatted_whole store (byte ∷ old) new none written = absurd (let no : ⊥ = omega (arith, none) in no)
 
 -- a call that was refused
 pub quiet_moments : (d : View) (j : JournalState) (records : List (List ℕ)) (entry : List ℕ) → Lawful d → GoesOn d j records → IsSettled d

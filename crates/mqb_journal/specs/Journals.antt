@@ -3,7 +3,7 @@ use Rattle.std.specs.List.{All}
 use Rattle.mqb_outside.specs.Images.{Each}
 use Rattle.mqb_outside.specs.Disk.{View}
 use Rattle.mqb_journal.specs.Store.{IsFront, IsSmall, HasClosedGate, chain}
-use Rattle.mqb_journal.specs.Scan.{BeginsWith, IsClosedAt}
+use Rattle.mqb_journal.specs.Scan.{BeginsWith, HasGate}
 use Rattle.mqb_journal.specs.States.{JournalState, ScanState}
 use Rattle.mqb_journal.specs.declared.faults.AppendFault.{AppendFault}
 use Rattle.mqb_journal.specs.declared.faults.AppendFault.TheVariants as fault
@@ -27,7 +27,8 @@ pub record Lent (d : View) (s : ScanState) (records : List (List ℕ)) : Type 0 
   pub small : All IsSmall records
   pub place : s.gate ≡ length front + length (chain records)
   pub count : s.count ≡ length records
-  pub shut : s.ended ≡ true → Each d.reads (IsClosedAt s.gate)
+  pub gate : Each d.reads (HasGate s.gate s.is_open)
+  pub shut : s.ended ≡ true → s.is_open ≡ false
 
 -- an append that did not begin
 abbrev pub Refused : {T : Type 0} → Result T AppendFault → Type 0

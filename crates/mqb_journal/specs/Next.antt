@@ -1,5 +1,5 @@
 -- What `Scan::next` leaves once the record that it lent is no longer borrowed.
-use Rattle.std.specs.Prelude.{◌≡◌, ◌<◌, ℕ, List, [], ◌∷◌, ◌++◌, Option, None, Result, IfOk, IfSome}
+use Rattle.std.specs.Prelude.{◌≡◌, ◌+◌, ◌<◌, ◌≤◌, max, ℕ, List, [], ◌∷◌, ◌++◌, Option, None, Result, IfOk, IfSome}
 use Rattle.std.specs.Borrow.{Fml, Bor, MutBor}
 use Rattle.std.specs.Io.BufRead.{Rests}
 use Rattle.mqb_outside.specs.Disk.{View}
@@ -12,9 +12,11 @@ use Rattle.mqb_journal.specs.contracts.scan.Scan.{the_row}
 pub record HasMoved (d e : View) (old : ScanState) (r : Result (Option (Bor (List ℕ))) ScanFault) (new : ScanState) : Type 0 where
   pub more : (records : List (List ℕ)) → Lent d old records → IfOk r (λ next. IfSome next (λ entry. Lent e new (records ++ entry.now ∷ [])))
   pub all : (records : List (List ℕ)) → Lent d old records → IfOk r (λ next. next ≡ None → Lent e new records)
-  pub advanced : IfOk r (λ next. IfSome next (λ entry. new ≡ advanced old entry.now))
+  pub advanced : IfOk r (λ next. IfSome next (λ entry. new ≡ advanced old entry.now new.is_open))
   pub ended : IfOk r (λ next. next ≡ None → new ≡ ended old)
   pub within : new.gate < new.len
+  -- no further than the gate behind the record
+  pub reached : IfOk r (λ next. e.reached ≤ max d.reached (new.gate + 1))
 
 abbrev pub EndsAs : View → View → MutBor ScanState → Result (Option (Bor (List ℕ))) ScanFault → Fml
 EndsAs d e scan r = Rests the_row scan (HasMoved d e scan.now r)

@@ -32,16 +32,18 @@ pub record ScanState : Type 0 where
   pub count : ℕ
   -- the record that was lent last
   pub lent : List ℕ
-  -- the next gate is not open
+  -- the next gate is open
+  pub is_open : Bool
+  -- it was said that there is no record more
   pub ended : Bool
 
 -- before the first record
-abbrev pub begun : Guid → ℕ → ℕ → List ℕ → ScanState
-begun guid len gate lent = record { guid = guid; len = len; gate = gate; place = gate; count = 0; lent = lent; ended = false }
+abbrev pub begun : Guid → ℕ → ℕ → Bool → List ℕ → ScanState
+begun guid len gate is_open lent = record { guid = guid; len = len; gate = gate; place = gate; count = 0; lent = lent; is_open = is_open; ended = false }
 
--- after it lent this record
-abbrev pub advanced : ScanState → List ℕ → ScanState
-advanced s entry = record { guid = s.guid; len = s.len; gate = s.gate + 5 + length entry; place = s.gate; count = s.count + 1; lent = entry; ended = false }
+-- after it lent this record, behind which a gate stands that is open or not
+abbrev pub advanced : ScanState → List ℕ → Bool → ScanState
+advanced s entry is_open = record { guid = s.guid; len = s.len; gate = s.gate + 5 + length entry; place = s.gate; count = s.count + 1; lent = entry; is_open = is_open; ended = false }
 
 -- after the last record
 abbrev pub ended : ScanState → ScanState
@@ -51,11 +53,11 @@ ended s = record s { ended = true }
 abbrev pub finished : ScanState → ℕ → JournalState
 finished s room = record { guid = s.guid; end = s.gate; count = s.count; down = false; room = room }
 
--- a scan stands within the disk, and its record within the buffer
+-- a scan stands within the disk, and its record and the gate behind it within the buffer
 pub record IsWithin (len gate place count held buffer : ℕ) : Type 0 where
   pub bound : len ≤ MAX_DISK
   pub within : gate < len
   pub behind : place ≤ gate
   pub counted : count ≤ gate
   pub small : held ≤ MAX_RECORD
-  pub room : buffer ≡ MAX_RECORD
+  pub room : buffer ≡ MAX_RECORD + 1

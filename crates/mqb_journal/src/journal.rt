@@ -1,10 +1,10 @@
-ghost use Rattle.std.specs.Prelude.{◌≡◌, ◌≢◌, ◌↔◌, ◌+◌, ◌<◌, ◌≤◌, ℕ, List, [], ◌∷◌, ◌++◌, length, vec_capacity, true, false, Err, IfOk, OnOk, OnErr};
+ghost use Rattle.std.specs.Prelude.{◌≡◌, ◌≢◌, ◌↔◌, ◌+◌, ◌<◌, ◌≤◌, max, ℕ, List, [], ◌∷◌, ◌++◌, length, vec_capacity, true, false, Err, IfOk, OnOk, OnErr};
 ghost use Rattle.mqb_fields.specs.Writing.{bytes_of};
 ghost use Rattle.mqb_outside.specs.Faults.{Rose};
-ghost use Rattle.mqb_outside.specs.Images.{Each};
-ghost use Rattle.mqb_outside.specs.Disk.{IsSettled, LeavesOnly, OnlyReads, Counted};
+ghost use Rattle.mqb_outside.specs.Images.{Each, Follows, Written};
+ghost use Rattle.mqb_outside.specs.Disk.{IsSettled, LeavesOnly, OnlyReads, Counted, AtMost};
 ghost use Rattle.mqb_outside.specs.declared.disk.TheConstants.{MAX_DISK};
-ghost use Rattle.mqb_journal.specs.Store.{IsSmall, IsBeforeOrAfter};
+ghost use Rattle.mqb_journal.specs.Store.{IsSmall, IsBeforeOrAfter, framed, header};
 ghost use Rattle.mqb_journal.specs.States.{appended};
 ghost use Rattle.mqb_journal.specs.Scan.{HasNoHeader};
 ghost use Rattle.mqb_journal.specs.Causes.{FaultsAsSaid, open_failed, append_failed};
@@ -13,7 +13,7 @@ use crate::durable::{write_behind, write_durably};
 use crate::faults::{AppendFault, OpenFault};
 use crate::header::empty_store;
 use crate::limits::{FIRST_BLOCK, HEADER, MAX_RECORD, MIN_STORE};
-use crate::reading::{header_at, reserve};
+use crate::reading::{header_at, is_open_at, reserve};
 use crate::scan::Scan;
 use mqb_base::{Guid, Memory};
 use mqb_outside::Disk;
@@ -55,6 +55,8 @@ impl Journal {
     /// Makes an empty disk a store without records. The first record of at most 128 bytes then needs no memory.
     pub fn format<D: Disk>(alloc: Global, disk: &mut D, guid: Guid) -> Result<Journal, OpenFault>
         ensures formatted { IfOk result (λ journal. GoesOn (D.view disk.new) journal []) }
+        ensures wrote { OnOk result
+            (Each (D.view disk.new).reads (λ c. c ≡ header guid.0 ++ 0 ∷ [])) }
         ensures settled { OnOk result (IsSettled (D.view disk.new)) }
         ensures guid { IfOk result (λ journal. journal.guid ≡ guid) }
         ensures room { IfOk result (λ journal. FIRST_BLOCK ≤ journal.room) }
@@ -69,7 +71,9 @@ impl Journal {
             → OnlyReads (D.view disk.old) (D.view disk.new) }
         ensures memory { result ≡ Err OpenFault.Memory → disk.new ≡ disk.old }
         ensures never { (at : ℕ) → result ≢ Err (OpenFault.BadStore at) }
+        ensures reached { (D.view disk.new).reached ≡ (D.view disk.old).reached }
         ensures calls { OnOk result (Counted 3 (D.view disk.old).calls (D.view disk.new).calls) }
+        ensures most { AtMost 3 (D.view disk.old).calls (D.view disk.new).calls }
         ensures switch { (D.view disk.new).switch ≡ (D.view disk.old).switch }
         ensures cause { FaultsAsSaid open_failed (D.view disk.old).faults
             (D.view disk.new).faults result }
@@ -88,7 +92,7 @@ impl Journal {
         })
     }
 
-    /// Begins to read the store on a disk, by its header alone. It reserves one buffer for the longest record.
+    /// Begins to read the store on a disk, by its header and the first gate alone. It reserves one buffer for the longest record.
     pub fn begin<D: Disk>(alloc: Global, disk: &mut D) -> Result<Scan, OpenFault>
         ensures begun { IfOk result (λ scan. Lent (D.view disk.new) scan []) }
         ensures going { IfOk result (λ scan. scan.ended ≡ false) }
@@ -100,6 +104,9 @@ impl Journal {
         ensures never { result ≢ Err OpenFault.NotEmpty }
         ensures memory { result ≡ Err OpenFault.Memory → disk.new ≡ disk.old }
         ensures reads { OnlyReads (D.view disk.old) (D.view disk.new) }
+        ensures reached { (D.view disk.new).reached
+            ≤ max (D.view disk.old).reached MIN_STORE }
+        ensures most { AtMost 3 (D.view disk.old).calls (D.view disk.new).calls }
         ensures cause { FaultsAsSaid open_failed (D.view disk.old).faults
             (D.view disk.new).faults result }
     {
@@ -111,7 +118,8 @@ impl Journal {
         let Some(guid) = header_at(disk)? else {
             return Err(OpenFault::BadStore { at: 0 });
         };
-        Ok(Scan::new(alloc, guid, len, buffer))
+        let is_open = is_open_at(disk, HEADER)?;
+        Ok(Scan::new(alloc, guid, len, is_open, buffer))
     }
 
     /// The journal behind so many records, whose closed gate stands at `end`.
@@ -136,6 +144,9 @@ impl Journal {
             → Each (D.view disk.old).reads (λ c. self.old.end < length c) }
         ensures done { (records : List (List ℕ)) → GoesOn (D.view disk.old) self.old records
             → OnOk result (GoesOn (D.view disk.new) self.new (records ++ entry.now ∷ [])) }
+        // The gate is opened, behind it stand the length, the record and a closed gate, and all else is as it was.
+        ensures wrote { OnOk result (Follows (Written self.old.end (framed entry.now ++ 0 ∷ []))
+            (D.view disk.old).reads (D.view disk.new).reads) }
         ensures settled { OnOk result (IsSettled (D.view disk.new)) }
 
         // A crash at any moment of the call leaves the records from before it, with the new one or without.
@@ -154,7 +165,9 @@ impl Journal {
         ensures failed { result ≡ Err AppendFault.DiskFault
             → self.new ≡ record self.old { down = true; room = self.new.room } }
         ensures room { self.old.room ≤ self.new.room }
+        ensures reached { (D.view disk.new).reached ≡ (D.view disk.old).reached }
         ensures calls { OnOk result (Counted 4 (D.view disk.old).calls (D.view disk.new).calls) }
+        ensures most { AtMost 4 (D.view disk.old).calls (D.view disk.new).calls }
         ensures switch { (D.view disk.new).switch ≡ (D.view disk.old).switch }
         ensures cause { FaultsAsSaid append_failed (D.view disk.old).faults
             (D.view disk.new).faults result }

@@ -1,9 +1,9 @@
-ghost use Rattle.std.specs.Prelude.{◌≡◌, ◌<◌, ◌≤◌, ℕ, List, [], ◌∷◌, ◌++◌, length, take, vec_len, true, false, None, Err, IfOk, IfSome, OnOk};
+ghost use Rattle.std.specs.Prelude.{◌≡◌, ◌+◌, ◌<◌, ◌≤◌, max, ℕ, List, [], ◌∷◌, ◌++◌, length, take, vec_len, true, false, None, Err, IfOk, IfSome, OnOk};
 ghost use Rattle.mqb_outside.specs.Images.{Each};
-ghost use Rattle.mqb_outside.specs.Disk.{OnlyReads};
+ghost use Rattle.mqb_outside.specs.Disk.{OnlyReads, AtMost};
 ghost use Rattle.mqb_outside.specs.declared.disk.TheConstants.{MAX_DISK};
 ghost use Rattle.mqb_journal.specs.States.{begun, advanced, ended, finished};
-ghost use Rattle.mqb_journal.specs.Scan.{HasNext, IsClosedAt, IsBadAt};
+ghost use Rattle.mqb_journal.specs.Scan.{HasGate, HasNext, IsClosedAt, IsBadAt};
 ghost use Rattle.mqb_journal.specs.Causes.{FaultsAsSaid, scan_failed};
 
 use crate::faults::ScanFault;
@@ -26,6 +26,8 @@ pub struct Scan {
     // The gate of the record that was lent last, or the first gate.
     place: u64,
     count: u64,
+    // Whether the next gate is open, which was read with what stands before it.
+    is_open: bool,
     ended: bool,
     // How long the record is that stands at the buffer's front.
     held: u32,
@@ -47,6 +49,7 @@ impl Model for Scan {
       place = s.place;
       count = s.count;
       lent = take s.held s.buffer.items;
+      is_open = s.is_open;
       ended = s.ended;
     } };
 
@@ -59,11 +62,11 @@ impl Scan {
     ghost use Rattle.mqb_journal.specs.Next.{EndsAs};
 
     /// Before the first record.
-    pub(crate) fn new(alloc: Global, guid: Guid, len: u64, buffer: Vec<u8>) -> Scan
+    pub(crate) fn new(alloc: Global, guid: Guid, len: u64, is_open: bool, buffer: Vec<u8>) -> Scan
         requires bound { len ≤ MAX_DISK }
         requires long { HEADER < len }
-        requires room { vec_len buffer ≡ MAX_RECORD }
-        ensures { result ≡ begun guid len HEADER [] }
+        requires room { vec_len buffer ≡ MAX_RECORD + 1 }
+        ensures { result ≡ begun guid len HEADER is_open [] }
     {
         Scan {
             alloc,
@@ -72,6 +75,7 @@ impl Scan {
             gate: HEADER,
             place: HEADER,
             count: 0,
+            is_open,
             ended: false,
             held: 0,
             buffer,
@@ -82,6 +86,7 @@ impl Scan {
     pub fn advance<D: Disk>(&mut self, disk: &mut D) -> Result<bool, ScanFault>
         requires going { self.old.ended ≡ false }
         requires long { Each (D.view disk.old).reads (λ c. self.old.len ≡ length c) }
+        requires gate { Each (D.view disk.old).reads (HasGate self.old.gate self.old.is_open) }
         ensures more { (records : List (List ℕ)) → Lent (D.view disk.old) self.old records
             → IfOk result (λ more. more ≡ true
             → Lent (D.view disk.new) self.new (records ++ self.new.lent ∷ [])) }
@@ -92,7 +97,7 @@ impl Scan {
         ensures none { IfOk result (λ more. more ≡ false
             → Each (D.view disk.old).reads (IsClosedAt self.old.gate)) }
         ensures advanced { IfOk result (λ more. more ≡ true
-            → self.new ≡ advanced self.old self.new.lent) }
+            → self.new ≡ advanced self.old self.new.lent self.new.is_open) }
         ensures ended { IfOk result (λ more. more ≡ false → self.new ≡ ended self.old) }
         ensures within { self.new.gate < self.new.len }
         ensures bad { (at : ℕ) → result ≡ Err (ScanFault.BadStore at)
@@ -100,17 +105,27 @@ impl Scan {
         ensures not_bad { OnOk result
             (Each (D.view disk.old).reads (λ c. IsBadAt self.old.gate c → ⊥)) }
         ensures reads { OnlyReads (D.view disk.old) (D.view disk.new) }
+        // No further than the gate behind the record that it lends.
+        ensures reached { OnOk result
+            ((D.view disk.new).reached ≤ max (D.view disk.old).reached (self.new.gate + 1)) }
+        ensures bad_reached { (at : ℕ) → result ≡ Err (ScanFault.BadStore at)
+            → (D.view disk.new).reached ≤ max (D.view disk.old).reached (at + 5) }
+        ensures furthest { (D.view disk.new).reached
+            ≤ max (D.view disk.old).reached (self.old.gate + 6 + MAX_RECORD) }
+        ensures most { AtMost 2 (D.view disk.old).calls (D.view disk.new).calls }
         ensures cause { FaultsAsSaid scan_failed (D.view disk.old).faults
             (D.view disk.new).faults result }
     {
-        let Some(n) = read_next(disk, self.gate, self.len, &mut self.buffer)? else {
+        if !self.is_open {
             self.ended = true;
             return Ok(false);
-        };
+        }
+        let (n, is_open) = read_next(disk, self.gate, self.len, &mut self.buffer)?;
         self.place = self.gate;
         self.held = n;
         self.count += 1;
         self.gate += 5 + u64::from(n);
+        self.is_open = is_open;
         Ok(true)
     }
 
@@ -118,6 +133,7 @@ impl Scan {
     pub fn next<D: Disk>(&mut self, disk: &mut D) -> Result<Option<&[u8]>, ScanFault>
         requires going { self.old.ended ≡ false }
         requires long { Each (D.view disk.old).reads (λ c. self.old.len ≡ length c) }
+        requires gate { Each (D.view disk.old).reads (HasGate self.old.gate self.old.is_open) }
         ensures* rests { sem 𝓛 (EndsAs (D.view disk.old) (D.view disk.new) self.entry result) }
         ensures next { IfOk result
             (λ next. IfSome next
@@ -129,6 +145,11 @@ impl Scan {
         ensures not_bad { OnOk result
             (Each (D.view disk.old).reads (λ c. IsBadAt self.old.gate c → ⊥)) }
         ensures reads { OnlyReads (D.view disk.old) (D.view disk.new) }
+        ensures bad_reached { (at : ℕ) → result ≡ Err (ScanFault.BadStore at)
+            → (D.view disk.new).reached ≤ max (D.view disk.old).reached (at + 5) }
+        ensures furthest { (D.view disk.new).reached
+            ≤ max (D.view disk.old).reached (self.old.gate + 6 + MAX_RECORD) }
+        ensures most { AtMost 2 (D.view disk.old).calls (D.view disk.new).calls }
         ensures cause { FaultsAsSaid scan_failed (D.view disk.old).faults
             (D.view disk.new).faults result }
     {

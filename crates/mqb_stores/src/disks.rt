@@ -6,7 +6,7 @@ use std::fs;
 use std::test::Fail;
 
 /// Two device calls: the length, and the write.
-pub(crate) fn write<D: Disk>(disk: &mut D, at: u64, bytes: &[u8]) -> Result<(), Failed> {
+fn write<D: Disk>(disk: &mut D, at: u64, bytes: &[u8]) -> Result<(), Failed> {
     if at <= disk.len()? && bytes.len() < 100 {
         disk.write_at(at, bytes)
     } else {

@@ -1,4 +1,3 @@
-use crate::disks::write;
 use mqb_base::{Guid, Memory};
 use mqb_disk::{Call, TraceDisk};
 use mqb_journal::{AppendFault, Journal, OpenFault, ScanFault};
@@ -46,35 +45,6 @@ fn the_calls_of_an_append(rt: HostRuntime) -> Result<(), Fail> {
         .as_slice()
     );
     assert_eq!(rt; disk.written(), WRITTEN);
-    Ok(())
-}
-
-/// A record of 27 bytes, whose end is byte 56, and a gate behind which no record can stand.
-const STORE: &[u8] = b"MQBJ\x01\0\0\0\
-\x09\x09\x09\x09\x09\x09\x09\x09\x09\x09\x09\x09\x09\x09\x09\x09\
-\x01\x1B\0\0\0abcdefghijklmnopqrstuvwxyz.\
-\x01\x40\x54\x89\0";
-
-/// Where the furthest of these reads ends.
-fn last_byte(reads: &[(u64, u64)]) -> u64 {
-    let mut last = 0;
-    for read in reads {
-        last = read.0.saturating_add(read.1).max(last);
-    }
-    last
-}
-
-#[test]
-fn a_scan_reads_no_further_than_it_lends(rt: HostRuntime) -> Result<(), Fail> {
-    let alloc = rt.alloc();
-    let mut disk = TraceDisk::new(alloc, 128, 32)?;
-    assert_eq!(rt; write(&mut disk, 0, STORE), Ok(()));
-    let mut scan = Journal::begin(alloc, &mut disk)?;
-    assert_eq!(rt; (scan.place(), last_byte(disk.reads())), (24, 24));
-    let lent = Some(b"abcdefghijklmnopqrstuvwxyz.".as_slice());
-    assert_eq!(rt; scan.next(&mut disk), Ok(lent));
-    assert!(rt; last_byte(disk.reads()) <= 57);
-    assert_eq!(rt; (scan.place(), scan.held()), (24, 27));
     Ok(())
 }
 

@@ -63,7 +63,7 @@ pub lent_goes_on : (d : View) (s : ScanState) (room : ℕ) (records : List (List
 lent_goes_on d s room records lent ended = record {
   front = lent.front;
   is_front = lent.is_front;
-  stands = λ c told. (let shut = lent.shut ended c told in record {
+  stands = λ c told. (let shut = (lent.gate c told).when_shut (lent.shut ended) in record {
     gate = shut.byte;
     rest = drop (s.gate + 1) c;
     closed = shut.closed;
@@ -85,5 +85,6 @@ lent_read d e s records lent reads = record {
   small = lent.small;
   place = lent.place;
   count = lent.count;
-  shut = λ ended c told. lent.shut ended c (reads.unchanged.reads.none_new c told);
+  gate = λ c told. lent.gate c (reads.unchanged.reads.none_new c told);
+  shut = lent.shut;
 }

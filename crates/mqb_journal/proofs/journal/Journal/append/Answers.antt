@@ -1,4 +1,4 @@
-use Rattle.std.proofs.Common.{◌≡◌, [], ◌∷◌, ◌++◌, ℕ, List, length, sym, ◌∙◌, ap, subst, arith, length-append}
+use Rattle.std.proofs.Common.{◌≡◌, [], ◌∷◌, ◌++◌, ℕ, ◌+◌, List, length, take, drop, sym, ◌∙◌, ap, subst, arith, length-append}
 use Rattle.std.proofs.lemmas.List.Elements.{All-push}
 use Rattle.mqb_journal.specs.Gates.{HasRecord}
 use Rattle.mqb_journal.specs.States.{JournalState}
@@ -42,3 +42,18 @@ returns-clause-done g c records on =
       count = omega (arith, at.count, length-append records (entry ∷ []));
       up = at.up;
     }
+
+pub returns-clause-wrote : goal.returns-clause-wrote
+returns-clause-wrote g c =
+    let entry = c.args.entry.now in
+    let d = g.D.Disk.view c.args.disk.now in
+    let end : c.self.inside.end ≡ c.args.self.now.end = ap (λ (j : JournalState). j.end) c.self.view_is in
+    let block_is : c.deref.result.now ≡ block_of entry = c.deref.ensures.value ∙ c.in_ok-frame.ensures.framed in
+    let wrote = ok_fact _ _ _ c.in-Ok.is c.write_behind.ensures.wrote in
+    λ f told. (let from = wrote f told in (
+      from.0,
+      from.1,
+      from.2
+          ∙ ap (λ (k : ℕ). take k from.0 ++ (1 ∷ c.deref.result.now) ++ drop (k + length (1 ∷ c.deref.result.now)) from.0) end
+          ∙ ap (λ (b : List ℕ). take c.args.self.now.end from.0 ++ (1 ∷ b) ++ drop (c.args.self.now.end + length (1 ∷ b)) from.0) block_is,
+    ))

@@ -1,7 +1,7 @@
-use Rattle.std.proofs.Common.{refl}
+use Rattle.std.proofs.Common.{refl, ◌∙◌, arith}
 use Rattle.std.proofs.lemmas.List.Elements.{All-nil}
 use Rattle.mqb_journal.specs.Store.{IsSmall, header}
-use Rattle.mqb_journal.proofs.Records.{formatted_gate}
+use Rattle.mqb_journal.proofs.Records.{formatted_gate, formatted_whole}
 use Rattle.mqb_journal.proofs.journal.Journal.format.Goals as goal
 
 pub returns-clause-formatted : goal.returns-clause-formatted
@@ -14,3 +14,9 @@ returns-clause-formatted g c = record {
   count = refl;
   up = refl;
 }
+
+pub returns-clause-wrote : goal.returns-clause-wrote
+returns-clause-wrote g c d told =
+    let from = c.in_ok-write_durably.ensures.written d told in
+    let long = c.in_ok-len.ensures.length from.0 (c.len.ensures.reads.unchanged.reads.none_new from.0 from.1) in
+    formatted_whole _ from.0 d (omega (arith, long, c.if-branch-gt0.false)) from.2 ∙ c.empty_store.ensures
