@@ -8,7 +8,7 @@ use Rattle.mqb_answers.specs.Texts.{hosts_of}
 use Rattle.mqb_answers.specs.declared.told.CallEnd.{CallEnd}
 use Rattle.mqb_answers.specs.declared.told.CallEnd.TheVariants as call
 use Rattle.mqb_answers.specs.declared.told.Told.{Told}
-use Rattle.mqb_outside.specs.Disk.{OnlyReads, View}
+use Rattle.mqb_outside.specs.Disk.{View}
 use Rattle.mqb_outside.specs.Faults.{Rose}
 use Rattle.mqb_manager.specs.Calls.{Ends, FailsUnder, Succeeds}
 use Rattle.mqb_manager.specs.Keeping.{KeepsDisk}
@@ -20,7 +20,8 @@ use Rattle.mqb_model.specs.records.Record.{Record}
 use Rattle.mqb_model.specs.records.Reading.{record_of}
 use Rattle.mqb_replies.specs.declared.faults.AnswerFault.{AnswerFault}
 use Rattle.mqb_replies.specs.declared.faults.AnswerFault.TheVariants as fault
-use Rattle.mqb_store_laws.specs.lemmas.Carrying.{on_read}
+use Rattle.mqb_store_laws.specs.lemmas.Settling.{on_settled, settled_still}
+use Rattle.mqb_store_laws.specs.Settling.{OnlySettles}
 use Rattle.mqb_words.specs.declared.commands.Call.{Call}
 use Rattle.mqb_commands.specs.Outputs.{IsFaultLine}
 use Rattle.mqb_commands.specs.declared.status.Status.{Status}
@@ -30,14 +31,14 @@ use Rattle.mqb_commands.specs.Opened.{IsNotOpened, OpensAs}
 use Rattle.mqb_commands.specs.Said.{FailsToOpen}
 use Rattle.mqb_commands.specs.Called.{IsAnswered, IsBroken, IsNotTold, TellsFaults, status_of}
 
--- Opening only reads, so the disk stands for the manager still.
-pub opened_keeps : (d f : View) (m : ManagerState) → OnlyReads d f → KeepsDisk d f m m
-opened_keeps d f m reads = record {
+-- Opening reads and syncs, so the disk stands for the manager still.
+pub opened_keeps : (d f : View) (m : ManagerState) → OnlySettles d f → KeepsDisk d f m m
+opened_keeps d f m settles = record {
   up = λ up. up;
-  on = λ on up. on_read d f m.store.journal m.store.state (on up) reads;
-  settled = λ on settled up c left. reads.unchanged.reads.none_lost c (settled c (reads.unchanged.leaves.none_new c left));
+  on = λ on up. on_settled d f m.store.journal m.store.state (on up) settles;
+  settled = λ on settled up. settled_still d f settled settles;
   doubt = λ up on settled down. absurd (down up);
-  switch = reads.switch;
+  switch = settles.switch;
 }
 
 -- a manager that was up is up still where its condition stays
@@ -135,7 +136,7 @@ module _ (asked : Call) (now : ℕ) (d f e : View) (kept : Type 0) (m n : Manage
   pub unanswered_stays : IsTold f e kept m n (outcome_of asked (manager_of m) now) before text (end_err fault.Memory) → e.faults ≡ d.faults
   unanswered_stays told = told.call.stayed (want_no_fault told.answer told.told) ∙ calm
 
-module _ (asked : Call) (now : ℕ) (d f e : View) (kept : Type 0) (m n : ManagerState) (text : List ℕ) (opened : OpensAs d m) (reads : OnlyReads d f) (calm : f.faults ≡ d.faults) where
+module _ (asked : Call) (now : ℕ) (d f e : View) (kept : Type 0) (m n : ManagerState) (text : List ℕ) (opened : OpensAs d m) (reads : OnlySettles d f) (calm : f.faults ≡ d.faults) where
   keeps : {r : End} → IsTold f e kept m n (outcome_of asked (manager_of m) now) [] text r → KeepsDisk d e m n
   keeps told = keeping_goes_on d f e m m n (opened_keeps d f m reads) opened.up
       (calls_keep_disks fault.Memory fault.DiskFault f e m n (outcome_of asked (manager_of m) now) told.answer told.call)

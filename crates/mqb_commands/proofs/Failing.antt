@@ -11,6 +11,7 @@ use Rattle.mqb_journal.specs.Causes.{FaultsAsSaid, open_failed}
 use Rattle.mqb_journal.specs.declared.faults.OpenFault.{OpenFault}
 use Rattle.mqb_journal.specs.declared.faults.OpenFault.TheVariants as opening
 use Rattle.mqb_store_laws.specs.Faults.{IsBadStore}
+use Rattle.mqb_store_laws.specs.Settling.{OnlySettles}
 use Rattle.mqb_commands.specs.Causes.{open_status}
 use Rattle.mqb_commands.specs.Opened.{IsNotOpened}
 use Rattle.mqb_commands.specs.Said.{FailsToOpen, Inits}
@@ -20,10 +21,10 @@ unfolding fault_text
 memory_line = refl
 
 -- memory ran out
-pub memory_fails : (d e : View) (text : List ℕ) (end : Status) → OnlyReads d e → text ≡ [] → end ≡ status.Memory → FailsToOpen d e text end
+pub memory_fails : (d e : View) (text : List ℕ) (end : Status) → OnlySettles d e → text ≡ [] → end ≡ status.Memory → FailsToOpen d e text end
 memory_fails d e text end reads none is = subst (FailsToOpen d e text) (sym is) (reads, none ∙ sym memory_line)
 
-pub line_fails : (d e : View) (fault end : Status) (text : List ℕ) → IsNotOpened d e fault → OnlyReads d e → IsFaultLine fault text end → FailsToOpen d e text end
+pub line_fails : (d e : View) (fault end : Status) (text : List ℕ) → IsNotOpened d e fault → OnlySettles d e → IsFaultLine fault text end → FailsToOpen d e text end
 line_fails d e fault end text not reads line = elim line [
   | inl said ↦ subst (FailsToOpen d e text) (sym said.0) (not, said.1)
   | inr none ↦ memory_fails d e text end reads none.1 none.0
@@ -33,7 +34,7 @@ line_fails d e fault end text not reads line = elim line [
 abbrev failing : {V : Type 0} → OpenFault → Result V OpenFault
 failing fault = Err fault
 
-pub start_fails : {V : Type 0} (d e : View) (fault : OpenFault) (r : Status) → r ≡ open_status fault → OnlyReads d e
+pub start_fails : {V : Type 0} (d e : View) (fault : OpenFault) (r : Status) → r ≡ open_status fault → OnlySettles d e
     → FaultsAsSaid open_failed d.faults e.faults (failing {V = V} fault)
     → ((at : ℕ) → failing {V = V} fault ≡ failing {V = V} (opening.BadStore at) → Each d.reads (IsBadStore at))
     → (failing {V = V} fault ≡ failing {V = V} opening.NotEmpty → ⊥) → IsNotOpened d e r

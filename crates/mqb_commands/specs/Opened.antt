@@ -1,6 +1,6 @@
 -- The manager as which a store is opened, and why one is not.
 use Rattle.std.specs.Prelude.{◌≡◌, IfSome, Option, ℕ}
-use Rattle.mqb_outside.specs.Disk.{OnlyReads, View}
+use Rattle.mqb_outside.specs.Disk.{View}
 use Rattle.mqb_outside.specs.Images.{Each}
 use Rattle.mqb_outside.specs.Faults.{Rose}
 use Rattle.mqb_manager.specs.States.{IsOnDisk, IsUp, ManagerState, manager_of}
@@ -8,6 +8,7 @@ use Rattle.mqb_model.specs.managers.Manager.{unlinked}
 use Rattle.mqb_model.specs.state.Durable.{durable}
 use Rattle.mqb_store_laws.specs.Faults.{IsBadStore}
 use Rattle.mqb_store_laws.specs.Images.{OpensTo}
+use Rattle.mqb_store_laws.specs.Settling.{OnlySettles}
 use Rattle.mqb_commands.specs.declared.status.Status.{Status}
 use Rattle.mqb_commands.specs.declared.status.Status.TheVariants as status
 
@@ -19,11 +20,11 @@ pub record OpensAs (d : View) (m : ManagerState) : Type 0 where
   pub on : IsOnDisk d m
   pub image : Each d.reads (OpensTo m.store.journal.guid m.store.journal.count m.store.state)
 
--- A store was not opened, and its disk was only read.
+-- A store was not opened, and its disk was not written.
 abbrev pub IsNotOpened : View → View → Status → Type 0
-IsNotOpened d e (status.BadStore at) = Each d.reads (IsBadStore at) × OnlyReads d e
-IsNotOpened d e status.DiskFault = Rose d.faults e.faults × OnlyReads d e
-IsNotOpened d e status.Memory = OnlyReads d e
+IsNotOpened d e (status.BadStore at) = Each d.reads (IsBadStore at) × OnlySettles d e
+IsNotOpened d e status.DiskFault = Rose d.faults e.faults × OnlySettles d e
+IsNotOpened d e status.Memory = OnlySettles d e
 IsNotOpened d e _ = ⊥
 
 -- the moment of a clock, where that is steady

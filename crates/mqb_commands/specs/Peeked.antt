@@ -8,9 +8,10 @@ use Rattle.mqb_base.specs.declared.queues.EntryPlace.{EntryPlace}
 use Rattle.mqb_base.specs.declared.queues.Place.{Place}
 use Rattle.mqb_manager.specs.States.{ManagerState}
 use Rattle.mqb_model.specs.state.State.{State}
-use Rattle.mqb_outside.specs.Disk.{OnlyReads, View}
+use Rattle.mqb_outside.specs.Disk.{View}
 use Rattle.mqb_queue.specs.First.{is_free}
 use Rattle.mqb_queue.specs.Places.{Places, place_named}
+use Rattle.mqb_store_laws.specs.Settling.{OnlySettles}
 use Rattle.mqb_transcript.specs.Texts.{printed}
 use Rattle.mqb_transcript.specs.declared.replies.Reply.{Reply}
 use Rattle.mqb_transcript.specs.declared.replies.Reply.TheVariants as reply
@@ -47,11 +48,11 @@ TellsIfThere s (Some at) count now text r = TellsPlace (hosts_of s) s.places at 
 abbrev pub TellsFirst : State → Place → (count now : ℕ) → List ℕ → Status → Type 0
 TellsFirst s place count now text r = TellsIfThere s (place_named s.places.queues place) count now text r
 
--- A store was opened and only read, and the first messages of a place are told.
+-- A store was opened and not written, and the first messages of a place are told.
 pub record IsPeeked (place : Place) (count now : ℕ) (d e : View) (text : List ℕ) (r : Status) : Type 0 where
   pub manager : ManagerState
   pub opened : OpensAs d manager
-  pub reads : OnlyReads d e
+  pub reads : OnlySettles d e
   pub told : TellsFirst manager.store.state place count now text r
 
 -- `peek` at the moment of a clock

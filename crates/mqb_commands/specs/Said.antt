@@ -7,6 +7,7 @@ use Rattle.mqb_listing.specs.Listing.{listing}
 use Rattle.mqb_manager.specs.States.{IsOnDisk, IsUp, ManagerState, manager_of}
 use Rattle.mqb_model.specs.managers.Manager.{new_manager}
 use Rattle.mqb_outside.specs.Faults.{Rose}
+use Rattle.mqb_store_laws.specs.Settling.{OnlySettles}
 use Rattle.mqb_commands.specs.Texts.{fault_text}
 use Rattle.mqb_commands.specs.declared.status.Status.{Status}
 use Rattle.mqb_commands.specs.declared.status.Status.TheVariants as status
@@ -40,7 +41,7 @@ Inits identity d e text _ = ⊥
 pub record IsListed (d e : View) (text : List ℕ) : Type 0 where
   pub manager : ManagerState
   pub opened : OpensAs d manager
-  pub reads : OnlyReads d e
+  pub reads : OnlySettles d e
   pub said : text ≡ listing manager.store.state
 
 -- a store that was not opened: its fault line is said

@@ -1,9 +1,10 @@
-ghost use Rattle.std.specs.Prelude.{◌≡◌, IfErr, IfOk};
-ghost use Rattle.mqb_outside.specs.Disk.{OnlyReads};
+ghost use Rattle.std.specs.Prelude.{◌≡◌, IfErr, IfOk, OnOk};
+ghost use Rattle.mqb_outside.specs.Disk.{IsSettled};
 ghost use Rattle.mqb_commands.specs.Opened.{IsNotOpened, OpensAs};
 ghost use Rattle.mqb_journal.specs.Causes.{FaultsAsSaid};
 ghost use Rattle.mqb_commands.specs.Causes.{is_disk_fault, open_status};
 ghost use Rattle.mqb_manager.specs.States.{IsOnDisk};
+ghost use Rattle.mqb_store_laws.specs.Settling.{OnlySettles};
 
 use crate::Status;
 use mqb_manager::{Manager, OpenFault};
@@ -29,7 +30,8 @@ pub(crate) fn open_status(fault: OpenFault) -> Status
 pub fn open<D: Disk>(alloc: Global, disk: &mut D) -> Result<Manager, Status>
     ensures opened { IfOk result (OpensAs (D.view disk.old)) }
     ensures fails { IfErr result (IsNotOpened (D.view disk.old) (D.view disk.new)) }
-    ensures reads { OnlyReads (D.view disk.old) (D.view disk.new) }
+    ensures reads { OnlySettles (D.view disk.old) (D.view disk.new) }
+    ensures settled { OnOk result (IsSettled (D.view disk.new)) }
     ensures on { IfOk result (IsOnDisk (D.view disk.new)) }
     ensures cause { FaultsAsSaid is_disk_fault (D.view disk.old).faults
         (D.view disk.new).faults result }

@@ -1,7 +1,7 @@
 -- How a probe ends, from the disk before its store was opened.
 use Rattle.std.proofs.Common.{◌≡◌, ◌≢◌, inl, ℕ, List, Option, Err, Ok, sym, subst}
 use Rattle.mqb_commands.specs.Opened.{IsMoment, OpensAs}
-use Rattle.mqb_outside.specs.Disk.{OnlyReads, View}
+use Rattle.mqb_outside.specs.Disk.{View}
 use Rattle.mqb_journal.specs.Causes.{FaultsAsSaid}
 use Rattle.mqb_manager.specs.Keeping.{KeepsDisk}
 use Rattle.mqb_manager.specs.lemmas.Keeping.{keeping_goes_on}
@@ -12,13 +12,14 @@ use Rattle.mqb_serving.specs.Serving.{Answer, Serves, ServesWhole, is_disk_fault
 use Rattle.mqb_serving.specs.declared.faults.ConnFault.TheVariants as fault
 use Rattle.mqb_commands.specs.Outputs.{ReadFaultHasCause, WriteFaultHasCause}
 use Rattle.mqb_commands.specs.declared.status.Status.{Status}
+use Rattle.mqb_store_laws.specs.Settling.{OnlySettles}
 use Rattle.mqb_connections.proofs.Opening.{opened_keeps}
 use Rattle.mqb_connections.specs.Causes.{IsProbeEnd}
 use Rattle.mqb_connections.specs.Probed.{CompletesProbe, ProbesStore}
 use Rattle.mqb_connections.specs.Statuses.{IsFaultless, probe_status}
 
 pub store_probes : (steady : Option ℕ) (d f e : View) (m n : ManagerState) (now : ℕ) (end : Answer) (held held_now taken taken_now : Option (List ℕ)) (r : Status)
-    → OpensAs d m → OnlyReads d f → f.faults ≡ d.faults → IsMoment steady now
+    → OpensAs d m → OnlySettles d f → f.faults ≡ d.faults → IsMoment steady now
     → Serves purpose.Serve now (manager_of m) (manager_of n) held held_now taken taken_now end
     → ServesWhole end purpose.Serve now (manager_of m) (manager_of n) held taken taken_now
     → KeepsDisk f e m n → (end ≢ Err fault.DiskFault → IsUp n) → FaultsAsSaid is_disk_fault f.faults e.faults end → r ≡ probe_status end

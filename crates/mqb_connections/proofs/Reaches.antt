@@ -3,8 +3,8 @@ use Rattle.std.proofs.Common.{◌≡◌, ◌≢◌, ◌⊎◌, inl, inr, ℕ, Li
 use Rattle.std.specs.Prelude.{codes}
 use Rattle.mqb_commands.specs.Causes.{DiskFaultHasCause}
 use Rattle.mqb_commands.specs.Opened.{OpensAs}
-use Rattle.mqb_outside.specs.Disk.{OnlyReads, View}
-use Rattle.mqb_outside.specs.lemmas.Runs.{reads_then}
+use Rattle.mqb_outside.specs.Disk.{View}
+use Rattle.mqb_store_laws.specs.lemmas.Settling.{settles_then}
 use Rattle.mqb_journal.specs.Causes.{FaultsAsSaid}
 use Rattle.mqb_manager.specs.Keeping.{KeepsDisk}
 use Rattle.mqb_manager.specs.lemmas.Keeping.{keeping_goes_on}
@@ -16,6 +16,7 @@ use Rattle.mqb_serving.specs.declared.purpose.Errand.{Errand}
 use Rattle.mqb_commands.specs.Outputs.{IsPlain, Tells, WriteFaultHasCause}
 use Rattle.mqb_commands.specs.declared.status.Status.{Status}
 use Rattle.mqb_commands.specs.declared.status.Status.TheVariants as status
+use Rattle.mqb_store_laws.specs.Settling.{OnlySettles}
 use Rattle.mqb_connections.proofs.Opening.{opened_keeps}
 use Rattle.mqb_connections.proofs.Unopened.{unopened_disk, unopened_faultless, unopened_net, unopened_net_end}
 use Rattle.mqb_connections.specs.Causes.{IsNetEnd, NetFaultHasCause, is_lost}
@@ -69,18 +70,18 @@ served_reaches why named peer steady m n d e net before after end r reach kept u
   told = told;
 })
 
--- Opening only reads: what is done from the disk behind it is done from the disk before.
+-- Opening reads and syncs: what is done from the disk behind it is done from the disk before.
 
-from_disk : (why : Errand) (named : Option (List ℕ)) (o steady : Option ℕ) (m : ManagerState) (d f e : View) (net : Nets) (before after : Option (List ℕ)) (r : Status) → OpensAs d m → OnlyReads d f
+from_disk : (why : Errand) (named : Option (List ℕ)) (o steady : Option ℕ) (m : ManagerState) (d f e : View) (net : Nets) (before after : Option (List ℕ)) (r : Status) → OpensAs d m → OnlySettles d f
     → f.faults ≡ d.faults → ReachesAt why named o steady m f e net before after r → ReachesAt why named o steady m d e net before after r
 from_disk why named None steady m d f e net before after r opened reads same none = record {
-  disk = reads_then d f e reads none.disk;
+  disk = settles_then d f e reads none.disk;
   disk_faults = none.disk_faults ∙ same;
   untouched = none.untouched;
   told = none.told;
 }
 from_disk why named (Some peer) steady m d f e net before after r opened reads same (inl un) = inl (record {
-  disk = reads_then d f e reads un.disk;
+  disk = settles_then d f e reads un.disk;
   disk_faults = un.disk_faults ∙ same;
   finished = un.finished;
   faults = un.faults;
@@ -100,7 +101,7 @@ from_disk why named (Some peer) steady m d f e net before after r opened reads s
 })
 
 pub store_reaches : (why : Errand) (named : Option (List ℕ)) (host : List ℕ) (o steady : Option ℕ) (m : ManagerState) (d f e : View) (net : Nets) (before after : Option (List ℕ)) (r : Status)
-    → OpensAs d m → OnlyReads d f → f.faults ≡ d.faults → o ≡ index_of_host m.store.state.peers host → ReachesAt why named o steady m f e net before after r
+    → OpensAs d m → OnlySettles d f → f.faults ≡ d.faults → o ≡ index_of_host m.store.state.peers host → ReachesAt why named o steady m f e net before after r
     → ReachesStore why named host steady d e net before after r
 store_reaches why named host o steady m d f e net before after r opened reads same index reaches = inl (record {
   first = m;
@@ -110,7 +111,7 @@ store_reaches why named host o steady m d f e net before after r opened reads sa
 
 -- where no peer has the host
 pub store_without_peer : (why : Errand) (named : Option (List ℕ)) (host : List ℕ) (steady : Option ℕ) (m : ManagerState) (d e : View) (net : Nets) (before after : Option (List ℕ)) (r : Status)
-    → OpensAs d m → OnlyReads d e → e.faults ≡ d.faults → None ≡ index_of_host m.store.state.peers host → IsUntouched net
+    → OpensAs d m → OnlySettles d e → e.faults ≡ d.faults → None ≡ index_of_host m.store.state.peers host → IsUntouched net
     → Tells (codes "nopeer\n") status.Refused before after r → ReachesStore why named host steady d e net before after r
 store_without_peer why named host steady m d e net before after r opened reads same index untouched told = inl (record {
   first = m;

@@ -4,7 +4,7 @@ use Rattle.std.specs.Prelude.{◌≡◌, ◌≢◌, ◌⊎◌, Err, IsSome, List
 use Rattle.mqb_base.specs.declared.ids.Identity.{Identity}
 use Rattle.mqb_base.specs.Same.{same_ignoring_case}
 use Rattle.mqb_commands.specs.Opened.{OpensAs}
-use Rattle.mqb_outside.specs.Disk.{OnlyReads, View}
+use Rattle.mqb_outside.specs.Disk.{View}
 use Rattle.mqb_outside.specs.Images.{Each}
 use Rattle.mqb_outside.specs.Net.{Ended}
 use Rattle.mqb_journal.specs.Causes.{FaultsAsSaid}
@@ -19,6 +19,7 @@ use Rattle.mqb_commands.specs.Outputs.{Tells}
 use Rattle.mqb_commands.specs.declared.status.Status.{Status}
 use Rattle.mqb_commands.specs.declared.status.Status.TheVariants as status
 use Rattle.mqb_store_laws.specs.Faults.{IsBadStore}
+use Rattle.mqb_store_laws.specs.Settling.{OnlySettles}
 use Rattle.mqb_connections.specs.Causes.{is_lost}
 use Rattle.mqb_connections.specs.Served.{IsUnopened, IsUntouched, Nets}
 use Rattle.mqb_connections.specs.Statuses.{IsFaultless, reach_status}
@@ -59,7 +60,7 @@ pub record ReachesOver (why : Errand) (named : Option (List ℕ)) (peer : ℕ) (
 
 -- The net gave no connection.
 pub record IsUnconnected (d e : View) (net : Nets) (before after : Option (List ℕ)) (r : Status) : Type 0 where
-  pub disk : OnlyReads d e
+  pub disk : OnlySettles d e
   pub disk_faults : e.faults ≡ d.faults
   pub finished : net.finished_now ≡ net.finished
   pub faults : Rose net.faults net.faults_now
@@ -68,7 +69,7 @@ pub record IsUnconnected (d e : View) (net : Nets) (before after : Option (List 
 
 -- No peer has the host.
 pub record HasNoPeer (d e : View) (net : Nets) (before after : Option (List ℕ)) (r : Status) : Type 0 where
-  pub disk : OnlyReads d e
+  pub disk : OnlySettles d e
   pub disk_faults : e.faults ≡ d.faults
   pub untouched : IsUntouched net
   pub told : Tells (codes "nopeer\n") status.Refused before after r

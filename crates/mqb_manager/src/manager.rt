@@ -8,6 +8,7 @@ ghost use Rattle.mqb_model.specs.state.Durable.{durable};
 ghost use Rattle.mqb_manager.specs.States.{IsOnDisk, IsUp, manager_of};
 ghost use Rattle.mqb_store_laws.specs.Faults.{IsBadStore};
 ghost use Rattle.mqb_store_laws.specs.Images.{HasLastLines, OpensTo};
+ghost use Rattle.mqb_store_laws.specs.Settling.{OnlySettles};
 
 use mqb_base::Identity;
 use mqb_model::{new_is_valid, restarted_is_valid};
@@ -95,7 +96,7 @@ impl Manager {
         }
     }
 
-    /// The manager on a disk, which is only read. It is up and not linked.
+    /// The manager on a disk, which is read and synced, and not written. It is up and not linked.
     ///
     /// # Errors
     /// `BadStore` with the first place where the disk is no store of a manager; `Memory`; `DiskFault`.
@@ -104,6 +105,7 @@ impl Manager {
         ensures durable { IfOk result (λ n. durable n.store.state ≡ n.store.state) }
         ensures on { IfOk result (IsOnDisk (D.view disk.new)) }
         ensures up { IfOk result IsUp }
+        ensures settled { OnOk result (IsSettled (D.view disk.new)) }
         ensures opens { IfOk result (λ n. Each (D.view disk.old).reads
             (OpensTo n.store.journal.guid n.store.journal.count n.store.state)) }
         ensures lines { IfOk result (λ n. Each (D.view disk.old).reads
@@ -111,7 +113,7 @@ impl Manager {
         ensures bad { (at : ℕ) → result ≡ Err (OpenFault.BadStore at)
             → Each (D.view disk.old).reads (IsBadStore at) }
         ensures never { result ≢ Err OpenFault.NotEmpty }
-        ensures reads { OnlyReads (D.view disk.old) (D.view disk.new) }
+        ensures reads { OnlySettles (D.view disk.old) (D.view disk.new) }
         ensures cause { FaultsAsSaid open_failed (D.view disk.old).faults
             (D.view disk.new).faults result }
     {

@@ -1,11 +1,12 @@
 -- What a restart of the manager in a seat comes to.
 use Rattle.std.proofs.Common.{◌≡◌, Bool, true, false, List, ℕ, not, ◌==◌, refl, sym, ap, subst, arith}
-use Rattle.mqb_outside.specs.Disk.{IsSettled, OnlyReads, View}
+use Rattle.mqb_outside.specs.Disk.{IsSettled, View}
 use Rattle.mqb_outside.specs.Images.{Each}
 use Rattle.mqb_model.specs.laws.Durable.{DurableIsApplied}
 use Rattle.mqb_model.specs.managers.Valid.{IsValidManager}
 use Rattle.mqb_outside.specs.Faults.{Rose}
 use Rattle.mqb_store_laws.specs.Laws.{ImagesOpenToOne}
+use Rattle.mqb_store_laws.specs.Settling.{OnlySettles}
 use Rattle.mqb_moves.specs.States.{ManagerState, manager_of}
 use Rattle.mqb_moves.specs.Calling.{seat_of}
 use Rattle.mqb_moves.specs.lemmas.Restarting.{Restarts, StandsForOneList, Starts, held_unread, restarts_so, unread_is}
@@ -23,15 +24,15 @@ module _ (opens : ImagesOpenToOne) (d e f : View) (m : ManagerState) (u : Bool) 
   pub opened_so : StandsForOneList → DurableIsApplied → (n : ManagerState) → IsValidManager (manager_of m) → Starts e f n → (c : List ℕ) → e.reads c → f.faults ≡ d.faults
       → IsOpened d f s (seat_of n) (opened_by (not (n.store.journal.count == s.manager.store.journal.count)))
   opened_so lists law n valid starts c told same = told_by d f s n (not (n.store.journal.count == s.manager.store.journal.count))
-      (restarts_so opens lists law d e f s n (subst (λ (k : ManagerState). IsValidManager (manager_of k)) manager valid) held settled starts c told (one_of c told)) same
+      (restarts_so opens lists law d e f s n (subst (λ (k : ManagerState). IsValidManager (manager_of k)) manager valid) held starts c told (one_of c told)) same
     where
       manager : m ≡ s.manager
       manager = ap (λ (t : SeatState). t.manager) is
 
-  pub not_opened : OnlyReads e f → Rose d.faults f.faults → NotOpened d f s (record { manager = m; unread = true })
-  not_opened reads rose = subst (λ (k : ManagerState). NotOpened d f s (record { manager = k; unread = true })) (sym manager) (record {
+  pub not_opened : OnlySettles e f → Rose d.faults f.faults → NotOpened d f s (record { manager = m; unread = true })
+  not_opened settles rose = subst (λ (k : ManagerState). NotOpened d f s (record { manager = k; unread = true })) (sym manager) (record {
     manager = unread_is s;
-    held = held_unread d e f s held settled one_of reads;
+    held = held_unread d e f s held settled one_of settles;
     faults = rose;
   })
     where

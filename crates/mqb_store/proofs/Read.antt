@@ -6,7 +6,7 @@ use Rattle.mqb_base.specs.Same.{same_guid}
 use Rattle.mqb_base.specs.declared.ids.Guid.{Guid}
 use Rattle.mqb_base.specs.declared.ids.Identity.{Identity}
 use Rattle.mqb_base.specs.declared.ledger.Line.{Line}
-use Rattle.mqb_outside.specs.Disk.{OnlyReads, View}
+use Rattle.mqb_outside.specs.Disk.{View}
 use Rattle.mqb_outside.specs.Images.{Each}
 use Rattle.mqb_journal.specs.lemmas.Carrying.{goes_on_stands, lent_goes_on}
 use Rattle.mqb_journal.specs.States.{ScanState, finished}
@@ -24,9 +24,11 @@ use Rattle.mqb_store.proofs.Beginning.{first_state}
 use Rattle.mqb_store.proofs.Faulty.{StandsBehind}
 use Rattle.mqb_store.specs.Replaying.{IsReadUpTo}
 use Rattle.mqb_store_laws.specs.lemmas.Carrying.{opens_now}
+use Rattle.mqb_store_laws.specs.lemmas.Settling.{lent_settled}
 use Rattle.mqb_store_laws.specs.Faults.{MayGoOn}
 use Rattle.mqb_store_laws.specs.Images.{HasLastLines, IsOn, OpensTo, identity_in, lines_added, state_from, state_in}
 use Rattle.mqb_store_laws.specs.Laws.{EntriesBegin, EntriesGoOn}
+use Rattle.mqb_store_laws.specs.Settling.{OnlySettles}
 
 -- the records that were read
 abbrev pub read_in : {d : View} {scan : ScanState} {s : State} {lines : List Line} → IsReadUpTo d scan s lines → List (List ℕ)
@@ -112,6 +114,19 @@ pub unfit_from : EntriesGoOn → (guid : Guid) (entries : List (List ℕ)) (entr
     → is_fit s (record_of entry) ≡ false → state_from (entries ++ entry ∷ []) ≡ None
 unfit_from law guid entries entry s is unfit = law.anywhere guid entries entry s is ∙ not_applied s (record_of entry) unfit
 
+-- it was read still behind calls that read and sync
+pub read_settled : (d e : View) (scan : ScanState) (s : State) (lines : List Line) → IsReadUpTo d scan s lines → OnlySettles d e → IsReadUpTo e scan s lines
+read_settled d e scan s lines read settles = record {
+  whole = read.whole;
+  within = read.within;
+  before = read.before;
+  last = read.last;
+  lent = lent_settled d e scan (read_in read) read.lent settles;
+  state = read.state;
+  kept = read.kept;
+  added = read.added;
+}
+
 -- the store that was read to its end
 pub read_on : (d : View) (scan : ScanState) (room : ℕ) (s : State) (lines : List Line) → IsReadUpTo d scan s lines → scan.ended ≡ true → IsOn d (finished scan room) s
 read_on d scan room s lines read ended = record {
@@ -120,18 +135,18 @@ read_on d scan room s lines read ended = record {
   state = read.state ∙ ap Some (sym read.kept);
 }
 
-pub read_opens : (d e : View) (scan : ScanState) (s : State) (lines : List Line) → IsReadUpTo e scan s lines → scan.ended ≡ true → OnlyReads d e
+pub read_opens : (d e : View) (scan : ScanState) (s : State) (lines : List Line) → IsReadUpTo e scan s lines → scan.ended ≡ true → OnlySettles d e
     → Each d.reads (OpensTo scan.guid scan.count s)
-read_opens d e scan s lines read ended reads c told =
+read_opens d e scan s lines read ended settles c told =
     subst (λ (t : State). OpensTo scan.guid scan.count t c) read.kept
-    (opens_now e (finished scan 0) s (read_on e scan 0 s lines read ended) c (reads.unchanged.reads.none_lost c told))
+    (opens_now e (finished scan 0) s (read_on e scan 0 s lines read ended) c (settles.reads.none_lost c told))
 
-pub read_lines : (d e : View) (scan : ScanState) (s : State) (lines : List Line) → IsReadUpTo e scan s lines → scan.ended ≡ true → OnlyReads d e
+pub read_lines : (d e : View) (scan : ScanState) (s : State) (lines : List Line) → IsReadUpTo e scan s lines → scan.ended ≡ true → OnlySettles d e
     → Each d.reads (HasLastLines scan.guid lines)
-read_lines d e scan s lines read ended reads c told = record {
+read_lines d e scan s lines read ended settles c told = record {
   before = read.before;
   last = read.last;
   stands = goes_on_stands e (finished scan 0) (read_in read) (lent_goes_on e scan 0 (read_in read) read.lent ended) c
-      (reads.unchanged.reads.none_lost c told);
+      (settles.reads.none_lost c told);
   added = read.added;
 }

@@ -4,6 +4,7 @@ use Rattle.std.specs.Prelude.{[], ◌++◌, ◌<◌, ◌≡◌, ◌∷◌, Bool,
 use Rattle.mqb_base.specs.declared.ids.Guid.{Guid}
 use Rattle.mqb_outside.specs.Disk.{OnlyReads, View}
 use Rattle.mqb_outside.specs.Images.{Each}
+use Rattle.mqb_outside.specs.lemmas.Runs.{reads_then}
 use Rattle.mqb_journal.specs.Causes.{open_failed}
 use Rattle.mqb_journal.specs.Journals.{Lent}
 use Rattle.mqb_journal.specs.States.{ScanState, advanced, ended}
@@ -15,7 +16,9 @@ use Rattle.mqb_outside.specs.Faults.{Rose}
 use Rattle.mqb_store.proofs.Faulty.{StandsBehind, does_not_fit, no_record}
 use Rattle.mqb_store_laws.specs.Faults.{IsBadStore, MayGoOn}
 use Rattle.mqb_store_laws.specs.Images.{identity_in, state_from}
+use Rattle.mqb_store_laws.specs.lemmas.Settling.{reads_settle, settles_then}
 use Rattle.mqb_store_laws.specs.Laws.{EntriesBegin}
+use Rattle.mqb_store_laws.specs.Settling.{OnlySettles}
 
 -- the place that a fault tells
 place_in : {T : Type 0} → Result T OpenFault → ℕ
@@ -99,6 +102,10 @@ same_fault {T} a b is = ap (fault_in {T = T}) is
 -- over the disk from before calls that only read
 pub bad_before : (d e : View) (at : ℕ) → OnlyReads d e → Each e.reads (IsBadStore at) → Each d.reads (IsBadStore at)
 bad_before d e at reads bad c told = bad c (reads.unchanged.reads.none_lost c told)
+
+-- two calls that only read, and then one that reads and syncs
+pub reads_then_settles : (d m n e : View) → OnlyReads d m → OnlyReads m n → OnlySettles n e → OnlySettles d e
+reads_then_settles d m n e first second settles = settles_then d n e (reads_settle d n (reads_then d m n first second)) settles
 
 -- a fault that is handed on has the cause that it had, where the calls before it had none
 pub cause_of : (fault : OpenFault) (before mid after : ℕ) → mid ≡ before → cond (open_failed fault) (Rose mid after) (after ≡ mid)

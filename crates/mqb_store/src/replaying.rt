@@ -1,6 +1,6 @@
 //! The state of a store is made again from its records, one at a time.
 ghost use Rattle.std.specs.Prelude.{[], ◌-◌, ◌<◌, ◌≡◌, ◌≢◌, Err, IfOk, IsSomeAnd, OnOk, false, true, ℕ};
-ghost use Rattle.mqb_outside.specs.Disk.{OnlyReads};
+ghost use Rattle.mqb_outside.specs.Disk.{IsSettled, OnlyReads};
 ghost use Rattle.mqb_outside.specs.Images.{Each};
 ghost use Rattle.mqb_journal.specs.Causes.{FaultsAsSaid, open_failed};
 ghost use Rattle.mqb_journal.specs.Journals.{Lent};
@@ -9,6 +9,7 @@ ghost use Rattle.mqb_model.specs.records.Reading.{record_of};
 ghost use Rattle.mqb_state.specs.Unfit.{is_fit};
 ghost use Rattle.mqb_store.specs.Replaying.{IsReadUpTo};
 ghost use Rattle.mqb_store_laws.specs.Faults.{IsBadStore};
+ghost use Rattle.mqb_store_laws.specs.Settling.{OnlySettles};
 
 use crate::spelling::identity_of;
 use crate::typed::guid_is_whole;
@@ -116,7 +117,7 @@ fn step<D: Disk>(
 }
 
 /// Makes all records that are left, and answers the lines of the last.
-pub(crate) fn replay<D: Disk>(
+fn replay<D: Disk>(
     alloc: Global,
     disk: &mut D,
     scan: &mut Scan,
@@ -136,5 +137,30 @@ pub(crate) fn replay<D: Disk>(
 {
     let mut lines = Roomed::new(alloc);
     'records: while step(disk, scan, state, &mut lines)? {}
+    Ok(lines)
+}
+
+/// Makes all records that are left, and syncs the disk, since who wrote them may have been killed before. Answers the lines of the last.
+pub(crate) fn replay_durably<D: Disk>(
+    alloc: Global,
+    disk: &mut D,
+    scan: &mut Scan,
+    state: &mut State,
+) -> Result<Roomed<Line>, OpenFault>
+    requires read { IsReadUpTo (D.view disk.old) scan.old state.old.lists [] }
+    requires going { scan.old.ended ≡ false }
+    ensures read { IfOk result (λ lines.
+        IsReadUpTo (D.view disk.new) scan.new state.new.lists lines.items) }
+    ensures ended { OnOk result (scan.new.ended ≡ true) }
+    ensures settled { OnOk result (IsSettled (D.view disk.new)) }
+    ensures bad { (at : ℕ) → result ≡ Err (OpenFault.BadStore at)
+        → Each (D.view disk.old).reads (IsBadStore at) }
+    ensures never { result ≢ Err OpenFault.NotEmpty }
+    ensures reads { OnlySettles (D.view disk.old) (D.view disk.new) }
+    ensures cause { FaultsAsSaid open_failed (D.view disk.old).faults
+        (D.view disk.new).faults result }
+{
+    let lines = replay(alloc, disk, scan, state)?;
+    disk.sync()?;
     Ok(lines)
 }

@@ -10,10 +10,11 @@ ghost use Rattle.mqb_store.specs.States.{IsStoredOn, IsUp};
 ghost use Rattle.mqb_store.specs.declared.spelling.TheConstants.{FIRST_RECORD};
 ghost use Rattle.mqb_store_laws.specs.Faults.{IsBadStore};
 ghost use Rattle.mqb_store_laws.specs.Images.{HasLastLines, OpensTo};
+ghost use Rattle.mqb_store_laws.specs.Settling.{OnlySettles};
 
 use crate::appending::append;
 use crate::faults::WriteFault;
-use crate::replaying::{first, replay};
+use crate::replaying::{first, replay_durably};
 use crate::spelling::spell_identity;
 use crate::store::Store;
 use mqb_base::{Identity, Roomed};
@@ -102,13 +103,14 @@ impl Store {
         }
     }
 
-    /// The store on a disk: each record is made on one state as it is read. The disk is only read.
+    /// The store on a disk: each record is made on one state as it is read. Nothing is written, and a sync makes safe what was read.
     ///
     /// # Errors
     /// `BadStore` with the first place where the disk is no store of a manager; `Memory`; `DiskFault`.
     pub fn start<D: Disk>(alloc: Global, disk: &mut D) -> Result<Store, OpenFault>
         ensures on { IfOk result (IsStoredOn (D.view disk.new)) }
         ensures up { IfOk result IsUp }
+        ensures settled { OnOk result (IsSettled (D.view disk.new)) }
         ensures durable { IfOk result (λ w. durable w.state ≡ w.state) }
         ensures opens { IfOk result (λ w. Each (D.view disk.old).reads
             (OpensTo w.journal.guid w.journal.count w.state)) }
@@ -117,13 +119,13 @@ impl Store {
         ensures bad { (at : ℕ) → result ≡ Err (OpenFault.BadStore at)
             → Each (D.view disk.old).reads (IsBadStore at) }
         ensures never { result ≢ Err OpenFault.NotEmpty }
-        ensures reads { OnlyReads (D.view disk.old) (D.view disk.new) }
+        ensures reads { OnlySettles (D.view disk.old) (D.view disk.new) }
         ensures cause { FaultsAsSaid open_failed (D.view disk.old).faults
             (D.view disk.new).faults result }
     {
         let mut scan = Journal::begin(alloc, disk)?;
         let mut state = first(alloc, disk, &mut scan)?;
-        match replay(alloc, disk, &mut scan, &mut state) {
+        match replay_durably(alloc, disk, &mut scan, &mut state) {
             Ok(lines) => Ok(Store {
                 state,
                 journal: scan.finish(),

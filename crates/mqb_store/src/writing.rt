@@ -127,6 +127,8 @@ impl Store {
         ensures guid { self.new.journal.guid ≡ self.old.journal.guid }
         ensures count { OnOk result (self.new.journal.count
             ≡ self.old.journal.count + option_map_or (λ _. 1) (option_copied entry.entry) 0) }
+        ensures durable { OnOk result (IfSome (option_copied entry.entry)
+            (λ _. IsSettled (D.view disk.new))) }
         ensures settled { IsSettled (D.view disk.old)
             → OnOk result (IsSettled (D.view disk.new)) }
 

@@ -1,4 +1,5 @@
 pub mod Images
+pub mod Settling
 pub mod Faults
 pub mod Laws
 pub mod Carrying

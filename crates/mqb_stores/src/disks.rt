@@ -127,7 +127,7 @@ fn a_disk_in_a_file(rt: HostRuntime) -> Result<(), Fail> {
     assert_eq!(rt; FileDisk::open(&rt, path).map(|_| ()), in_use);
     assert_eq!(rt;
         (write(&mut one, 0, b"x"), cut(&mut one, 0), one.sync()),
-        (Err(Failed), Err(Failed), Err(Failed))
+        (Err(Failed), Err(Failed), Ok(()))
     );
     assert!(rt; holds(rt.alloc(), &mut other, b"aBCde")?);
     fs::remove_file(&rt, path)?;

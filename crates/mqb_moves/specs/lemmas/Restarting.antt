@@ -7,7 +7,7 @@ use Rattle.std.specs.Prelude.{[], ◌+◌, ◌++◌, ◌==◌, ◌∷◌, ◌≡
 use Rattle.mqb_base.specs.Same.{same_guid}
 use Rattle.mqb_base.specs.declared.ids.Guid.{Guid}
 use Rattle.mqb_base.specs.declared.ledger.Line.{Line}
-use Rattle.mqb_outside.specs.Disk.{IsSettled, OnlyReads, View}
+use Rattle.mqb_outside.specs.Disk.{IsSettled, View}
 use Rattle.mqb_outside.specs.Images.{Each}
 use Rattle.mqb_journal.specs.Store.{StandsFor}
 use Rattle.mqb_model.specs.laws.Durable.{DurableIsApplied}
@@ -31,6 +31,7 @@ use Rattle.mqb_store_laws.specs.lemmas.Carrying.{opens_now}
 use Rattle.mqb_store_laws.specs.Images.{HasLastLines, Opens, OpensTo, begins_as, lines_added, records_in, state_by, state_in}
 use Rattle.mqb_store_laws.specs.Faults.{IsBadStore}
 use Rattle.mqb_store_laws.specs.Laws.{ImagesOpenToOne, OpenedIsNotBad}
+use Rattle.mqb_store_laws.specs.Settling.{OnlySettles}
 use Rattle.mqb_manager.specs.States.{IsOnDisk, IsUp, ManagerState, manager_of}
 use Rattle.mqb_moves.specs.Calling.{seat_of}
 use Rattle.mqb_moves.specs.lemmas.Calling.{not_up_of}
@@ -181,7 +182,7 @@ pub record Starts (e f : View) (n : ManagerState) : Type 0 where
   pub up : IsUp n
   pub opens : Each e.reads (OpensTo n.store.journal.guid n.store.journal.count n.store.state)
   pub lines : Each e.reads (HasLastLines n.store.journal.guid n.store.lines)
-  pub reads : OnlyReads e f
+  pub settled : IsSettled f
 
 -- A manager was started again over a store that has the record in doubt, or not.
 pub record Restarts (f : View) (s : SeatState) (n : ManagerState) (kept : Bool) : Type 0 where
@@ -196,16 +197,16 @@ clash true is not = let none : ⊥ = cc in none
 clash false is not = let none : ⊥ = cc in none
 
 -- the disk of a manager that was started is held
-held_then : (e f : View) (n : ManagerState) → length n.store.journal.guid.0 ≡ 16 → Starts e f n → IsSettled e → IsHeldOn f (seat_of n)
-held_then e f n whole starts settled = record {
+held_then : (e f : View) (n : ManagerState) → length n.store.journal.guid.0 ≡ 16 → Starts e f n → IsHeldOn f (seat_of n)
+held_then e f n whole starts = record {
   whole = whole;
   on = λ _. starts.on;
-  settled = λ _ c left. starts.reads.unchanged.reads.none_lost c (settled c (starts.reads.unchanged.leaves.none_new c left));
+  settled = λ _. starts.settled;
   opens = λ down. absurd (not_up_of n down starts.up);
 }
 
 module _ (opened : ImagesOpenToOne) (lists : StandsForOneList) (law : DurableIsApplied) (d e f : View) (s : SeatState) (n : ManagerState) (valid : IsValidManager (manager_of s.manager))
-    (held : IsHeldOn d s) (settled : IsSettled e) (starts : Starts e f n) (c : List ℕ) (told : e.reads c) (left : d.leaves c) where
+    (held : IsHeldOn d s) (starts : Starts e f n) (c : List ℕ) (told : e.reads c) (left : d.leaves c) where
   abbrev kept : Bool
   kept = not (n.store.journal.count == s.manager.store.journal.count)
 
@@ -219,7 +220,7 @@ module _ (opened : ImagesOpenToOne) (lists : StandsForOneList) (law : DurableIsA
         count = omega (arith, one.0);
         doubt = λ kept. absurd (clash true refl (sym kept));
         lines = λ kept. absurd (clash true refl (sym kept));
-        held = held_then e f n (ap (λ (g : Guid). length g.0) guid ∙ held.whole) starts settled;
+        held = held_then e f n (ap (λ (g : Guid). length g.0) guid ∙ held.whole) starts;
       })
 
   with_doubt : HasDoubt s c → Restarts f s n kept
@@ -237,7 +238,7 @@ module _ (opened : ImagesOpenToOne) (lists : StandsForOneList) (law : DurableIsA
         lines = λ kept. told_lines
             ∙ sym (lines_seated law s x.doubt valid.state fit)
             ∙ ap (λ (o : Option Record). option_map_or (lines_of (seated s).state) o []) (sym x.is);
-        held = held_then e f n (ap (λ (g : Guid). length g.0) guid ∙ held.whole) starts settled;
+        held = held_then e f n (ap (λ (g : Guid). length g.0) guid ∙ held.whole) starts;
       })
 
   -- The count of records tells whether the record in doubt was kept.
@@ -264,9 +265,9 @@ no_doubt_by (Down doubt) up = absurd (clash true refl up)
 no_doubt : (s : SeatState) → is_down (seated s) ≡ false → doubt_of (manager_of s.manager).condition ≡ None
 no_doubt s up = sym (seated_doubt s) ∙ no_doubt_by (seated s).condition up
 
-module _ (d e f : View) (s : SeatState) (held : IsHeldOn d s) (settled : IsSettled e) (one_of : Each e.reads d.leaves) (reads : OnlyReads e f) where
+module _ (d e f : View) (s : SeatState) (held : IsHeldOn d s) (settled : IsSettled e) (one_of : Each e.reads d.leaves) (settles : OnlySettles e f) where
   before : (c : List ℕ) → f.leaves c → d.leaves c
-  before c left = one_of c (settled c (reads.unchanged.leaves.none_new c left))
+  before c left = one_of c (settled c (settles.run.now c left))
 
   opens_still : (c : List ℕ) → f.leaves c → Opens s.manager.store.journal s.manager.store.state (doubt_of (manager_of s.manager).condition) c
   opens_still c left = at (is_down (seated s)) refl

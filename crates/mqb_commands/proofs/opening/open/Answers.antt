@@ -11,7 +11,7 @@ returns-in-Ok-clause-opened g c =
       manager = c.in-Ok.ensures.manager;
       durable = c.in-Ok.ensures.durable;
       up = c.in-Ok.ensures.up;
-      on = on_told e d m.store.journal m.store.state c.in-Ok.ensures.on c.in-Ok.ensures.reads.unchanged.reads.none_lost;
+      on = on_told e d m.store.journal m.store.state c.in-Ok.ensures.on c.in-Ok.ensures.reads.reads.none_lost;
       image = c.in-Ok.ensures.opens;
     }
 

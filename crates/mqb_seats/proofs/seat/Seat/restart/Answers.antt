@@ -36,5 +36,5 @@ returns-in-Ok-clause-opened g c =
     (subst (λ (t : SeatState). IsOpened d f c.args.self.now t (opened_by (not (c.in-Ok.manager.store.journal.count == c.args.self.now.manager.store.journal.count)))) (sym c.opened.ensures.seat)
     (opened_so c.images_open_to_one.ensures d (g.P.Disk.view c.restart.new.self) f c.self.inside.manager c.self.inside.unread c.args.self.now c.self.view_is c.requires
     c.restart.ensures.settled c.restart.ensures.one_of c.stands_for_one_list.ensures.records c.durable_is_applied.ensures c.in-Ok.manager c.is_valid.ensures
-    (record { manager = start.manager; on = start.on; up = start.up; opens = start.opens; lines = start.lines; reads = start.reads })
+    (record { manager = start.manager; on = start.on; up = start.up; opens = start.opens; lines = start.lines; settled = start.settled })
     told.0 told.1 (start.cause ∙ c.restart.ensures.faults)))

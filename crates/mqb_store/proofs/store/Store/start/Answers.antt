@@ -7,9 +7,10 @@ use Rattle.mqb_journal.specs.States.{JournalState}
 use Rattle.mqb_journal.specs.declared.faults.OpenFault.{OpenFault}
 use Rattle.mqb_journal.specs.declared.faults.OpenFault.TheVariants as opening
 use Rattle.mqb_store.proofs.Read.{read_lines, read_on, read_opens}
-use Rattle.mqb_store.proofs.Steps.{bad_before, cause_of, same_fault}
+use Rattle.mqb_store.proofs.Steps.{bad_before, cause_of, reads_then_settles, same_fault}
 use Rattle.mqb_store.proofs.store.Store.start.Goals as goal
 use Rattle.mqb_store_laws.specs.Images.{HasLastLines, IsOn, OpensTo}
+use Rattle.mqb_store_laws.specs.lemmas.Settling.{reads_settle}
 
 pub returns-in_err-scan-clause-bad : goal.returns-in_err-scan-clause-bad
 returns-in_err-scan-clause-bad g c at is =
@@ -33,50 +34,61 @@ returns-in-Err-clause-bad g c at is =
 
 pub returns-in-Ok-clause-on : goal.returns-in-Ok-clause-on
 returns-in-Ok-clause-on g c =
-    let e = g.D.Disk.view c.replay.new.disk in
-    let s = c.replay.new.state.lists in
+    let e = g.D.Disk.view c.replay_durably.new.disk in
+    let s = c.replay_durably.new.state.lists in
     subst (λ (j : JournalState). IsOn e j s) (sym c.finish.ensures)
-    (read_on e c.replay.new.scan c.finish.result.room s c.in-Ok.lines.items c.in-Ok.ensures.read c.in-Ok.ensures.ended)
+    (read_on e c.replay_durably.new.scan c.finish.result.room s c.in-Ok.lines.items c.in-Ok.ensures.read c.in-Ok.ensures.ended)
 
 pub returns-in-Ok-clause-opens : goal.returns-in-Ok-clause-opens
 returns-in-Ok-clause-opens g c =
     let d = g.D.Disk.view c.args.disk.now in
     let m = g.D.Disk.view c.begin.new.disk in
     let n = g.D.Disk.view c.first.new.disk in
-    let e = g.D.Disk.view c.replay.new.disk in
-    let s = c.replay.new.state.lists in
+    let e = g.D.Disk.view c.replay_durably.new.disk in
+    let s = c.replay_durably.new.state.lists in
     subst (λ (j : JournalState). Each d.reads (OpensTo j.guid j.count s)) (sym c.finish.ensures)
-    (read_opens d e c.replay.new.scan s c.in-Ok.lines.items c.in-Ok.ensures.read c.in-Ok.ensures.ended
-    (reads_then d m e c.begin.ensures.reads (reads_then m n e c.first.ensures.reads c.replay.ensures.reads)))
+    (read_opens d e c.replay_durably.new.scan s c.in-Ok.lines.items c.in-Ok.ensures.read c.in-Ok.ensures.ended
+    (reads_then_settles d m n e c.begin.ensures.reads c.first.ensures.reads c.replay_durably.ensures.reads))
 
 pub returns-in-Ok-clause-lines : goal.returns-in-Ok-clause-lines
 returns-in-Ok-clause-lines g c =
     let d = g.D.Disk.view c.args.disk.now in
     let m = g.D.Disk.view c.begin.new.disk in
     let n = g.D.Disk.view c.first.new.disk in
-    let e = g.D.Disk.view c.replay.new.disk in
-    let s = c.replay.new.state.lists in
+    let e = g.D.Disk.view c.replay_durably.new.disk in
+    let s = c.replay_durably.new.state.lists in
     subst (λ (j : JournalState). Each d.reads (HasLastLines j.guid c.in-Ok.lines.items)) (sym c.finish.ensures)
-    (read_lines d e c.replay.new.scan s c.in-Ok.lines.items c.in-Ok.ensures.read c.in-Ok.ensures.ended
-    (reads_then d m e c.begin.ensures.reads (reads_then m n e c.first.ensures.reads c.replay.ensures.reads)))
+    (read_lines d e c.replay_durably.new.scan s c.in-Ok.lines.items c.in-Ok.ensures.read c.in-Ok.ensures.ended
+    (reads_then_settles d m n e c.begin.ensures.reads c.first.ensures.reads c.replay_durably.ensures.reads))
+
+pub returns-in_err-scan-clause-reads : goal.returns-in_err-scan-clause-reads
+returns-in_err-scan-clause-reads g c =
+    reads_settle (g.D.Disk.view c.args.disk.now) (g.D.Disk.view c.begin.new.disk) c.begin.ensures.reads
+
+pub returns-in_err-state-clause-reads : goal.returns-in_err-state-clause-reads
+returns-in_err-state-clause-reads g c =
+    let d = g.D.Disk.view c.args.disk.now in
+    let m = g.D.Disk.view c.begin.new.disk in
+    let n = g.D.Disk.view c.first.new.disk in
+    reads_settle d n (reads_then d m n c.begin.ensures.reads c.first.ensures.reads)
 
 pub returns-in-Err-clause-reads : goal.returns-in-Err-clause-reads
 returns-in-Err-clause-reads g c =
     let d = g.D.Disk.view c.args.disk.now in
     let m = g.D.Disk.view c.begin.new.disk in
     let n = g.D.Disk.view c.first.new.disk in
-    let e = g.D.Disk.view c.replay.new.disk in
-    reads_then d m e c.begin.ensures.reads (reads_then m n e c.first.ensures.reads c.replay.ensures.reads)
+    let e = g.D.Disk.view c.replay_durably.new.disk in
+    reads_then_settles d m n e c.begin.ensures.reads c.first.ensures.reads c.replay_durably.ensures.reads
 
 pub returns-in-Ok-clause-reads : goal.returns-in-Ok-clause-reads
 returns-in-Ok-clause-reads g c =
     let d = g.D.Disk.view c.args.disk.now in
     let m = g.D.Disk.view c.begin.new.disk in
     let n = g.D.Disk.view c.first.new.disk in
-    let e = g.D.Disk.view c.replay.new.disk in
-    reads_then d m e c.begin.ensures.reads (reads_then m n e c.first.ensures.reads c.replay.ensures.reads)
+    let e = g.D.Disk.view c.replay_durably.new.disk in
+    reads_then_settles d m n e c.begin.ensures.reads c.first.ensures.reads c.replay_durably.ensures.reads
 
 pub returns-in-Err-clause-cause : goal.returns-in-Err-clause-cause
 returns-in-Err-clause-cause g c =
     cause_of c.in-Err.fault (g.D.Disk.view c.args.disk.now).faults (g.D.Disk.view c.first.new.disk).faults
-    (g.D.Disk.view c.replay.new.disk).faults (c.in_ok-state.ensures.cause ∙ c.in_ok-scan.ensures.cause) c.in-Err.ensures.cause
+    (g.D.Disk.view c.replay_durably.new.disk).faults (c.in_ok-state.ensures.cause ∙ c.in_ok-scan.ensures.cause) c.in-Err.ensures.cause
