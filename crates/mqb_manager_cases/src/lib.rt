@@ -24,3 +24,5 @@ mod served;
 mod states;
 #[cfg(test)]
 mod stores;
+#[cfg(test)]
+mod texts;
