@@ -35,7 +35,7 @@ same_place {T} at other is = ap (place_in {T = T}) is
 -- A scan that stood behind these records went on to one more.
 pub record HasGoneOn (d e : View) (s t : ScanState) (records : List (List ℕ)) : Type 0 where
   pub behind : StandsBehind d s records
-  pub next : t ≡ advanced s t.lent
+  pub next : t ≡ advanced s t.lent t.is_open
   pub within : t.gate < t.len
   pub lent : Lent e t (records ++ t.lent ∷ [])
   pub reads : OnlyReads d e

@@ -1,5 +1,5 @@
 ghost use Rattle.std.specs.Prelude.{[], ◌+◌, ◌++◌, ◌<◌, ◌≡◌, ◌≢◌, ◌≤◌, ◌∷◌, Err, List, OnOk, false, length, true, ℕ};
-ghost use Rattle.mqb_outside.specs.Disk.{Counted, IsSettled, LeavesOnly};
+ghost use Rattle.mqb_outside.specs.Disk.{AtMost, Counted, IsSettled, LeavesOnly};
 ghost use Rattle.mqb_outside.specs.Images.{Each};
 ghost use Rattle.mqb_journal.specs.Causes.{FaultsAsSaid};
 ghost use Rattle.mqb_journal.specs.Journals.{GoesOn};
@@ -34,6 +34,7 @@ pub(crate) fn append<D: Disk>(
         × (journal.new ≡ record journal.old { room = journal.new.room }) }
     ensures failed { result ≡ Err WriteFault.DiskFault
         → journal.new ≡ record journal.old { down = true; room = journal.new.room } }
+    ensures most { AtMost 4 (D.view disk.old).calls (D.view disk.new).calls }
     ensures calls { OnOk result (Counted 4 (D.view disk.old).calls (D.view disk.new).calls) }
     ensures switch { (D.view disk.new).switch ≡ (D.view disk.old).switch }
     ensures cause { FaultsAsSaid write_failed (D.view disk.old).faults

@@ -1,5 +1,5 @@
 //! The state of a store is made again from its records, one at a time.
-ghost use Rattle.std.specs.Prelude.{[], ◌-◌, ◌<◌, ◌≡◌, ◌≢◌, Err, IfOk, IsSomeAnd, OnOk, false, true, ℕ};
+ghost use Rattle.std.specs.Prelude.{[], ◌-◌, ◌<◌, ◌≡◌, ◌≢◌, ◌+◌, ◌≤◌, Err, IfOk, IsSomeAnd, OnOk, false, max, true, ℕ};
 ghost use Rattle.mqb_outside.specs.Disk.{IsSettled, OnlyReads};
 ghost use Rattle.mqb_outside.specs.Images.{Each};
 ghost use Rattle.mqb_journal.specs.Causes.{FaultsAsSaid, open_failed};
@@ -38,6 +38,8 @@ pub(crate) fn first<D: Disk>(
         → Each (D.view disk.old).reads (IsBadStore at) }
     ensures never { result ≢ Err OpenFault.NotEmpty }
     ensures reads { OnlyReads (D.view disk.old) (D.view disk.new) }
+    ensures reached { OnOk result
+        ((D.view disk.new).reached ≤ max (D.view disk.old).reached (scan.new.gate + 1)) }
     ensures cause { FaultsAsSaid open_failed (D.view disk.old).faults
         (D.view disk.new).faults result }
 {
@@ -97,12 +99,15 @@ fn step<D: Disk>(
         (IsReadUpTo (D.view disk.new) scan.new state.new.lists lines.new.items) }
     ensures going { IfOk result (λ more. more ≡ true → scan.new.ended ≡ false) }
     ensures ended { IfOk result (λ more. more ≡ false → scan.new.ended ≡ true) }
+    ensures behind { OnOk result (scan.old.gate ≤ scan.new.gate) }
     ensures further { IfOk result (λ more. more ≡ true
         → scan.new.len - scan.new.gate < scan.old.len - scan.old.gate) }
     ensures bad { (at : ℕ) → result ≡ Err (OpenFault.BadStore at)
         → Each (D.view disk.old).reads (IsBadStore at) }
     ensures never { result ≢ Err OpenFault.NotEmpty }
     ensures reads { OnlyReads (D.view disk.old) (D.view disk.new) }
+    ensures reached { OnOk result
+        ((D.view disk.new).reached ≤ max (D.view disk.old).reached (scan.new.gate + 1)) }
     ensures cause { FaultsAsSaid open_failed (D.view disk.old).faults
         (D.view disk.new).faults result }
 {
@@ -128,10 +133,13 @@ fn replay<D: Disk>(
     ensures read { IfOk result (λ lines.
         IsReadUpTo (D.view disk.new) scan.new state.new.lists lines.items) }
     ensures ended { OnOk result (scan.new.ended ≡ true) }
+    ensures behind { OnOk result (scan.old.gate ≤ scan.new.gate) }
     ensures bad { (at : ℕ) → result ≡ Err (OpenFault.BadStore at)
         → Each (D.view disk.old).reads (IsBadStore at) }
     ensures never { result ≢ Err OpenFault.NotEmpty }
     ensures reads { OnlyReads (D.view disk.old) (D.view disk.new) }
+    ensures reached { OnOk result
+        ((D.view disk.new).reached ≤ max (D.view disk.old).reached (scan.new.gate + 1)) }
     ensures cause { FaultsAsSaid open_failed (D.view disk.old).faults
         (D.view disk.new).faults result }
 {
@@ -152,11 +160,14 @@ pub(crate) fn replay_durably<D: Disk>(
     ensures read { IfOk result (λ lines.
         IsReadUpTo (D.view disk.new) scan.new state.new.lists lines.items) }
     ensures ended { OnOk result (scan.new.ended ≡ true) }
+    ensures behind { OnOk result (scan.old.gate ≤ scan.new.gate) }
     ensures settled { OnOk result (IsSettled (D.view disk.new)) }
     ensures bad { (at : ℕ) → result ≡ Err (OpenFault.BadStore at)
         → Each (D.view disk.old).reads (IsBadStore at) }
     ensures never { result ≢ Err OpenFault.NotEmpty }
     ensures reads { OnlySettles (D.view disk.old) (D.view disk.new) }
+    ensures reached { OnOk result
+        ((D.view disk.new).reached ≤ max (D.view disk.old).reached (scan.new.gate + 1)) }
     ensures cause { FaultsAsSaid open_failed (D.view disk.old).faults
         (D.view disk.new).faults result }
 {

@@ -1,5 +1,5 @@
-ghost use Rattle.std.specs.Prelude.{[], ◌+◌, ◌<◌, ◌≡◌, ◌≢◌, ◌≤◌, ◌∷◌, Err, IfOk, List, OnErr, OnOk, false, length, ℕ};
-ghost use Rattle.mqb_outside.specs.Disk.{Counted, IsSettled, OnlyReads};
+ghost use Rattle.std.specs.Prelude.{[], ◌+◌, ◌<◌, ◌≡◌, ◌≢◌, ◌≤◌, ◌∷◌, Err, IfOk, List, OnErr, OnOk, false, length, max, ℕ};
+ghost use Rattle.mqb_outside.specs.Disk.{AtMost, Counted, IsSettled, OnlyReads};
 ghost use Rattle.mqb_outside.specs.Images.{Each};
 ghost use Rattle.mqb_journal.specs.Causes.{FaultsAsSaid, open_failed};
 ghost use Rattle.mqb_journal.specs.Journals.{GoesOn};
@@ -35,6 +35,7 @@ fn append_first<D: Disk>(journal: &mut Journal, disk: &mut D, entry: &[u8]) -> R
     ensures appended { OnOk result (journal.new
         ≡ record (appended journal.old (length entry.now)) { room = journal.new.room }) }
     ensures never { OnErr result (result ≡ Err OpenFault.DiskFault) }
+    ensures most { AtMost 4 (D.view disk.old).calls (D.view disk.new).calls }
     ensures calls { OnOk result (Counted 4 (D.view disk.old).calls (D.view disk.new).calls) }
     ensures switch { (D.view disk.new).switch ≡ (D.view disk.old).switch }
     ensures cause { FaultsAsSaid open_failed (D.view disk.old).faults
@@ -73,6 +74,7 @@ impl Store {
             → OnlyReads (D.view disk.old) (D.view disk.new) }
         ensures memory { result ≡ Err OpenFault.Memory → disk.new ≡ disk.old }
         ensures never { (at : ℕ) → result ≢ Err (OpenFault.BadStore at) }
+        ensures most { AtMost 7 (D.view disk.old).calls (D.view disk.new).calls }
         ensures calls { OnOk result (Counted 7 (D.view disk.old).calls (D.view disk.new).calls) }
         ensures switch { (D.view disk.new).switch ≡ (D.view disk.old).switch }
         ensures cause { FaultsAsSaid open_failed (D.view disk.old).faults
@@ -120,6 +122,9 @@ impl Store {
             → Each (D.view disk.old).reads (IsBadStore at) }
         ensures never { result ≢ Err OpenFault.NotEmpty }
         ensures reads { OnlySettles (D.view disk.old) (D.view disk.new) }
+        // No further than the gate behind the last record.
+        ensures reached { IfOk result (λ w. (D.view disk.new).reached
+            ≤ max (max (D.view disk.old).reached 25) (w.journal.end + 1)) }
         ensures cause { FaultsAsSaid open_failed (D.view disk.old).faults
             (D.view disk.new).faults result }
     {

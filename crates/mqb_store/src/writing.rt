@@ -9,7 +9,9 @@ ghost use Rattle.mqb_state.specs.Prepared.{IsPreparedFrom};
 ghost use Rattle.mqb_state.specs.Together.{LeavesValid};
 ghost use Rattle.mqb_store.specs.States.{IsSameStore, IsStoredOn, IsUp};
 ghost use Rattle.mqb_store.specs.Writing.{CanWrite, LeavesStore, change_in, lines_then, write_failed, written};
+ghost use Rattle.mqb_entries.specs.SpelledEntries.{spelled};
 ghost use Rattle.mqb_store_laws.specs.Images.{Opens};
+ghost use Rattle.mqb_store_laws.specs.Writing.{WritesOne};
 
 use crate::appending::append;
 use crate::faults::WriteFault;
@@ -71,6 +73,9 @@ impl Store {
         ensures guid { self.new.journal.guid ≡ self.old.journal.guid }
         ensures count { OnOk result (self.new.journal.count ≡ self.old.journal.count + 1) }
         ensures settled { OnOk result (IsSettled (D.view disk.new)) }
+        ensures wrote { WritesOne (D.view disk.old) (D.view disk.new) self.old.journal
+            self.new.journal self.new.entry (record_in entry.now) }
+        ensures spelled { OnOk result (self.new.entry ≡ spelled entry.now) }
         ensures moments { IsSettled (D.view disk.old)
             → LeavesOnly (D.view disk.old) (D.view disk.new)
             (Opens self.old.journal self.old.state (record_in entry.now)) }
@@ -82,6 +87,7 @@ impl Store {
             ≡ record self.old.journal { down = true; room = self.new.journal.room }) }
         ensures doubt { result ≡ Err WriteFault.DiskFault
             → record_of self.new.entry ≡ record_in entry.now }
+        ensures kept { result ≡ Err WriteFault.DiskFault → self.new.entry ≡ spelled entry.now }
         ensures calls { OnOk result (Counted 4 (D.view disk.old).calls (D.view disk.new).calls) }
         ensures switch { (D.view disk.new).switch ≡ (D.view disk.old).switch }
         ensures cause { FaultsAsSaid write_failed (D.view disk.old).faults
@@ -127,10 +133,14 @@ impl Store {
         ensures guid { self.new.journal.guid ≡ self.old.journal.guid }
         ensures count { OnOk result (self.new.journal.count
             ≡ self.old.journal.count + option_map_or (λ _. 1) (option_copied entry.entry) 0) }
-        ensures durable { OnOk result (IfSome (option_copied entry.entry)
-            (λ _. IsSettled (D.view disk.new))) }
         ensures settled { IsSettled (D.view disk.old)
             → OnOk result (IsSettled (D.view disk.new)) }
+
+        // Byte for byte: this entry, and nothing else.
+        ensures wrote { WritesOne (D.view disk.old) (D.view disk.new) self.old.journal
+            self.new.journal self.new.entry (change_in (option_copied entry.entry)) }
+        ensures spelled { OnOk result (IfSome (option_copied entry.entry)
+            (λ e. self.new.entry ≡ spelled e)) }
 
         // A crash at any moment of the call leaves the state from before it, or the one that the record leaves.
         ensures moments { IsSettled (D.view disk.old)
@@ -147,6 +157,8 @@ impl Store {
         ensures doubt { result ≡ Err WriteFault.DiskFault
             → IsSomeAnd (option_copied entry.entry)
             (λ e. record_of self.new.entry ≡ record_in e) }
+        ensures kept { result ≡ Err WriteFault.DiskFault
+            → IsSomeAnd (option_copied entry.entry) (λ e. self.new.entry ≡ spelled e) }
         ensures untouched { option_copied entry.entry ≡ None → disk.new ≡ disk.old }
         ensures calls { OnOk result (IfSome (option_copied entry.entry)
             (λ _. Counted 4 (D.view disk.old).calls (D.view disk.new).calls)) }

@@ -1,5 +1,6 @@
 pub mod Images
 pub mod Settling
+pub mod Writing
 pub mod Faults
 pub mod Laws
 pub mod Carrying

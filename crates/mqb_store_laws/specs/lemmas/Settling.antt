@@ -49,5 +49,6 @@ lent_settled d e s records lent settles = record {
   small = lent.small;
   place = lent.place;
   count = lent.count;
-  shut = λ ended c told. lent.shut ended c (settles.reads.none_new c told);
+  gate = λ c told. lent.gate c (settles.reads.none_new c told);
+  shut = lent.shut;
 }

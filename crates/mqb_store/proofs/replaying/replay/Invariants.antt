@@ -1,4 +1,4 @@
-use Rattle.std.proofs.Common.{◌≡◌, ◌-◌, false}
+use Rattle.std.proofs.Common.{◌≡◌, ◌≤◌, ◌+◌, ◌-◌, false, max}
 use Rattle.mqb_outside.specs.Disk.{OnlyReads}
 use Rattle.mqb_store.proofs.replaying.replay.Given as goal
 use Rattle.mqb_store.specs.Replaying.{IsReadUpTo}
@@ -9,6 +9,8 @@ invariant-records g l = record {
   read : IsReadUpTo (g.D.Disk.view l.disk) l.scan l.state.lists l.lines.items;
   going : l.scan.ended ≡ false;
   reads : OnlyReads (g.D.Disk.view l.fn.disk) (g.D.Disk.view l.disk);
+  behind : l.fn.scan.gate ≤ l.scan.gate;
+  reached : (g.D.Disk.view l.disk).reached ≤ max (g.D.Disk.view l.fn.disk).reached (l.scan.gate + 1);
   faults : (g.D.Disk.view l.disk).faults ≡ (g.D.Disk.view l.fn.disk).faults;
 }
 

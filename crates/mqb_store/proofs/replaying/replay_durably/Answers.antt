@@ -1,6 +1,7 @@
+use Rattle.mqb_outside.specs.Disk.{View}
 use Rattle.mqb_store.proofs.Read.{read_settled}
 use Rattle.mqb_store.proofs.replaying.replay_durably.Goals as goal
-use Rattle.mqb_store_laws.specs.lemmas.Settling.{sync_settles}
+use Rattle.mqb_store_laws.specs.lemmas.Settling.{reads_settle, settles_then, sync_settles}
 
 pub returns-clause-read : goal.returns-clause-read
 returns-clause-read g c =
@@ -8,3 +9,23 @@ returns-clause-read g c =
     let e = g.D.Disk.view c.sync.new.self in
     read_settled d e c.replay.new.scan c.replay.new.state.lists c.in_ok-lines.lines.items c.in_ok-lines.ensures.read
     (sync_settles d e (g.met.D.Disk.lawful c.replay.new.disk) c.sync.ensures.reads c.sync.ensures.leaves c.sync.ensures.time c.sync.ensures.switch)
+
+pub returns-in_err-lines-clause-reads : goal.returns-in_err-lines-clause-reads
+returns-in_err-lines-clause-reads g c =
+    reads_settle (g.D.Disk.view c.args.disk.now) (g.D.Disk.view c.replay.new.disk) c.replay.ensures.reads
+
+pub returns-in_err-sync-clause-reads : goal.returns-in_err-sync-clause-reads
+returns-in_err-sync-clause-reads g c =
+    let d = g.D.Disk.view c.args.disk.now in
+    let m = g.D.Disk.view c.replay.new.disk in
+    let e = g.D.Disk.view c.sync.new.self in
+    settles_then d m e (reads_settle d m c.replay.ensures.reads)
+    (sync_settles m e (g.met.D.Disk.lawful c.replay.new.disk) c.sync.ensures.reads c.sync.ensures.leaves c.sync.ensures.time c.sync.ensures.switch)
+
+pub returns-clause-reads : goal.returns-clause-reads
+returns-clause-reads g c =
+    let d = g.D.Disk.view c.args.disk.now in
+    let m = g.D.Disk.view c.replay.new.disk in
+    let e = g.D.Disk.view c.sync.new.self in
+    settles_then d m e (reads_settle d m c.replay.ensures.reads)
+    (sync_settles m e (g.met.D.Disk.lawful c.replay.new.disk) c.sync.ensures.reads c.sync.ensures.leaves c.sync.ensures.time c.sync.ensures.switch)

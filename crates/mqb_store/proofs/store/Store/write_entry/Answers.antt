@@ -1,16 +1,18 @@
 use Rattle.std.proofs.Common.{◌≡◌, ◌∙◌, ap, subst, sym}
-use Rattle.std.specs.Prelude.{IsSomeAnd, Some, true}
+use Rattle.std.specs.Prelude.{IsSomeAnd, List, Some, true, ℕ}
 use Rattle.mqb_outside.specs.Disk.{LeavesOnly}
 use Rattle.mqb_state.specs.Work.{beside_of}
 use Rattle.mqb_journal.specs.lemmas.Carrying.{goes_on_gate}
 use Rattle.mqb_journal.specs.States.{JournalState}
 use Rattle.mqb_model.specs.records.Applying.{fits}
 use Rattle.mqb_model.specs.records.Reading.{record_in, record_of}
-use Rattle.mqb_store.proofs.Kept.{CanJoin, written_moments, written_on}
+use Rattle.mqb_store.proofs.Kept.{CanJoin, count_stays, written_moments, written_on}
 use Rattle.mqb_store.proofs.store.Store.write_entry.Goals as goal
 use Rattle.mqb_store.specs.States.{IsStoredOn, StoreState}
 use Rattle.mqb_store.specs.Writing.{LeavesStore}
 use Rattle.mqb_store_laws.specs.lemmas.Carrying.{quiet_opens}
+use Rattle.mqb_store_laws.specs.lemmas.Writing.{writes_entry, writes_none, writes_nothing}
+use Rattle.mqb_store_laws.specs.Writing.{WritesOne}
 use Rattle.mqb_store_laws.specs.Images.{IsOn, Opens}
 
 pub append-requires-clause-gate : goal.append-requires-clause-gate
@@ -74,3 +76,36 @@ returns-in-Ok-clause-on g c =
     c.in-Ok.ensures.done (ap (λ (j : JournalState). j.guid) c.in-Ok.ensures.appended)
     (subst (λ (w : StoreState). LeavesStore w.state (Some c.args.entry.now) b) (sym c.self.view_is) c.requires.stored)
     (c.install.ensures.state ∙ c.in_ok-prepared.ensures.ok.gives)
+
+pub returns-in_err-spell-clause-wrote : goal.returns-in_err-spell-clause-wrote
+returns-in_err-spell-clause-wrote g c =
+    writes_nothing (g.D.Disk.view c.args.disk.now) c.args.self.now.journal _ _ (record_in c.args.entry.now)
+    (g.met.D.Disk.lawful c.args.disk.now) (ap (λ (w : StoreState). w.journal.count) c.self.view_is)
+
+pub returns-in_err-prepared-clause-wrote : goal.returns-in_err-prepared-clause-wrote
+returns-in_err-prepared-clause-wrote g c =
+    writes_nothing (g.D.Disk.view c.args.disk.now) c.args.self.now.journal _ _ (record_in c.args.entry.now)
+    (g.met.D.Disk.lawful c.args.disk.now) (ap (λ (w : StoreState). w.journal.count) c.self.view_is)
+
+pub returns-in-Err-clause-wrote : goal.returns-in-Err-clause-wrote
+returns-in-Err-clause-wrote g c =
+    let d = g.D.Disk.view c.args.disk.now in
+    let e = g.D.Disk.view c.append.new.disk in
+    let o = record_in c.args.entry.now in
+    let k = c.append.new.journal in
+    subst (λ (w : StoreState). WritesOne d e w.journal k c.spell.new.out.items o) c.self.view_is
+    (subst (λ (bytes : List ℕ). WritesOne d e c.self.inside.journal k bytes o) c.deref.ensures.value
+    (writes_none d e c.self.inside.journal k c.deref.result.now o
+    (count_stays c.self.inside.journal k c.in-Err.fault c.append.result c.in-Err.is c.append.ensures.refused c.append.ensures.failed)
+    c.append.ensures.moments c.append.ensures.most))
+
+pub returns-in-Ok-clause-wrote : goal.returns-in-Ok-clause-wrote
+returns-in-Ok-clause-wrote g c =
+    let d = g.D.Disk.view c.args.disk.now in
+    let e = g.D.Disk.view c.append.new.disk in
+    let o = record_in c.args.entry.now in
+    let k = c.append.new.journal in
+    subst (λ (w : StoreState). WritesOne d e w.journal k c.spell.new.out.items o) c.self.view_is
+    (subst (λ (bytes : List ℕ). WritesOne d e c.self.inside.journal k bytes o) c.deref.ensures.value
+    (writes_entry d e c.self.inside.journal k c.deref.result.now o
+    (ap record_of c.deref.ensures.value ∙ c.in_ok-spell.ensures.record) c.in-Ok.ensures.settled c.in-Ok.ensures.done c.append.ensures.moments c.append.ensures.most))
