@@ -55,6 +55,7 @@ module _ {V E : Type 0} (memory broken : E) (f : Result V E → Result Told Answ
     ends = ends_told call.ends;
     on = call.on;
     settled = call.settled;
+    wrote = call.wrote;
     moments = call.moments;
     doubt = call.doubt;
     rose = λ same. call.rose (telling.breaks a same);

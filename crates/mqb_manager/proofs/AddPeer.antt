@@ -1,7 +1,7 @@
 -- The call add_peer.
 use Rattle.std.proofs.Common.{refl, sym, ap, ◌∙◌, arith, length-append}
 use Rattle.std.proofs.lemmas.Bool.Decides.{nat_tests}
-use Rattle.std.specs.Prelude.{◌+◌, ◌++◌, ◌||◌, ◌==◌, ◌≡◌, ◌≤◌, Bool, Err, List, None, Ok, Option, Some, false, if◌then◌else◌, length, nat_le, nat_lt, true, ℕ}
+use Rattle.std.specs.Prelude.{◌+◌, ◌++◌, ◌||◌, ◌==◌, ◌≡◌, ◌≤◌, if◌then◌else◌, Bool, Err, List, None, Ok, OnErr, Option, Some, ℕ, false, length, nat_le, nat_lt, true}
 use Rattle.mqb_base.specs.Names.{name_fault}
 use Rattle.mqb_base.specs.declared.ids.Identity.{Identity}
 use Rattle.mqb_base.specs.declared.names.NameError.{NameError}
@@ -31,7 +31,7 @@ use Rattle.mqb_store.specs.Writing.{change_in}
 use Rattle.mqb_manager.specs.Writing.{IsReady, outcome_by}
 use Rattle.mqb_manager.specs.Calls.{IsCall}
 use Rattle.mqb_manager.specs.States.{IsOnDisk, IsUp, ManagerState, manager_of}
-use Rattle.mqb_manager.proofs.Calls.{ready_by, refused_call, unless_none, unless_some}
+use Rattle.mqb_manager.proofs.Calls.{first_refused, ready_by, refused_call, unless_none, unless_some}
 use Rattle.mqb_manager.proofs.Conditions.{first_not, up_from}
 
 -- A name is short.
@@ -82,6 +82,10 @@ add_peer_refused d m peer why law valid refused = let k = manager_of m in
     refused_call fault.Memory fault.DiskFault why d m (add_peer k peer) law valid
     (unless_some k (add_peer_refusal k peer) why (recording k (entry.Peer peer) (Ok (length m.store.state.peers))) refused)
     (never_broken (is_down k) (peer_there m.store.state peer) (nat_le MAX_PEERS (length m.store.state.peers)) why refused)
+
+pub add_peer_first : (m : Manager) (peer : Identity) (why : AddPeerFault) → add_peer_refusal m peer ≡ Some why → OnErr (add_peer m peer).answer (Err why ≡ (add_peer m peer).answer)
+add_peer_first m peer why refused = first_refused why m (add_peer m peer)
+    (unless_some m (add_peer_refusal m peer) why (recording m (entry.Peer peer) (Ok (length m.state.peers))) refused)
 
 -- It can be written.
 pub add_peer_ready : (d : View) (m : ManagerState) (peer : Identity) (v : IdentityView) → RecordsFit → CallsKeepValid → CallsLeaveStore → IsValidManager (manager_of m)

@@ -1,6 +1,6 @@
 -- A call of a manager, by what it writes.
 use Rattle.std.proofs.Common.{inl, inr, refl, sym, ap, subst, ◌∙◌, arith}
-use Rattle.std.specs.Prelude.{◌≡◌, ◌≤◌, Err, IfSome, IsSome, IsSomeAnd, None, false, Ok, OnOk, Option, Result, Some, length, option_map, true}
+use Rattle.std.specs.Prelude.{◌≡◌, ◌≤◌, Err, IfSome, IsSome, IsSomeAnd, None, Ok, OnErr, OnOk, Option, Result, Some, false, length, option_map, true}
 use Rattle.mqb_outside.specs.Disk.{Lawful, View}
 use Rattle.mqb_entries.specs.SpelledEntries.{Fits, spelled}
 use Rattle.mqb_entries.specs.declared.entry.Entry.{Entry}
@@ -21,6 +21,7 @@ use Rattle.mqb_store.specs.Writing.{CanWrite, change_in}
 use Rattle.mqb_store.specs.declared.faults.WriteFault.{WriteFault}
 use Rattle.mqb_store.specs.declared.faults.WriteFault.TheVariants as fault
 use Rattle.mqb_store_laws.specs.lemmas.Carrying.{quiet_opens}
+use Rattle.mqb_store_laws.specs.lemmas.Writing.{writes_nothing}
 use Rattle.mqb_manager.specs.Calls.{Ends, IsCall}
 use Rattle.mqb_manager.specs.States.{IsOnDisk, IsSame, IsUp, ManagerState, manager_of}
 use Rattle.mqb_manager.specs.Writing.{IsReady, answered, outcome_by}
@@ -63,6 +64,7 @@ refused_call {V} {E} memory broken why d m o law valid is differ = subst (λ (p 
   );
   on = λ on still. on;
   settled = λ on settled still. settled;
+  wrote = writes_nothing d m.store.journal m.store.journal m.store.entry None law refl;
   moments = λ on settled. quiet_opens d m.store.journal m.store.state None law on settled;
   doubt = λ on settled not_up. (quiet_opens d m.store.journal m.store.state (record_of m.store.entry) law on settled).now;
   rose = λ same. absurd (errs why broken differ same);
@@ -77,12 +79,24 @@ unmade_call memory broken d m o law differ = record {
   ends = inr (inl (refl, same_again m));
   on = λ on still. on;
   settled = λ on settled still. settled;
+  wrote = writes_nothing d m.store.journal m.store.journal m.store.entry o.entry law refl;
   moments = λ on settled. quiet_opens d m.store.journal m.store.state o.entry law on settled;
   doubt = λ on settled not_up. (quiet_opens d m.store.journal m.store.state (record_of m.store.entry) law on settled).now;
   rose = λ same. absurd (errs memory broken differ same);
   stayed = λ not. refl;
   switch = refl;
 }
+
+-- Refusals come first.
+
+-- it is refused for the reason of the definition
+pub first_refused : {V E : Type 0} (why : E) (m : Manager) (o : Outcome (Result V E)) → o ≡ answering m (Err why) → OnErr o.answer (Err why ≡ o.answer)
+first_refused {V} {E} why m o is = subst (λ (p : Outcome (Result V E)). OnErr p.answer (Err why ≡ p.answer)) (sym is) refl
+
+-- nothing refuses it
+pub first_written : {V E : Type 0} (value : V) (m : Manager) (r : Option Record) (b : Beside) (o : Outcome (Result V E)) (result : Result V E)
+    → o ≡ outcome_by m r b (Ok value) → OnErr o.answer (result ≡ o.answer)
+first_written {V} {E} value m r b o result is = subst (λ (p : Outcome (Result V E)). OnErr p.answer (result ≡ p.answer)) (sym is) tt
 
 -- It is written.
 
@@ -123,6 +137,7 @@ call_by_write {V} {E} value memory broken d e m n r b o w differ is call =
       ends = ends_written value memory broken m n r b w call.ends;
       on = call.on;
       settled = call.settled;
+      wrote = call.wrote;
       moments = call.moments;
       doubt = call.doubt;
       rose = rose_written value memory broken (Rose d.faults e.faults) w differ call.rose;

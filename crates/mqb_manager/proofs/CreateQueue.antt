@@ -1,6 +1,6 @@
 -- The call create_queue.
 use Rattle.std.proofs.Common.{refl, sym, ap, ◌∙◌, arith, length-append}
-use Rattle.std.specs.Prelude.{◌++◌, ◌≡◌, ◌≤◌, Bool, Err, None, Ok, Option, Some, false, if◌then◌else◌, length, nat_le, true, ℕ}
+use Rattle.std.specs.Prelude.{◌++◌, ◌≡◌, ◌≤◌, if◌then◌else◌, Bool, Err, None, Ok, OnErr, Option, Some, ℕ, false, length, nat_le, true}
 use Rattle.mqb_base.specs.Names.{name_fault}
 use Rattle.mqb_base.specs.declared.ids.Guid.{Guid}
 use Rattle.mqb_base.specs.declared.queues.QueuePlan.{QueuePlan}
@@ -28,7 +28,7 @@ use Rattle.mqb_store.specs.Writing.{change_in}
 use Rattle.mqb_manager.specs.Writing.{IsReady, outcome_by}
 use Rattle.mqb_manager.specs.Calls.{IsCall}
 use Rattle.mqb_manager.specs.States.{IsOnDisk, IsUp, ManagerState, manager_of}
-use Rattle.mqb_manager.proofs.Calls.{ready_by, refused_call, unless_none, unless_some}
+use Rattle.mqb_manager.proofs.Calls.{first_refused, ready_by, refused_call, unless_none, unless_some}
 use Rattle.mqb_manager.proofs.Conditions.{first_not, up_from}
 use Rattle.mqb_manager.proofs.AddPeer.{spelled_name_short}
 
@@ -78,6 +78,11 @@ create_queue_refused d m plan why law valid refused = let k = manager_of m in le
     refused_call fault.Memory fault.DiskFault why d m (create_queue k plan) law valid
     (unless_some k (create_refusal k plan) why (recording k (entry.CreateQueue (next_queue s) plan) (Ok (next_queue s))) refused)
     (never_broken (is_down k) (queue_there s plan) (nat_le MAX_QUEUES (length s.places.queues)) why refused)
+
+pub create_queue_first : (m : Manager) (plan : QueuePlan) (why : CreateFault) → create_refusal m plan ≡ Some why
+    → OnErr (create_queue m plan).answer (Err why ≡ (create_queue m plan).answer)
+create_queue_first m plan why refused = first_refused why m (create_queue m plan)
+    (unless_some m (create_refusal m plan) why (recording m (entry.CreateQueue (next_queue m.state) plan) (Ok (next_queue m.state))) refused)
 
 -- It can be written.
 pub create_queue_ready : (d : View) (m : ManagerState) (plan : QueuePlan) (v : QueueView) (number : ℕ) → RecordsFit → CallsKeepValid → CallsLeaveStore

@@ -32,6 +32,7 @@ use Rattle.mqb_store.specs.declared.faults.WriteFault.{WriteFault}
 use Rattle.mqb_store.specs.declared.faults.WriteFault.TheVariants as write
 use Rattle.mqb_store_laws.specs.lemmas.Carrying.{on_beside}
 use Rattle.mqb_store_laws.specs.Images.{Opens}
+use Rattle.mqb_store_laws.specs.Writing.{WritesOne}
 use Rattle.mqb_manager.specs.Calls.{Ends, IsCall, Succeeds}
 use Rattle.mqb_manager.specs.Pumps.{pump_fault, sent_as, with_sent}
 use Rattle.mqb_choosing.specs.Plans.{offered_form}
@@ -118,6 +119,7 @@ module _ (d e : View) (m n : ManagerState) (form : Option Entry) where
       );
       on = λ on still. on_beside e n.store.journal n.store.state (fold (noted k) n.store.state (map sent_as g.choices)) durably (call.on on (still_up up call));
       settled = λ on settled still. call.settled on settled (still_up up call);
+      wrote = subst (λ (r : Option Record). WritesOne d e m.store.journal n.store.journal n.store.entry r) is call.wrote;
       moments = λ on settled. subst (λ (r : Option Record). LeavesOnly d e (Opens m.store.journal m.store.state r)) is (call.moments on settled);
       doubt = λ on settled not_up. absurd (not_up (still_up up call));
       rose = λ wrong. absurd (let none : ⊥ = cc in none);
@@ -163,6 +165,7 @@ module _ (d e : View) (m n : ManagerState) (form : Option Entry) where
     ends = unsent_ends o w is call.ends;
     on = call.on;
     settled = call.settled;
+    wrote = subst (λ (r : Option Record). WritesOne d e m.store.journal n.store.journal n.store.entry r) is call.wrote;
     moments = λ on settled. subst (λ (r : Option Record). LeavesOnly d e (Opens m.store.journal m.store.state r)) is (call.moments on settled);
     doubt = call.doubt;
     rose = unsent_rose w call.rose;

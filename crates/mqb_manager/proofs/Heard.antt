@@ -40,6 +40,7 @@ use Rattle.mqb_choosing.specs.Owed.{marked}
 use Rattle.mqb_manager.specs.Seen.{seen}
 use Rattle.mqb_manager.specs.States.{IsUp, ManagerState, condition_of, manager_of}
 use Rattle.mqb_store_laws.specs.Images.{Opens}
+use Rattle.mqb_store_laws.specs.Writing.{WritesOne}
 use Rattle.mqb_store.specs.Together.{LeavesValid}
 use Rattle.mqb_manager.proofs.Calls.{change_is}
 use Rattle.mqb_manager.proofs.Conditions.{up_condition}
@@ -236,6 +237,9 @@ module _ (w x : StoreState) (session : Option one_end.State) (cs : List ℕ) (os
     opens : (t : View) → LeavesOnly d t (Opens w.journal w.state (change_in entry)) → LeavesOnly d t (Opens w.journal w.state h.arrival)
     opens t run = subst (λ (r : Option Record). LeavesOnly d t (Opens w.journal w.state r)) is run
 
+    wrote_as : (t : View) → WritesOne d t w.journal x.journal x.entry (change_in entry) → WritesOne d t w.journal x.journal x.entry h.arrival
+    wrote_as t wrote = subst (λ (r : Option Record). WritesOne d t w.journal x.journal x.entry r) is wrote
+
     pub heard_after : stores.IsUp w → IsStored d e w x entry (beside_of h.work) → IsValidManager (succeeded (manager_of m) o) → IsValidManager (manager_of n)
     heard_after up stored valid = heard_valid up stored.up (left stored.state) valid
 
@@ -253,6 +257,7 @@ module _ (w x : StoreState) (session : Option one_end.State) (cs : List ℕ) (os
       );
       on = λ on still. stored.on;
       settled = λ on settled still. stored.settled settled;
+      wrote = wrote_as e stored.wrote;
       moments = λ on settled. opens e (stored.moments settled);
       doubt = λ on settled not_up. absurd (not_up stored.up);
       rose = λ same. absurd (let none : ⊥ = cc in none);
@@ -265,6 +270,7 @@ module _ (w x : StoreState) (session : Option one_end.State) (cs : List ℕ) (os
       ends = inr (inl (refl, record { manager = writes.same_manager d d w x session cs os entry (beside_of h.work) up same; store = same }));
       on = call.on;
       settled = call.settled;
+      wrote = wrote_as d call.wrote;
       moments = λ on settled. opens d (call.moments on settled);
       doubt = call.doubt;
       rose = λ wrong. absurd (let none : ⊥ = cc in none);
@@ -286,6 +292,7 @@ module _ (w x : StoreState) (session : Option one_end.State) (cs : List ℕ) (os
       ));
       on = call.on;
       settled = call.settled;
+      wrote = wrote_as e broken.wrote;
       moments = λ on settled. opens e (broken.moments settled);
       doubt = call.doubt;
       rose = λ same. broken.rose;

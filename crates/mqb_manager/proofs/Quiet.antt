@@ -16,6 +16,7 @@ use Rattle.mqb_model.specs.records.Reading.{record_of}
 use Rattle.mqb_model.specs.records.Record.{Record}
 use Rattle.mqb_store.specs.States.{IsSameStore, IsStoredOn, StoreState}
 use Rattle.mqb_store_laws.specs.lemmas.Carrying.{quiet_opens}
+use Rattle.mqb_store_laws.specs.lemmas.Writing.{writes_nothing}
 use Rattle.mqb_store_laws.specs.Images.{Opens}
 use Rattle.mqb_manager.specs.Calls.{Ends, IsCall}
 use Rattle.mqb_manager.specs.Quiet.{IsQuiet}
@@ -63,6 +64,7 @@ module _ {V E : Type 0} (memory broken : E) (d : View) (m n : ManagerState) (o :
     ends = ends quiet.store quiet.entry quiet.ends;
     on = λ on still. subst (λ (w : StoreState). IsStoredOn d w) (sym quiet.store) on;
     settled = λ on settled still. settled;
+    wrote = writes_nothing d m.store.journal n.store.journal n.store.entry o.entry law (ap (λ (w : StoreState). w.journal.count) quiet.store);
     moments = λ on settled. quiet_opens d m.store.journal m.store.state o.entry law on settled;
     doubt = λ on settled not_up. subst (λ (w : StoreState). Each d.leaves (Opens w.journal w.state (record_of w.entry))) (sym quiet.store)
         (quiet_opens d m.store.journal m.store.state (record_of m.store.entry) law on settled).now;

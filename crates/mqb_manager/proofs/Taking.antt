@@ -1,7 +1,7 @@
 -- The calls take, purge and tick.
 use Rattle.std.proofs.Common.{ap}
 use Rattle.std.specs.Option.{option_map_or}
-use Rattle.std.specs.Prelude.{◌≡◌, Bool, Err, None, Option, Result, Some, false, if◌then◌else◌, true, ℕ}
+use Rattle.std.specs.Prelude.{◌≡◌, if◌then◌else◌, Bool, Err, None, OnErr, Option, Result, Some, ℕ, false, true}
 use Rattle.mqb_base.specs.declared.message.Lane.{Lane}
 use Rattle.mqb_base.specs.declared.message.Lane.TheVariants as lane
 use Rattle.mqb_base.specs.declared.message.Message.{Message}
@@ -28,7 +28,7 @@ use Rattle.mqb_queue.specs.Places.{lists_at, place_named}
 use Rattle.mqb_queue.specs.declared.first.Position.{Position}
 use Rattle.mqb_manager.specs.Calls.{IsCall}
 use Rattle.mqb_manager.specs.States.{ManagerState, manager_of}
-use Rattle.mqb_manager.proofs.Calls.{refused_call, unless_some, unmade_call}
+use Rattle.mqb_manager.proofs.Calls.{first_refused, refused_call, unless_some, unmade_call}
 use Rattle.mqb_manager.proofs.Planned.{Keeps, planned_refused}
 
 -- The manager is down.
@@ -50,6 +50,13 @@ purge_down d m place now law valid down = let k = manager_of m in
     (option_map_or (purge_at k now) (place_named k.state.places.queues place) (answering k (Err purge_fault.NoQueue)))
     (ap (λ (b : Bool). if b then Some purge_fault.Down else None) down))
     (λ same. let none : ⊥ = cc in none)
+
+pub purge_down_first : (m : Manager) (place : Place) (now : ℕ) → is_down m ≡ true
+    → OnErr (purge m place now).answer (Err purge_fault.Down ≡ (purge m place now).answer)
+purge_down_first m place now down = first_refused purge_fault.Down m (purge m place now)
+    (unless_some m (purge_refusal m) purge_fault.Down
+    (option_map_or (purge_at m now) (place_named m.state.places.queues place) (answering m (Err purge_fault.NoQueue)))
+    (ap (λ (b : Bool). if b then Some purge_fault.Down else None) down))
 
 pub tick_down : (d : View) (m : ManagerState) (now : ℕ) → Lawful d → IsValidManager (manager_of m) → is_down (manager_of m) ≡ true
     → IsCall store_fault.Memory store_fault.DiskFault d d m m (tick (manager_of m) now) (Err store_fault.Down)

@@ -23,7 +23,9 @@ use Rattle.mqb_store.specs.Writing.{CanWrite, change_in, lines_then, write_faile
 use Rattle.mqb_store.specs.declared.faults.WriteFault.{WriteFault}
 use Rattle.mqb_store.specs.declared.faults.WriteFault.TheVariants as fault
 use Rattle.mqb_store_laws.specs.lemmas.Carrying.{on_with_room, quiet_opens}
+use Rattle.mqb_store_laws.specs.lemmas.Writing.{writes_nothing}
 use Rattle.mqb_store_laws.specs.Images.{IsOn, Opens}
+use Rattle.mqb_store_laws.specs.Writing.{WritesOne}
 use Rattle.mqb_manager.specs.Calls.{IsCall}
 use Rattle.mqb_manager.specs.Seen.{seen}
 use Rattle.mqb_manager.specs.States.{ManagerState, condition_of, manager_of}
@@ -40,6 +42,7 @@ pub record IsStored (d e : View) (w x : StoreState) (entry : Option Entry) (b : 
   pub guid : x.journal.guid ≡ w.journal.guid
   pub count : x.journal.count ≡ w.journal.count + option_map_or (λ _. 1) entry 0
   pub settled : IsSettled d → IsSettled e
+  pub wrote : WritesOne d e w.journal x.journal x.entry (change_in entry)
   pub moments : IsSettled d → LeavesOnly d e (Opens w.journal w.state (change_in entry))
   pub stayed : e.faults ≡ d.faults
   pub switch : e.switch ≡ d.switch
@@ -50,6 +53,7 @@ pub record IsBroken (d e : View) (w x : StoreState) (entry : Option Entry) : Typ
   pub lines : x.lines ≡ w.lines
   pub journal : x.journal ≡ record w.journal { down = true; room = x.journal.room }
   pub doubt : IsSomeAnd entry (λ e. record_of x.entry ≡ record_in e)
+  pub wrote : WritesOne d e w.journal x.journal x.entry (change_in entry)
   pub moments : IsSettled d → LeavesOnly d e (Opens w.journal w.state (change_in entry))
   pub rose : Rose d.faults e.faults
   pub switch : e.switch ≡ d.switch
@@ -148,6 +152,7 @@ module _ (d e : View) (w x : StoreState) (session : Option one_end.State) (cs : 
     );
     on = λ on still. stored.on;
     settled = λ on settled still. stored.settled settled;
+    wrote = stored.wrote;
     moments = λ on settled. stored.moments settled;
     doubt = λ on settled not_up. absurd (not_up stored.up);
     rose = λ same. absurd (let none : ⊥ = cc in none);
@@ -182,6 +187,7 @@ module _ (d e : View) (w x : StoreState) (session : Option one_end.State) (cs : 
     on = λ on still. subst (λ (j : JournalState). IsOn d j x.state) (sym same.journal)
         (subst (λ (s : State). IsOn d (record w.journal { room = x.journal.room }) s) (sym same.state) (on_with_room d w.journal w.state x.journal.room on));
     settled = λ on settled still. settled;
+    wrote = writes_nothing d w.journal x.journal x.entry (change_in entry) law (ap (λ (j : JournalState). j.count) same.journal);
     moments = λ on settled. quiet_opens d w.journal w.state (change_in entry) law on settled;
     doubt = λ on settled not_up. absurd (not_up (same_up up same));
     rose = λ wrong. absurd (let none : ⊥ = cc in none);
@@ -233,6 +239,7 @@ module _ (d e : View) (w x : StoreState) (session : Option one_end.State) (cs : 
     ));
     on = λ on still. absurd (still_down broken still);
     settled = λ on settled still. absurd (still_down broken still);
+    wrote = broken.wrote;
     moments = λ on settled. broken.moments settled;
     doubt = λ on settled not_up. left_open broken settled;
     rose = λ same. broken.rose;

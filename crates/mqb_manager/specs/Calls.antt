@@ -8,6 +8,7 @@ use Rattle.mqb_model.specs.records.Applying.{lines_of}
 use Rattle.mqb_model.specs.records.Reading.{record_of}
 use Rattle.mqb_outside.specs.Faults.{Rose}
 use Rattle.mqb_store_laws.specs.Images.{Opens}
+use Rattle.mqb_store_laws.specs.Writing.{WritesOne}
 use Rattle.mqb_manager.specs.States.{IsOnDisk, IsSame, IsUp, ManagerState, manager_of}
 
 -- It went as the definition says. The lines are those of the last record.
@@ -35,6 +36,8 @@ pub record IsCall {V E : Type 0} (memory broken : E) (d e : View) (m n : Manager
   -- the disk stands for the records of the manager, while that is up
   pub on : IsOnDisk d m → IsUp n → IsOnDisk e n
   pub settled : IsOnDisk d m → IsSettled d → IsUp n → IsSettled e
+  -- it writes the entry that the store spelled last, which is its record, or nothing
+  pub wrote : WritesOne d e m.store.journal n.store.journal n.store.entry o.entry
   -- a crash at any moment of the call leaves the state from before it, or the one that its record leaves
   pub moments : IsOnDisk d m → IsSettled d → LeavesOnly d e (Opens m.store.journal m.store.state o.entry)
   -- and so does one behind a call that failed, by what the manager has in doubt

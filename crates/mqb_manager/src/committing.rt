@@ -1,4 +1,4 @@
-ghost use Rattle.std.specs.Prelude.{◌≡◌, Err, IfSome, None, OnOk, Some};
+ghost use Rattle.std.specs.Prelude.{◌≡◌, Err, IfSome, None, OnOk, Some, true};
 ghost use Rattle.mqb_outside.specs.Disk.{Counted};
 ghost use Rattle.mqb_entries.specs.declared.entry.Entry.TheVariants as form;
 ghost use Rattle.mqb_manager.specs.Calls.{IsCall};
@@ -6,6 +6,7 @@ ghost use Rattle.mqb_manager.specs.States.{IsOnDisk, IsUp, manager_of};
 ghost use Rattle.mqb_manager.specs.Writing.{IsReady, write_of};
 ghost use Rattle.mqb_model.specs.calls.Commit.{commit};
 ghost use Rattle.mqb_model.specs.managers.Beside.{Nothing};
+ghost use Rattle.mqb_model.specs.managers.Manager.{is_down};
 
 use crate::manager::Manager;
 use crate::writing::{answer, calls_can_be_written};
@@ -51,6 +52,8 @@ impl Manager {
         requires { IsUp self.old → IsOnDisk (D.view disk.old) self.old }
         ensures call { IsCall CommitFault.Memory CommitFault.DiskFault (D.view disk.old)
             (D.view disk.new) self.old self.new (commit (manager_of self.old) ops.now now) result }
+        ensures down { is_down (manager_of self.old) ≡ true
+            → (result ≡ Err CommitFault.Down) × (self.new ≡ self.old) }
         ensures untouched { (commit (manager_of self.old) ops.now now).entry ≡ None
             → disk.new ≡ disk.old }
         ensures memory { result ≡ Err CommitFault.Memory → disk.new ≡ disk.old }

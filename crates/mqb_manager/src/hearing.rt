@@ -1,5 +1,5 @@
 //! How a packet is heard: a plan is made, what arrived is written, and then the connection is as planned.
-ghost use Rattle.std.specs.Prelude.{◌≡◌, ◌<◌, All, Err, IfSome, None, OnOk, Some};
+ghost use Rattle.std.specs.Prelude.{◌≡◌, ◌<◌, All, Err, IfSome, None, OnOk, Some, false, true};
 ghost use Rattle.mqb_outside.specs.Disk.{Counted};
 ghost use Rattle.mqb_hearing.specs.Plans.{ShowsReadable, outcome_of};
 ghost use Rattle.mqb_manager.specs.Calls.{IsCall};
@@ -8,6 +8,7 @@ ghost use Rattle.mqb_model.specs.calls.hear.Hear.{hear};
 ghost use Rattle.mqb_model.specs.laws.Durable.{LeavesStore};
 ghost use Rattle.mqb_model.specs.laws.Fitting.{IsFitting};
 ghost use Rattle.mqb_model.specs.laws.Keeping.{StaysValid};
+ghost use Rattle.mqb_model.specs.managers.Manager.{is_down};
 ghost use Rattle.mqb_packet.specs.Parts.{seen_packet};
 ghost use Rattle.mqb_packet.specs.Spelled.{IsLent, packet_in};
 ghost use Rattle.mqb_packet.specs.declared.packet.Packet.{Packet};
@@ -98,6 +99,10 @@ impl Manager {
         ensures call { (p : Packet) → packet_in (seen_packet packet.now) ≡ Some p →
             IsCall HearFault.Memory HearFault.DiskFault (D.view disk.old) (D.view disk.new)
             self.old self.new (hear (manager_of self.old) p now) result }
+        ensures down { is_down (manager_of self.old) ≡ true
+            → (result ≡ Err HearFault.Down) × (self.new ≡ self.old) }
+        ensures unlinked { is_down (manager_of self.old) ≡ false → self.old.session ≡ None
+            → (result ≡ Err HearFault.NotLinked) × (self.new ≡ self.old) }
         // There is such a packet.
         ensures readable { ShowsReadable packet.now }
         ensures untouched { (p : Packet) → packet_in (seen_packet packet.now) ≡ Some p →

@@ -1,8 +1,9 @@
 //! How a connection begins and ends, and how it starts sending anew. None of it writes a record or takes memory.
-ghost use Rattle.std.specs.Prelude.{◌≡◌, ◌≤◌};
+ghost use Rattle.std.specs.Prelude.{◌≡◌, ◌≤◌, Err, true};
 ghost use Rattle.mqb_manager.specs.Calls.{Succeeds};
 ghost use Rattle.mqb_manager.specs.States.{manager_of};
 ghost use Rattle.mqb_model.specs.calls.Link.{link, resend, session_for, unlink};
+ghost use Rattle.mqb_model.specs.managers.Manager.{is_down};
 
 use crate::manager::Manager;
 use crate::readers::linked_peer;
@@ -32,6 +33,8 @@ impl Manager {
     pub fn link(&mut self, role: Role, window: u16) -> Result<(), LinkFault>
         requires { 1 ≤ window }
         ensures answer { result ≡ (link (manager_of self.old) role window).answer }
+        ensures down { is_down (manager_of self.old) ≡ true
+            → (result ≡ Err LinkFault.Down) × (self.new ≡ self.old) }
         ensures left { Succeeds self.old self.new (link (manager_of self.old) role window) }
         // So the disk stands for its records as before.
         ensures journal { self.new.store.journal ≡ self.old.store.journal }
@@ -55,6 +58,8 @@ impl Manager {
     pub fn unlink(&mut self)
         ensures left { Succeeds self.old self.new (unlink (manager_of self.old)) }
         ensures journal { self.new.store.journal ≡ self.old.store.journal }
+        // What is in doubt stays.
+        ensures entry { self.new.store.entry ≡ self.old.store.entry }
     {
         unlinked_is_valid();
         self.store.unmark();
@@ -67,6 +72,7 @@ impl Manager {
     pub fn resend(&mut self)
         ensures left { Succeeds self.old self.new (resend (manager_of self.old)) }
         ensures journal { self.new.store.journal ≡ self.old.store.journal }
+        ensures entry { self.new.store.entry ≡ self.old.store.entry }
     {
         resent_is_valid();
         if let Some(session) = &self.session {

@@ -1,5 +1,5 @@
-ghost use Rattle.std.specs.Prelude.{[], ◌≡◌, ◌≢◌, ◌<◌, Err, IfOk, List, OnOk, false, length, ℕ};
-ghost use Rattle.mqb_outside.specs.Disk.{Counted, IsSettled, OnlyReads};
+ghost use Rattle.std.specs.Prelude.{[], ◌≡◌, ◌≢◌, ◌<◌, ◌≤◌, ◌+◌, Err, IfOk, List, OnOk, false, length, max, ℕ};
+ghost use Rattle.mqb_outside.specs.Disk.{AtMost, Counted, IsSettled, OnlyReads};
 ghost use Rattle.mqb_outside.specs.Images.{Each};
 ghost use Rattle.mqb_journal.specs.Causes.{FaultsAsSaid, open_failed};
 ghost use Rattle.mqb_model.specs.managers.Manager.{new_manager, unlinked};
@@ -84,6 +84,7 @@ impl Manager {
             → OnlyReads (D.view disk.old) (D.view disk.new) }
         ensures memory { result ≡ Err OpenFault.Memory → disk.new ≡ disk.old }
         ensures never { (at : ℕ) → result ≢ Err (OpenFault.BadStore at) }
+        ensures most { AtMost 7 (D.view disk.old).calls (D.view disk.new).calls }
         ensures calls { OnOk result (Counted 7 (D.view disk.old).calls (D.view disk.new).calls) }
         ensures switch { (D.view disk.new).switch ≡ (D.view disk.old).switch }
         ensures cause { FaultsAsSaid open_failed (D.view disk.old).faults
@@ -114,6 +115,8 @@ impl Manager {
             → Each (D.view disk.old).reads (IsBadStore at) }
         ensures never { result ≢ Err OpenFault.NotEmpty }
         ensures reads { OnlySettles (D.view disk.old) (D.view disk.new) }
+        ensures reached { IfOk result (λ n. (D.view disk.new).reached
+            ≤ max (max (D.view disk.old).reached 25) (n.store.journal.end + 1)) }
         ensures cause { FaultsAsSaid open_failed (D.view disk.old).faults
             (D.view disk.new).faults result }
     {

@@ -1,4 +1,4 @@
-ghost use Rattle.std.specs.Prelude.{◌<◌, ◌≡◌, ◌≤◌, All, Err, IfSome, None, OnOk, length};
+ghost use Rattle.std.specs.Prelude.{◌<◌, ◌≡◌, ◌≤◌, All, Err, IfSome, None, OnErr, OnOk, length, true};
 ghost use Rattle.mqb_outside.specs.Disk.{Counted};
 ghost use Rattle.mqb_entries.specs.SpelledEntries.{spelled};
 ghost use Rattle.mqb_entries.specs.declared.entry.Entry.TheVariants as form;
@@ -7,6 +7,7 @@ ghost use Rattle.mqb_manager.specs.States.{IsOnDisk, IsUp, manager_of};
 ghost use Rattle.mqb_model.specs.calls.AddPeer.{add_peer, add_peer_refusal};
 ghost use Rattle.mqb_model.specs.declared.limits.TheConstants.{MAX_RECORD};
 ghost use Rattle.mqb_model.specs.records.Reading.{identity_of};
+ghost use Rattle.mqb_model.specs.managers.Manager.{is_down};
 ghost use Rattle.mqb_names.specs.Values.{IsName};
 
 use crate::manager::Manager;
@@ -66,6 +67,11 @@ impl Manager {
         requires { IsUp self.old → IsOnDisk (D.view disk.old) self.old }
         ensures call { IsCall AddPeerFault.Memory AddPeerFault.DiskFault (D.view disk.old)
             (D.view disk.new) self.old self.new (add_peer (manager_of self.old) peer.now) result }
+        ensures down { is_down (manager_of self.old) ≡ true
+            → (result ≡ Err AddPeerFault.Down) × (self.new ≡ self.old) }
+        // What refuses it comes before want of memory.
+        ensures first { OnErr (add_peer (manager_of self.old) peer.now).answer
+            (result ≡ (add_peer (manager_of self.old) peer.now).answer) }
         // Where no record is written the disk is not called.
         ensures untouched { (add_peer (manager_of self.old) peer.now).entry ≡ None
             → disk.new ≡ disk.old }

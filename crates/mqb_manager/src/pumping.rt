@@ -2,7 +2,7 @@
 //!
 //! Room for their bytes is made before the disk is called, since that takes memory. Where a mark rises it is recorded, and only then are the packets spelled.
 //! That, and what is noted behind it, takes no memory.
-ghost use Rattle.std.specs.Prelude.{[], ◌∷◌, ◌++◌, ◌<◌, ◌≡◌, ◌≤◌, ◌==◌, All, Err, IfSome, None, OnErr, OnOk, Some, flat_map, length, nat_lt, not};
+ghost use Rattle.std.specs.Prelude.{[], ◌∷◌, ◌++◌, ◌<◌, ◌≡◌, ◌≤◌, ◌==◌, All, Err, IfSome, None, OnErr, OnOk, Some, false, flat_map, length, nat_lt, not, true};
 ghost use Rattle.mqb_choosing.specs.Going.{any_waits};
 ghost use Rattle.mqb_outside.specs.Disk.{Counted};
 ghost use Rattle.mqb_heads.specs.declared.base.TheConstants.{MAX_PACKET};
@@ -11,7 +11,7 @@ ghost use Rattle.mqb_manager.specs.Quiet.{IsQuiet};
 ghost use Rattle.mqb_manager.specs.Pumps.{ComesToSend, IsLinkedOn, IsPlanned, IsPumped, pump_fault, waiting_for};
 ghost use Rattle.mqb_manager.specs.States.{IsOnDisk, IsUp, manager_of};
 ghost use Rattle.mqb_model.specs.calls.pump.Pump.{pump, pump_at, sending_ack, sending_one, set_up_packet};
-ghost use Rattle.mqb_model.specs.managers.Manager.{linked_peer};
+ghost use Rattle.mqb_model.specs.managers.Manager.{is_down, linked_peer};
 ghost use Rattle.mqb_session.specs.Phases.{owed_by};
 ghost use Rattle.mqb_model.specs.managers.Beside.{noted};
 ghost use Rattle.mqb_model.specs.managers.Outcomes.{succeeded};
@@ -274,8 +274,10 @@ impl Manager {
     ) -> Result<u32, PumpFault>
         requires up { IsUp self.old }
         requires on { IsOnDisk (D.view disk.old) self.old }
-        ensures { IsPumped (D.view disk.old) (D.view disk.new) (disk.new ≡ disk.old) self.old
+        ensures pumped { IsPumped (D.view disk.old) (D.view disk.new) (disk.new ≡ disk.old) self.old
             self.new (pump (manager_of self.old) now) out.old.items out.new.items result }
+        ensures unlinked { self.old.session ≡ None
+            → (result ≡ Err PumpFault.NotLinked) × (self.new ≡ self.old) }
     {
         self.is_valid();
         match self.linked() {
@@ -298,6 +300,10 @@ impl Manager {
         requires { IsUp self.old → IsOnDisk (D.view disk.old) self.old }
         ensures call { IsCall PumpFault.Memory PumpFault.DiskFault (D.view disk.old)
             (D.view disk.new) self.old self.new (pump (manager_of self.old) now) result }
+        ensures down { is_down (manager_of self.old) ≡ true
+            → (result ≡ Err PumpFault.Down) × (self.new ≡ self.old) }
+        ensures unlinked { is_down (manager_of self.old) ≡ false → self.old.session ≡ None
+            → (result ≡ Err PumpFault.NotLinked) × (self.new ≡ self.old) }
         // The packets' plain spelling, in turn.
         ensures sent { OnOk result (out.new.items ≡ out.old.items ++ flat_map plain_spelling
             (pump (manager_of self.old) now).packets) }

@@ -1,8 +1,9 @@
-ghost use Rattle.std.specs.Prelude.{◌≡◌, Err, IfSome, None, OnOk};
+ghost use Rattle.std.specs.Prelude.{◌≡◌, Err, IfSome, None, OnOk, true};
 ghost use Rattle.mqb_outside.specs.Disk.{Counted};
 ghost use Rattle.mqb_manager.specs.Calls.{IsCall};
 ghost use Rattle.mqb_manager.specs.States.{IsOnDisk, IsUp, manager_of};
 ghost use Rattle.mqb_model.specs.calls.Send.{send};
+ghost use Rattle.mqb_model.specs.managers.Manager.{is_down};
 
 use crate::manager::Manager;
 use crate::writing::{answer, calls_can_be_written};
@@ -24,6 +25,8 @@ impl Manager {
         ensures call { IsCall SendFault.Memory SendFault.DiskFault (D.view disk.old)
             (D.view disk.new) self.old self.new
             (send (manager_of self.old) draft.now recoverable now) result }
+        ensures down { is_down (manager_of self.old) ≡ true
+            → (result ≡ Err SendFault.Down) × (self.new ≡ self.old) }
         ensures untouched { (send (manager_of self.old) draft.now recoverable now).entry ≡ None
             → disk.new ≡ disk.old }
         ensures memory { result ≡ Err SendFault.Memory → disk.new ≡ disk.old }

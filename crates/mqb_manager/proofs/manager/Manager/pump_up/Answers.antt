@@ -8,13 +8,13 @@ use Rattle.mqb_manager.proofs.Conditions.{down_is}
 use Rattle.mqb_manager.proofs.Sent.{answer_pumped}
 use Rattle.mqb_manager.proofs.manager.Manager.pump_up.Goals as goal
 
-pub returns-in-None : goal.returns-in-None
-returns-in-None g c = let m = c.args.self.now in
+pub returns-in-None-clause-pumped : goal.returns-in-None-clause-pumped
+returns-in-None-clause-pumped g c = let m = c.args.self.now in
     answer_pumped (g.D.Disk.view c.args.disk.now) (c.args.disk.now ≡ c.args.disk.now) m (g.met.D.Disk.lawful c.args.disk.now) refl (pump (manager_of m) c.args.now) (Err fault.NotLinked) c.args.out.now.items
     c.is_valid.ensures (comes_unlinked (manager_of m) c.args.now (down_is m ∙ c.requires.up) (sym c.linked.ensures ∙ c.in-None.is)) (λ same. let none : ⊥ = cc in none)
 
 pub pump_linked-requires : goal.pump_linked-requires
 pump_linked-requires g c = record { up = c.requires.up; on = c.requires.on; session = sym c.linked.ensures ∙ c.in-Some.is }
 
-pub returns-in-Some : goal.returns-in-Some
-returns-in-Some g c = c.pump_linked.ensures
+pub returns-in-Some-clause-pumped : goal.returns-in-Some-clause-pumped
+returns-in-Some-clause-pumped g c = c.pump_linked.ensures
