@@ -4,7 +4,7 @@ use Rattle.std.proofs.lemmas.Bool.Decides.{nat_tests}
 use Rattle.std.proofs.lemmas.List.{append_assoc}
 use Rattle.std.specs.List.{enumerate_from}
 use Rattle.std.specs.Option.{option_map_or}
-use Rattle.std.specs.Prelude.{[], ◌&&◌, ◌+◌, ◌++◌, ◌-◌, ◌==◌, ◌∷◌, ◌≡◌, Bool, Err, List, None, Ok, Option, Result, Some, cond, false, fold, is_some, length, nat_lt, true, ℕ}
+use Rattle.std.specs.Prelude.{[], ◌&&◌, ◌+◌, ◌++◌, ◌-◌, ◌==◌, ◌∷◌, ◌≡◌, Bool, Err, List, None, Ok, Option, Result, Some, cond, false, fold, is_some, length, map, nat_lt, true, ℕ}
 use Rattle.mqb_base.specs.declared.heard.Heard.{Heard}
 use Rattle.mqb_base.specs.declared.ledger.Line.{Line}
 use Rattle.mqb_model.specs.calls.hear.Hear.{hear}
@@ -21,12 +21,13 @@ use Rattle.mqb_network.specs.Choices.{Choice, Failure, Fails, Kept, Lost, Unread
 use Rattle.mqb_network.specs.Courses.{Course, called, called_unless, course_from, moved, posted, written_by}
 use Rattle.mqb_network.specs.Delivering.{Delivered, closes, delivery_reply, heard_by, heard_with, passed, unheard}
 use Rattle.mqb_network.specs.Network.{Network, Note, is_underway, manager_at}
-use Rattle.mqb_network.specs.Replies.{Arrival, Delivery, Reply}
+use Rattle.mqb_network.specs.Replies.{Arrival, Reply}
 use Rattle.mqb_network.specs.Replies as reply
 use Rattle.mqb_network.specs.Runs.{may_fail}
 use Rattle.mqb_network.specs.Sending.{Passing, flow_by, flowed, packets_unless, passed_on, pump_by, pumped}
 use Rattle.mqb_packet.specs.declared.packet.Packet.{Packet}
 use Rattle.mqb_queue.specs.Places.{numbered}
+use Rattle.mqb_history.specs.Choosing.{Broke, Found, Missed, Quiet, Sign, sign_of, signs_of}
 use Rattle.mqb_history.proofs.Lists.{apart_numbers, append_length, append_nothing, clash, equal_numbers}
 
 -- how many records there are
@@ -108,10 +109,63 @@ once_shown outcome read touched fails goes a m = then_shown outcome 0 (λ f left
 
 -- Calls.
 
--- the choice that a reply shows to an event with one call
+-- the choice that signs show to an event with one call
+abbrev pub once : List Sign → Choice
+once (Broke how ∷ signs) = Fails 0 how
+once _ = Well
+
+-- and a reply does
 abbrev pub shown_once : Reply → Choice
-shown_once (reply.DiskFailed how) = Fails 0 how
-shown_once _ = Well
+shown_once r = once (signs_of r)
+
+-- the first of a reply's signs
+abbrev pub first_of : Reply → Sign
+first_of (reply.DiskFailed how) = Broke how
+first_of (reply.Delivered delivery) = sign_of delivery
+first_of (reply.OpenedKept lines) = Found
+first_of reply.OpenedLost = Missed
+first_of _ = Quiet
+
+-- there is one
+pub first_is : (r : Reply) → (rest : List Sign) × (signs_of r ≡ first_of r ∷ rest)
+first_is (reply.DiskFailed how) = (_, refl)
+first_is (reply.Created answer) = (_, refl)
+first_is (reply.Rolled answer) = (_, refl)
+first_is (reply.Committed answer lines) = (_, refl)
+first_is (reply.Sent answer lines) = (_, refl)
+first_is (reply.Took answer lines) = (_, refl)
+first_is (reply.Purged answer lines) = (_, refl)
+first_is (reply.Ticked answer lines) = (_, refl)
+first_is reply.NotUp = (_, refl)
+first_is reply.Linked = (_, refl)
+first_is (reply.Connected packets) = (_, refl)
+first_is reply.Unlinked = (_, refl)
+first_is reply.Disconnected = (_, refl)
+first_is reply.Resent = (_, refl)
+first_is (reply.Pumped packets) = (_, refl)
+first_is (reply.NotPumped fault) = (_, refl)
+first_is (reply.Flowed arrivals) = (_, refl)
+first_is reply.NoPacket = (_, refl)
+first_is (reply.Delivered delivery) = (_, refl)
+first_is reply.Dropped = (_, refl)
+first_is reply.Armed = (_, refl)
+first_is reply.Opened = (_, refl)
+first_is (reply.OpenedKept lines) = (_, refl)
+first_is reply.OpenedLost = (_, refl)
+
+-- what is read of it alone is read whatever follows
+pub by_first : (read : List Sign → Choice) → ((s : Sign) (x y : List Sign) → read (s ∷ x) ≡ read (s ∷ y)) → (r : Reply) (x : List Sign) → read (signs_of r ++ x) ≡ read (signs_of r)
+by_first read alone r x = let first = first_is r in
+    ap (λ s. read (s ++ x)) first.1 ∙ alone (first_of r) (first.0 ++ x) first.0 ∙ ap read (sym first.1)
+
+pub first_shown : (r : Reply) (x : List Sign) → once (signs_of r ++ x) ≡ shown_once r
+first_shown r x = by_first once alone r x
+  where
+    alone : (s : Sign) (x y : List Sign) → once (s ∷ x) ≡ once (s ∷ y)
+    alone (Broke how) x y = refl
+    alone Found x y = refl
+    alone Missed x y = refl
+    alone Quiet x y = refl
 
 pub call_shown : {A : Type 0} (n : Network) (i : ℕ) (outcome : Outcome A) (says : A → List Line → Reply) → outcome.touches ≡ is_some outcome.entry
     → ((answer : A) (lines : List Line) → shown_once (says answer lines) ≡ Well)
@@ -142,12 +196,13 @@ heard_shown n i outcome touched a m = once_shown outcome
 
 -- Flows.
 
--- the choice that a delivery shows, by the one that those behind it show
-abbrev shown_in : (touches : Bool) → Delivery → Choice → Choice
-shown_in touches (reply.Unheard how) rest = Fails 0 how
+-- the choice that the sign of a delivery shows, by the one that those behind it show
+abbrev shown_in : (touches : Bool) → Sign → Choice → Choice
+shown_in touches (Broke how) rest = Fails 0 how
 shown_in touches _ rest = before_call touches rest
 
-heard_in : (touches : Bool) (answer : Result Heard HearFault) (lines : List Line) (rest : Choice) → shown_in touches (heard_with answer lines) rest ≡ before_call touches rest
+heard_in : (touches : Bool) (answer : Result Heard HearFault) (lines : List Line) (rest : Choice)
+    → shown_in touches (sign_of (heard_with answer lines)) rest ≡ before_call touches rest
 heard_in touches (Ok answer) lines rest = refl
 heard_in touches (Err fault) lines rest = refl
 
@@ -174,11 +229,15 @@ arrivals_from now a c [] = []
 arrivals_from now a c (given ∷ rest) = record { packet = given.0; delivery = (one now a c given).delivery }
     ∷ arrivals_from now (one now a c given).left (one now a c given).after rest
 
--- the choice that arrivals show
-abbrev shown_from : ℕ → Course → List (ℕ × Packet) → List Arrival → Choice
-shown_from now c [] arrivals = Well
+-- their signs
+abbrev arrival_signs : List Arrival → List Sign
+arrival_signs arrivals = map (λ a. sign_of a.delivery) arrivals
+
+-- the choice that the signs of arrivals show
+abbrev shown_from : ℕ → Course → List (ℕ × Packet) → List Sign → Choice
+shown_from now c [] signs = Well
 shown_from now c (given ∷ rest) [] = Well
-shown_from now c (given ∷ rest) (x ∷ xs) = shown_in (touched_by now c (numbered c.network.notes given.0) given.1) x.delivery
+shown_from now c (given ∷ rest) (x ∷ xs) = shown_in (touched_by now c (numbered c.network.notes given.0) given.1) x
     (shown_from now (one now Well c given).after rest xs)
 
 abbrev records_from : ℕ → Course → List (ℕ × Packet) → ℕ
@@ -220,17 +279,17 @@ all_write now c arrivals (g ∷ rest) = ap (λ left. length (fold (passed_on now
     behind : Choice → Passing
     behind left = record { arrivals = arrivals ++ record { packet = g.0; delivery = (one now Well c g).delivery } ∷ []; after = (one now Well c g).after; left = left }
 
--- of these packets it is shown what was chosen
-abbrev AreShown : ℕ → List (ℕ × Packet) → Type 0
-AreShown now given = (c : Course) (a : Choice) → may_fail (records_from now c given) a ≡ true → shown_from now c given (arrivals_from now a c given) ≡ a
+-- of these packets it is shown what was chosen, whatever signs follow
+abbrev AreShown : ℕ → List Sign → List (ℕ × Packet) → Type 0
+AreShown now x given = (c : Course) (a : Choice) → may_fail (records_from now c given) a ≡ true → shown_from now c given (arrival_signs (arrivals_from now a c given) ++ x) ≡ a
 
-one_shown : RefusalsChangeNothing → (now : ℕ) (rest : List (ℕ × Packet)) → AreShown now rest → (c : Course) (note : Option Note) (p : Packet) (a : Choice)
+one_shown : RefusalsChangeNothing → (now : ℕ) (x : List Sign) (rest : List (ℕ × Packet)) → AreShown now x rest → (c : Course) (note : Option Note) (p : Packet) (a : Choice)
     → may_fail (counted_by now c note p + records_from now (delivered_by now Well c note p).after rest) a ≡ true
-    → shown_in (touched_by now c note p) (delivered_by now a c note p).delivery
-    (shown_from now (delivered_by now Well c note p).after rest (arrivals_from now (delivered_by now a c note p).left (delivered_by now a c note p).after rest)) ≡ a
-one_shown law now rest shown c None p a m = shown c a
+    → shown_in (touched_by now c note p) (sign_of (delivered_by now a c note p).delivery)
+    (shown_from now (delivered_by now Well c note p).after rest (arrival_signs (arrivals_from now (delivered_by now a c note p).left (delivered_by now a c note p).after rest) ++ x)) ≡ a
+one_shown law now x rest shown c None p a m = shown c a
     (subst (λ n. may_fail n a ≡ true) (let same : 0 + records_from now c rest ≡ records_from now c rest = omega arith in same) m)
-one_shown law now rest shown c (Some note) p a m = at (is_underway c.network note) m
+one_shown law now x rest shown c (Some note) p a m = at (is_underway c.network note) m
   where
     i : ℕ
     i = note.receiver
@@ -242,22 +301,22 @@ one_shown law now rest shown c (Some note) p a m = at (is_underway c.network not
     after f = cond (closes outcome.answer) (moved (ended i) (called_unless i outcome f c)) (called_unless i outcome f c)
 
     behind : Option Failure → Choice → Choice
-    behind f left = shown_from now (after None) rest (arrivals_from now left (after f) rest)
+    behind f left = shown_from now (after None) rest (arrival_signs (arrivals_from now left (after f) rest) ++ x)
 
     at : (b : Bool) → may_fail (cond b (count_of outcome.entry) 0 + records_from now (cond b (heard_by i outcome Well c) (unheard Well c)).after rest) a ≡ true
-        → shown_in (cond b outcome.touches false) (cond b (heard_by i outcome a c) (unheard a c)).delivery
+        → shown_in (cond b outcome.touches false) (sign_of (cond b (heard_by i outcome a c) (unheard a c)).delivery)
         (shown_from now (cond b (heard_by i outcome Well c) (unheard Well c)).after rest
-        (arrivals_from now (cond b (heard_by i outcome a c) (unheard a c)).left (cond b (heard_by i outcome a c) (unheard a c)).after rest)) ≡ a
+        (arrival_signs (arrivals_from now (cond b (heard_by i outcome a c) (unheard a c)).left (cond b (heard_by i outcome a c) (unheard a c)).after rest) ++ x)) ≡ a
     at false m = shown c a (subst (λ n. may_fail n a ≡ true) (let same : 0 + records_from now c rest ≡ records_from now c rest = omega arith in same) m)
     at true m = then_shown outcome (records_from now (after None) rest)
-        (λ f left. shown_in outcome.touches (option_map_or reply.Unheard f (heard_with outcome.answer (lines_at i outcome c))) (behind f left))
+        (λ f left. shown_in outcome.touches (sign_of (option_map_or reply.Unheard f (heard_with outcome.answer (lines_at i outcome c)))) (behind f left))
         ((law (manager_at c.network i)).hear_whole p now).touches (λ how left. refl)
         (λ left n. heard_in outcome.touches outcome.answer (lines_at i outcome c) (behind None left) ∙ ap (before_call outcome.touches) (shown (after None) left n)) a m
 
 -- what the arrivals show is what was chosen
-all_shown : RefusalsChangeNothing → (now : ℕ) (given : List (ℕ × Packet)) → AreShown now given
-all_shown law now [] c a m = sym (only_well 0 refl a m)
-all_shown law now (g ∷ rest) c a m = one_shown law now rest (all_shown law now rest) c (numbered c.network.notes g.0) g.1 a m
+all_shown : RefusalsChangeNothing → (now : ℕ) (x : List Sign) (given : List (ℕ × Packet)) → AreShown now x given
+all_shown law now x [] c a m = sym (only_well 0 refl a m)
+all_shown law now x (g ∷ rest) c a m = one_shown law now x rest (all_shown law now x rest) c (numbered c.network.notes g.0) g.1 a m
 
 -- The whole event.
 
@@ -272,29 +331,21 @@ pub pump_shown : (n : Network) (i now : ℕ) (outcome : PumpOutcome) → outcome
     → (a : Choice) → may_fail (length (pump_by i now outcome Well (course_from n)).after.written) a ≡ true → shown_once (pump_by i now outcome a (course_from n)).reply ≡ a
 pump_shown n i now outcome touched a m = call_shown n i outcome (pumped (length n.notes)) touched (pump_well (length n.notes)) a m
 
--- the choice that a reply shows to a flow
-abbrev pub shown_by_flow : ℕ → (touches : Bool) → Course → List (ℕ × Packet) → Reply → Choice
-shown_by_flow now touches c given (reply.DiskFailed how) = Fails 0 how
-shown_by_flow now touches c given (reply.Flowed arrivals) = before_call touches (shown_from now c given arrivals)
-shown_by_flow now touches c given _ = Well
+-- the choice that signs show to a flow whose pump answers so
+abbrev pub shown_by_flow : ℕ → (touches : Bool) → Course → List (ℕ × Packet) → Result ℕ PumpFault → List Sign → Choice
+shown_by_flow now touches c given (Err fault) signs = once signs
+shown_by_flow now touches c given (Ok count) [] = Well
+shown_by_flow now touches c given (Ok count) (Broke how ∷ signs) = Fails 0 how
+shown_by_flow now touches c given (Ok count) (sign ∷ signs) = before_call touches (shown_from now c given signs)
 
 pub flow_shown : RefusalsChangeNothing → (n : Network) (i now : ℕ) (outcome : PumpOutcome) → outcome.touches ≡ is_some outcome.entry → (answer : Result ℕ PumpFault)
-    → (a : Choice) → may_fail (length (flow_by i now outcome Well (course_from n) answer).after.written) a ≡ true
-    → shown_by_flow now outcome.touches (pump_by i now outcome Well (course_from n)).after (enumerate_from (length n.notes + 1) outcome.packets)
-    (flow_by i now outcome a (course_from n) answer).reply ≡ a
-flow_shown law n i now outcome touched (Err fault) a m = once_shown outcome
-    (λ f. read (option_map_or reply.DiskFailed f (pumped (length n.notes) outcome.answer (lines_at i outcome (course_from n))))) touched
-    (λ how. refl) (well outcome.answer) a (subst (λ k. may_fail k a ≡ true) (pump_count i now outcome n) m)
-  where
-    read : Reply → Choice
-    read = shown_by_flow now outcome.touches (pump_by i now outcome Well (course_from n)).after (enumerate_from (length n.notes + 1) outcome.packets)
-
-    well : (answer : Result ℕ PumpFault) → read (pumped (length n.notes) answer (lines_at i outcome (course_from n))) ≡ Well
-    well (Ok count) = refl
-    well (Err fault) = refl
-flow_shown law n i now outcome touched (Ok count) a m = then_shown outcome (records_from now (after None) given) read touched (λ how left. refl)
-    (λ left m. ap (λ arrivals. before_call outcome.touches (shown_from now (after None) given arrivals)) (all_arrive now (start None left) given)
-    ∙ ap (before_call outcome.touches) (all_shown law now given (after None) left m)) a
+    → (a : Choice) (x : List Sign) → may_fail (length (flow_by i now outcome Well (course_from n) answer).after.written) a ≡ true
+    → shown_by_flow now outcome.touches (pump_by i now outcome Well (course_from n)).after (enumerate_from (length n.notes + 1) outcome.packets) answer
+    (signs_of (flow_by i now outcome a (course_from n) answer).reply ++ x) ≡ a
+flow_shown law n i now outcome touched (Err fault) a x m = first_shown (pump_by i now outcome a (course_from n)).reply x ∙ pump_shown n i now outcome touched a m
+flow_shown law n i now outcome touched (Ok count) a x m = then_shown outcome (records_from now (after None) given) read touched (λ how left. refl)
+    (λ left m. ap (λ arrivals. before_call outcome.touches (shown_from now (after None) given (arrival_signs arrivals ++ x))) (all_arrive now (start None left) given)
+    ∙ ap (before_call outcome.touches) (all_shown law now x given (after None) left m)) a
     (subst (λ k. may_fail k a ≡ true) (all_write now (after None) [] given ∙ ap (λ k. k + records_from now (after None) given) (pump_count i now outcome n)) m)
   where
     given : List (ℕ × Packet)
@@ -310,5 +361,5 @@ flow_shown law n i now outcome touched (Ok count) a m = then_shown outcome (reco
     said f = option_map_or reply.DiskFailed f (pumped (length n.notes) outcome.answer (lines_at i outcome (course_from n)))
 
     read : Option Failure → Choice → Choice
-    read f left = shown_by_flow now outcome.touches (after None) given
-        (cond (is_some f) (record { reply = said f; after = after f }) (flowed (fold (passed_on now) (start f left) given))).reply
+    read f left = shown_by_flow now outcome.touches (after None) given (Ok count)
+        (signs_of (cond (is_some f) (record { reply = said f; after = after f }) (flowed (fold (passed_on now) (start f left) given))).reply ++ x)

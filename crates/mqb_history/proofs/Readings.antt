@@ -1,7 +1,7 @@
 -- The choice is read from the reply to each event, and so a run from its events and replies.
 use Rattle.std.proofs.Common.{refl, ap, sym, subst, ◌∙◌}
 use Rattle.std.specs.List.{enumerate_from}
-use Rattle.std.specs.Prelude.{[], ◌+◌, ◌∷◌, ◌≡◌, Bool, List, None, Option, Some, cond, false, is_some, length, map, true, ℕ}
+use Rattle.std.specs.Prelude.{[], ◌+◌, ◌++◌, ◌∷◌, ◌≡◌, Bool, List, None, Option, Some, cond, false, is_some, length, map, true, ℕ}
 use Rattle.mqb_base.specs.declared.ids.Identity.{Identity}
 use Rattle.mqb_model.specs.calls.Commit.{commit}
 use Rattle.mqb_model.specs.calls.CreateQueue.{create_queue}
@@ -26,7 +26,6 @@ use Rattle.mqb_network.specs.Events.{Event}
 use Rattle.mqb_network.specs.Events as event
 use Rattle.mqb_network.specs.Laws.{AreApart}
 use Rattle.mqb_network.specs.Network.{Network, Note, is_connected, is_underway, manager_at}
-use Rattle.mqb_network.specs.Replies.{Reply}
 use Rattle.mqb_network.specs.Replies as reply
 use Rattle.mqb_network.specs.Restarting.{reopen}
 use Rattle.mqb_network.specs.Runs.{IsRunFrom, Move, answer, beginning, may, may_fail, may_restart, moved_on, records_in, replies_from}
@@ -35,10 +34,10 @@ use Rattle.mqb_network.proofs.Joining.{move_in_course}
 use Rattle.mqb_packet.specs.declared.packet.Packet.{Packet}
 use Rattle.mqb_queue.specs.Places.{numbered}
 use Rattle.mqb_history.specs.Changes.{changed, may_change}
-use Rattle.mqb_history.specs.Choosing.{IsShown, RepliesShowChoices, RunsAreShown}
+use Rattle.mqb_history.specs.Choosing.{Broke, Found, IsShown, Missed, Quiet, RepliesShowChoices, RunsAreShown, Sign, signs_of}
 use Rattle.mqb_history.specs.Histories.{HasHistory}
 use Rattle.mqb_history.specs.Orderly.{IsOrderly}
-use Rattle.mqb_history.proofs.Choosing.{call_shown, flow_shown, heard_shown, only_well, pump_shown, shown_by_flow, shown_once}
+use Rattle.mqb_history.proofs.Choosing.{by_first, call_shown, first_shown, flow_shown, heard_shown, once, only_well, pump_shown, shown_by_flow, shown_once}
 use Rattle.mqb_history.proofs.Ending.{parted_at, parted_condition}
 use Rattle.mqb_history.proofs.Keeping.{IsClosed, event_keeps}
 use Rattle.mqb_history.proofs.Lists.{clash, not_true}
@@ -49,13 +48,18 @@ use Rattle.mqb_history.proofs.SettingUp.{setting_up_writes_nothing}
 
 -- what was chosen in an event can be read from its reply
 record IsRead (c : Course) (e : Event) : Type 0 where
-  pub read : Reply → Choice
-  pub right : (a : Choice) → may c e a ≡ true → read (answer c (record { event = e; choice = a })).reply ≡ a
+  pub read : List Sign → Choice
+  pub right : (a : Choice) (x : List Sign) → may c e a ≡ true → read (signs_of (answer c (record { event = e; choice = a })).reply ++ x) ≡ a
+
+-- of one call it is by the first sign
+by_once : (c : Course) (e : Event) → ((a : Choice) → may c e a ≡ true → shown_once (answer c (record { event = e; choice = a })).reply ≡ a) → IsRead c e
+by_once c e h = record { read = once; right = λ a x m. first_shown (answer c (record { event = e; choice = a })).reply x ∙ h a m }
+
+-- and where no record is written nothing has to be read
+unwritten : (c : Course) (e : Event) → ((a : Choice) → may c e a ≡ true → Well ≡ a) → IsRead c e
+unwritten c e h = record { read = λ signs. Well; right = λ a x m. h a m }
 
 -- Events in which no record is written.
-
-unwritten : (records : ℕ) → records ≡ 0 → (f : Choice → Reply) → ((a : Choice) → shown_once (f a) ≡ Well) → (a : Choice) → may_fail records a ≡ true → shown_once (f a) ≡ a
-unwritten records none f well a m = well a ∙ sym (only_well records none a m)
 
 always_well : (records : ℕ) → records ≡ 0 → (a : Choice) → may_fail records a ≡ true → Well ≡ a
 always_well records none a m = sym (only_well records none a m)
@@ -101,105 +105,85 @@ deliver_read law n (Some note) (Some p) now a m = at (is_underway n note) m
 
 -- Starts.
 
--- the choice that a reply shows to a start
-abbrev shown_by_start : Reply → Choice
-shown_by_start (reply.DiskFailed how) = Unread
-shown_by_start (reply.OpenedKept lines) = Kept
-shown_by_start reply.OpenedLost = Lost
+-- the choice that signs show to a start
+abbrev shown_by_start : List Sign → Choice
+shown_by_start (Broke how ∷ signs) = Unread
+shown_by_start (Found ∷ signs) = Kept
+shown_by_start (Missed ∷ signs) = Lost
 shown_by_start _ = Well
+
+-- by the first alone
+started : (s : Sign) (x y : List Sign) → shown_by_start (s ∷ x) ≡ shown_by_start (s ∷ y)
+started (Broke how) x y = refl
+started Found x y = refl
+started Missed x y = refl
+started Quiet x y = refl
 
 still_down : (n : Network) (i : ℕ) (b : Bool) → is_down (manager_at n i) ≡ b → is_down (manager_at (ended i n) i) ≡ b
 still_down n i b e = parted_at (λ m. is_down m ≡ b) n i i (λ m h. ap (λ x. elim x [ Up ↦ false | Down doubt ↦ true ]) (parted_condition m) ∙ h) e
 
-restart_read : (n : Network) (i : ℕ) (a : Choice) → may_restart n i a ≡ true → shown_by_start (reopen i a (moved (ended i) (course_from n))).reply ≡ a
-restart_read n i Well m = ap (λ b. shown_by_start (cond b reply.OpenedLost reply.Opened)) (still_down n i false (not_true (is_down (manager_at n i)) m))
+restart_read : (n : Network) (i : ℕ) (a : Choice) → may_restart n i a ≡ true → shown_by_start (signs_of (reopen i a (moved (ended i) (course_from n))).reply) ≡ a
+restart_read n i Well m = ap (λ b. shown_by_start (signs_of (cond b reply.OpenedLost reply.Opened))) (still_down n i false (not_true (is_down (manager_at n i)) m))
 restart_read n i (Fails before how) m = absurd (clash (sym m))
 restart_read n i Kept m = refl
-restart_read n i Lost m = ap (λ b. shown_by_start (cond b reply.OpenedLost reply.Opened)) (still_down n i true m)
+restart_read n i Lost m = ap (λ b. shown_by_start (signs_of (cond b reply.OpenedLost reply.Opened))) (still_down n i true m)
 restart_read n i Unread m = refl
 
 -- Every event.
 
 each_read : RefusalsChangeNothing → (known : List Identity) (c : Course) → IsOrderly known c → (e : Event) → IsRead c e
-each_read law known c o (event.Queue i plan) = record {
-  read = shown_once;
-  right = call_shown c.network i (create_queue (manager_at c.network i) plan)
-      (λ given lines. reply.Created given) ((law (manager_at c.network i)).create_queue_whole plan).touches (λ given lines. refl);
-}
-each_read law known c o (event.Roll i count) = record {
-  read = shown_once;
-  right = call_shown c.network i (set_roll (manager_at c.network i) count)
-      (λ given lines. reply.Rolled given) ((law (manager_at c.network i)).set_roll_whole count).touches (λ given lines. refl);
-}
-each_read law known c o (event.Commit i now ops) = record {
-  read = shown_once;
-  right = call_shown c.network i (commit (manager_at c.network i) ops now)
-      reply.Committed ((law (manager_at c.network i)).commit_whole ops now).touches (λ given lines. refl);
-}
-each_read law known c o (event.Send i now recoverable parts) = record {
-  read = shown_once;
-  right = call_shown c.network i (send (manager_at c.network i) parts recoverable now)
-      reply.Sent ((law (manager_at c.network i)).send_whole parts recoverable now).touches (λ given lines. refl);
-}
-each_read law known c o (event.Take i now place) = record {
-  read = shown_once;
-  right = call_shown c.network i (take_message (manager_at c.network i) place now)
-      reply.Took ((law (manager_at c.network i)).take_whole place now).touches (λ given lines. refl);
-}
-each_read law known c o (event.Purge i now place) = record {
-  read = shown_once;
-  right = call_shown c.network i (purge (manager_at c.network i) place now)
-      reply.Purged ((law (manager_at c.network i)).purge_whole place now).touches (λ given lines. refl);
-}
-each_read law known c o (event.Tick i now) = record {
-  read = shown_once;
-  right = call_shown c.network i (tick (manager_at c.network i) now)
-      reply.Ticked ((law (manager_at c.network i)).tick_whole now).touches (λ given lines. refl);
-}
-each_read law known c o (event.Connect a b now window_a window_b) = record {
-  read = λ r. Well;
-  right = always_well (records_in c (event.Connect a b now window_a window_b)) (connect_empty known c o a b now window_a window_b);
-}
-each_read law known c o (event.Disconnect i) = record {
-  read = λ r. Well;
-  right = always_well (records_in c (event.Disconnect i))
-      (either_empty (is_connected c.network i) (record { reply = reply.Disconnected; after = moved (ended i) (course_from c.network) })
-      (only (course_from c.network) reply.Unlinked) refl refl);
-}
-each_read law known c o (event.Resend i) = record {
-  read = λ r. Well;
-  right = always_well (records_in c (event.Resend i))
-      (either_empty (is_connected c.network i)
-      (record { reply = reply.Resent; after = moved (succeeded_at i (resend (manager_at c.network i))) (course_from c.network) })
-      (only (course_from c.network) reply.Unlinked) refl refl);
-}
-each_read law known c o (event.Pump i now) = record {
-  read = shown_once;
-  right = pump_shown c.network i now (pump (manager_at c.network i) now) ((law (manager_at c.network i)).pump_whole now).touches;
-}
-each_read law known c o (event.Deliver k now) = record { read = shown_once; right = deliver_read law c.network (numbered c.network.notes k) (numbered c.sent k) now }
-each_read law known c o (event.Drop k) = record {
-  read = λ r. Well;
-  right = always_well (records_in c (event.Drop k))
-      (either_empty (is_some (numbered c.network.notes k)) (record { reply = reply.Dropped; after = moved (dropped k) (course_from c.network) })
-      (only (course_from c.network) reply.NoPacket) refl refl);
-}
+each_read law known c o (event.Queue i plan) = by_once c (event.Queue i plan) (call_shown c.network i (create_queue (manager_at c.network i) plan)
+    (λ given lines. reply.Created given) ((law (manager_at c.network i)).create_queue_whole plan).touches (λ given lines. refl))
+each_read law known c o (event.Roll i count) = by_once c (event.Roll i count) (call_shown c.network i (set_roll (manager_at c.network i) count)
+    (λ given lines. reply.Rolled given) ((law (manager_at c.network i)).set_roll_whole count).touches (λ given lines. refl))
+each_read law known c o (event.Commit i now ops) = by_once c (event.Commit i now ops) (call_shown c.network i (commit (manager_at c.network i) ops now)
+    reply.Committed ((law (manager_at c.network i)).commit_whole ops now).touches (λ given lines. refl))
+each_read law known c o (event.Send i now recoverable parts) = by_once c (event.Send i now recoverable parts)
+    (call_shown c.network i (send (manager_at c.network i) parts recoverable now)
+    reply.Sent ((law (manager_at c.network i)).send_whole parts recoverable now).touches (λ given lines. refl))
+each_read law known c o (event.Take i now place) = by_once c (event.Take i now place) (call_shown c.network i (take_message (manager_at c.network i) place now)
+    reply.Took ((law (manager_at c.network i)).take_whole place now).touches (λ given lines. refl))
+each_read law known c o (event.Purge i now place) = by_once c (event.Purge i now place) (call_shown c.network i (purge (manager_at c.network i) place now)
+    reply.Purged ((law (manager_at c.network i)).purge_whole place now).touches (λ given lines. refl))
+each_read law known c o (event.Tick i now) = by_once c (event.Tick i now) (call_shown c.network i (tick (manager_at c.network i) now)
+    reply.Ticked ((law (manager_at c.network i)).tick_whole now).touches (λ given lines. refl))
+each_read law known c o (event.Connect a b now window_a window_b) = unwritten c (event.Connect a b now window_a window_b)
+    (always_well (records_in c (event.Connect a b now window_a window_b)) (connect_empty known c o a b now window_a window_b))
+each_read law known c o (event.Disconnect i) = unwritten c (event.Disconnect i) (always_well (records_in c (event.Disconnect i))
+    (either_empty (is_connected c.network i) (record { reply = reply.Disconnected; after = moved (ended i) (course_from c.network) })
+    (only (course_from c.network) reply.Unlinked) refl refl))
+each_read law known c o (event.Resend i) = unwritten c (event.Resend i) (always_well (records_in c (event.Resend i))
+    (either_empty (is_connected c.network i)
+    (record { reply = reply.Resent; after = moved (succeeded_at i (resend (manager_at c.network i))) (course_from c.network) })
+    (only (course_from c.network) reply.Unlinked) refl refl))
+each_read law known c o (event.Pump i now) = by_once c (event.Pump i now)
+    (pump_shown c.network i now (pump (manager_at c.network i) now) ((law (manager_at c.network i)).pump_whole now).touches)
+each_read law known c o (event.Deliver k now) = by_once c (event.Deliver k now) (deliver_read law c.network (numbered c.network.notes k) (numbered c.sent k) now)
+each_read law known c o (event.Drop k) = unwritten c (event.Drop k) (always_well (records_in c (event.Drop k))
+    (either_empty (is_some (numbered c.network.notes k)) (record { reply = reply.Dropped; after = moved (dropped k) (course_from c.network) })
+    (only (course_from c.network) reply.NoPacket) refl refl))
 each_read law known c o (event.Flow i now) = record {
-  read = shown_by_flow now outcome.touches (pump_by i now outcome Well (course_from c.network)).after (enumerate_from (length c.network.notes + 1) outcome.packets);
+  read = shown_by_flow now outcome.touches (pump_by i now outcome Well (course_from c.network)).after (enumerate_from (length c.network.notes + 1) outcome.packets) outcome.answer;
   right = flow_shown law c.network i now outcome ((law (manager_at c.network i)).pump_whole now).touches outcome.answer;
 }
   where
     outcome : PumpOutcome
     outcome = pump (manager_at c.network i) now
-each_read law known c o (event.Arm i) = record { read = λ r. Well; right = always_well (records_in c (event.Arm i)) refl }
-each_read law known c o (event.Restart i) = record { read = shown_by_start; right = restart_read c.network i }
+each_read law known c o (event.Arm i) = unwritten c (event.Arm i) (always_well (records_in c (event.Arm i)) refl)
+each_read law known c o (event.Restart i) = record {
+  read = shown_by_start;
+  right = λ a x m. by_first shown_by_start started (reopen i a (moved (ended i) (course_from c.network))).reply x ∙ restart_read c.network i a m;
+}
 
 each_shown : RefusalsChangeNothing → (known : List Identity) (c : Course) → AreApart known → HasHistory known c → (e : Event) → IsShown c e
-each_shown law known c apart h e a b may_a may_b same = let found = each_read law known c (subst (IsOrderly known) h.2 (histories_are_orderly known h.0 apart h.1)) e in
-    sym (found.right a may_a) ∙ ap found.read same ∙ found.right b may_b
+each_shown law known c apart h e a b x y may_a may_b same = let found = each_read law known c (subst (IsOrderly known) h.2 (histories_are_orderly known h.0 apart h.1)) e in
+    sym (found.right a x may_a) ∙ ap found.read same ∙ found.right b y may_b
 
 pub replies_show_choices : RefusalsChangeNothing → RepliesShowChoices
-replies_show_choices law known ms apart run kept = each_shown law known _ apart (runs_have_histories known ms apart run kept).1
+replies_show_choices law known ms apart run e = (
+  each_shown law known _ apart (runs_have_histories known ms apart run (λ _. false)).0 e,
+  λ kept. each_shown law known _ apart (runs_have_histories known ms apart run kept).1 e,
+)
 
 -- Runs.
 
@@ -229,20 +213,21 @@ same_move m n e f = ap (λ x. made x m.choice) e ∙ ap (made n.event) f
     made e a = record { event = e; choice = a }
 
 move_shown : RefusalsChangeNothing → (known : List Identity) (c : Course) → AreApart known → HasHistory known c → (m n : Move)
-    → may c m.event m.choice ≡ true → may c n.event n.choice ≡ true → m.event ≡ n.event → (answer c m).reply ≡ (answer c n).reply → m ≡ n
+    → may c m.event m.choice ≡ true → may c n.event n.choice ≡ true → m.event ≡ n.event → signs_of (answer c m).reply ≡ signs_of (answer c n).reply → m ≡ n
 move_shown law known c apart h m n may_m may_n e same = same_move m n e
-    (subst (λ x. (b : Choice) → may c x b ≡ true → (answer c m).reply ≡ (answer c (record { event = x; choice = b })).reply → m.choice ≡ b) e
-    (λ b may_b. each_shown law known c apart h m.event m.choice b may_m may_b) n.choice may_n same)
+    (subst (λ x. (b : Choice) → may c x b ≡ true
+    → signs_of (answer c m).reply ≡ signs_of (answer c (record { event = x; choice = b })).reply → m.choice ≡ b) e
+    (λ b may_b alike. each_shown law known c apart h m.event m.choice b [] [] may_m may_b (ap (λ signs. signs ++ []) alike)) n.choice may_n same)
 
 moves_shown : RefusalsChangeNothing → (known : List Identity) → AreApart known → (c : Course) → HasHistory known c → (ms ns : List Move) → IsRunFrom c ms → IsRunFrom c ns
-    → map (λ m. m.event) ms ≡ map (λ n. n.event) ns → replies_from c ms ≡ replies_from c ns → ms ≡ ns
+    → map (λ m. m.event) ms ≡ map (λ n. n.event) ns → map signs_of (replies_from c ms) ≡ map signs_of (replies_from c ns) → ms ≡ ns
 moves_shown law known apart c h [] [] run other events replies = refl
 moves_shown law known apart c h [] (n ∷ ns) run other events replies = absurd (not_empty _ _ events)
 moves_shown law known apart c h (m ∷ ms) [] run other events replies = absurd (not_empty _ _ (sym events))
 moves_shown law known apart c h (m ∷ ms) (n ∷ ns) run other events replies = let same = move_shown law known c apart h m n run.0 other.0 (first_same _ _ _ _ events) (first_same _ _ _ _ replies) in
     ap (λ x. x ∷ ms) same ∙ ap (λ xs. n ∷ xs) (moves_shown law known apart (moved_on c n) (moved_history known apart c n other.0 h) ms ns
     (subst (λ x. IsRunFrom (moved_on c x) ms) same run.1) other.1 (rest_same _ _ _ _ events)
-    (subst (λ x. replies_from (moved_on c x) ms ≡ replies_from (moved_on c n) ns) same (rest_same _ _ _ _ replies)))
+    (subst (λ x. map signs_of (replies_from (moved_on c x) ms) ≡ map signs_of (replies_from (moved_on c n) ns)) same (rest_same _ _ _ _ replies)))
 
 pub runs_are_shown : RefusalsChangeNothing → RunsAreShown
 runs_are_shown law known ms ns apart run other events replies = moves_shown law known apart (beginning known) ([], tt, refl) ms ns run other events replies

@@ -272,14 +272,15 @@ pub fn always_stream_invariant()
 pub fn always_machine_invariant()
     ensures { AlwaysMachineInvariant }
 {}
-/// Each free choice shows: two choices that may be made in an event and are answered alike are one.
+
+/// Each free choice shows: two choices that may be made in an event and are answered with the same signs are one.
 pub fn replies_show_choices()
     ensures { RepliesShowChoices }
 {
     refusals_change_nothing();
 }
 
-/// A run is told by its events and replies: there are no two with the same.
+/// A run is told by its events and the signs in its replies: there are no two with the same.
 pub fn runs_are_shown()
     ensures { RunsAreShown }
 {

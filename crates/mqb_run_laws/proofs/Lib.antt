@@ -4,3 +4,6 @@ mod Pumps
 mod Connects
 mod Events
 mod Continuing
+mod Reading
+mod Signs
+mod Showing
