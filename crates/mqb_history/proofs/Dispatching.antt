@@ -41,7 +41,7 @@ use Rattle.mqb_history.proofs.Sourcing.{IsRowShown, IsSourced}
 
 -- The number that stands before a kept one.
 
-in_kept : (ks : List Kept) (n : ℕ) → In n (numbers ks) → (k : Kept) × In k ks × (k.number ≡ n)
+pub in_kept : (ks : List Kept) (n : ℕ) → In n (numbers ks) → (k : Kept) × In k ks × (k.number ≡ n)
 in_kept [] n i = absurd i
 in_kept (k ∷ ks) n (inl e) = (k, inl refl, e)
 in_kept (k ∷ ks) n (inr i) = let g = in_kept ks n i in (g.0, inr g.1, g.2)

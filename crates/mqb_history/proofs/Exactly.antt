@@ -57,7 +57,7 @@ use Rattle.mqb_history.proofs.Written.{always_by_records}
 
 -- Streams.
 
-same_stream_is : (s t : Stream) → same_stream s t ≡ true → t ≡ s
+pub same_stream_is : (s t : Stream) → same_stream s t ≡ true → t ≡ s
 same_stream_is s t e = let first = split_and (same_guid s.source t.source) (same_name s.destination t.destination && same_sequence s.sequence t.sequence) e in
     let second = split_and (same_name s.destination t.destination) (same_sequence s.sequence t.sequence) first.1 in
     ap (λ g. record { source = g; destination = t.destination; sequence = t.sequence }) (sym (same_guid_is s.source t.source first.0))
@@ -67,7 +67,7 @@ same_stream_is s t e = let first = split_and (same_guid s.source t.source) (same
 same_sequence_refl : (q : SequenceId) → same_sequence q q ≡ true
 same_sequence_refl q = join_and _ _ (same_number q.ordinal) (same_number q.stamp)
 
-same_stream_refl : (s : Stream) → same_stream s s ≡ true
+pub same_stream_refl : (s : Stream) → same_stream s s ≡ true
 same_stream_refl s = join_and (same_guid s.source s.source) (same_name s.destination s.destination && same_sequence s.sequence s.sequence) (same_guid_refl s.source)
     (join_and (same_name s.destination s.destination) (same_sequence s.sequence s.sequence) (same_name_refl s.destination) (same_sequence_refl s.sequence))
 

@@ -226,7 +226,7 @@ known_there known c o j p e = (subst (λ m. j < m) (sym o.count) (get_within kno
     at (Some own) f h = h.identity ∙ some_is own p f
 
 -- where a name leads from a manager, it leads from each state that it had
-leads_on : (known : List Identity) (c : Course) → IsOrderly known c → (i : ℕ) (s : State) → IsSameManager s (manager_at c.network i).state → (d : QueueName) (k : ℕ)
+pub leads_on : (known : List Identity) (c : Course) → IsOrderly known c → (i : ℕ) (s : State) → IsSameManager s (manager_at c.network i).state → (d : QueueName) (k : ℕ)
     → led s.identity s.peers d ≡ Some k
     → (j : ℕ) × LeadsFrom s c.network d j × LeadsFrom (manager_at c.network i).state c.network d j × (i ≡ j → ⊥)
 leads_on known c o i s same d k e = by (led_there s.identity s.peers d k e)

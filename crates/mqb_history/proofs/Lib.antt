@@ -184,3 +184,4 @@ mod Bearing
 mod Borne
 mod Acquainting
 mod Receiving
+mod Links

@@ -158,7 +158,7 @@ module _ (known : List Identity) (apart : AreApart known) (A : Course → Type 0
 
 -- Where a destination leads in a course, it leads always.
 
-route_of : (known : List Identity) (c : Course) (i j : ℕ) (d : QueueName) → IsOrderly known c → Leads c.network i j d → Route known i j d
+pub route_of : (known : List Identity) (c : Course) (i j : ℕ) (d : QueueName) → IsOrderly known c → Leads c.network i j d → Route known i j d
 route_of known c i j d o h = record {
   own = own.0;
   other = other.0;

@@ -22,6 +22,7 @@ pub mod Shown
 pub mod Finals
 pub mod Invariants
 pub mod Choosing
+pub mod Links
 pub mod Leading
 pub mod Drafted
 pub mod Put

@@ -21,6 +21,7 @@ ghost use Rattle.mqb_history.specs.Sent.{AlwaysSentRightly};
 ghost use Rattle.mqb_history.specs.Traced.{TakenIsAsked};
 ghost use Rattle.mqb_history.specs.Choosing.{RepliesShowChoices, RunsAreShown};
 ghost use Rattle.mqb_history.specs.Leading.{CommitmentsLeadToManagers};
+ghost use Rattle.mqb_history.specs.Links.{LinksAreBefore};
 ghost use Rattle.mqb_history.specs.Drafted.{AlwaysValid};
 
 use mqb_model::{
@@ -29,6 +30,7 @@ use mqb_model::{
     unread_is_valid,
 };
 use mqb_network::ledger_is_written;
+use mqb_orders::link_is_before;
 
 /// Sessions are connections, there is a note for each packet, and managers stay who they are.
 pub fn histories_are_orderly()
@@ -292,6 +294,14 @@ pub fn commitments_lead_to_managers()
     ensures { CommitmentsLeadToManagers }
 {
     ledger_is_written();
+}
+
+/// Each outgoing row keeps its stream as the ledger tells it, so the number to which a packet links is the greatest one below
+/// its own that was committed and did not expire, or 0.
+pub fn links_are_before()
+    ensures { LinksAreBefore }
+{
+    link_is_before();
 }
 
 /// Whatever is lost, repeated and reordered, and wherever disks fail, each manager stays valid, as long as what events ask for is in order.
