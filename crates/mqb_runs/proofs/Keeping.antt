@@ -9,7 +9,6 @@ use Rattle.mqb_history.specs.Asked.{CommittedIsAsked}
 use Rattle.mqb_history.specs.Invariants.{MachineInvariant}
 use Rattle.mqb_history.specs.Late.{AlwaysRefusedLate}
 use Rattle.mqb_history.specs.Laws.{AlwaysMachineInvariant, DecisionsHaveReasons}
-use Rattle.mqb_history.specs.Leading.{CommitmentsLeadToManagers}
 use Rattle.mqb_history.specs.Ledger.{AlwaysExactlyOnceTold}
 use Rattle.mqb_history.specs.Pumps.{NotesTellPumps}
 use Rattle.mqb_runs.specs.Guarantees.{KeepsGuarantees, RunsKeepGuarantees}
@@ -22,7 +21,7 @@ run_before c [] ns run = tt
 run_before c (m ∷ ms) ns run = (run.0, run_before (moved_on c m) ms ns run.1)
 
 module _ (invariant : AlwaysMachineInvariant) (told : AlwaysExactlyOnceTold) (asked : CommittedIsAsked) (reasons : DecisionsHaveReasons) (late : AlwaysRefusedLate) (pumps : NotesTellPumps)
-    (ledger : LedgerIsWritten) (leads : CommitmentsLeadToManagers) where
+    (ledger : LedgerIsWritten) where
   at_point : (ms : List Move) → IsRun hosts ms → (kept : ℕ → Bool) → KeepsGuarantees ms (settled kept (after_run hosts ms))
   at_point ms run kept = record {
     ledger = ledger hosts ms hosts_apart run kept;
@@ -36,8 +35,6 @@ module _ (invariant : AlwaysMachineInvariant) (told : AlwaysExactlyOnceTold) (as
       pumped = pumps hosts ms hosts_apart run kept;
       waiting = holds.waiting_until_decided;
     };
-    streams = holds.one_stream_world;
-    led = (leads hosts ms hosts_apart run kept).1;
     truthful = holds.truthful;
     received_truly = holds.received_truly;
     storage_kept = holds.storage_is_kept;

@@ -3,6 +3,7 @@ pub mod Events
 pub mod Runs
 pub mod Texts
 pub mod Guarantees
+pub mod Streams
 pub use Rattle.mqb_turns.specs.Replies
 pub use Rattle.mqb_turns.specs.Passes
 pub use Rattle.mqb_turns.specs.Pumped

@@ -4,10 +4,12 @@
 #![tactic(auto)]
 
 ghost use Rattle.mqb_runs.specs.Guarantees.{RunsKeepGuarantees};
+ghost use Rattle.mqb_runs.specs.Streams.{RunsShowStreams};
 
 use mqb_history::{
-    always_machine_invariant, always_refused_late, commitments_lead_to_managers,
-    committed_is_asked, decisions_have_reasons, ledger_is_exactly_once, notes_tell_pumps,
+    always_machine_invariant, always_one_stream_world, always_refused_late,
+    commitments_lead_to_managers, committed_is_asked, decisions_have_reasons,
+    ledger_is_exactly_once, notes_tell_pumps,
 };
 use mqb_network::ledger_is_written;
 
@@ -22,5 +24,12 @@ pub fn runs_keep_guarantees()
     always_refused_late();
     notes_tell_pumps();
     ledger_is_written();
+}
+
+/// Each of them shows the stream world, for each stream of its ledger, at each of its points.
+pub fn runs_show_streams()
+    ensures { RunsShowStreams }
+{
+    always_one_stream_world();
     commitments_lead_to_managers();
 }

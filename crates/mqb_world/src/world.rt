@@ -5,6 +5,7 @@ ghost use Rattle.mqb_network.specs.Runs.{Move};
 ghost use Rattle.mqb_outside.specs.Faults.{Rose};
 ghost use Rattle.mqb_runs.specs.Events.{event_of};
 ghost use Rattle.mqb_runs.specs.Guarantees.{AlwaysKeepsGuarantees};
+ghost use Rattle.mqb_runs.specs.Streams.{AlwaysShowsStreams};
 ghost use Rattle.mqb_script.specs.Formed.{IsFormed};
 ghost use Rattle.mqb_traffic.specs.Networks.{notes_of};
 ghost use Rattle.mqb_turns.specs.Starts.{records_of};
@@ -21,7 +22,7 @@ use mqb_base::Line;
 use mqb_history::{histories_are_orderly, runs_have_histories};
 use mqb_moves::Manager;
 use mqb_outside::{Medium, Power};
-use mqb_runs::runs_keep_guarantees;
+use mqb_runs::{runs_keep_guarantees, runs_show_streams};
 use mqb_script::{Event, Which};
 use mqb_seats::Seat;
 use mqb_traffic::Traffic;
@@ -110,6 +111,8 @@ impl World {
             result }
         ensures guarantees { (ms : List Move) → Stands self.new (M.strings medium.new) ms →
             AlwaysKeepsGuarantees ms }
+        ensures streams { (ms : List Move) → Stands self.new (M.strings medium.new) ms →
+            AlwaysShowsStreams ms }
         ensures alpha { OnOk result (IsHeldOn (P.view first.new) self.new.alpha) }
         ensures beta { OnOk result (IsHeldOn (P.view second.new) self.new.beta) }
         ensures alpha_switch { SwitchGoes (switching Which.Alpha event.now) (P.armed first.new)
@@ -136,6 +139,7 @@ impl World {
         runs_have_histories();
         histories_are_orderly();
         runs_keep_guarantees();
+        runs_show_streams();
         let proceeded = proceed(
             &mut self.alpha,
             &mut self.beta,
