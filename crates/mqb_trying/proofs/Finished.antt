@@ -32,8 +32,8 @@ use Rattle.mqb_trying.specs.Trying as trying
 -- A fault of an op refuses the whole.
 pub op_refuses : (s : State) (now : ℕ) (ops : List Op) (why : CommitFault) → IsValidState s → count_refusal (length ops) ≡ None
     → IsRefusedBy (try_all s now 0 (nothing_noted s) ops) why → IsRefusedBy (tried s now ops) why
-op_refuses s now ops why v few r = refused_by s why (count_refusal (length ops)) (try_all s now 0 (nothing_noted s) ops) (try_ops now 0 (trial_of s) ops) few
-    (all_agree s now 0 (nothing_noted s) (trial_of s) ops (follows_first s v)) r
+op_refuses s now ops why v few r = refused_by s now why (count_refusal (length ops)) (try_all s now 0 (nothing_noted s) ops) (try_ops now 0 (trial_of s) ops) few
+    (all_agree s now 0 (nothing_noted s) (trial_of s) ops (follows_first s now v)) r
 
 -- a reason is that of the definition, where the outcome is it
 pub is_refusal : {T : Type 0} (outcome : Result T CommitFault) (why : CommitFault) → outcome ≡ Err why → IsRefusedBy outcome why
@@ -51,19 +51,19 @@ pub count_refuses : (s : State) (now : ℕ) (ops : List Op) (why : CommitFault) 
 count_refuses s now ops why e = ap (λ c. trying.unless c (try_ops now 0 (trial_of s) ops >>= λ t. trying.unless (whole_refusal t) (Ok t))) e
 
 module _ (s : State) (now : ℕ) (ops : List Op) (n : Noted) (v : IsValidState s) (few : count_refusal (length ops) ≡ None) (noted : try_all s now 0 (nothing_noted s) ops ≡ Ok n) where
-  there : (t : Trial) × (try_ops now 0 (trial_of s) ops ≡ Ok t) × Follows s n t
-  there = followed s n (try_all s now 0 (nothing_noted s) ops) (try_ops now 0 (trial_of s) ops) noted (all_agree s now 0 (nothing_noted s) (trial_of s) ops (follows_first s v))
+  there : (t : Trial) × (try_ops now 0 (trial_of s) ops ≡ Ok t) × Follows s now n t
+  there = followed s now n (try_all s now 0 (nothing_noted s) ops) (try_ops now 0 (trial_of s) ops) noted (all_agree s now 0 (nothing_noted s) (trial_of s) ops (follows_first s now v))
 
   -- the whole may be refused
   pub whole_refuses : (why : CommitFault) → whole_fault n ≡ Some why → tried s now ops ≡ Err why
   whole_refuses why e =
       ap (λ c. trying.unless c (try_ops now 0 (trial_of s) ops >>= λ t. trying.unless (whole_refusal t) (Ok t))) few
       ∙ ap (λ r. r >>= λ t. trying.unless (whole_refusal t) (Ok t)) there.1
-      ∙ ap (λ w. trying.unless w (Ok there.0)) (whole_agrees s n there.0 there.2 ∙ e)
+      ∙ ap (λ w. trying.unless w (Ok there.0)) (whole_agrees s now n there.0 there.2 ∙ e)
 
   module _ (passed : whole_fault n ≡ None) where
     whole : whole_refusal there.0 ≡ None
-    whole = whole_agrees s n there.0 there.2 ∙ passed
+    whole = whole_agrees s now n there.0 there.2 ∙ passed
 
     made : tried s now ops ≡ Ok there.0
     made = tried_is s now ops there.0 few there.1 whole

@@ -10,15 +10,17 @@ use Rattle.mqb_base.specs.declared.queues.EntryPlace.TheVariants as place
 use Rattle.mqb_orders.specs.Rows.{Row}
 use Rattle.mqb_orders.specs.declared.keys.OutKey.{OutKey}
 use Rattle.mqb_queue.specs.Lists.{Lists, count}
-use Rattle.mqb_queue.specs.Places.{Places, changed_at, lists_at, with_lists}
+use Rattle.mqb_queue.specs.Places.{Places, Queue, changed_at, lists_at, numbered, with_lists}
 use Rattle.mqb_queue.proofs.Others.{one_place}
 use Rattle.mqb_model.specs.calls.Commit.{Trial, trial_of}
 use Rattle.mqb_model.specs.state.State.{State}
 use Rattle.mqb_model.specs.state.Valid.{IsGivenOrdinal, IsValidState}
+use Rattle.mqb_trying.specs.declared.notes.Take.{Take}
 use Rattle.mqb_trying.specs.Notes.{Noted, nothing_noted, record_op}
 use Rattle.mqb_trying.specs.Sends.{count_in, end_of, last_end}
 use Rattle.mqb_trying.proofs.Ends.{Rise, of, ordinal_of}
 use Rattle.mqb_trying.proofs.Left.{left_in, nothing_taken}
+use Rattle.mqb_trying.proofs.Marks.{IsOrdered, first_ordered}
 use Rattle.mqb_trying.proofs.Names.{names}
 
 -- the messages of the queue of a number
@@ -28,7 +30,11 @@ queue_at s number = lists_at s.places (place.Queue number)
 abbrev pub durable : Lists → List Message
 durable l = l.durable
 
-pub record Follows (s : State) (n : Noted) (t : Trial) : Type 0 where
+-- of each queue the takes are in order
+abbrev pub InOrder : State → ℕ → List Take → Type 0
+InOrder s now takes = (number : ℕ) (q : Queue) → numbered s.places.queues number ≡ Some q → IsOrdered takes number now q.lists.durable
+
+pub record Follows (s : State) (now : ℕ) (n : Noted) (t : Trial) : Type 0 where
   -- names lead where they led
   pub leads : names t.sending ≡ names s
   pub takes_lead : names t.taking ≡ names s
@@ -41,16 +47,17 @@ pub record Follows (s : State) (n : Noted) (t : Trial) : Type 0 where
   pub ends : (key : OutKey) → option_map end_of (last_or None (filter (of key) t.sending.outs)) ≡ last_end s n.ends key.peer key.destination
   pub rise : Rise t.sending.next_ordinal (map ordinal_of t.sending.outs)
   pub left : (number : ℕ) → option_map durable (queue_at t.taking number) ≡ option_map (λ l. left_in n.takes number l.durable) (queue_at s number)
+  pub order : InOrder s now n.takes
   -- the record and the answer
   pub ops : t.ops ≡ map record_op n.ops
   pub done : t.done ≡ n.done
 
 -- both pass, or both fail for the same reason
-abbrev pub Agrees : {E : Type 0} → State → Result Noted E → Result Trial E → Type 0
-Agrees s (Ok n) (Ok t) = Follows s n t
-Agrees s (Err a) (Err b) = a ≡ b
-Agrees s (Ok n) (Err b) = ⊥
-Agrees s (Err a) (Ok t) = ⊥
+abbrev pub Agrees : {E : Type 0} → State → ℕ → Result Noted E → Result Trial E → Type 0
+Agrees s now (Ok n) (Ok t) = Follows s now n t
+Agrees s now (Err a) (Err b) = a ≡ b
+Agrees s now (Ok n) (Err b) = ⊥
+Agrees s now (Err a) (Ok t) = ⊥
 
 -- In the beginning.
 
@@ -66,8 +73,8 @@ rise_from next (r ∷ rows) pairs given = (
   rise_from next rows (λ i j d less lt. pairs (suc i) (suc j) d (omega (arith, less)) (omega (arith, lt))) (λ k d lt. given (suc k) d (omega (arith, lt))),
 )
 
-pub follows_first : (s : State) → IsValidState s → Follows s (nothing_noted s) (trial_of s)
-follows_first s v = record {
+pub follows_first : (s : State) (now : ℕ) → IsValidState s → Follows s now (nothing_noted s) (trial_of s)
+follows_first s now v = record {
   leads = refl;
   takes_lead = refl;
   roll = refl;
@@ -77,6 +84,7 @@ follows_first s v = record {
   ends = λ key. refl;
   rise = rise_from s.next_ordinal s.outs v.ordinals_rise v.ordinals_given;
   left = λ number. none_taken number (queue_at s number);
+  order = λ number q there. first_ordered number now q.lists.durable;
   ops = refl;
   done = refl;
 }

@@ -2,13 +2,22 @@
 use Rattle.std.proofs.Common.{refl, ap, sym, subst, ◌∙◌, arith}
 use Rattle.std.proofs.lemmas.Bool.Decides.{nat_tests}
 use Rattle.std.proofs.lemmas.List.Folds.{list_any-append}
+use Rattle.std.specs.List.{list_any}
 use Rattle.std.specs.Prelude.{[], ◌&&◌, ◌++◌, ◌+◌, ◌<◌, ◌==◌, ◌||◌, ◌∷◌, ◌≡◌, ◌≤◌, Bool, List, None, Option, Some, cond, false, filter, fold, map, max, nat_le, not, option_map, position, remove, slice_get, suc, true, ℕ}
 use Rattle.mqb_base.specs.declared.message.Message.{Message}
 use Rattle.mqb_base.specs.declared.queues.EntryPlace.TheVariants as place
 use Rattle.mqb_queue.specs.First.{first_index, is_free, top_priority}
 use Rattle.mqb_queue.proofs.Positions.{position_step}
 use Rattle.mqb_trying.specs.declared.notes.Take.{Take}
-use Rattle.mqb_trying.specs.Takes.{index_from, is_taken, may_take, next_index, top_from}
+use Rattle.mqb_trying.specs.Takes.{index_from, next_of, top_from}
+
+-- the message at an index of a queue was taken
+abbrev pub is_taken : List Take → ℕ → ℕ → Bool
+is_taken takes queue k = list_any (λ t. t.queue == queue && t.index == k) takes
+
+-- it is left, and not due
+abbrev pub untaken : List Take → ℕ → ℕ → ℕ → Message → Bool
+untaken takes queue now k m = not (is_taken takes queue k) && is_free (place.Queue queue) now m
 
 -- the messages from an index on that were not taken
 abbrev pub left_from : List Take → ℕ → ℕ → List Message → List Message
@@ -31,10 +40,10 @@ left_same a b queue i (m ∷ ms) same =
     ∙ ap (λ rest. cond (is_taken b queue i) rest (m ∷ rest)) (left_same a b queue (i + 1) ms (λ j h. same j (omega (arith, h))))
 
 -- one take more
-abbrev with_one : List Take → ℕ → ℕ → List Take
+abbrev pub with_one : List Take → ℕ → ℕ → List Take
 with_one takes queue index = takes ++ record { queue = queue; index = index } ∷ []
 
-one_more : (takes : List Take) (of index queue j : ℕ) → is_taken (with_one takes of index) queue j ≡ (is_taken takes queue j || (of == queue && index == j))
+pub one_more : (takes : List Take) (of index queue j : ℕ) → is_taken (with_one takes of index) queue j ≡ (is_taken takes queue j || (of == queue && index == j))
 one_more takes of index queue j = list_any-append (λ t. t.queue == queue && t.index == j) takes (record { queue = of; index = index } ∷ [])
     ∙ ap (λ b. is_taken takes queue j || b) (end (of == queue && index == j))
   where
@@ -59,7 +68,7 @@ differ a b lt = grind (arith, nat_tests)
 differ_too : (a b : ℕ) → b < a → (a == b) ≡ false
 differ_too a b lt = grind (arith, nat_tests)
 
-itself : (a : ℕ) → (a == a) ≡ true
+pub itself : (a : ℕ) → (a == a) ≡ true
 itself a = grind (arith, nat_tests)
 
 -- behind it the same are left
@@ -96,7 +105,7 @@ module _ (takes : List Take) (queue now : ℕ) where
   free m = is_free (place.Queue queue) now m
 
   -- the greatest priority
-  top_is : (i low : ℕ) (ms : List Message) → top_from (may_take takes queue now) i low ms ≡ fold max low (map (λ m. m.priority) (filter free (left_from takes queue i ms)))
+  top_is : (i low : ℕ) (ms : List Message) → top_from (untaken takes queue now) i low ms ≡ fold max low (map (λ m. m.priority) (filter free (left_from takes queue i ms)))
   top_is i low [] = refl
   top_is i low (m ∷ ms) = at (is_taken takes queue i) (free m) refl (λ low. top_is (i + 1) low ms)
     where
@@ -106,8 +115,8 @@ module _ (takes : List Take) (queue now : ℕ) where
       top : Bool → List Message → ℕ → ℕ
       top f more low = fold max low (map (λ m. m.priority) (cond f (m ∷ more) more))
 
-      at : (t f : Bool) → free m ≡ f → ((low : ℕ) → top_from (may_take takes queue now) (i + 1) low ms ≡ fold max low (map (λ m. m.priority) (filter free rest)))
-          → top_from (may_take takes queue now) (i + 1) (cond (not t && f) (max low m.priority) low) ms
+      at : (t f : Bool) → free m ≡ f → ((low : ℕ) → top_from (untaken takes queue now) (i + 1) low ms ≡ fold max low (map (λ m. m.priority) (filter free rest)))
+          → top_from (untaken takes queue now) (i + 1) (cond (not t && f) (max low m.priority) low) ms
           ≡ fold max low (map (λ m. m.priority) (filter free (cond t rest (m ∷ rest))))
       at true f e more = more low
       at false true e more = more (max low m.priority) ∙ sym (ap (λ f. top f (filter free rest) low) e)
@@ -177,7 +186,7 @@ module _ (takes : List Take) (queue now : ℕ) where
     }
 
   finds : (top i : ℕ) (ms : List Message)
-      → Finds i ms (index_from (may_take takes queue now) top i ms) (position (λ m. free m && nat_le top m.priority) (left_from takes queue i ms))
+      → Finds i ms (index_from (untaken takes queue now) top i ms) (position (λ m. free m && nat_le top m.priority) (left_from takes queue i ms))
   finds top i [] = tt
   finds top i (m ∷ ms) = at (is_taken takes queue i) (free m) (nat_le top m.priority) refl refl (finds top (i + 1) ms)
     where
@@ -188,7 +197,7 @@ module _ (takes : List Take) (queue now : ℕ) where
       rest = left_from takes queue (i + 1) ms
 
       next : Option ℕ
-      next = index_from (may_take takes queue now) top (i + 1) ms
+      next = index_from (untaken takes queue now) top (i + 1) ms
 
       step : (b : Bool) → test m ≡ b → position test (m ∷ rest) ≡ cond b (Some 0) (option_map (λ k. suc k) (position test rest))
       step b e = position_step test m rest ∙ ap (λ b. cond b (Some 0) (option_map (λ k. suc k) (position test rest))) e
@@ -201,8 +210,8 @@ module _ (takes : List Take) (queue now : ℕ) where
       at false false l e test_is more = subst (Finds i (m ∷ ms) next) (sym (step false test_is)) (left_there i m ms e next (position test rest) more)
 
   -- the next one is the first of those that are left
-  pub next_is_first : (ms : List Message) → Finds 0 ms (next_index takes queue now ms) (first_index free (left_in takes queue ms))
-  next_is_first ms = subst (λ top. Finds 0 ms (index_from (may_take takes queue now) top 0 ms) (first_index free held)) (sym (top_is 0 0 ms)) (finds (top_priority free held) 0 ms)
+  pub next_is_first : (ms : List Message) → Finds 0 ms (next_of (untaken takes queue now) ms) (first_index free (left_in takes queue ms))
+  next_is_first ms = subst (λ top. Finds 0 ms (index_from (untaken takes queue now) top 0 ms) (first_index free held)) (sym (top_is 0 0 ms)) (finds (top_priority free held) 0 ms)
     where
       held : List Message
       held = left_in takes queue ms

@@ -1,5 +1,6 @@
 pub mod Names
 pub mod Left
+pub mod Marks
 pub mod Ends
 pub mod NotedEnds
 pub mod Following

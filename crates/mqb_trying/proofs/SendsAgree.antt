@@ -50,7 +50,7 @@ use Rattle.mqb_trying.specs.declared.notes.SequenceEnd.{SequenceEnd}
 use Rattle.mqb_trying.specs.Notes.{Noted, packet_of, record_op}
 use Rattle.mqb_trying.specs.Sends.{count_in, end_of, last_end, next_message, peer_route, put_route, route_to, sent_by, try_send, unless_full, with_end, with_send}
 use Rattle.mqb_trying.proofs.Ends.{IsLast, Rise, changed_there, ends_changed, ends_pushed, last_splits, of, ordinal_of, ordinals_stay, rise_more}
-use Rattle.mqb_trying.proofs.Following.{Agrees, Follows, changed_lists, queue_at}
+use Rattle.mqb_trying.proofs.Following.{Agrees, Follows, InOrder, changed_lists, queue_at}
 use Rattle.mqb_trying.proofs.Left.{left_in}
 use Rattle.mqb_trying.proofs.NotedEnds.{last_more}
 use Rattle.mqb_trying.proofs.Names.{guid_same, lead_same, names, place_names, plan, plan_same}
@@ -75,7 +75,7 @@ one_counted m c (Some a) None e = absurd (none-some (count a) (sym e))
 one_counted m c (Some a) (Some b) e = let same = same_Some (count a) (count b + c) e in let more = put_counts m a in
     let whole : count (put lane.Durable m a) ≡ count b + (c + 1) = omega (arith, same, more) in ap (λ k. Some k) whole
 
-module _ (s : State) (now : ℕ) (n : Noted) (t : Trial) (h : Follows s n t) (p : Parts) where
+module _ (s : State) (now : ℕ) (n : Noted) (t : Trial) (h : Follows s now n t) (p : Parts) where
   abbrev x : State
   x = t.sending
 
@@ -107,7 +107,7 @@ module _ (s : State) (now : ℕ) (n : Noted) (t : Trial) (h : Follows s n t) (p 
     pub done : t.done ++ answer ∷ [] ≡ noted.done
 
   send_follows : (to : Target) (noted : Noted) (after : State) (answer : Done) → Leaves noted after answer
-      → Follows s (with_send noted told (guid_at s to)) (commit.with_send t to m after answer)
+      → Follows s now (with_send noted told (guid_at s to)) (commit.with_send t to m after answer)
   send_follows to noted after answer l = record {
     leads = l.leads;
     takes_lead = h.takes_lead;
@@ -118,6 +118,7 @@ module _ (s : State) (now : ℕ) (n : Noted) (t : Trial) (h : Follows s n t) (p 
     ends = l.ends;
     rise = l.rise;
     left = λ number. h.left number ∙ ap (λ takes. option_map (λ l. left_in takes number l.durable) (queue_at s number)) (sym l.takes);
+    order = subst (InOrder s now) (sym l.takes) h.order;
     ops = ap₂ (λ (ops : List RecordOp) (op : RecordOp). ops ++ op ∷ []) (h.ops ∙ ap (map record_op) (sym l.ops)) (op_is to)
         ∙ sym (map-append record_op noted.ops (planned.Send told (guid_at s to) ∷ []));
     done = l.done;
@@ -143,7 +144,7 @@ module _ (s : State) (now : ℕ) (n : Noted) (t : Trial) (h : Follows s n t) (p 
       at false e = h.counts other ∙ same (count_in other n.puts) (queue_at s other)
           ∙ ap (λ b. option_map (λ l. count l + (count_in other n.puts + cond b 1 0)) (queue_at s other)) (sym e)
 
-  put_follows : (number : ℕ) → Follows s (sent_by s n now told (Put number)) (commit.with_put t number m)
+  put_follows : (number : ℕ) → Follows s now (sent_by s n now told (Put number)) (commit.with_put t number m)
   put_follows number = send_follows (Here (Some number)) (record n { puts = n.puts ++ number ∷ []; done = n.done ++ done.Put told.id ∷ [] })
       (put_at x (place.Queue number) m) (done.Put m.id) (record {
         leads = place_names (put lane.Durable m) x (place.Queue number) ∙ h.leads;
@@ -162,7 +163,7 @@ module _ (s : State) (now : ℕ) (n : Noted) (t : Trial) (h : Follows s n t) (p 
   K route = Ok (sent_by s n now told route)
 
   queue_agrees : (number : ℕ) (q r : Queue) → numbered s.places.queues number ≡ Some q → numbered x.places.queues number ≡ Some r → q.plan ≡ r.plan
-      → Agrees s (put_route n.puts number q >>= K) (commit.send_into t m number r)
+      → Agrees s now (put_route n.puts number q >>= K) (commit.send_into t m number r)
   queue_agrees number q r q_there r_there plans = at q.plan.transactional r.plan.transactional (ap (λ p. p.transactional) plans)
       (nat_le q.plan.quota (count q.lists + count_in number n.puts)) (nat_le r.plan.quota (count r.lists)) (ap₂ nat_le (ap (λ p. p.quota) plans) counted)
     where
@@ -172,7 +173,7 @@ module _ (s : State) (now : ℕ) (n : Noted) (t : Trial) (h : Follows s n t) (p 
           ∙ ap (λ o. option_map (λ l. count l + count_in number n.puts) (option_map (λ q. q.lists) o)) q_there))
 
       at : (b c : Bool) → b ≡ c → (f g : Bool) → f ≡ g
-          → Agrees s (cond (not b) (Err op_fault.NotTransactional) (cond f (Err op_fault.QueueFull) (Ok (Put number))) >>= K)
+          → Agrees s now (cond (not b) (Err op_fault.NotTransactional) (cond f (Err op_fault.QueueFull) (Ok (Put number))) >>= K)
           (cond (not c) (Err op_fault.NotTransactional) (cond g (Err op_fault.QueueFull) (Ok (commit.with_put t number m))))
       at false false e f g d = refl
       at true true e true true d = refl
@@ -216,8 +217,8 @@ module _ (s : State) (now : ℕ) (n : Noted) (t : Trial) (h : Follows s n t) (p 
           ∙ ap (λ rows. record x { outs = with_first_changed (with_kept m) (has_ordinal (ordinal_of row)) rows }) split.split
           ∙ ap (λ rows. record x { outs = rows }) (changed_there (with_kept m) x.next_ordinal split.before row split.behind (subst (λ rows. Rise x.next_ordinal (map ordinal_of rows)) split.split h.rise))
 
-      join_follows : Follows s (sent_by s n now told (Join k row.sequence (row.committed + 1))) (commit.with_joined t now m k row)
-      join_follows = subst (λ y. Follows s (sent_by s n now told (Join k row.sequence (row.committed + 1))) (commit.with_send t (AtPeer k) m y (done.Sent m.id row.sequence (row.committed + 1))))
+      join_follows : Follows s now (sent_by s n now told (Join k row.sequence (row.committed + 1))) (commit.with_joined t now m k row)
+      join_follows = subst (λ y. Follows s now (sent_by s n now told (Join k row.sequence (row.committed + 1))) (commit.with_send t (AtPeer k) m y (done.Sent m.id row.sequence (row.committed + 1))))
           (sym join_is)
           (send_follows (AtPeer k) (record n {
             ends = with_end n.ends e;
@@ -250,8 +251,8 @@ module _ (s : State) (now : ℕ) (n : Noted) (t : Trial) (h : Follows s n t) (p 
       begin_is : join x k now m ≡ begun
       begin_is = ap (λ o. option_map_or (λ row. with_row (with_kept m) x row.sequence.ordinal) o begun) in_use
 
-      begin_follows : Follows s (sent_by s n now told (Begin k)) (commit.with_joined t now m k fresh)
-      begin_follows = subst (λ y. Follows s (sent_by s n now told (Begin k)) (commit.with_send t (AtPeer k) m y (done.Sent m.id fresh.sequence 1))) (sym begin_is)
+      begin_follows : Follows s now (sent_by s n now told (Begin k)) (commit.with_joined t now m k fresh)
+      begin_follows = subst (λ y. Follows s now (sent_by s n now told (Begin k)) (commit.with_send t (AtPeer k) m y (done.Sent m.id fresh.sequence 1))) (sym begin_is)
           (send_follows (AtPeer k) (record n {
             ends = with_end n.ends e;
             next_ordinal = n.next_ordinal + 1;
@@ -290,42 +291,42 @@ module _ (s : State) (now : ℕ) (n : Noted) (t : Trial) (h : Follows s n t) (p 
         (cond (nat_le ordinal MAX_ORDINAL) (Ok (Begin k)) (Err op_fault.SequenceSpent))) (sym h.ordinal)
 
     begins_agree : sequence_in_use x k d ≡ None
-        → Agrees s (cond (nat_le x.next_ordinal MAX_ORDINAL) (Ok (Begin k)) (Err op_fault.SequenceSpent) >>= K) (commit.send_to_peer t now m k)
-    begins_agree in_use = subst (λ o. Agrees s (cond (nat_le x.next_ordinal MAX_ORDINAL) (Ok (Begin k)) (Err op_fault.SequenceSpent) >>= K)
+        → Agrees s now (cond (nat_le x.next_ordinal MAX_ORDINAL) (Ok (Begin k)) (Err op_fault.SequenceSpent) >>= K) (commit.send_to_peer t now m k)
+    begins_agree in_use = subst (λ o. Agrees s now (cond (nat_le x.next_ordinal MAX_ORDINAL) (Ok (Begin k)) (Err op_fault.SequenceSpent) >>= K)
         (cond (is_some o || nat_le x.next_ordinal MAX_ORDINAL) (Ok (commit.with_joined t now m k (unwrap_or o (sequences.new_sequence x k d now)))) (Err op_fault.SequenceSpent))) (sym in_use)
         (at (nat_le x.next_ordinal MAX_ORDINAL))
       where
-        at : (b : Bool) → Agrees s (cond b (Ok (Begin k)) (Err op_fault.SequenceSpent) >>= K)
+        at : (b : Bool) → Agrees s now (cond b (Ok (Begin k)) (Err op_fault.SequenceSpent) >>= K)
             (cond b (Ok (commit.with_joined t now m k (sequences.new_sequence x k d now))) (Err op_fault.SequenceSpent))
         at true = begin_follows in_use
         at false = refl
 
-    joins_agree : (row : Row) → last_sequence x k d ≡ Some row → sequence_in_use x k d ≡ Some row → Agrees s (K (Join k row.sequence (row.committed + 1))) (commit.send_to_peer t now m k)
-    joins_agree row last in_use = subst (λ o. Agrees s (K (Join k row.sequence (row.committed + 1)))
+    joins_agree : (row : Row) → last_sequence x k d ≡ Some row → sequence_in_use x k d ≡ Some row → Agrees s now (K (Join k row.sequence (row.committed + 1))) (commit.send_to_peer t now m k)
+    joins_agree row last in_use = subst (λ o. Agrees s now (K (Join k row.sequence (row.committed + 1)))
         (cond (is_some o || nat_le x.next_ordinal MAX_ORDINAL) (Ok (commit.with_joined t now m k (unwrap_or o (sequences.new_sequence x k d now)))) (Err op_fault.SequenceSpent))) (sym in_use)
         (join_follows row last in_use)
 
-    peer_agrees : Agrees s (peer_route s n k d >>= K) (commit.send_to_peer t now m k)
+    peer_agrees : Agrees s now (peer_route s n k d >>= K) (commit.send_to_peer t now m k)
     peer_agrees = at (last_sequence x k d) refl
       where
         full : (row : Row) → last_sequence x k d ≡ Some row → (b : Bool) → nat_lt row.committed x.roll ≡ b
-            → Agrees s (option_map_or (λ last. Ok (Join k last.0 (last.1 + 1))) (cond b (Some (end_of row)) None)
+            → Agrees s now (option_map_or (λ last. Ok (Join k last.0 (last.1 + 1))) (cond b (Some (end_of row)) None)
             (cond (nat_le x.next_ordinal MAX_ORDINAL) (Ok (Begin k)) (Err op_fault.SequenceSpent)) >>= K) (commit.send_to_peer t now m k)
         full row last true e = joins_agree row last (ap usable last ∙ ap (λ b. cond b (Some row) None) e)
         full row last false e = begins_agree (ap usable last ∙ ap (λ b. cond b (Some row) None) e)
 
-        at : (o : Option Row) → last_sequence x k d ≡ o → Agrees s (peer_route s n k d >>= K) (commit.send_to_peer t now m k)
-        at None last = subst (λ r. Agrees s (r >>= K) (commit.send_to_peer t now m k)) (sym (route_is None last)) (begins_agree (ap usable last))
-        at (Some row) last = subst (λ r. Agrees s (r >>= K) (commit.send_to_peer t now m k)) (sym (route_is (Some row) last)) (full row last (nat_lt row.committed x.roll) refl)
+        at : (o : Option Row) → last_sequence x k d ≡ o → Agrees s now (peer_route s n k d >>= K) (commit.send_to_peer t now m k)
+        at None last = subst (λ r. Agrees s now (r >>= K) (commit.send_to_peer t now m k)) (sym (route_is None last)) (begins_agree (ap usable last))
+        at (Some row) last = subst (λ r. Agrees s now (r >>= K) (commit.send_to_peer t now m k)) (sym (route_is (Some row) last)) (full row last (nat_lt row.committed x.roll) refl)
 
   -- Wherever it goes.
 
-  target_agrees : (to : Target) → Agrees s (route_to s n d to >>= K) (commit.send_to t now m to)
+  target_agrees : (to : Target) → Agrees s now (route_to s n d to >>= K) (commit.send_to t now m to)
   target_agrees (Here None) = refl
   target_agrees (Here (Some number)) = at (numbered s.places.queues number) (numbered x.places.queues number) refl refl (plan_same x s number h.leads)
     where
       at : (o q : Option Queue) → numbered s.places.queues number ≡ o → numbered x.places.queues number ≡ q → option_map plan q ≡ option_map plan o
-          → Agrees s (option_map_or (put_route n.puts number) o (Err op_fault.NoQueue) >>= K) (option_map_or (commit.send_into t m number) q (Err op_fault.NoQueue))
+          → Agrees s now (option_map_or (put_route n.puts number) o (Err op_fault.NoQueue) >>= K) (option_map_or (commit.send_into t m number) q (Err op_fault.NoQueue))
       at None None a b plans = refl
       at None (Some r) a b plans = absurd (none-some r.plan (sym plans))
       at (Some q) None a b plans = absurd (none-some q.plan plans)
@@ -333,6 +334,6 @@ module _ (s : State) (now : ℕ) (n : Noted) (t : Trial) (h : Follows s n t) (p 
   target_agrees (AtPeer k) = peer_agrees k
   target_agrees Nowhere = refl
 
-pub sends_agree : (s : State) (now : ℕ) (n : Noted) (t : Trial) (p : Parts) → Follows s n t → Agrees s (try_send s now n p) (try_op t now (asked.Send p))
-sends_agree s now n t p h = subst (λ to. Agrees s (try_send s now n p) (commit.send_to t now (message_for t.sending now p) to)) (sym (lead_same t.sending s p.destination h.leads))
+pub sends_agree : (s : State) (now : ℕ) (n : Noted) (t : Trial) (p : Parts) → Follows s now n t → Agrees s now (try_send s now n p) (try_op t now (asked.Send p))
+sends_agree s now n t p h = subst (λ to. Agrees s now (try_send s now n p) (commit.send_to t now (message_for t.sending now p) to)) (sym (lead_same t.sending s p.destination h.leads))
     (target_agrees s now n t h p (resolved s p.destination))

@@ -1,8 +1,8 @@
-ghost use Rattle.std.specs.Prelude.{◌≡◌, ◌<◌, ◌≤◌, IfErr, IfOk, IfSome, IsSome, Ok, OnOk, length, option_copied, option_map};
+ghost use Rattle.std.specs.Prelude.{◌≡◌, ◌<◌, ◌≤◌, ◌+◌, All, IfErr, IfOk, IfSome, IsSome, Ok, OnOk, Some, drop, length, option_copied, option_map};
 ghost use Rattle.mqb_base.specs.declared.roomed.TheConstants.{MAX_MEMBERS};
 ghost use Rattle.mqb_model.specs.state.Resolving.{queue_named};
 ghost use Rattle.mqb_queue.specs.Places.{numbered};
-ghost use Rattle.mqb_trying.specs.Takes.{durable, index_from, is_taken, may_take, message_of_take, next_index, next_take, noted_take, take_by, take_of, top_from, try_take};
+ghost use Rattle.mqb_trying.specs.Takes.{comes_after, durable, index_from, last_index, mark_of, may_take, message_of_take, next_index, next_take, noted_take, take_by, take_of, top_from, try_take};
 ghost use Rattle.mqb_trying.specs.Trying.{IsRefusedBy, at_op};
 
 use crate::notes::{Notes, PlannedOp, Take, push_op};
@@ -10,60 +10,112 @@ use mqb_base::{EntryPlace, Lane, Memory, Message, Name, is_due};
 use mqb_contents::Contents;
 use mqb_model::{CommitFault, Done, OpFault};
 
-fn is_taken(takes: &[Take], queue: u32, index: usize) -> bool
-    ensures { result ≡ is_taken takes.now queue index }
-{
-    takes
-        .iter()
-        .any(|take| take.queue == queue && take.index as usize == index)
+/// Where a message stands that was taken, and its priority.
+#[derive(Clone, Copy, Debug, PartialEq, Eq)]
+struct Mark {
+    index: u32,
+    priority: u8,
 }
 
-fn may_take(takes: &[Take], queue: u32, now: u32, index: usize, message: &Message) -> bool
-    ensures { result ≡ may_take takes.now queue now index message.now }
+/// The index of the last take of a queue.
+fn last_index(takes: &[Take], queue: u32) -> Option<u32>
+    ensures { result ≡ last_index takes.now queue }
 {
-    !is_taken(takes, queue, index) && !is_due(message.sent, message.life, now)
+    for take in takes.iter().rev() {
+        if take.queue == queue {
+            return Some(take.index);
+        }
+    }
+    None
+}
+
+/// The mark of the last take of a queue of these messages.
+fn mark_of(takes: &[Take], queue: u32, messages: &[Message]) -> Option<Mark>
+    ensures { result ≡ mark_of takes.now queue messages.now }
+{
+    let index = last_index(takes, queue)?;
+    let message = messages.get(index as usize)?;
+    Some(Mark {
+        index,
+        priority: message.priority,
+    })
+}
+
+/// A message has a lesser priority, or the same and stands behind.
+fn comes_after(mark: Mark, index: usize, message: &Message) -> bool
+    ensures { result ≡ comes_after mark index message.now }
+{
+    message.priority < mark.priority
+        || (message.priority == mark.priority && index > mark.index as usize)
+}
+
+fn may_take(mark: Option<Mark>, now: u32, index: usize, message: &Message) -> bool
+    ensures { result ≡ may_take mark now index message.now }
+{
+    let is_left = match mark {
+        Some(mark) => comes_after(mark, index, message),
+        None => true,
+    };
+    is_left && !is_due(message.sent, message.life, now)
 }
 
 /// The greatest priority of the messages of a queue that may be taken, or 0.
-fn top_priority(takes: &[Take], queue: u32, now: u32, messages: &[Message]) -> u8
-    ensures { result ≡ top_from (may_take takes.now queue now) 0 0 messages.now }
+fn top_priority(mark: Option<Mark>, now: u32, messages: &[Message]) -> u8
+    ensures { result ≡ top_from (may_take mark now) 0 0 messages.now }
 {
     let mut top: u8 = 0;
     for index in 0..messages.len() {
         let message = &messages[index];
-        if may_take(takes, queue, now, index, message) {
+        if may_take(mark, now, index, message) {
             top = top.max(message.priority);
         }
     }
     top
 }
 
-/// Where the oldest one stands that has at least this priority.
+/// Where the oldest one stands, from an index on, that has at least this priority.
 fn index_at_least(
-    takes: &[Take],
-    queue: u32,
+    mark: Option<Mark>,
     now: u32,
+    from: usize,
     least: u8,
     messages: &[Message],
 ) -> Option<usize>
-    ensures index { result ≡ index_from (may_take takes.now queue now) least 0 messages.now }
+    ensures index { result ≡ index_from (may_take mark now) least from (drop from messages.now) }
     ensures within { IfSome result (λ k. k < length messages.now) }
 {
-    for index in 0..messages.len() {
+    for index in from..messages.len() {
         let message = &messages[index];
-        if may_take(takes, queue, now, index, message) && message.priority >= least {
+        if may_take(mark, now, index, message) && message.priority >= least {
             return Some(index);
         }
     }
     None
 }
 
-fn next_index(takes: &[Take], queue: u32, now: u32, messages: &[Message]) -> Option<usize>
-    ensures index { result ≡ next_index takes.now queue now messages.now }
+/// Where the next one stands, if it has the priority of the last one that was taken, or else the bound: then no other one is looked at.
+fn near_index(mark: Option<Mark>, now: u32, messages: &[Message], bound: u8) -> Option<usize>
+    requires { All (λ m. m.priority ≤ bound) messages.now }
+    ensures index { IfSome result (λ k. next_index mark now messages.now ≡ Some k) }
     ensures within { IfSome result (λ k. k < length messages.now) }
 {
-    let top = top_priority(takes, queue, now, messages);
-    index_at_least(takes, queue, now, top, messages)
+    match mark {
+        Some(last) => index_at_least(mark, now, last.index as usize + 1, last.priority, messages),
+        None => index_at_least(mark, now, 0, bound, messages),
+    }
+}
+
+/// Where the next one of a queue stands, in which none has a priority above `bound`.
+fn next_index(mark: Option<Mark>, now: u32, messages: &[Message], bound: u8) -> Option<usize>
+    requires { All (λ m. m.priority ≤ bound) messages.now }
+    ensures index { result ≡ next_index mark now messages.now }
+    ensures within { IfSome result (λ k. k < length messages.now) }
+{
+    if let Some(index) = near_index(mark, now, messages, bound) {
+        return Some(index);
+    }
+    let top = top_priority(mark, now, messages);
+    index_at_least(mark, now, 0, top, messages)
 }
 
 /// The next take of a queue of these messages, where it is transactional.
@@ -73,8 +125,10 @@ fn take_by(
     queue: u32,
     transactional: bool,
     messages: &[Message],
+    bound: u8,
 ) -> Result<Take, OpFault>
-    requires { length messages.now ≤ MAX_MEMBERS }
+    requires few { length messages.now ≤ MAX_MEMBERS }
+    requires bound { All (λ m. m.priority ≤ bound) messages.now }
     ensures take { result ≡ take_by takes.now now queue transactional messages.now }
     ensures within { IfOk result (λ take. take.index < length messages.now) }
     ensures queue { IfOk result (λ take. take.queue ≡ queue) }
@@ -82,7 +136,8 @@ fn take_by(
     if !transactional {
         return Err(OpFault::NotTransactional);
     }
-    match next_index(takes, queue, now, messages) {
+    let mark = mark_of(takes, queue, messages);
+    match next_index(mark, now, messages, bound) {
         Some(index) => Ok(Take {
             queue,
             index: index as u32,
@@ -103,8 +158,19 @@ fn messages_of(contents: &Contents, queue: u32) -> Option<&[Message]>
         .messages_at(EntryPlace::Queue(queue), Lane::Durable)
 }
 
+/// None of these messages has a greater priority.
+#[tactic(auto, using(crate::proofs::Lookups::bound_is))]
+fn bound_of(contents: &Contents, queue: u32) -> u8
+    ensures { IfSome (option_map durable (numbered contents.now.lists.places.queues queue))
+        (λ ms. All (λ m. m.priority ≤ result) ms) }
+{
+    contents
+        .queues()
+        .bound_at(EntryPlace::Queue(queue), Lane::Durable)
+}
+
 /// The next take of the queue of a number.
-#[tactic(auto, using(crate::proofs::Lookups::none_is, crate::proofs::Lookups::take_is, crate::proofs::Lookups::message_there))]
+#[tactic(auto, using(crate::proofs::Lookups::none_is, crate::proofs::Lookups::take_is, crate::proofs::Lookups::message_there, crate::proofs::Lookups::bounded))]
 fn take_of(contents: &Contents, takes: &[Take], now: u32, queue: u32) -> Result<Take, OpFault>
     ensures take { result ≡ take_of contents.now.lists takes.now now queue }
     ensures there { IfOk result (λ take. IsSome (message_of_take contents.now.lists take)) }
@@ -115,7 +181,8 @@ fn take_of(contents: &Contents, takes: &[Take], now: u32, queue: u32) -> Result<
     let Some(messages) = messages_of(contents, queue) else {
         return Err(OpFault::NoQueue);
     };
-    take_by(takes, now, queue, plan.transactional, messages)
+    let bound = bound_of(contents, queue);
+    take_by(takes, now, queue, plan.transactional, messages, bound)
 }
 
 fn queue_named(contents: &Contents, name: &Name) -> Option<u32>

@@ -1,4 +1,4 @@
-use Rattle.std.proofs.Common.{◌∙◌, sym}
+use Rattle.std.proofs.Common.{◌∙◌, drop, sym}
 use Rattle.std.specs.Prelude.{nat_le}
 use Rattle.mqb_trying.specs.Takes.{index_from, may_take}
 use Rattle.mqb_trying.proofs.Walks.{both_fail, first_fails, front_read, index_more}
@@ -11,10 +11,10 @@ loop-index-preserved c =
     let ms = c.args.messages.now in
     let i = c.loop-index.index in
     record {
-      left = index_more (may_take c.args.takes.now c.args.queue c.args.now) c.args.least i (index_from (may_take c.args.takes.now c.args.queue c.args.now) c.args.least 0 ms) ms m
+      left = index_more (may_take c.args.mark c.args.now) c.args.least i (index_from (may_take c.args.mark c.args.now) c.args.least c.args.from (drop c.args.from ms)) ms m
           (front_read ms i m c.loop-index-test.true c.index-messages-index.is)
           (elim c.else-may_take.branch [
-            | else-may_take-via-then-may_take+else-message-least w ↦ both_fail (may_take c.args.takes.now c.args.queue c.args.now i m) c.args.least m.priority w.if-message-least.false
-            | else-may_take-via-else-may_take w ↦ first_fails (may_take c.args.takes.now c.args.queue c.args.now i m) (nat_le c.args.least m.priority) (sym c.may_take.ensures ∙ w.if-may_take.false)
+            | else-may_take-via-then-may_take+else-message-least w ↦ both_fail (may_take c.args.mark c.args.now i m) c.args.least m.priority w.if-message-least.false
+            | else-may_take-via-else-may_take w ↦ first_fails (may_take c.args.mark c.args.now i m) (nat_le c.args.least m.priority) (sym c.may_take.ensures ∙ w.if-may_take.false)
           ]) c.loop-index.invariant.left;
     }

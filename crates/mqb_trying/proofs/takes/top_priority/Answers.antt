@@ -10,8 +10,8 @@ loop-index-preserved c =
     let m = c.index-messages-index.result in
     let top = c.loop-index.top in
     record {
-      left = top_more (may_take c.args.takes.now c.args.queue c.args.now) c.loop-index.index top c.if-may_take.top
-          (top_from (may_take c.args.takes.now c.args.queue c.args.now) 0 0 c.args.messages.now) c.args.messages.now m
+      left = top_more (may_take c.args.mark c.args.now) c.loop-index.index top c.if-may_take.top
+          (top_from (may_take c.args.mark c.args.now) 0 0 c.args.messages.now) c.args.messages.now m
           (front_read c.args.messages.now c.loop-index.index m c.loop-index-test.true c.index-messages-index.is)
           (elim c.if-may_take.branch [
             | then-may_take w ↦ w.top-is ∙ w.max-top.ensures ∙ sym (ap (λ (b : Bool). cond b (max top m.priority) top) (sym c.may_take.ensures ∙ w.if-may_take.true))
@@ -20,5 +20,5 @@ loop-index-preserved c =
     }
 
 pub returns : goal.returns
-returns c = top_end (may_take c.args.takes.now c.args.queue c.args.now) c.loop-index.index c.loop-index.top
-    (top_from (may_take c.args.takes.now c.args.queue c.args.now) 0 0 c.args.messages.now) c.args.messages.now (omega (arith, c.loop-index-test.false)) c.loop-index.invariant.left
+returns c = top_end (may_take c.args.mark c.args.now) c.loop-index.index c.loop-index.top
+    (top_from (may_take c.args.mark c.args.now) 0 0 c.args.messages.now) c.args.messages.now (omega (arith, c.loop-index-test.false)) c.loop-index.invariant.left
