@@ -1,15 +1,17 @@
 -- What a step of a scan tells of a store.
-use Rattle.std.proofs.Common.{◌∙◌, ap, refl, subst, sym}
+use Rattle.std.proofs.Common.{◌∙◌, ap, refl, subst, sym, true≢false}
 use Rattle.std.specs.Prelude.{[], ◌++◌, ◌<◌, ◌≡◌, ◌∷◌, Bool, Err, List, None, Ok, Result, cond, false, length, not, option_map, true, ℕ}
 use Rattle.mqb_base.specs.declared.ids.Guid.{Guid}
 use Rattle.mqb_outside.specs.Disk.{OnlyReads, View}
 use Rattle.mqb_outside.specs.Images.{Each}
 use Rattle.mqb_outside.specs.lemmas.Runs.{reads_then}
-use Rattle.mqb_journal.specs.Causes.{open_failed}
+use Rattle.mqb_journal.specs.Causes.{open_failed, opening_of}
 use Rattle.mqb_journal.specs.Journals.{Lent}
 use Rattle.mqb_journal.specs.States.{ScanState, advanced, ended}
 use Rattle.mqb_journal.specs.declared.faults.OpenFault.{OpenFault}
 use Rattle.mqb_journal.specs.declared.faults.OpenFault.TheVariants as opening
+use Rattle.mqb_journal.specs.declared.faults.ScanFault.{ScanFault}
+use Rattle.mqb_journal.specs.declared.faults.ScanFault.TheVariants as scanning
 use Rattle.mqb_model.specs.records.Reading.{record_of}
 use Rattle.mqb_model.specs.state.State.{empty}
 use Rattle.mqb_outside.specs.Faults.{Rose}
@@ -98,6 +100,21 @@ fault_in (Err fault) = fault
 pub same_fault : {T : Type 0} (a b : OpenFault) → ◌≡◌ {A = Result T OpenFault} (Err a) (Err b) → a ≡ b
 unfolding fault_in
 same_fault {T} a b is = ap (fault_in {T = T}) is
+
+is_bad_place : OpenFault → Bool
+is_bad_place opening.NotEmpty = false
+is_bad_place (opening.BadStore at) = true
+is_bad_place opening.Memory = false
+is_bad_place opening.DiskFault = false
+
+fault_place : OpenFault → ℕ
+fault_place fault = place_in {T = ℕ} (Err fault)
+
+-- a store that is called bad at a place was so called by its scan
+pub bad_scan : (f : ScanFault) (at : ℕ) → opening_of f ≡ opening.BadStore at → f ≡ scanning.BadStore at
+unfolding is_bad_place place_in fault_place
+bad_scan (scanning.BadStore k) at is = ap (λ (n : ℕ). scanning.BadStore n) (ap fault_place is)
+bad_scan scanning.DiskFault at is = absurd (true≢false (sym (ap is_bad_place is)))
 
 -- over the disk from before calls that only read
 pub bad_before : (d e : View) (at : ℕ) → OnlyReads d e → Each e.reads (IsBadStore at) → Each d.reads (IsBadStore at)

@@ -1,5 +1,6 @@
 use Rattle.std.proofs.Common.{[], ◌≡◌, ◌∙◌, ap, inl, length, refl, subst, sym}
-use Rattle.std.specs.Prelude.{false, true, ℕ}
+use Rattle.std.proofs.lemmas.Result.{err_from_is_err_and}
+use Rattle.std.specs.Prelude.{Err, false, true, ℕ}
 use Rattle.mqb_base.specs.Rooms.{WithRooms}
 use Rattle.mqb_base.specs.Same.{same_guid}
 use Rattle.mqb_base.specs.declared.ids.Guid.{Guid}
@@ -7,9 +8,11 @@ use Rattle.mqb_contents.specs.Rooms.{StateRooms}
 use Rattle.mqb_outside.specs.Images.{Each}
 use Rattle.mqb_model.specs.records.Reading.{record_of}
 use Rattle.mqb_model.specs.state.State.{State}
-use Rattle.mqb_store.proofs.Faulty.{other_guid}
+use Rattle.mqb_journal.specs.declared.faults.OpenFault.TheVariants as opening
+use Rattle.mqb_journal.specs.declared.faults.ScanFault.{ScanFault}
+use Rattle.mqb_store.proofs.Faulty.{StandsBehind, breaks_off, other_guid}
 use Rattle.mqb_store.proofs.Read.{read_first}
-use Rattle.mqb_store.proofs.Steps.{HasEnded, HasGoneOn, no_identity, none_then, not_false, not_true, same_guid_then, same_place, stands_then, unfit_then}
+use Rattle.mqb_store.proofs.Steps.{HasEnded, HasGoneOn, bad_scan, no_identity, none_then, not_false, not_true, same_fault, same_guid_then, same_place, stands_then, unfit_then}
 use Rattle.mqb_store.proofs.replaying.first.Goals as goal
 use Rattle.mqb_store.specs.Replaying.{IsReadUpTo}
 use Rattle.mqb_store_laws.specs.Faults.{IsBadStore}
@@ -89,3 +92,15 @@ returns-clause-read g c =
     (ap (λ l. identity_in (record_of l)) (sym c.record.ensures.lent) ∙ (sym c.in_ok-identity.ensures ∙ c.in-Some.is))
     (subst (λ (i : Guid). same_guid c.in-Some.identity.guid i ≡ true) (c.guid-guid.ensures ∙ sym (same_guid_then gone))
     (not_true (same_guid c.in-Some.identity.guid c.guid-guid.result) c.if-ne.ensures)))
+
+pub returns-in_err-advance-clause-bad : goal.returns-in_err-advance-clause-bad
+returns-in_err-advance-clause-bad g c at is =
+    let p = err_from_is_err_and c.from_residual.result c.from_residual.ensures.1 in
+    let h = c.in_err-advance.ensures.bad at (ap (λ (f : ScanFault). Err f)
+    (bad_scan c.in_err-advance.field-0.0 at (sym p.2 ∙ same_fault p.0 (opening.BadStore at) (sym p.1 ∙ is)))) in
+    let behind : StandsBehind (g.D.Disk.view c.args.disk.now) c.args.scan.now [] = record {
+      whole = subst (λ (i : Guid). length i.0 ≡ 16) c.guid-guid.ensures c.guid_is_whole.ensures;
+      within = c.requires.within;
+      lent = c.requires.begun;
+    } in
+    breaks_off (g.D.Disk.view c.args.disk.now) c.args.scan.now [] at behind (inl refl) h.0 h.1

@@ -1,5 +1,11 @@
+use Rattle.std.proofs.Common.{◌∙◌, ap, sym}
+use Rattle.std.proofs.lemmas.Result.{err_from_is_err_and}
+use Rattle.std.specs.Prelude.{Err}
+use Rattle.mqb_journal.specs.declared.faults.OpenFault.{OpenFault}
+use Rattle.mqb_journal.specs.declared.faults.OpenFault.TheVariants as opening
 use Rattle.mqb_outside.specs.Disk.{View}
 use Rattle.mqb_store.proofs.Read.{read_settled}
+use Rattle.mqb_store.proofs.Steps.{same_fault}
 use Rattle.mqb_store.proofs.replaying.replay_durably.Goals as goal
 use Rattle.mqb_store_laws.specs.lemmas.Settling.{reads_settle, settles_then, sync_settles}
 
@@ -29,3 +35,8 @@ returns-clause-reads g c =
     let e = g.D.Disk.view c.sync.new.self in
     settles_then d m e (reads_settle d m c.replay.ensures.reads)
     (sync_settles m e (g.met.D.Disk.lawful c.replay.new.disk) c.sync.ensures.reads c.sync.ensures.leaves c.sync.ensures.time c.sync.ensures.switch)
+
+pub returns-in_err-lines-clause-bad : goal.returns-in_err-lines-clause-bad
+returns-in_err-lines-clause-bad g c at is =
+    let p = err_from_is_err_and c.from_residual.result c.from_residual.ensures.1 in
+    c.in_err-lines.ensures.bad at (ap (λ (f : OpenFault). Err f) (sym p.2 ∙ same_fault p.0 (opening.BadStore at) (sym p.1 ∙ is)))
