@@ -1,6 +1,6 @@
 -- What a restart of the manager in a seat comes to.
-use Rattle.std.proofs.Common.{◌≡◌, Bool, true, false, List, ℕ, not, ◌==◌, refl, sym, ap, subst, arith}
-use Rattle.mqb_outside.specs.Disk.{IsSettled, View}
+use Rattle.std.proofs.Common.{◌≡◌, Bool, true, false, List, Some, ℕ, not, ◌==◌, refl, sym, ap, subst, ◌∙◌, arith}
+use Rattle.mqb_outside.specs.Disk.{IsSettled, Switch, View}
 use Rattle.mqb_outside.specs.Images.{Each}
 use Rattle.mqb_model.specs.laws.Durable.{DurableIsApplied}
 use Rattle.mqb_model.specs.managers.Valid.{IsValidManager}
@@ -11,8 +11,12 @@ use Rattle.mqb_moves.specs.States.{ManagerState, manager_of}
 use Rattle.mqb_moves.specs.Calling.{seat_of}
 use Rattle.mqb_moves.specs.lemmas.Restarting.{Restarts, StandsForOneList, Starts, held_unread, restarts_so, unread_is}
 use Rattle.mqb_moves.specs.Seats.{IsHeldOn, SeatState}
-use Rattle.mqb_seats.specs.Opened.{IsOpened, NotOpened, opened_by}
+use Rattle.mqb_seats.specs.Opened.{IsAsLeft, IsOpened, NotOpened, opened_by}
 use Rattle.mqb_seats.specs.declared.restarting.Opened.{Opened}
+
+-- behind a restart a start reads and syncs
+pub as_left : (e f : View) → IsSettled e → Each e.reads (λ c. e.switch.last_left ≡ Some c) → OnlySettles e f → IsAsLeft f
+as_left e f settled told settles c left = ap (λ (x : Switch). x.last_left) settles.switch ∙ told c (settled c (settles.run.now c left))
 
 -- the count of records tells what was opened
 told_by : (d e : View) (s : SeatState) (n : ManagerState) (kept : Bool) → Restarts e s n kept → e.faults ≡ d.faults → IsOpened d e s (seat_of n) (opened_by kept)
@@ -32,6 +36,7 @@ module _ (opens : ImagesOpenToOne) (d e f : View) (m : ManagerState) (u : Bool) 
   pub not_opened : OnlySettles e f → Rose d.faults f.faults → NotOpened d f s (record { manager = m; unread = true })
   not_opened settles rose = subst (λ (k : ManagerState). NotOpened d f s (record { manager = k; unread = true })) (sym manager) (record {
     manager = unread_is s;
+    count = refl;
     held = held_unread d e f s held settled one_of settles;
     faults = rose;
   })

@@ -3,7 +3,7 @@ ghost use Rattle.std.specs.Prelude.{◌==◌, ◌≡◌, ◌≤◌, IfOk, Some, 
 ghost use Rattle.mqb_outside.specs.Disk.{Counted};
 ghost use Rattle.mqb_moves.specs.Calling.{seat_of};
 ghost use Rattle.mqb_moves.specs.Seats.{IsHeldOn};
-ghost use Rattle.mqb_seats.specs.Opened.{IsOpened, opened_by};
+ghost use Rattle.mqb_seats.specs.Opened.{IsAsLeft, IsOpened, opened_by};
 
 use crate::seat::Seat;
 use mqb_base::Memory;
@@ -53,12 +53,14 @@ impl Seat {
         ensures arms { Counted 1 (P.view disk.old).switch.arms (P.view disk.new).switch.arms }
         ensures restarts { (P.view disk.new).switch.restarts ≡ (P.view disk.old).switch.restarts }
         ensures pick { (P.view disk.new).switch.last_pick ≡ (P.view disk.old).switch.last_pick }
+        ensures left { (P.view disk.new).switch.last_left ≡ (P.view disk.old).switch.last_left }
         ensures faults { (P.view disk.new).faults ≡ (P.view disk.old).faults }
     {
         disk.arm(call, mode);
     }
 
-    /// Leaves on the disk what a crash may leave, and starts the manager on it. Where the disk fails, the manager is down, with the doubt that there was.
+    /// Leaves on the disk what a crash may leave, and starts the manager on that: nothing is written behind it. Where the disk fails, the manager is down,
+    /// with the doubt that there was.
     pub fn restart<P: Power>(&mut self, disk: &mut P, pick: Pick) -> Result<Opened, Memory>
         requires { IsHeldOn (P.view disk.old) self.old }
         ensures opened { IfOk result (IsOpened (P.view disk.old) (P.view disk.new) self.old self.new) }
@@ -66,6 +68,7 @@ impl Seat {
             (P.view disk.new).switch.restarts }
         ensures arms { (P.view disk.new).switch.arms ≡ (P.view disk.old).switch.arms }
         ensures pick { (P.view disk.new).switch.last_pick ≡ Some pick }
+        ensures left { IsAsLeft (P.view disk.new) }
     {
         images_open_to_one();
         opened_is_not_bad();

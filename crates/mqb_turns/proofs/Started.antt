@@ -143,7 +143,7 @@ module _ (which : Which) (s s1 t o o1 : SeatState) (u u1 : TrafficState) (y : Si
     sent = refl;
     held = held_so failed.held noted.1;
     beside = beside_so noted.2;
-    records = subst (λ (r : Reply). IsToldByRecords r (records_of s) (records_of y.own)) (sym given_is) tt;
+    records = subst (λ (r : Reply). IsToldByRecords r (records_of s) (records_of y.own)) (sym given_is) (same_records failed.count noted.1);
     faults = failed.faults;
   }
 

@@ -36,15 +36,16 @@ abbrev pub FailsInStart : (before after : ℕ) → network.Reply → Type 0
 FailsInStart before after (network.DiskFailed how) = Rose before after
 FailsInStart before after _ = after ≡ before
 
--- how many records stand on the disk of a manager, where it is up
+-- how many records a manager has, the one in doubt left out
 abbrev pub records_of : SeatState → ℕ
 records_of s = s.manager.store.journal.count
 
--- A start is told by them: one more where the record in doubt was kept, and as many where it was lost, or where there was none.
+-- A start is told by them: one more where the record in doubt was kept, and as many where it was lost, where there was none, or where the disk failed.
 abbrev pub IsToldByRecords : Reply → (before after : ℕ) → Type 0
 IsToldByRecords (reply.OpenedKept lines) before after = after ≡ before + 1
 IsToldByRecords reply.OpenedLost before after = after ≡ before
 IsToldByRecords reply.Opened before after = after ≡ before
+IsToldByRecords reply.Failed before after = after ≡ before
 IsToldByRecords _ before after = Unit {0}
 
 -- A manager is started again: a choice that may be made comes to the reply and to the network, and the disks are held.

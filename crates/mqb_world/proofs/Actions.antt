@@ -50,7 +50,7 @@ use Rattle.mqb_turns.specs.Sides.{Side, network_at}
 use Rattle.mqb_turns.specs.Starts.{FailsInStart, IsStarted, records_of}
 use Rattle.mqb_turns.specs.Turns.{IsQuiet, IsTurn, answers_to}
 use Rattle.mqb_world.specs.Acting.{IsActed, IsCallOf, IsOf}
-use Rattle.mqb_world.specs.Disks.{Arms, FaultsGo, IsToldSo, LeavesIt, RecordsGo, Restarts, SwitchGoes, Switching, calls_disk_of, failures_alone, failures_of, is_same, switching}
+use Rattle.mqb_world.specs.Disks.{Arms, FaultsGo, IsToldSo, LeavesIt, RecordsGo, Restarts, StaysAsLeft, SwitchGoes, Switching, calls_disk_of, failures_alone, failures_of, is_same, switching}
 use Rattle.mqb_world.proofs.Told.{IsNoDelivery, failures_in_told, faults_so, faults_told, none_delivered}
 
 -- no packet joins the medium
@@ -367,6 +367,10 @@ is_call which (event.Restart m pick) a b c d e f is = absurd (f m pick refl)
 
 pub call_switch : (which : Which) (asked : Event) → IsCallOf which asked → (armed : Option (ℕ × Mode)) (s t : Switch) → t ≡ s → SwitchGoes (switching which asked) armed s t
 call_switch which asked is armed s t same = subst (λ (x : Switching). SwitchGoes x armed s t) (sym (call_leaves which asked is)) same
+
+-- and nothing is said of what a restart left
+pub call_left : (which : Which) (asked : Event) → IsCallOf which asked → (d : View) → StaysAsLeft (switching which asked) d
+call_left which asked is d = subst (λ (x : Switching). StaysAsLeft x d) (sym (call_leaves which asked is)) tt
 
 pub ok_is_full : (given : Reply) → ◌≡◌ {A = Result Reply PostFault} (Ok given) (Err post.NetFull) → ⊥
 ok_is_full given same = let none : ⊥ = cc in none

@@ -16,7 +16,7 @@ use Rattle.mqb_transcript.specs.declared.replies.Reply.{Reply}
 use Rattle.mqb_turns.specs.Sides.{side}
 use Rattle.mqb_turns.specs.Starts.{records_of}
 use Rattle.mqb_world.specs.Acting.{Happens, IsActed, IsOf}
-use Rattle.mqb_world.specs.Disks.{Arms, FaultsGo, LeavesIt, Restarts, SwitchGoes, Switching, calls_disk_of, failures_alone, failures_of, failures_told, is_same, switching}
+use Rattle.mqb_world.specs.Disks.{Arms, FaultsGo, LeavesIt, Restarts, StaysAsLeft, SwitchGoes, Switching, calls_disk_of, failures_alone, failures_of, failures_told, is_same, switching}
 use Rattle.mqb_world.specs.Worlds.{WorldState}
 use Rattle.mqb_world.proofs.Actions.{leaves_records}
 
@@ -89,6 +89,9 @@ switch_rests which (event.Flow m now) is = refl
 
 pub switch_stays : (which : Which) (asked : Event) → IsOf which asked → (armed : Option (ℕ × Mode)) (s : Switch) → SwitchGoes (switching (other which) asked) armed s s
 switch_stays which asked is armed s = subst (λ (x : Switching). SwitchGoes x armed s s) (sym (switch_rests which asked is)) refl
+
+pub left_stays : (which : Which) (asked : Event) → IsOf which asked → (d : View) → StaysAsLeft (switching (other which) asked) d
+left_stays which asked is d = subst (λ (x : Switching). StaysAsLeft x d) (sym (switch_rests which asked is)) tt
 
 module _ (a b c d : SeatState) (t u : TrafficState) (asked : Event) (strings strings_now : List (List ℕ)) (given : Reply) where
   abbrev before : WorldState

@@ -1,7 +1,7 @@
 -- What becomes of the disk of a manager in an event.
 use Rattle.std.specs.Prelude.{[], ◌∷◌, ◌≡◌, Bool, List, Option, Some, false, if◌then◌else◌, true, ℕ}
 use Rattle.mqb_deliveries.specs.Failing.{failures_in, is_for}
-use Rattle.mqb_outside.specs.Disk.{Counted, Switch}
+use Rattle.mqb_outside.specs.Disk.{Counted, Switch, View}
 use Rattle.mqb_outside.specs.declared.power.Mode.{Mode}
 use Rattle.mqb_outside.specs.declared.power.Pick.{Pick}
 use Rattle.mqb_network.specs.Choices.{Failed, Failure, Stopped}
@@ -12,6 +12,7 @@ use Rattle.mqb_script.specs.declared.events.Event.TheVariants as event
 use Rattle.mqb_script.specs.declared.managers.Which.{Which}
 use Rattle.mqb_script.specs.declared.managers.Which.TheVariants.{Alpha, Beta}
 use Rattle.mqb_seats.specs.Called.{failure_of, how_by}
+use Rattle.mqb_seats.specs.Opened.{IsAsLeft}
 use Rattle.mqb_traffic.specs.Networks.{index_of}
 use Rattle.mqb_transcript.specs.declared.replies.Reply.{Reply}
 use Rattle.mqb_transcript.specs.declared.replies.Reply.TheVariants as reply
@@ -39,12 +40,18 @@ switching which _ = LeavesIt
 -- An arming is counted, and is exactly this call and mode. A restart is counted, and tells its pick.
 abbrev pub SwitchGoes : Switching → (armed : Option (ℕ × Mode)) → (before after : Switch) → Type 0
 SwitchGoes (Arms call mode) armed s t = (armed ≡ Some (call, mode)) × Counted 1 s.arms t.arms × (t.restarts ≡ s.restarts) × (t.last_pick ≡ s.last_pick)
+    × (t.last_left ≡ s.last_left)
 SwitchGoes (Restarts pick) armed s t = (t.arms ≡ s.arms) × Counted 1 s.restarts t.restarts × (t.last_pick ≡ Some pick)
 SwitchGoes LeavesIt armed s t = t ≡ s
 
+-- A restart leaves what a crash may leave, and whatever it is told as, nothing is written to the disk behind that.
+abbrev pub StaysAsLeft : Switching → View → Type 0
+StaysAsLeft (Restarts pick) d = IsAsLeft d
+StaysAsLeft _ d = Unit {0}
+
 -- Records.
 
--- A restart is told by how many records stand on the disk of the manager that it leaves up, and no other event speaks of that.
+-- A restart is told by how many records the manager has behind it, and no other event speaks of that.
 abbrev pub RecordsGo : Switching → Reply → (before after : ℕ) → Type 0
 RecordsGo (Restarts pick) given before after = IsToldByRecords given before after
 RecordsGo _ given before after = Unit {0}

@@ -10,7 +10,7 @@ ghost use Rattle.mqb_script.specs.Formed.{IsFormed};
 ghost use Rattle.mqb_turns.specs.Sides.{network_at, side};
 ghost use Rattle.mqb_turns.specs.Turns.{IsQuiet, IsTurn, answers_to};
 ghost use Rattle.mqb_world.specs.Acting.{IsActed, IsCallOf, IsOf, actor};
-ghost use Rattle.mqb_world.specs.Disks.{SwitchGoes, switching};
+ghost use Rattle.mqb_world.specs.Disks.{StaysAsLeft, SwitchGoes, switching};
 
 use mqb_base::Memory;
 use mqb_outside::{Medium, Power};
@@ -113,6 +113,7 @@ pub(crate) fn act<P: Power, M: Medium>(
         (event_of event.now) (M.strings medium.old) (M.strings medium.new) result }
     ensures switch { SwitchGoes (switching which event.now) (P.armed disk.new)
         (P.view disk.old).switch (P.view disk.new).switch }
+    ensures left { StaysAsLeft (switching which event.now) (P.view disk.new) }
     ensures full { result ≡ Err PostFault.NetFull
         → (P.view disk.new).faults ≡ (P.view disk.old).faults }
 {

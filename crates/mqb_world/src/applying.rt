@@ -6,7 +6,7 @@ ghost use Rattle.mqb_runs.specs.Events.{event_of};
 ghost use Rattle.mqb_script.specs.Formed.{IsFormed};
 ghost use Rattle.mqb_script.specs.declared.events.Event.TheVariants as event;
 ghost use Rattle.mqb_world.specs.Acting.{Happens, HappensAmong, IsOf, ShortAmong};
-ghost use Rattle.mqb_world.specs.Disks.{SwitchGoes, switching};
+ghost use Rattle.mqb_world.specs.Disks.{StaysAsLeft, SwitchGoes, switching};
 ghost use Rattle.mqb_world.specs.Ordered.{IsOrdered};
 ghost use Rattle.mqb_world.specs.Sides.{network_in, world};
 
@@ -49,6 +49,8 @@ fn act_alone<P: Power, M: Medium>(
         (P.view first.old).switch (P.view first.new).switch }
     ensures beta_switch { SwitchGoes (switching Which.Beta event.now) (P.armed second.new)
         (P.view second.old).switch (P.view second.new).switch }
+    ensures alpha_left { StaysAsLeft (switching Which.Alpha event.now) (P.view first.new) }
+    ensures beta_left { StaysAsLeft (switching Which.Beta event.now) (P.view second.new) }
     ensures alpha_full { result ≡ Err PostFault.NetFull
         → (P.view first.new).faults ≡ (P.view first.old).faults }
     ensures beta_full { result ≡ Err PostFault.NetFull
@@ -114,6 +116,8 @@ pub(crate) fn proceed<P: Power, M: Medium>(
         (P.view first.old).switch (P.view first.new).switch }
     ensures beta_switch { SwitchGoes (switching Which.Beta event.now) (P.armed second.new)
         (P.view second.old).switch (P.view second.new).switch }
+    ensures alpha_left { StaysAsLeft (switching Which.Alpha event.now) (P.view first.new) }
+    ensures beta_left { StaysAsLeft (switching Which.Beta event.now) (P.view second.new) }
     ensures alpha_full { result ≡ Err PostFault.NetFull
         → (P.view first.new).faults ≡ (P.view first.old).faults }
     ensures beta_full { result ≡ Err PostFault.NetFull

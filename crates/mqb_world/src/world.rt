@@ -9,7 +9,7 @@ ghost use Rattle.mqb_runs.specs.Streams.{AlwaysShowsStreams};
 ghost use Rattle.mqb_script.specs.Formed.{IsFormed};
 ghost use Rattle.mqb_traffic.specs.Networks.{notes_of};
 ghost use Rattle.mqb_turns.specs.Starts.{records_of};
-ghost use Rattle.mqb_world.specs.Disks.{FaultsGo, RecordsGo, SwitchGoes, failures_told, switching};
+ghost use Rattle.mqb_world.specs.Disks.{FaultsGo, RecordsGo, StaysAsLeft, SwitchGoes, failures_told, switching};
 ghost use Rattle.mqb_world.specs.Making.{HasBytes, IsEmpty, KeepBytes};
 ghost use Rattle.mqb_world.specs.Standing.{Applied, Stands};
 ghost use Rattle.mqb_world.specs.Worlds.{seat_at};
@@ -129,6 +129,8 @@ impl World {
             given (records_of self.old.alpha) (records_of self.new.alpha)) }
         ensures beta_records { IfOk result (λ given. RecordsGo (switching Which.Beta event.now)
             given (records_of self.old.beta) (records_of self.new.beta)) }
+        ensures alpha_left { StaysAsLeft (switching Which.Alpha event.now) (P.view first.new) }
+        ensures beta_left { StaysAsLeft (switching Which.Beta event.now) (P.view second.new) }
         ensures alpha_full { result ≡ Err WorldFault.NetFull
             → (P.view first.new).faults ≡ (P.view first.old).faults }
         ensures beta_full { result ≡ Err WorldFault.NetFull

@@ -1,5 +1,5 @@
 use Rattle.mqb_turns.specs.Sides.{side}
-use Rattle.mqb_world.proofs.Actions.{acted_as, call_acted, call_switch, disconnect_acted, if_ok, is_call, ok_is_full, pump_acted, pump_is, resend_acted, resend_is, restart_is, start_acted}
+use Rattle.mqb_world.proofs.Actions.{acted_as, call_acted, call_left, call_switch, disconnect_acted, if_ok, is_call, ok_is_full, pump_acted, pump_is, resend_acted, resend_is, restart_is, start_acted}
 use Rattle.mqb_world.proofs.acting.act.Goals as goal
 
 pub returns-in-Disconnect-clause-acted : goal.returns-in-Disconnect-clause-acted
@@ -35,5 +35,6 @@ returns-in_ok-call_own-in_default g c = let x = side c.args.own.now c.args.other
       acted = call_acted c.args.which x y c.args.event.now _ c.requires.within c.in_ok-call_own-in_default.field-0 call _ _ _ c.requires.held (c.in_ok-call_own-in_default.ensures {u = tt}).turn;
       short = tt;
       switch = call_switch c.args.which c.args.event.now call _ _ _ c.call_own.ensures.switch;
+      left = call_left c.args.which c.args.event.now call _;
       full = λ is. absurd (ok_is_full c.in_ok-call_own-in_default.field-0 is);
     }

@@ -8,7 +8,7 @@ use Rattle.mqb_moves.specs.Seats.{SeatState}
 use Rattle.mqb_outside.specs.Faults.{Rose}
 use Rattle.mqb_seats.specs.Opened.{IsOpened, opened_by}
 use Rattle.mqb_seats.specs.declared.restarting.Opened.{Opened}
-use Rattle.mqb_seats.proofs.Opening.{not_opened, opened_so}
+use Rattle.mqb_seats.proofs.Opening.{as_left, not_opened, opened_so}
 use Rattle.mqb_seats.proofs.seat.Seat.restart.Goals as goal
 
 pub returns-in-Err-DiskFault-clause-opened : goal.returns-in-Err-DiskFault-clause-opened
@@ -38,3 +38,12 @@ returns-in-Ok-clause-opened g c =
     c.restart.ensures.settled c.restart.ensures.one_of c.stands_for_one_list.ensures.records c.durable_is_applied.ensures c.in-Ok.manager c.is_valid.ensures
     (record { manager = start.manager; on = start.on; up = start.up; opens = start.opens; lines = start.lines; settled = start.settled })
     told.0 told.1 (start.cause ∙ c.restart.ensures.faults)))
+
+pub returns-in-Ok-clause-left : goal.returns-in-Ok-clause-left
+returns-in-Ok-clause-left g c = as_left (g.P.Disk.view c.restart.new.self) _ c.restart.ensures.settled c.restart.ensures.last_left c.start.ensures.reads
+
+pub returns-in-Err-Memory-clause-left : goal.returns-in-Err-Memory-clause-left
+returns-in-Err-Memory-clause-left g c = as_left (g.P.Disk.view c.restart.new.self) _ c.restart.ensures.settled c.restart.ensures.last_left c.start.ensures.reads
+
+pub returns-in-Err-DiskFault-clause-left : goal.returns-in-Err-DiskFault-clause-left
+returns-in-Err-DiskFault-clause-left g c = as_left (g.P.Disk.view c.restart.new.self) _ c.restart.ensures.settled c.restart.ensures.last_left c.start.ensures.reads
