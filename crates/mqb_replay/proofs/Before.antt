@@ -13,7 +13,7 @@ use Rattle.mqb_world.specs.declared.faults.WorldFault.TheVariants as world
 use Rattle.mqb_replay.specs.Devices.{Devices}
 use Rattle.mqb_replay.specs.Disks.{IsSwitchedBy, RoseBy, failures}
 use Rattle.mqb_replay.specs.Faults.{world_fault}
-use Rattle.mqb_replay.specs.Plays.{IsCountedBy, IsFull, IsPlayed, IsShort, IsSwitchedNearly}
+use Rattle.mqb_replay.specs.Plays.{IsCountedBy, IsDiskAmid, IsFull, IsPlayed, IsShort, IsSwitchedNearly}
 use Rattle.mqb_replay.specs.Replays.{AreEmpty, Begins, HasBytes, HasFailed, IsUnplayed, Play, PlaysWhole}
 use Rattle.mqb_replay.specs.Trials.{TriesLines}
 use Rattle.mqb_replay.specs.declared.faults.ReplayFault.{ReplayFault}
@@ -25,6 +25,14 @@ counted_before : (which : Which) (lines : List (ℕ × Event)) (run : List Playe
 counted_before which lines run b d e faults switch counted = record {
   faults = subst (λ (n : ℕ). RoseBy (failures which (beginning hosts) run) n e.faults) faults counted.faults;
   switch = subst (λ (s : Switch). IsSwitchedBy which lines s e.switch) switch counted.switch;
+}
+
+amid_before : (which : Which) (first rest : List (ℕ × Event)) (run : List Played) (b d e : View) → d.faults ≡ b.faults → d.switch ≡ b.switch → IsDiskAmid which first rest run d e
+    → IsDiskAmid which first rest run b e
+amid_before which first rest run b d e faults switch amid = record {
+  faults = subst (λ (n : ℕ). RoseBy (failures which (beginning hosts) run) n e.faults) faults amid.faults;
+  switch = subst (λ (s : Switch). IsSwitchedNearly which first rest s e.switch) switch amid.switch;
+  stands = amid.stands;
 }
 
 module _ (b d a : Devices) (alpha_faults : d.alpha.faults ≡ b.alpha.faults) (beta_faults : d.beta.faults ≡ b.beta.faults) (alpha_switch : d.alpha.switch ≡ b.alpha.switch)
@@ -57,6 +65,8 @@ module _ (b d a : Devices) (alpha_faults : d.alpha.faults ≡ b.alpha.faults) (b
     cut = f.cut;
     alpha = alpha_before f.first f.run f.alpha;
     beta = beta_before f.first f.run f.beta;
+    alpha_stands = f.alpha_stands;
+    beta_stands = f.beta_stands;
     guarantees = f.guarantees;
   }
 
@@ -68,8 +78,8 @@ module _ (b d a : Devices) (alpha_faults : d.alpha.faults ≡ b.alpha.faults) (b
     run = s.run;
     is_run = s.is_run;
     sent = s.sent;
-    alpha = subst (λ (x : Switch). IsSwitchedNearly Alpha s.first s.rest x a.alpha.switch) alpha_switch s.alpha;
-    beta = subst (λ (x : Switch). IsSwitchedNearly Beta s.first s.rest x a.beta.switch) beta_switch s.beta;
+    alpha = amid_before Alpha s.first s.rest s.run b.alpha d.alpha a.alpha alpha_faults alpha_switch s.alpha;
+    beta = amid_before Beta s.first s.rest s.run b.beta d.beta a.beta beta_faults beta_switch s.beta;
     guarantees = s.guarantees;
   }
 

@@ -29,6 +29,10 @@ rose_more n b a c e stopped [] rose goes = rose_again n b a c (n + 0) rose (omeg
 rose_more n b a c e stopped (how ∷ []) rose goes = rose_once n b a c (n + 1) rose goes.0 refl
 rose_more n b a c e stopped (how ∷ more ∷ fs) rose goes = absurd goes
 
+-- a count does not fall
+pub rose_rises : (n b a c : ℕ) → RoseBy n b a → a ≤ c → RoseBy n b c
+rose_rises n b a c rose rises = omega (arith, rose, rises)
+
 pub rose_stays : (n b a c : ℕ) → RoseBy n b a → c ≡ a → RoseBy n b c
 rose_stays n b a c rose same = omega arith
 

@@ -5,7 +5,7 @@ use Rattle.mqb_world.specs.Seats.{IsHeldOn}
 use Rattle.mqb_network.specs.Network.{Network}
 use Rattle.mqb_outside.specs.Told.{Took}
 use Rattle.mqb_runs.specs.Guarantees.{RunsKeepGuarantees}
-use Rattle.mqb_runs.specs.Runs.{IsRunOf, Played, course_of}
+use Rattle.mqb_runs.specs.Runs.{Played, course_of}
 use Rattle.mqb_runs.specs.Texts.{end_lines, reply_lines, text_of}
 use Rattle.mqb_script.specs.declared.events.Event.{Event}
 use Rattle.mqb_script.specs.declared.managers.Which.TheVariants.{Alpha, Beta}
@@ -15,7 +15,7 @@ use Rattle.mqb_world.specs.Standing.{Stands}
 use Rattle.mqb_world.specs.Worlds.{WorldState, network_of}
 use Rattle.mqb_replay.specs.Devices.{Devices}
 use Rattle.mqb_replay.specs.Disks.{RoseBy}
-use Rattle.mqb_replay.specs.Plays.{HasPlayed, HasRun, IsShort, Wrote, strings_next}
+use Rattle.mqb_replay.specs.Plays.{HasPlayed, HasRun, Wrote}
 use Rattle.mqb_replay.specs.Replays.{IsCut, IsDone, IsOutOfMemory, PlaysLines, PlaysWhole}
 use Rattle.mqb_replay.specs.declared.faults.ReplayFault.{ReplayFault}
 use Rattle.mqb_replay.specs.declared.faults.ReplayFault.TheVariants as fault
@@ -50,27 +50,15 @@ begins w b a before stands alpha beta alpha_faults beta_faults alpha_switch beta
 
 -- Memory ran out before the first line.
 
-no_run : IsRunOf [] []
-no_run = record { lines = refl; moves = tt; replies = refl }
-
-pub none_short : RunsKeepGuarantees → (lines : List (ℕ × Event)) (b a : Devices) → a.strings ≡ [] → a.alpha.switch ≡ b.alpha.switch → a.beta.switch ≡ b.beta.switch → IsShort lines b a
-none_short keep lines b a strings alpha beta = record {
-  first = [];
-  rest = lines;
-  split = refl;
-  run = [];
-  is_run = no_run;
-  sent = record { front = []; rest = strings_next [] lines; wanted_are = refl; added = strings };
-  alpha = inl (switched_none Alpha b.alpha.switch a.alpha.switch alpha);
-  beta = inl (switched_none Beta b.beta.switch a.beta.switch beta);
-  guarantees = keep [] tt;
-}
-
-pub none_played : RunsKeepGuarantees → (lines : List (ℕ × Event)) (b a : Devices) (before after : Option (List ℕ)) → a.strings ≡ [] → a.alpha.switch ≡ b.alpha.switch
-    → a.beta.switch ≡ b.beta.switch → after ≡ before → IsOutOfMemory lines b a before after
-unfolding none_short
-none_played keep lines b a before after strings alpha beta same =
-    (none_short keep lines b a strings alpha beta, took_all [] before after (subst (λ (t : Option (List ℕ)). Took before t []) (sym same) (took_none before)))
+pub none_played : RunsKeepGuarantees → (lines : List (ℕ × Event)) (w : WorldState) (b a : Devices) (before after : Option (List ℕ)) → Stands w a.strings [] → IsHeldOn a.alpha w.alpha
+    → IsHeldOn a.beta w.beta → a.alpha.faults ≡ b.alpha.faults → a.beta.faults ≡ b.beta.faults → a.alpha.switch ≡ b.alpha.switch → a.beta.switch ≡ b.beta.switch → after ≡ before
+    → IsOutOfMemory lines b a before after
+unfolding none_run
+none_played keep lines w b a before after stands alpha beta alpha_faults beta_faults alpha_switch beta_switch same =
+    let s = short_of keep lines [] lines refl w b a (none_run w b a stands alpha beta alpha_faults beta_faults alpha_switch beta_switch) in (
+      s.0,
+      took_all s.0.run before after (subst (λ (ps : List Played). Took before after (reply_lines ps)) (sym s.1) (subst (λ (t : Option (List ℕ)). Took before t []) (sym same) (took_none before))),
+    )
 
 -- All lines were played.
 

@@ -1,11 +1,15 @@
 -- What stands behind a run, and what it goes on to.
-use Rattle.std.proofs.Common.{◌≡◌, Bool, List, [], ◌∷◌, ◌++◌, None, cond, false, refl, sym, ap, subst, true, ◌∙◌, Some, ℕ}
+use Rattle.std.proofs.Common.{◌≡◌, Bool, List, [], ◌∷◌, ◌++◌, None, Option, cond, false, inl, inr, refl, sym, ap, subst, true, ◌∙◌, ◌+◌, Some, ℕ}
 use Rattle.mqb_outside.specs.Disk.{View}
 use Rattle.mqb_model.specs.managers.Manager.{Condition, Down, Manager, Up, doubt_of, is_down}
+use Rattle.mqb_model.specs.records.Applying.{apply}
+use Rattle.mqb_model.specs.records.Record.{Record}
 use Rattle.mqb_model.specs.state.Durable.{durable}
 use Rattle.mqb_world.specs.States.{manager_of}
 use Rattle.mqb_model.specs.managers.Restarts.{unread}
 use Rattle.mqb_world.specs.Restarting.{durable_again}
+use Rattle.mqb_world.specs.Keeping.{leads_from, leads_then}
+use Rattle.mqb_world.specs.Lasting.{KeepsRecords, LeadTo}
 use Rattle.mqb_world.specs.Seats.{IsHeldOn, SeatState, seated}
 use Rattle.mqb_network.specs.Courses.{Course}
 use Rattle.mqb_network.specs.Network.{Network, Note, manager_at}
@@ -20,7 +24,7 @@ use Rattle.mqb_script.specs.declared.events.Event.{Event}
 use Rattle.mqb_script.specs.declared.managers.Which.{Which}
 use Rattle.mqb_script.specs.declared.managers.Which.TheVariants.{Alpha, Beta}
 use Rattle.mqb_store_laws.specs.lemmas.Carrying.{opens_now}
-use Rattle.mqb_store_laws.specs.Images.{Opens}
+use Rattle.mqb_store_laws.specs.Images.{Opens, OpensTo}
 use Rattle.mqb_traffic.specs.Networks.{notes_of}
 use Rattle.mqb_transcript.specs.Texts.{printed}
 use Rattle.mqb_transcript.specs.declared.replies.Reply.{Reply}
@@ -28,7 +32,7 @@ use Rattle.mqb_world.specs.Disks.{FaultsGo, failures_told}
 use Rattle.mqb_world.specs.Standing.{GoesOn, Stands}
 use Rattle.mqb_world.specs.Worlds.{WorldState, network_of}
 use Rattle.mqb_replay.specs.Devices.{Devices}
-use Rattle.mqb_replay.specs.Disks.{RoseBy, StandsOn, failures}
+use Rattle.mqb_replay.specs.Disks.{OpensBehind, RoseBy, StandsBehind, StandsOn, failures}
 use Rattle.mqb_replay.specs.Plays.{Answers, GoesBy, HasRun, IsCountedBy, IsPlayed}
 use Rattle.mqb_replay.proofs.Counting.{rose_more, switched_more}
 use Rattle.mqb_replay.proofs.Growing.{failures_one, one_by, run_by, stands_more, text_one}
@@ -62,6 +66,35 @@ held_stands d s m held is = subst (λ (n : Manager). StandsOn n d) is (record {
   same = sym (seated_state s);
   opens = held_opens d s held;
 })
+
+-- and behind it, where records may have been added
+pub held_behind : (d : View) (s t : SeatState) (m : Manager) → IsHeldOn d t → KeepsRecords s t → seated s ≡ m → StandsBehind m d
+held_behind d s t m held keeps is c left = at (doubt_of (seated t).condition) (held_opens d t held c left)
+  where
+    leads : LeadTo keeps.added m.state t.manager.store.state
+    leads = leads_from keeps.added m.state s.manager.store.state t.manager.store.state (sym (seated_state s) ∙ ap (λ (n : Manager). durable n.state) is) keeps.leads
+
+    old : OpensTo t.manager.store.journal.guid t.manager.store.journal.count (durable t.manager.store.state) c → OpensBehind m c
+    old opens = record {
+      records = keeps.added;
+      state = t.manager.store.state;
+      leads = leads;
+      guid = t.manager.store.journal.guid;
+      count = t.manager.store.journal.count;
+      opens = opens;
+    }
+
+    at : (o : Option Record) → Opens t.manager.store.journal t.manager.store.state o c → OpensBehind m c
+    at None opens = old opens
+    at (Some r) (inl opens) = old opens
+    at (Some r) (inr opens) = record {
+      records = keeps.added ++ r ∷ [];
+      state = apply t.manager.store.state r;
+      leads = leads_then keeps.added (r ∷ []) m.state t.manager.store.state (apply t.manager.store.state r) leads (t.manager.store.state, refl, refl);
+      guid = t.manager.store.journal.guid;
+      count = t.manager.store.journal.count + 1;
+      opens = opens.0;
+    }
 
 -- What was played.
 

@@ -2,13 +2,14 @@
 use Rattle.std.proofs.Common.{◌≡◌, ◌⊎◌, List, [], ◌∷◌, ◌++◌, Option, Some, append-nil, append_assoc, inl, inr, refl, sym, ap, subst, ◌∙◌, ℕ}
 use Rattle.std.specs.Prelude.{Err, Ok, Result}
 use Rattle.mqb_outside.specs.Disk.{Switch, View}
-use Rattle.mqb_network.specs.Runs.{Move}
+use Rattle.mqb_network.specs.Network.{Network, manager_at}
+use Rattle.mqb_network.specs.Runs.{Move, beginning}
 use Rattle.mqb_outside.specs.Told.{Took}
 use Rattle.mqb_posts.specs.Posting.{HasFront, IsCutOff}
 use Rattle.mqb_runs.specs.Events.{event_of}
 use Rattle.mqb_runs.specs.Guarantees.{RunsKeepGuarantees}
 use Rattle.mqb_runs.specs.Hosts.{hosts}
-use Rattle.mqb_runs.specs.Runs.{Played, moves_of}
+use Rattle.mqb_runs.specs.Runs.{Played, course_of, moves_of}
 use Rattle.mqb_runs.specs.Texts.{reply_lines}
 use Rattle.mqb_script.specs.declared.events.Event.{Event}
 use Rattle.mqb_script.specs.declared.events.Event.TheVariants as event
@@ -20,15 +21,20 @@ use Rattle.mqb_transcript.specs.Texts.{printed}
 use Rattle.mqb_transcript.specs.declared.replies.Reply.{Reply}
 use Rattle.mqb_world.specs.Disks.{LeavesIt, SwitchGoes, switching}
 use Rattle.mqb_world.specs.Standing.{strings_in}
+use Rattle.mqb_traffic.specs.Networks.{index_of}
+use Rattle.mqb_world.specs.Keeping.{keeps_all}
+use Rattle.mqb_world.specs.Lasting.{Lasts}
+use Rattle.mqb_world.specs.Seats.{IsHeldOn, SeatState, seated}
 use Rattle.mqb_world.specs.Worlds.{WorldState}
+use Rattle.mqb_replay.specs.Disks.{StandsBehind, failures}
 use Rattle.mqb_replay.specs.Devices.{Devices}
 use Rattle.mqb_replay.specs.Plays.{Answers, HasPlayed, HasRun, IsCountedBy, IsFull, IsShort, IsSwitched, Overflows, RunsOut, Turned, Wrote, strings_next, strings_of}
 use Rattle.mqb_replay.specs.Replays.{IsCut, IsNetFull, IsOutOfMemory, PlaysLines}
 use Rattle.mqb_replay.specs.declared.faults.ReplayFault.{ReplayFault}
 use Rattle.mqb_replay.specs.declared.faults.ReplayFault.TheVariants as fault
-use Rattle.mqb_replay.proofs.Counting.{rose_stays, switched_more, switched_stays}
+use Rattle.mqb_replay.proofs.Counting.{rose_rises, rose_stays, switched_more, switched_stays}
 use Rattle.mqb_replay.proofs.Fronts.{front_before, took_all, took_but_last}
-use Rattle.mqb_replay.proofs.Playing.{goes_on, played_so_far}
+use Rattle.mqb_replay.proofs.Playing.{goes_on, held_behind, played_so_far}
 
 -- No event that arms a disk, or starts it again, sends a packet.
 
@@ -60,12 +66,16 @@ short_of keep lines first rest split w b a h = (
       wanted_are = refl;
       added = h.stands.stands.spelled ∙ sym (append-nil (strings_of h.run));
     };
-    alpha = inl h.alpha.switch;
-    beta = inl h.beta.switch;
+    alpha = record { faults = h.alpha.faults; switch = inl h.alpha.switch; stands = stands Alpha a.alpha w.alpha h.alpha_held (ap (λ (n : Network). manager_at n 0) h.stands.stands.network) };
+    beta = record { faults = h.beta.faults; switch = inl h.beta.switch; stands = stands Beta a.beta w.beta h.beta_held (ap (λ (n : Network). manager_at n 1) h.stands.stands.network) };
     guarantees = keep (moves_of h.run) h.stands.run;
   },
   refl,
 )
+  where
+    stands : (which : Which) (d : View) (s : SeatState) → IsHeldOn d s → seated s ≡ manager_at (course_of h.run).network (index_of which)
+        → StandsBehind (manager_at (course_of h.run).network (index_of which)) d
+    stands which d s held is = held_behind d s s (manager_at (course_of h.run).network (index_of which)) held (keeps_all {s} {s} refl refl) is
 
 -- The ends of a loop over lines.
 
@@ -81,7 +91,13 @@ module _ (keep : RunsKeepGuarantees) (lines first rest : List (ℕ × Event)) (l
     switch = switched_stays which first d.switch e.switch f.switch so_far.switch switch;
   }
 
-  full : Overflows line.1 w m a → (f : IsFull lines b a) × (f.run ≡ h.run)
+  alpha_behind : Lasts m.alpha a.alpha w.alpha w_now.alpha → StandsBehind (manager_at (course_of h.run).network 0) a.alpha
+  alpha_behind lasts = held_behind a.alpha w.alpha w_now.alpha (manager_at (course_of h.run).network 0) lasts.held lasts.keeps (ap (λ (n : Network). manager_at n 0) h.stands.stands.network)
+
+  beta_behind : Lasts m.beta a.beta w.beta w_now.beta → StandsBehind (manager_at (course_of h.run).network 1) a.beta
+  beta_behind lasts = held_behind a.beta w.beta w_now.beta (manager_at (course_of h.run).network 1) lasts.held lasts.keeps (ap (λ (n : Network). manager_at n 1) h.stands.stands.network)
+
+  full : Overflows line.1 w w_now m a → (f : IsFull lines b a) × (f.run ≡ h.run)
   full over = (
     record {
       first = first;
@@ -95,6 +111,8 @@ module _ (keep : RunsKeepGuarantees) (lines first rest : List (ℕ × Event)) (l
           (switch_stays Alpha line.1 m.alpha.switch a.alpha.switch over.alpha (left_alone Alpha (moves_of h.run) line.1 m.strings a.strings cut));
       beta = counted_stays Beta b.beta m.beta a.beta h.beta over.beta_faults
           (switch_stays Beta line.1 m.beta.switch a.beta.switch over.beta (left_alone Beta (moves_of h.run) line.1 m.strings a.strings cut));
+      alpha_stands = alpha_behind over.alpha_lasts;
+      beta_stands = beta_behind over.beta_lasts;
       guarantees = keep (moves_of h.run) h.stands.run;
     },
     refl,
@@ -104,7 +122,7 @@ module _ (keep : RunsKeepGuarantees) (lines first rest : List (ℕ × Event)) (l
       cut = over.cut (moves_of h.run) h.stands
 
   -- memory ran out in the middle of the line
-  short : RunsOut line.1 w m a → (s : IsShort lines b a) × (s.run ≡ h.run)
+  short : RunsOut line.1 w w_now m a → (s : IsShort lines b a) × (s.run ≡ h.run)
   short out = (
     record {
       first = first;
@@ -113,8 +131,16 @@ module _ (keep : RunsKeepGuarantees) (lines first rest : List (ℕ × Event)) (l
       run = h.run;
       is_run = h.is_run;
       sent = subst (λ (xs : List (List ℕ)). HasFront xs a.strings (strings_in (moves_of h.run) (event_of line.1))) h.stands.stands.spelled (out.sent (moves_of h.run) h.stands);
-      alpha = inr (switched_more Alpha first line b.alpha.switch m.alpha.switch a.alpha.switch h.alpha.switch out.alpha);
-      beta = inr (switched_more Beta first line b.beta.switch m.beta.switch a.beta.switch h.beta.switch out.beta);
+      alpha = record {
+        faults = rose_rises (failures Alpha (beginning hosts) h.run) b.alpha.faults m.alpha.faults a.alpha.faults h.alpha.faults out.alpha_lasts.faults;
+        switch = inr (switched_more Alpha first line b.alpha.switch m.alpha.switch a.alpha.switch h.alpha.switch out.alpha);
+        stands = alpha_behind out.alpha_lasts;
+      };
+      beta = record {
+        faults = rose_rises (failures Beta (beginning hosts) h.run) b.beta.faults m.beta.faults a.beta.faults h.beta.faults out.beta_lasts.faults;
+        switch = inr (switched_more Beta first line b.beta.switch m.beta.switch a.beta.switch h.beta.switch out.beta);
+        stands = beta_behind out.beta_lasts;
+      };
       guarantees = keep (moves_of h.run) h.stands.run;
     },
     refl,
@@ -162,15 +188,15 @@ module _ (keep : RunsKeepGuarantees) (lines first rest : List (ℕ × Event)) (l
   memory_in given answers same = let s = short_behind given answers in
       (s.0, took_but_last s.0.run h.run (last given answers) before after (s.1 ∙ more_is given answers) (written_still same))
 
-  memory_out : RunsOut line.1 w m a → after ≡ now → IsOutOfMemory lines b a before after
+  memory_out : RunsOut line.1 w w_now m a → after ≡ now → IsOutOfMemory lines b a before after
   memory_out out same = let s = short out in
       (s.0, took_all s.0.run before after (subst (λ (ps : List Played). Took before after (reply_lines ps)) (sym s.1) (written_still same)))
 
-  memory : (((given : Reply) × Answers line.1 w m w_now a given) ⊎ RunsOut line.1 w m a) → after ≡ now → IsOutOfMemory lines b a before after
+  memory : (((given : Reply) × Answers line.1 w m w_now a given) ⊎ RunsOut line.1 w w_now m a) → after ≡ now → IsOutOfMemory lines b a before after
   memory (inl answered) same = memory_in answered.0 answered.1 same
   memory (inr out) same = memory_out out same
 
-  net_full : Overflows line.1 w m a → after ≡ now → IsNetFull lines b a before after
+  net_full : Overflows line.1 w w_now m a → after ≡ now → IsNetFull lines b a before after
   net_full over same = let f = full over in (f.0, subst (λ (ps : List Played). Took before after (reply_lines ps)) (sym f.1) (written_still same))
 
   pub turn_stops : (f : ReplayFault) → Turned line w w_now m a now after (Err f) → PlaysLines lines w_now b a before after (Err f)

@@ -2,8 +2,10 @@
 use Rattle.std.specs.Prelude.{[], ◌+◌, ◌∷◌, ◌≡◌, ◌≤◌, ◌⊎◌, Bool, List, count_by, false, length, max, min, true, ℕ}
 use Rattle.mqb_outside.specs.Disk.{Switch, View}
 use Rattle.mqb_outside.specs.Images.{Each}
+use Rattle.mqb_base.specs.declared.ids.Guid.{Guid}
 use Rattle.mqb_journal.specs.States.{JournalState}
 use Rattle.mqb_model.specs.managers.Manager.{Manager, doubt_of}
+use Rattle.mqb_model.specs.records.Record.{Record}
 use Rattle.mqb_model.specs.state.Durable.{durable}
 use Rattle.mqb_model.specs.state.State.{State}
 use Rattle.mqb_network.specs.Courses.{Course}
@@ -12,7 +14,8 @@ use Rattle.mqb_outside.specs.Faults.{END}
 use Rattle.mqb_runs.specs.Runs.{Played, move_of}
 use Rattle.mqb_script.specs.declared.events.Event.{Event}
 use Rattle.mqb_script.specs.declared.managers.Which.{Which}
-use Rattle.mqb_store_laws.specs.Images.{Opens}
+use Rattle.mqb_store_laws.specs.Images.{Opens, OpensTo}
+use Rattle.mqb_world.specs.Lasting.{LeadTo}
 use Rattle.mqb_world.specs.Disks.{Arms, Restarts, Switching, failures_told, switching}
 
 -- How often it failed.
@@ -58,3 +61,16 @@ pub record StandsOn (m : Manager) (d : View) : Type 0 where
   pub state : State
   pub same : durable state ≡ durable m.state
   pub opens : Each d.leaves (Opens journal state (doubt_of m.condition))
+
+-- An image opens to what the store keeps of a state to which records lead from a manager's.
+pub record OpensBehind (m : Manager) (image : List ℕ) : Type 0 where
+  pub records : List Record
+  pub state : State
+  pub leads : LeadTo records m.state state
+  pub guid : Guid
+  pub count : ℕ
+  pub opens : OpensTo guid count (durable state) image
+
+-- What stands on a disk where an event broke off: nothing of what the manager kept is lost, and records may stand behind that.
+abbrev pub StandsBehind : Manager → View → Type 0
+StandsBehind m d = Each d.leaves (OpensBehind m)

@@ -22,11 +22,12 @@ use Rattle.mqb_commands.specs.Outputs.{TookFront}
 use Rattle.mqb_traffic.specs.Networks.{index_of, notes_of}
 use Rattle.mqb_transcript.specs.Texts.{printed}
 use Rattle.mqb_transcript.specs.declared.replies.Reply.{Reply}
+use Rattle.mqb_world.specs.Lasting.{Lasts}
 use Rattle.mqb_world.specs.Disks.{FaultsGo, SwitchGoes, failures_told, switching}
 use Rattle.mqb_world.specs.Standing.{GoesOn, Stands, strings_in}
 use Rattle.mqb_world.specs.Worlds.{WorldState}
 use Rattle.mqb_replay.specs.Devices.{Devices}
-use Rattle.mqb_replay.specs.Disks.{IsSwitchedBy, RoseBy, StandsOn, failures}
+use Rattle.mqb_replay.specs.Disks.{IsSwitchedBy, RoseBy, StandsBehind, StandsOn, failures}
 use Rattle.mqb_replay.specs.declared.faults.ReplayFault.{ReplayFault}
 use Rattle.mqb_replay.specs.declared.faults.ReplayFault.TheVariants as fault
 
@@ -58,26 +59,30 @@ abbrev pub IsSwitched : Which → Event → Switch → Switch → Type 0
 IsSwitched which e s t = (armed : Option (ℕ × Mode)) × SwitchGoes (switching which e) armed s t
 
 -- A packet of an event does not fit the medium.
-pub record Overflows (e : Event) (w : WorldState) (b a : Devices) : Type 0 where
+pub record Overflows (e : Event) (w w_now : WorldState) (b a : Devices) : Type 0 where
   pub cut : (ms : List Move) → Stands w b.strings ms → IsCutOff b.strings a.strings (strings_in ms (event_of e))
   pub alpha : IsSwitched Alpha e b.alpha.switch a.alpha.switch
   pub beta : IsSwitched Beta e b.beta.switch a.beta.switch
   pub alpha_faults : a.alpha.faults ≡ b.alpha.faults
   pub beta_faults : a.beta.faults ≡ b.beta.faults
+  pub alpha_lasts : Lasts b.alpha a.alpha w.alpha w_now.alpha
+  pub beta_lasts : Lasts b.beta a.beta w.beta w_now.beta
 
 -- Memory runs out in an event.
-pub record RunsOut (e : Event) (w : WorldState) (b a : Devices) : Type 0 where
+pub record RunsOut (e : Event) (w w_now : WorldState) (b a : Devices) : Type 0 where
   pub sent : (ms : List Move) → Stands w b.strings ms → HasFront b.strings a.strings (strings_in ms (event_of e))
   pub alpha : IsSwitched Alpha e b.alpha.switch a.alpha.switch
   pub beta : IsSwitched Beta e b.beta.switch a.beta.switch
+  pub alpha_lasts : Lasts b.alpha a.alpha w.alpha w_now.alpha
+  pub beta_lasts : Lasts b.beta a.beta w.beta w_now.beta
 
 -- What becomes of a line that is asked of a world, and of its reply.
 abbrev pub Turned : (ℕ × Event) → WorldState → WorldState → Devices → Devices → (before after : Option (List ℕ)) → Result (Unit {0}) ReplayFault → Type 0
 Turned line w w_now b a before after (Ok done) = (given : Reply) × Answers line.1 w b w_now a given × Took before after (printed hosts (Some line.0) given)
 Turned line w w_now b a before after (Err fault.WriteFault) = (given : Reply) × Answers line.1 w b w_now a given
     × TookFront before after (printed hosts (Some line.0) given)
-Turned line w w_now b a before after (Err fault.NetFull) = Overflows line.1 w b a × (after ≡ before)
-Turned line w w_now b a before after (Err fault.Memory) = (((given : Reply) × Answers line.1 w b w_now a given) ⊎ RunsOut line.1 w b a) × (after ≡ before)
+Turned line w w_now b a before after (Err fault.NetFull) = Overflows line.1 w w_now b a × (after ≡ before)
+Turned line w w_now b a before after (Err fault.Memory) = (((given : Reply) × Answers line.1 w b w_now a given) ⊎ RunsOut line.1 w w_now b a) × (after ≡ before)
 Turned line w w_now b a before after (Err _) = ⊥
 
 -- All lines.
@@ -118,6 +123,8 @@ pub record IsFull (lines : List (ℕ × Event)) (b a : Devices) : Type 0 where
   pub cut : IsCutOff (strings_of run) a.strings (strings_in (moves_of run) (event_of next.1))
   pub alpha : IsCountedBy Alpha first run b.alpha a.alpha
   pub beta : IsCountedBy Beta first run b.beta a.beta
+  pub alpha_stands : StandsBehind (manager_at (course_of run).network 0) a.alpha
+  pub beta_stands : StandsBehind (manager_at (course_of run).network 1) a.beta
   pub guarantees : AlwaysKeepsGuarantees (moves_of run)
 
 -- the strings of the line that comes next, where one does
@@ -129,6 +136,13 @@ strings_next run (line ∷ rest) = strings_in (moves_of run) (event_of line.1)
 abbrev pub IsSwitchedNearly : Which → (first rest : List (ℕ × Event)) → Switch → Switch → Type 0
 IsSwitchedNearly which first rest s t = IsSwitchedBy which first s t ⊎ IsSwitchedBy which (first ++ take 1 rest) s t
 
+-- Behind a run of the first lines, and perhaps in the middle of the next one, the disk of a manager failed as often as its replies say at least, was armed
+-- and was started again as often as the lines ask for it, and has lost nothing that its manager kept.
+pub record IsDiskAmid (which : Which) (first rest : List (ℕ × Event)) (run : List Played) (d e : View) : Type 0 where
+  pub faults : RoseBy (failures which (beginning hosts) run) d.faults e.faults
+  pub switch : IsSwitchedNearly which first rest d.switch e.switch
+  pub stands : StandsBehind (manager_at (course_of run).network (index_of which)) e
+
 -- Memory ran out behind a run of the first lines, perhaps in the middle of the next one.
 pub record IsShort (lines : List (ℕ × Event)) (b a : Devices) : Type 0 where
   pub first : List (ℕ × Event)
@@ -137,8 +151,8 @@ pub record IsShort (lines : List (ℕ × Event)) (b a : Devices) : Type 0 where
   pub run : List Played
   pub is_run : IsRunOf first run
   pub sent : HasFront (strings_of run) a.strings (strings_next run rest)
-  pub alpha : IsSwitchedNearly Alpha first rest b.alpha.switch a.alpha.switch
-  pub beta : IsSwitchedNearly Beta first rest b.beta.switch a.beta.switch
+  pub alpha : IsDiskAmid Alpha first rest run b.alpha a.alpha
+  pub beta : IsDiskAmid Beta first rest run b.beta a.beta
   pub guarantees : AlwaysKeepsGuarantees (moves_of run)
 
 -- What was done so far in a loop over lines: a run stands behind the world, and the disks are held.

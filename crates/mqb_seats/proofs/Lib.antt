@@ -1,3 +1,4 @@
+mod Lasting
 mod Opening
 mod Pumping
 mod Telling

@@ -3,7 +3,7 @@ use Rattle.std.proofs.Common.{◌≡◌, ◌==◌, ◌≤◌, ℕ, length, inl, 
 use Rattle.std.specs.Prelude.{not}
 use Rattle.mqb_base.specs.declared.heard.Heard.{Heard}
 use Rattle.mqb_base.specs.declared.ledger.Line.{Line}
-use Rattle.mqb_outside.specs.Disk.{View}
+use Rattle.mqb_outside.specs.Disk.{Lawful, View}
 use Rattle.mqb_base.specs.declared.draft.Op.{Op}
 use Rattle.mqb_moves.specs.Calls.{Ends, IsCall}
 use Rattle.mqb_moves.specs.States.{ManagerState, manager_of}
@@ -23,12 +23,15 @@ use Rattle.mqb_moves.specs.Calling.{seat_of}
 use Rattle.mqb_moves.specs.lemmas.Calling.{broke, lines_told, went_well}
 use Rattle.mqb_moves.specs.Moves.{IsMove}
 use Rattle.mqb_moves.specs.Never.{TransactionsHaveOps}
-use Rattle.mqb_moves.specs.Seats.{SeatState, seated}
+use Rattle.mqb_moves.specs.Seats.{IsHeldOn, SeatState, seated}
+use Rattle.mqb_store_laws.specs.Laws.{ImagesOpenToOne}
 use Rattle.mqb_packet.specs.declared.packet.Packet.{Packet}
 use Rattle.mqb_replies.specs.declared.faults.AnswerFault.{AnswerFault}
 use Rattle.mqb_replies.specs.declared.faults.AnswerFault.TheVariants as answer
 use Rattle.mqb_transcript.specs.declared.replies.Reply.{Reply}
+use Rattle.mqb_seats.proofs.Lasting.{call_ends}
 use Rattle.mqb_seats.specs.Called.{IsCalled, failure_of, how_by}
+use Rattle.mqb_seats.specs.Lasting.{Lasts}
 use Rattle.mqb_seats.specs.Passed.{IsHeard, TellsHeard}
 use Rattle.mqb_seats.specs.declared.called.Called.{Called}
 use Rattle.mqb_seats.specs.declared.called.Called.TheVariants.{Broke, Told}
@@ -94,6 +97,14 @@ module _ (d e : View) (m n : ManagerState) (u stopped : Bool) (s : SeatState) (i
         (broke memory broken d e m n (make (manager_of m)) r call manager_up differ (never (manager_of m)) failed (failure_of how))),
     stops,
   )
+
+  -- however it ends, what the store has lasts
+  pub call_lasts : {V E : Type 0} (memory broken : E) (make : Manager → Outcome (Result V E)) (r : Result V E) → IsCall memory broken d e m n (make (manager_of m)) r
+      → (memory ≡ broken → ⊥) → ((k : Manager) → (make k).answer ≡ Err broken → ⊥) → ImagesOpenToOne → Lawful e → (c : List ℕ) → e.reads c → IsHeldOn d s → Lasts d e s after
+  call_lasts memory broken make r call differ never opened lawful c told held =
+      subst (Lasts d e s) after_is
+      (subst (λ (k : SeatState). Lasts d e k (seat_of n)) seat_is
+      (call_ends opened memory broken d e m n (make (manager_of m)) r call manager_up differ (never (manager_of m)) lawful c told (subst (IsHeldOn d) (sym seat_is) held)))
 
   -- it was answered
   pub call_told : {V E : Type 0} (memory broken : E) (make : Manager → Outcome (Result V E)) (r : Result V E) (reply : Reply) (lines : List Line)

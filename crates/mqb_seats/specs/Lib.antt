@@ -1,7 +1,9 @@
 pub mod Called
+pub mod Lasting
 pub mod Opened
 pub mod Passed
 pub mod Pumped
+pub mod lemmas
 pub use Rattle.mqb_moves.specs.Seats
 pub use Rattle.mqb_moves.specs.Moves
 pub use Rattle.mqb_moves.specs.Counting

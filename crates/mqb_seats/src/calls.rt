@@ -11,6 +11,7 @@ ghost use Rattle.mqb_model.specs.records.Applying.{is_roll};
 ghost use Rattle.mqb_moves.specs.Seats.{IsHeldOn, seated};
 ghost use Rattle.mqb_replies.specs.Replies as replies;
 ghost use Rattle.mqb_seats.specs.Called.{IsCalled, alone};
+ghost use Rattle.mqb_seats.specs.Lasting.{Lasts};
 
 use crate::called::{Called, how, told};
 use crate::seat::Seat;
@@ -23,6 +24,7 @@ use mqb_outside::Power;
 use mqb_replies::{
     commit_reply, create_reply, purge_reply, roll_reply, send_reply, take_reply, tick_reply,
 };
+use mqb_store_laws::images_open_to_one;
 
 impl Seat {
     /// Makes a queue.
@@ -36,7 +38,9 @@ impl Seat {
             (P.is_stopped disk.new) self.old self.new (create_queue (seated self.old) plan.now)
             (alone replies.create_reply)) }
         ensures switch { (P.view disk.new).switch ≡ (P.view disk.old).switch }
+        ensures lasts { Lasts (P.view disk.old) (P.view disk.new) self.old self.new }
     {
+        images_open_to_one();
         definitions_do_not_fail();
         down_refuses_all();
         refused_is_same();
@@ -61,7 +65,9 @@ impl Seat {
             (P.is_stopped disk.new) self.old self.new (set_roll (seated self.old) count)
             (alone replies.roll_reply)) }
         ensures switch { (P.view disk.new).switch ≡ (P.view disk.old).switch }
+        ensures lasts { Lasts (P.view disk.old) (P.view disk.new) self.old self.new }
     {
+        images_open_to_one();
         definitions_do_not_fail();
         down_refuses_all();
         refused_is_same();
@@ -86,8 +92,10 @@ impl Seat {
             (P.is_stopped disk.new) self.old self.new (commit (seated self.old) ops.now now)
             replies.commit_reply) }
         ensures switch { (P.view disk.new).switch ≡ (P.view disk.old).switch }
+        ensures lasts { Lasts (P.view disk.old) (P.view disk.new) self.old self.new }
     {
         transactions_have_ops();
+        images_open_to_one();
         definitions_do_not_fail();
         down_refuses_all();
         refused_is_same();
@@ -118,7 +126,9 @@ impl Seat {
             (P.is_stopped disk.new) self.old self.new (send (seated self.old) draft.now recoverable now)
             replies.send_reply) }
         ensures switch { (P.view disk.new).switch ≡ (P.view disk.old).switch }
+        ensures lasts { Lasts (P.view disk.old) (P.view disk.new) self.old self.new }
     {
+        images_open_to_one();
         definitions_do_not_fail();
         down_refuses_all();
         refused_is_same();
@@ -148,7 +158,9 @@ impl Seat {
             (P.is_stopped disk.new) self.old self.new (take_message (seated self.old) place.now now)
             replies.take_reply) }
         ensures switch { (P.view disk.new).switch ≡ (P.view disk.old).switch }
+        ensures lasts { Lasts (P.view disk.old) (P.view disk.new) self.old self.new }
     {
+        images_open_to_one();
         definitions_do_not_fail();
         down_refuses_all();
         refused_is_same();
@@ -178,7 +190,9 @@ impl Seat {
             (P.is_stopped disk.new) self.old self.new (purge (seated self.old) place.now now)
             replies.purge_reply) }
         ensures switch { (P.view disk.new).switch ≡ (P.view disk.old).switch }
+        ensures lasts { Lasts (P.view disk.old) (P.view disk.new) self.old self.new }
     {
+        images_open_to_one();
         definitions_do_not_fail();
         down_refuses_all();
         refused_is_same();
@@ -203,7 +217,9 @@ impl Seat {
             (P.is_stopped disk.new) self.old self.new (tick (seated self.old) now)
             replies.tick_reply) }
         ensures switch { (P.view disk.new).switch ≡ (P.view disk.old).switch }
+        ensures lasts { Lasts (P.view disk.old) (P.view disk.new) self.old self.new }
     {
+        images_open_to_one();
         definitions_do_not_fail();
         down_refuses_all();
         refused_is_same();

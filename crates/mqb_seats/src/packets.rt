@@ -7,6 +7,7 @@ ghost use Rattle.mqb_packet.specs.Parts.{seen_packet};
 ghost use Rattle.mqb_packet.specs.Spelled.{IsLent, packet_in};
 ghost use Rattle.mqb_packet.specs.declared.packet.Packet.{Packet};
 ghost use Rattle.mqb_posts.specs.Posting.{IsWithin};
+ghost use Rattle.mqb_seats.specs.Lasting.{Lasts};
 ghost use Rattle.mqb_seats.specs.Passed.{IsHeard, TellsHeard};
 ghost use Rattle.mqb_seats.specs.Pumped.{ArePosted, IsPumped, SpellPumped, TellsPumped};
 
@@ -20,6 +21,7 @@ use mqb_moves::{definitions_do_not_fail, down_refuses_all};
 use mqb_outside::{Medium, Power};
 use mqb_packet::PacketView;
 use mqb_posts::{PostFault, post_packets};
+use mqb_store_laws::images_open_to_one;
 use mqb_transcript::Reply;
 
 /// What became of a packet that was given to a manager.
@@ -95,7 +97,9 @@ impl Seat {
             (P.view disk.new) (P.is_stopped disk.new) self.old self.new
             (hear (seated self.old) p now) passed) }
         ensures switch { (P.view disk.new).switch ≡ (P.view disk.old).switch }
+        ensures lasts { Lasts (P.view disk.old) (P.view disk.new) self.old self.new }
     {
+        images_open_to_one();
         definitions_do_not_fail();
         down_refuses_all();
         refused_is_same();
@@ -123,7 +127,9 @@ impl Seat {
         ensures spelled { IfOk result (SpellPumped (pump (seated self.old) now) out.new.items) }
         ensures faults { OnErr result ((P.view disk.new).faults ≡ (P.view disk.old).faults) }
         ensures switch { (P.view disk.new).switch ≡ (P.view disk.old).switch }
+        ensures lasts { Lasts (P.view disk.old) (P.view disk.new) self.old self.new }
     {
+        images_open_to_one();
         definitions_do_not_fail();
         down_refuses_all();
         refused_is_same();
@@ -157,6 +163,7 @@ impl Seat {
             (pump (seated self.old) now) result }
         ensures faults { OnErr result ((P.view disk.new).faults ≡ (P.view disk.old).faults) }
         ensures switch { (P.view disk.new).switch ≡ (P.view disk.old).switch }
+        ensures lasts { Lasts (P.view disk.old) (P.view disk.new) self.old self.new }
     {
         let mut out = Vec::new(self.alloc);
         let pumped = self.give_out(disk, now, &mut out)?;

@@ -3,6 +3,7 @@ ghost use Rattle.std.specs.Prelude.{◌==◌, ◌≡◌, ◌≤◌, IfOk, Some, 
 ghost use Rattle.mqb_outside.specs.Disk.{Counted};
 ghost use Rattle.mqb_moves.specs.Calling.{seat_of};
 ghost use Rattle.mqb_moves.specs.Seats.{IsHeldOn};
+ghost use Rattle.mqb_seats.specs.Lasting.{Lasts};
 ghost use Rattle.mqb_seats.specs.Opened.{IsAsLeft, IsOpened, opened_by};
 
 use crate::seat::Seat;
@@ -69,6 +70,7 @@ impl Seat {
         ensures arms { (P.view disk.new).switch.arms ≡ (P.view disk.old).switch.arms }
         ensures pick { (P.view disk.new).switch.last_pick ≡ Some pick }
         ensures left { IsAsLeft (P.view disk.new) }
+        ensures lasts { Lasts (P.view disk.old) (P.view disk.new) self.old self.new }
     {
         images_open_to_one();
         opened_is_not_bad();

@@ -1,9 +1,11 @@
 -- How a connection ends between two managers.
-use Rattle.std.proofs.Common.{◌≡◌, ◌==◌, ℕ, Bool, true, cond, [], ◌∷◌, Option, None, Some, refl, sym, ap, subst, ◌∙◌, arith}
+use Rattle.std.proofs.Common.{◌≡◌, ◌==◌, ℕ, Bool, true, false, cond, [], ◌∷◌, Option, None, Some, refl, sym, ap, subst, ◌∙◌, arith}
 use Rattle.std.proofs.lemmas.Bool.Decides.{nat_tests}
 use Rattle.std.specs.Prelude.{filter, not}
 use Rattle.mqb_model.specs.managers.Manager.{Manager}
+use Rattle.mqb_seats.specs.Holding.{StaysStored}
 use Rattle.mqb_seats.specs.Seats.{SeatState, seated}
+use Rattle.mqb_seats.specs.Stored.{same_stores}
 use Rattle.mqb_network.specs.Changes.{ended}
 use Rattle.mqb_network.specs.Network.{Connection, Network, is_connected}
 use Rattle.mqb_script.specs.declared.managers.Which.{Which}
@@ -11,7 +13,8 @@ use Rattle.mqb_script.specs.declared.managers.Which.TheVariants.{Alpha, Beta}
 use Rattle.mqb_traffic.specs.Networks.{connection_of, connections_of, index_of, network_with, parted_where}
 use Rattle.mqb_traffic.specs.States.{TrafficState}
 use Rattle.mqb_traffic.specs.declared.notes.Link.{Link}
-use Rattle.mqb_turns.specs.Sides.{network_at, side}
+use Rattle.mqb_turns.specs.Settling.{EndedWhere}
+use Rattle.mqb_turns.specs.Sides.{Side, network_at, side}
 
 -- both managers forget the connection that stood
 pub parted_so : (stood : Bool) (s t a b : SeatState) (u v : TrafficState)
@@ -68,3 +71,11 @@ pub none_left : (stood : Bool) (t b : SeatState) (u v : TrafficState)
     → (which : Which) → (network_at which (side t b v)).connections ≡ []
 none_left stood t b u v ends Alpha = ap connections_of (link_left stood (seated t) (seated b) u v ends)
 none_left stood t b u v ends Beta = ap connections_of (link_left stood (seated b) (seated t) u v ends)
+
+-- What both stores have stays, whether the connection ended or not.
+pub ended_stored : (which : Which) (b : Bool) (x y : Side) → EndedWhere which b x y → StaysStored x.own y.own × StaysStored x.other y.other
+ended_stored which true x y parted = (parted.own, parted.beside)
+ended_stored which false x y same = (
+  subst (λ (z : Side). StaysStored x.own z.own) (sym same) (same_stores x.own),
+  subst (λ (z : Side). StaysStored x.other z.other) (sym same) (same_stores x.other),
+)

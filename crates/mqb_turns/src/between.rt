@@ -1,6 +1,7 @@
 //! What a call of one manager leaves between the two: the lines of its record join the ledger, and their connection ends where a disk failed.
 ghost use Rattle.std.specs.Prelude.{◌≡◌, IfOk, OnOk};
 ghost use Rattle.mqb_seats.specs.Called.{failure_of};
+ghost use Rattle.mqb_seats.specs.Holding.{StaysStored};
 ghost use Rattle.mqb_turns.specs.Replies.{failure_reply};
 ghost use Rattle.mqb_turns.specs.Settling.{EndedWhere, IsNoted, IsParted, Settles};
 ghost use Rattle.mqb_turns.specs.Sides.{side};
@@ -63,8 +64,10 @@ pub fn settle(
     traffic: &mut Traffic,
     called: Called,
 ) -> Result<Reply, Memory>
-    ensures { IfOk result (λ given. (which : Which) → Settles which
+    ensures settled { IfOk result (λ given. (which : Which) → Settles which
         (side own.old other.old traffic.old) (side own.new other.new traffic.new) called given) }
+    ensures own { StaysStored own.old own.new }
+    ensures beside { StaysStored other.old other.new }
 {
     match called {
         Called::Told { reply, recorded } => {

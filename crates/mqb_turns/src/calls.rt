@@ -1,6 +1,8 @@
 //! The calls of one manager with its disk. Each is a turn of the network.
 ghost use Rattle.std.specs.Prelude.{◌≡◌, ◌≤◌, IfOk, length, true};
 ghost use Rattle.mqb_model.specs.records.Applying.{is_roll};
+ghost use Rattle.mqb_seats.specs.Holding.{StaysStored};
+ghost use Rattle.mqb_seats.specs.Lasting.{Lasts};
 ghost use Rattle.mqb_seats.specs.Seats.{IsHeldOn};
 ghost use Rattle.mqb_network.specs.Events as event;
 ghost use Rattle.mqb_traffic.specs.Networks.{index_of};
@@ -31,6 +33,8 @@ pub fn queue<P: Power>(
         (P.is_stopped disk.new) (answers_to which (side own.old other.old traffic.old)
         (event.Queue (index_of which) plan.now))) }
     ensures switch { (P.view disk.new).switch ≡ (P.view disk.old).switch }
+    ensures lasts { Lasts (P.view disk.old) (P.view disk.new) own.old own.new }
+    ensures beside { StaysStored other.old other.new }
 {
     refusals_change_nothing();
     let called = own.create_queue(disk, plan)?;
@@ -53,6 +57,8 @@ pub fn roll<P: Power>(
         (P.is_stopped disk.new) (answers_to which (side own.old other.old traffic.old)
         (event.Roll (index_of which) count))) }
     ensures switch { (P.view disk.new).switch ≡ (P.view disk.old).switch }
+    ensures lasts { Lasts (P.view disk.old) (P.view disk.new) own.old own.new }
+    ensures beside { StaysStored other.old other.new }
 {
     refusals_change_nothing();
     let called = own.set_roll(disk, count)?;
@@ -76,6 +82,8 @@ pub fn commit<P: Power>(
         (P.is_stopped disk.new) (answers_to which (side own.old other.old traffic.old)
         (event.Commit (index_of which) now ops.now))) }
     ensures switch { (P.view disk.new).switch ≡ (P.view disk.old).switch }
+    ensures lasts { Lasts (P.view disk.old) (P.view disk.new) own.old own.new }
+    ensures beside { StaysStored other.old other.new }
 {
     refusals_change_nothing();
     let called = own.commit(disk, ops, now)?;
@@ -99,6 +107,8 @@ pub fn send<P: Power>(
         (P.is_stopped disk.new) (answers_to which (side own.old other.old traffic.old)
         (event.Send (index_of which) now recoverable draft.now))) }
     ensures switch { (P.view disk.new).switch ≡ (P.view disk.old).switch }
+    ensures lasts { Lasts (P.view disk.old) (P.view disk.new) own.old own.new }
+    ensures beside { StaysStored other.old other.new }
 {
     refusals_change_nothing();
     let called = own.send(disk, draft, recoverable, now)?;
@@ -121,6 +131,8 @@ pub fn take<P: Power>(
         (P.is_stopped disk.new) (answers_to which (side own.old other.old traffic.old)
         (event.Take (index_of which) now place.now))) }
     ensures switch { (P.view disk.new).switch ≡ (P.view disk.old).switch }
+    ensures lasts { Lasts (P.view disk.old) (P.view disk.new) own.old own.new }
+    ensures beside { StaysStored other.old other.new }
 {
     refusals_change_nothing();
     let called = own.take(disk, place, now)?;
@@ -143,6 +155,8 @@ pub fn purge<P: Power>(
         (P.is_stopped disk.new) (answers_to which (side own.old other.old traffic.old)
         (event.Purge (index_of which) now place.now))) }
     ensures switch { (P.view disk.new).switch ≡ (P.view disk.old).switch }
+    ensures lasts { Lasts (P.view disk.old) (P.view disk.new) own.old own.new }
+    ensures beside { StaysStored other.old other.new }
 {
     refusals_change_nothing();
     let called = own.purge(disk, place, now)?;
@@ -164,6 +178,8 @@ pub fn tick<P: Power>(
         (P.is_stopped disk.new) (answers_to which (side own.old other.old traffic.old)
         (event.Tick (index_of which) now))) }
     ensures switch { (P.view disk.new).switch ≡ (P.view disk.old).switch }
+    ensures lasts { Lasts (P.view disk.old) (P.view disk.new) own.old own.new }
+    ensures beside { StaysStored other.old other.new }
 {
     refusals_change_nothing();
     let called = own.tick(disk, now)?;

@@ -1,5 +1,7 @@
 //! How one packet is heard by its receiver, where it still can be.
 ghost use Rattle.std.specs.Prelude.{◌≡◌, IfOk, Ok, Some};
+ghost use Rattle.mqb_seats.specs.Holding.{StaysStored};
+ghost use Rattle.mqb_seats.specs.Lasting.{Lasts};
 ghost use Rattle.mqb_seats.specs.Seats.{IsHeldOn};
 ghost use Rattle.mqb_network.specs.Delivering.{closes};
 ghost use Rattle.mqb_packet.specs.Parts.{seen_packet};
@@ -58,6 +60,8 @@ pub fn pass<P: Power>(
         → IsPassed which (side own.old other.old traffic.old) (side own.new other.new traffic.new)
         (P.view disk.old) (P.view disk.new) (P.is_stopped disk.new) (note_of sent.now) p now given) }
     ensures switch { (P.view disk.new).switch ≡ (P.view disk.old).switch }
+    ensures lasts { Lasts (P.view disk.old) (P.view disk.new) own.old own.new }
+    ensures beside { StaysStored other.old other.new }
 {
     refusals_change_nothing();
     if !traffic.is_underway(sent) {

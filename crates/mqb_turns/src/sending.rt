@@ -1,5 +1,7 @@
 //! How the packets of one manager go: they join the medium, and each is noted.
 ghost use Rattle.std.specs.Prelude.{◌+◌, ◌<◌, ◌^◌, ◌≡◌, IfOk, OnErr, length};
+ghost use Rattle.mqb_seats.specs.Holding.{StaysStored};
+ghost use Rattle.mqb_seats.specs.Lasting.{Lasts};
 ghost use Rattle.mqb_seats.specs.Seats.{IsHeldOn};
 ghost use Rattle.mqb_network.specs.Events as event;
 ghost use Rattle.mqb_network.specs.Sending.{numbers_behind};
@@ -56,6 +58,8 @@ pub fn send_out<P: Power, M: Medium>(
         (pump_at which (side own.old other.old traffic.old) now) result }
     ensures faults { OnErr result ((P.view disk.new).faults ≡ (P.view disk.old).faults) }
     ensures switch { (P.view disk.new).switch ≡ (P.view disk.old).switch }
+    ensures lasts { Lasts (P.view disk.old) (P.view disk.new) own.old own.new }
+    ensures beside { StaysStored other.old other.new }
 {
     pumps_are_counted();
     refused_is_same();
@@ -96,6 +100,8 @@ pub fn pump<P: Power, M: Medium>(
         (pump_at which (side own.old other.old traffic.old) now) result }
     ensures faults { OnErr result ((P.view disk.new).faults ≡ (P.view disk.old).faults) }
     ensures switch { (P.view disk.new).switch ≡ (P.view disk.old).switch }
+    ensures lasts { Lasts (P.view disk.old) (P.view disk.new) own.old own.new }
+    ensures beside { StaysStored other.old other.new }
 {
     refusals_change_nothing();
     let before = traffic.count();

@@ -1,6 +1,8 @@
 //! How a call of a disk is armed, and how a manager is started again.
 ghost use Rattle.std.specs.Prelude.{◌≡◌, IfOk, Some};
 ghost use Rattle.mqb_outside.specs.Disk.{Counted};
+ghost use Rattle.mqb_seats.specs.Holding.{StaysStored};
+ghost use Rattle.mqb_seats.specs.Lasting.{Lasts};
 ghost use Rattle.mqb_seats.specs.Opened.{IsAsLeft};
 ghost use Rattle.mqb_seats.specs.Seats.{IsHeldOn};
 ghost use Rattle.mqb_turns.specs.Starts.{IsStarted, opened_reply, was_kept};
@@ -59,6 +61,8 @@ pub fn restart<P: Power>(
     ensures arms { (P.view disk.new).switch.arms ≡ (P.view disk.old).switch.arms }
     ensures pick { (P.view disk.new).switch.last_pick ≡ Some pick }
     ensures left { IsAsLeft (P.view disk.new) }
+    ensures lasts { Lasts (P.view disk.old) (P.view disk.new) own.old own.new }
+    ensures beside { StaysStored other.old other.new }
 {
     own.is_valid();
     part(own, other, traffic);

@@ -297,10 +297,6 @@ pub ok_of : {A E : Type 0} (P : A → Type 0) (r : Result A E) (x : A) → r ≡
 ok_of P (Ok y) x is h = subst P (oks is) h
 ok_of P (Err e) x is h = absurd (let no : ⊥ = cc in no)
 
-pub on_ok_of : {A E : Type 0} (P : Type 0) (r : Result A E) (x : A) → r ≡ Ok x → OnOk r P → P
-on_ok_of P (Ok y) x is h = h
-on_ok_of P (Err e) x is h = absurd (let no : ⊥ = cc in no)
-
 pub sent_as : (which : Which) (w v : WorldState) (d e f g : View) (s t : Bool) (strings strings_now : List (List ℕ)) (now : ℕ) (r : Result Pumped PostFault) (q p : Pumped)
     → IfOk r (SentBy which w v d e f g s t strings strings_now now) → r ≡ Ok q → q ≡ p → SentBy which w v d e f g s t strings strings_now now p
 sent_as which w v d e f g s t strings strings_now now r q p sent is so = subst (SentBy which w v d e f g s t strings strings_now now) so

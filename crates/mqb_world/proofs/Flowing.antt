@@ -21,6 +21,8 @@ use Rattle.mqb_posts.specs.declared.faults.PostFault.{PostFault}
 use Rattle.mqb_queue.specs.Places.{numbered}
 use Rattle.mqb_script.specs.declared.managers.Which.{Which}
 use Rattle.mqb_script.specs.declared.managers.Which.TheVariants.{Alpha, Beta}
+use Rattle.mqb_seats.specs.Lasting.{Lasts}
+use Rattle.mqb_seats.specs.lemmas.Keeping.{lasts_same, lasts_then}
 use Rattle.mqb_seats.specs.Called.{failure_of, how_by}
 use Rattle.mqb_seats.specs.declared.packets.Pumped.{Pumped}
 use Rattle.mqb_traffic.specs.Networks.{connections_of, note_of, notes_of}
@@ -63,17 +65,6 @@ pub short_by : (which v : Which) (w : WorldState) (strings strings_now : List (L
     → ComesShort strings strings_now (pump_at v (side_of w v) now) r → ComesShort strings strings_now (pump_at which (side_of w which) now) r
 short_by which v w strings strings_now now r is short = subst (λ (u : Which). ComesShort strings strings_now (pump_at u (side_of w u) now) r) (sym is) short
 
--- both disks are held then
-pub own_held : (which : Which) (a b a1 b1 : SeatState) (t t1 : TrafficState) (d e : View) (s : Bool) (strings strings_now : List (List ℕ)) (now : ℕ) (r : Result Pumped PostFault)
-    → IsHeldOn d a → IfOk r (IsSent which (side a b t) (side a1 b1 t1) d e s strings strings_now now) → OnOk r (IsHeldOn e a1)
-own_held which a b a1 b1 t t1 d e s strings strings_now now (Ok q) held sent = sent.held held
-own_held which a b a1 b1 t t1 d e s strings strings_now now (Err f) held sent = tt
-
-pub other_held : (which : Which) (a b a1 b1 : SeatState) (t t1 : TrafficState) (d e f : View) (s : Bool) (strings strings_now : List (List ℕ)) (now : ℕ) (r : Result Pumped PostFault)
-    → IsHeldOn f b → IfOk r (IsSent which (side a b t) (side a1 b1 t1) d e s strings strings_now now) → OnOk r (IsHeldOn f b1)
-other_held which a b a1 b1 t t1 d e f s strings strings_now now (Ok q) held sent = stored_held f b b1 sent.beside held
-other_held which a b a1 b1 t t1 d e f s strings strings_now now (Err x) held sent = tt
-
 -- How failures follow one another.
 
 module _ (n n_now : Network) (s t : Bool) (a b c : ℕ) where
@@ -105,8 +96,8 @@ pub flows_begin : (w : WorldState) (d f : View) (s t : Bool) (strings : List (Li
 flows_begin w d f s t strings now before alpha beta = record {
   flown = λ packets writable are c is. subst (λ (n : Network). Flown c now [] [] n) is (flown_none c now);
   notes = refl;
-  alpha = alpha;
-  beta = beta;
+  alpha = lasts_same alpha;
+  beta = lasts_same beta;
   alpha_faults = refl;
   beta_faults = refl;
   alpha_cut = tt;
@@ -125,7 +116,7 @@ module _ (w v u : WorldState) (d e e1 f g g1 : View) (s t s1 t1 : Bool) (strings
 
   pub flows_more : Flows w v d e f g s t strings now before i arrivals → ArePackets strings
       → ((packets : List Packet) → AreWritable packets → strings ≡ map plain_spelling packets → WasDelivered (network_of v) (network_of u) packets k now (Some outcome))
-      → IsHeldOn e1 u.alpha → IsHeldOn g1 u.beta
+      → Lasts e e1 v.alpha u.alpha → Lasts g g1 v.beta u.beta
       → FailsAs (failures_at (network_of v).notes 0 (arrived k (Some outcome))) s1 e.faults e1.faults
       → FailsAs (failures_at (network_of v).notes 1 (arrived k (Some outcome))) t1 g.faults g1.faults
       → ((network_of v).connections ≡ [] → s1 ≡ s) → ((network_of v).connections ≡ [] → t1 ≡ t)
@@ -134,8 +125,8 @@ module _ (w v u : WorldState) (d e e1 f g g1 : View) (s t s1 t1 : Bool) (strings
   flows_more flows packets delivered alpha beta alpha_faults beta_faults alpha_idle beta_idle alpha_switch beta_switch = record {
     flown = λ ps writable are c is. flown_next c now ps before i arrivals (network_of v) (network_of u) outcome (flows.flown ps writable are c is) (delivered ps writable are);
     notes = it.notes ∙ flows.notes;
-    alpha = alpha;
-    beta = beta;
+    alpha = lasts_then flows.alpha alpha;
+    beta = lasts_then flows.beta beta;
     alpha_faults = both 0 s s1 d.faults e.faults e1.faults flows.alpha_faults flows.alpha_cut alpha_faults alpha_idle;
     beta_faults = both 1 t t1 f.faults g.faults g1.faults flows.beta_faults flows.beta_cut beta_faults beta_idle;
     alpha_cut = cuts 0 s s1 d.faults e.faults e1.faults flows.alpha_cut;
@@ -212,7 +203,7 @@ module _ (w v u : WorldState) (d e e1 f g g1 : View) (s t s1 t1 : Bool) (strings
     (is : given ≡ Some outcome) (added : arrivals_now ≡ arrivals ++ record { packet = before + 1 + i; outcome = outcome } ∷ []) where
   pub flows_next : Flows w v d e f g s t strings now before i arrivals → ArePackets strings
       → ((packets : List Packet) → AreWritable packets → strings ≡ map plain_spelling packets → WasDelivered (network_of v) (network_of u) packets (before + 1 + i) now given)
-      → IsHeldOn e1 u.alpha → IsHeldOn g1 u.beta
+      → Lasts e e1 v.alpha u.alpha → Lasts g g1 v.beta u.beta
       → FailsAs (failures_at (notes_of v.traffic) 0 (arrived (before + 1 + i) given)) s1 e.faults e1.faults
       → FailsAs (failures_at (notes_of v.traffic) 1 (arrived (before + 1 + i) given)) t1 g.faults g1.faults
       → (v.traffic.link ≡ None → s1 ≡ s) → (v.traffic.link ≡ None → t1 ≡ t)

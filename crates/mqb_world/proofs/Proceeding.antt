@@ -114,7 +114,7 @@ module _ (w w_now : WorldState) (strings strings_now : List (List ℕ)) (first f
 
   -- A flow.
   pub flow_happens : (m : Which) (now : ℕ) (r : Result Reply PostFault) → IfOk r (IsStep (network_of w) None (event_of (event.Flow m now)) (network_of w_now) strings strings_now)
-      → OnOk r (IsHeldOn first_now w_now.alpha) → OnOk r (IsHeldOn second_now w_now.beta)
+      → IsHeldOn first_now w_now.alpha → IsHeldOn second_now w_now.beta
       → IfOk r (λ given. FailsAs (failures_in (network_of w_now).notes (index_of m) 0 given) first_stopped first.faults first_now.faults)
       → IfOk r (λ given. FailsAs (failures_in (network_of w_now).notes (index_of m) 1 given) second_stopped second.faults second_now.faults)
       → IfOk r (HappensSo (event.Flow m now) strings_now)
@@ -131,7 +131,7 @@ module _ (w w_now : WorldState) (strings strings_now : List (List ℕ)) (first f
 
   -- A connection.
   pub connect_happens : (m : Which) (now a b : ℕ) (r : Result Reply PostFault) → IfOk r (IsStep (network_of w) None (event_of (event.Connect m now a b)) (network_of w_now) strings strings_now)
-      → OnOk r (IsHeldOn first_now w_now.alpha) → OnOk r (IsHeldOn second_now w_now.beta) → OnOk r (first_now.faults ≡ first.faults) → OnOk r (second_now.faults ≡ second.faults)
+      → IsHeldOn first_now w_now.alpha → IsHeldOn second_now w_now.beta → OnOk r (first_now.faults ≡ first.faults) → OnOk r (second_now.faults ≡ second.faults)
       → IfOk r (HappensSo (event.Connect m now a b) strings_now)
   connect_happens m now a b (Ok given) step alpha beta alpha_same beta_same = λ packets writable spelled. record {
     step = step;

@@ -3,7 +3,7 @@ use Rattle.std.specs.Prelude.{◌≡◌, Bool, List, map, ℕ}
 use Rattle.mqb_deliveries.specs.Failing.{CutBehind, FailsAs, failures_at}
 use Rattle.mqb_deliveries.specs.Flows.{Flown, sent_behind}
 use Rattle.mqb_outside.specs.Disk.{View}
-use Rattle.mqb_moves.specs.Seats.{IsHeldOn}
+use Rattle.mqb_seats.specs.Lasting.{Lasts}
 use Rattle.mqb_network.specs.Courses.{Course}
 use Rattle.mqb_packet.specs.Plain.{plain_spelling}
 use Rattle.mqb_packet.specs.declared.packet.Packet.{Packet}
@@ -17,8 +17,8 @@ pub record Flows (w w_now : WorldState) (first first_now second second_now : Vie
   pub flown : (packets : List Packet) → AreWritable packets → strings ≡ map plain_spelling packets → (c : Course) → c.network ≡ network_of w
       → Flown c now (sent_behind packets before count) arrivals (network_of w_now)
   pub notes : (network_of w_now).notes ≡ (network_of w).notes
-  pub alpha : IsHeldOn first_now w_now.alpha
-  pub beta : IsHeldOn second_now w_now.beta
+  pub alpha : Lasts first first_now w.alpha w_now.alpha
+  pub beta : Lasts second second_now w.beta w_now.beta
   pub alpha_faults : FailsAs (failures_at (network_of w).notes 0 arrivals) first_stopped first.faults first_now.faults
   pub beta_faults : FailsAs (failures_at (network_of w).notes 1 arrivals) second_stopped second.faults second_now.faults
   -- no connection stands behind a disk that failed

@@ -10,3 +10,5 @@ pub mod Flowing
 pub use Rattle.mqb_moves.specs.Seats
 pub use Rattle.mqb_moves.specs.lemmas.Restarting
 pub use Rattle.mqb_moves.specs.States
+pub use Rattle.mqb_seats.specs.Lasting
+pub use Rattle.mqb_seats.specs.lemmas.Keeping

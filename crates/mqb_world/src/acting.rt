@@ -2,11 +2,13 @@
 ghost use Rattle.std.specs.Prelude.{◌≡◌, ◌≢◌, Err, IfOk, None, false, is_some, length, true};
 ghost use Rattle.mqb_deliveries.specs.Steps.{FallsShort};
 ghost use Rattle.mqb_model.specs.managers.Manager.{is_down};
+ghost use Rattle.mqb_moves.specs.Holding.{StaysStored};
 ghost use Rattle.mqb_moves.specs.Seats.{IsHeldOn, seated};
 ghost use Rattle.mqb_network.specs.Choices.{Well};
 ghost use Rattle.mqb_posts.specs.Posting.{IsWithin};
 ghost use Rattle.mqb_runs.specs.Events.{event_of};
 ghost use Rattle.mqb_script.specs.Formed.{IsFormed};
+ghost use Rattle.mqb_seats.specs.Lasting.{Lasts};
 ghost use Rattle.mqb_turns.specs.Sides.{network_at, side};
 ghost use Rattle.mqb_turns.specs.Turns.{IsQuiet, IsTurn, answers_to};
 ghost use Rattle.mqb_world.specs.Acting.{IsActed, IsCallOf, IsOf, actor};
@@ -60,6 +62,8 @@ fn call_own<P: Power>(
         (P.is_stopped disk.new) (answers_to which (side own.old other.old traffic.old)
         (event_of event.now))) }
     ensures switch { (P.view disk.new).switch ≡ (P.view disk.old).switch }
+    ensures lasts { Lasts (P.view disk.old) (P.view disk.new) own.old own.new }
+    ensures beside { StaysStored other.old other.new }
 {
     match event {
         Event::Queue { manager: _, plan } => queue(own, other, traffic, which, disk, plan),
@@ -114,6 +118,8 @@ pub(crate) fn act<P: Power, M: Medium>(
     ensures switch { SwitchGoes (switching which event.now) (P.armed disk.new)
         (P.view disk.old).switch (P.view disk.new).switch }
     ensures left { StaysAsLeft (switching which event.now) (P.view disk.new) }
+    ensures lasts { Lasts (P.view disk.old) (P.view disk.new) own.old own.new }
+    ensures beside { StaysStored other.old other.new }
     ensures full { result ≡ Err PostFault.NetFull
         → (P.view disk.new).faults ≡ (P.view disk.old).faults }
 {

@@ -4,6 +4,7 @@ ghost use Rattle.mqb_deliveries.specs.Steps.{FallsShort};
 ghost use Rattle.mqb_moves.specs.Seats.{IsHeldOn};
 ghost use Rattle.mqb_runs.specs.Events.{event_of};
 ghost use Rattle.mqb_script.specs.Formed.{IsFormed};
+ghost use Rattle.mqb_seats.specs.Lasting.{Lasts};
 ghost use Rattle.mqb_script.specs.declared.events.Event.TheVariants as event;
 ghost use Rattle.mqb_world.specs.Acting.{Happens, HappensAmong, IsOf, ShortAmong};
 ghost use Rattle.mqb_world.specs.Disks.{StaysAsLeft, SwitchGoes, switching};
@@ -51,6 +52,8 @@ fn act_alone<P: Power, M: Medium>(
         (P.view second.old).switch (P.view second.new).switch }
     ensures alpha_left { StaysAsLeft (switching Which.Alpha event.now) (P.view first.new) }
     ensures beta_left { StaysAsLeft (switching Which.Beta event.now) (P.view second.new) }
+    ensures alpha { Lasts (P.view first.old) (P.view first.new) alpha.old alpha.new }
+    ensures beta { Lasts (P.view second.old) (P.view second.new) beta.old beta.new }
     ensures alpha_full { result ≡ Err PostFault.NetFull
         → (P.view first.new).faults ≡ (P.view first.old).faults }
     ensures beta_full { result ≡ Err PostFault.NetFull
@@ -84,6 +87,8 @@ fn deliver_alone<P: Power, M: Medium>(
         (P.is_stopped second.new)) }
     ensures alpha_switch { (P.view first.new).switch ≡ (P.view first.old).switch }
     ensures beta_switch { (P.view second.new).switch ≡ (P.view second.old).switch }
+    ensures alpha { Lasts (P.view first.old) (P.view first.new) alpha.old alpha.new }
+    ensures beta { Lasts (P.view second.old) (P.view second.new) beta.old beta.new }
 {
     match deliver(alpha, beta, traffic, first, second, medium, k, now)? {
         None => Ok(Reply::NoPacket),
@@ -118,6 +123,8 @@ pub(crate) fn proceed<P: Power, M: Medium>(
         (P.view second.old).switch (P.view second.new).switch }
     ensures alpha_left { StaysAsLeft (switching Which.Alpha event.now) (P.view first.new) }
     ensures beta_left { StaysAsLeft (switching Which.Beta event.now) (P.view second.new) }
+    ensures alpha { Lasts (P.view first.old) (P.view first.new) alpha.old alpha.new }
+    ensures beta { Lasts (P.view second.old) (P.view second.new) beta.old beta.new }
     ensures alpha_full { result ≡ Err PostFault.NetFull
         → (P.view first.new).faults ≡ (P.view first.old).faults }
     ensures beta_full { result ≡ Err PostFault.NetFull

@@ -16,6 +16,7 @@ ghost use Rattle.mqb_posts.specs.Posting.{IsWithin};
 ghost use Rattle.mqb_runs.specs.Events.{event_of, window_of};
 ghost use Rattle.mqb_script.specs.Managers as managers;
 ghost use Rattle.mqb_script.specs.declared.events.Event.TheVariants as event;
+ghost use Rattle.mqb_seats.specs.Lasting.{Lasts};
 ghost use Rattle.mqb_traffic.specs.Networks.{index_of};
 ghost use Rattle.mqb_turns.specs.Sides.{network_at, side};
 ghost use Rattle.mqb_world.specs.Ordered.{IsOrdered};
@@ -122,8 +123,8 @@ fn flow_quietly<P: Power, M: Medium>(
         (course_from (network_in alpha.old beta.old traffic.old))).after.sent)
         (M.strings medium.old) (M.strings medium.new) result }
     ensures noted { OnOk result (length traffic.new.notes ≡ length (M.strings medium.new)) }
-    ensures alpha { OnOk result (IsHeldOn (P.view first.new) alpha.new) }
-    ensures beta { OnOk result (IsHeldOn (P.view second.new) beta.new) }
+    ensures alpha { Lasts (P.view first.old) (P.view first.new) alpha.old alpha.new }
+    ensures beta { Lasts (P.view second.old) (P.view second.new) beta.old beta.new }
     ensures alpha_faults { OnOk result ((P.view first.new).faults ≡ (P.view first.old).faults) }
     ensures beta_faults { OnOk result ((P.view second.new).faults ≡ (P.view second.old).faults) }
     ensures alpha_full { result ≡ Err PostFault.NetFull
@@ -168,8 +169,8 @@ fn exchange<P: Power, M: Medium>(
         (course_from (network_in alpha.old beta.old traffic.old))).sent)
         (M.strings medium.old) (M.strings medium.new) result }
     ensures noted { OnOk result (length traffic.new.notes ≡ length (M.strings medium.new)) }
-    ensures alpha { OnOk result (IsHeldOn (P.view first.new) alpha.new) }
-    ensures beta { OnOk result (IsHeldOn (P.view second.new) beta.new) }
+    ensures alpha { Lasts (P.view first.old) (P.view first.new) alpha.old alpha.new }
+    ensures beta { Lasts (P.view second.old) (P.view second.new) beta.old beta.new }
     ensures alpha_faults { OnOk result ((P.view first.new).faults ≡ (P.view first.old).faults) }
     ensures beta_faults { OnOk result ((P.view second.new).faults ≡ (P.view second.old).faults) }
     ensures alpha_full { result ≡ Err PostFault.NetFull
@@ -223,8 +224,8 @@ fn set_up<P: Power, M: Medium>(
         (index_of (managers.other which)) now
         (course_from (network_in alpha.old beta.old traffic.old))).sent)
         (M.strings medium.old) (M.strings medium.new) result }
-    ensures alpha { OnOk result (IsHeldOn (P.view first.new) alpha.new) }
-    ensures beta { OnOk result (IsHeldOn (P.view second.new) beta.new) }
+    ensures alpha { Lasts (P.view first.old) (P.view first.new) alpha.old alpha.new }
+    ensures beta { Lasts (P.view second.old) (P.view second.new) beta.old beta.new }
     ensures alpha_faults { OnOk result ((P.view first.new).faults ≡ (P.view first.old).faults) }
     ensures beta_faults { OnOk result ((P.view second.new).faults ≡ (P.view second.old).faults) }
     ensures alpha_full { result ≡ Err PostFault.NetFull
@@ -265,8 +266,8 @@ pub(crate) fn connect<P: Power, M: Medium>(
     ensures short { FallsShort (network_in alpha.old beta.old traffic.old) None
         (event_of (event.Connect which now alpha_window beta_window))
         (M.strings medium.old) (M.strings medium.new) result }
-    ensures alpha { OnOk result (IsHeldOn (P.view first.new) alpha.new) }
-    ensures beta { OnOk result (IsHeldOn (P.view second.new) beta.new) }
+    ensures alpha { Lasts (P.view first.old) (P.view first.new) alpha.old alpha.new }
+    ensures beta { Lasts (P.view second.old) (P.view second.new) beta.old beta.new }
     ensures alpha_faults { OnOk result ((P.view first.new).faults ≡ (P.view first.old).faults) }
     ensures beta_faults { OnOk result ((P.view second.new).faults ≡ (P.view second.old).faults) }
     ensures alpha_full { result ≡ Err PostFault.NetFull

@@ -1,11 +1,12 @@
 //! How one packet is delivered: that of a number.
-ghost use Rattle.std.specs.Prelude.{◌≡◌, ◌≤◌, IfOk, List, None, OnOk, length, map};
+ghost use Rattle.std.specs.Prelude.{◌≡◌, ◌≤◌, IfOk, List, None, length, map};
 ghost use Rattle.mqb_deliveries.specs.Delivers.{WasDelivered, outcome_reply};
 ghost use Rattle.mqb_deliveries.specs.Failing.{FailsAs, arrived, failures_at};
 ghost use Rattle.mqb_moves.specs.Seats.{IsHeldOn};
 ghost use Rattle.mqb_packet.specs.Plain.{plain_spelling};
 ghost use Rattle.mqb_packet.specs.declared.packet.Packet.{Packet};
 ghost use Rattle.mqb_posts.specs.Packets.{ArePackets, AreWritable};
+ghost use Rattle.mqb_seats.specs.Lasting.{Lasts};
 ghost use Rattle.mqb_traffic.specs.Networks.{notes_of};
 ghost use Rattle.mqb_world.specs.Sides.{network_in};
 
@@ -50,8 +51,8 @@ pub(crate) fn deliver<P: Power, M: Medium>(
         M.strings medium.now ≡ map plain_spelling packets →
         WasDelivered (network_in alpha.old beta.old traffic.old)
         (network_in alpha.new beta.new traffic.new) packets k now given) }
-    ensures alpha { OnOk result (IsHeldOn (P.view first.new) alpha.new) }
-    ensures beta { OnOk result (IsHeldOn (P.view second.new) beta.new) }
+    ensures alpha { Lasts (P.view first.old) (P.view first.new) alpha.old alpha.new }
+    ensures beta { Lasts (P.view second.old) (P.view second.new) beta.old beta.new }
     ensures alpha_faults { IfOk result (λ given. FailsAs
         (failures_at (notes_of traffic.old) 0 (arrived k given)) (P.is_stopped first.new)
         (P.view first.old).faults (P.view first.new).faults) }

@@ -6,6 +6,7 @@ ghost use Rattle.mqb_moves.specs.Seats.{IsHeldOn};
 ghost use Rattle.mqb_network.specs.Events as event;
 ghost use Rattle.mqb_posts.specs.Packets.{ArePackets};
 ghost use Rattle.mqb_posts.specs.Posting.{IsWithin};
+ghost use Rattle.mqb_seats.specs.Lasting.{Lasts};
 ghost use Rattle.mqb_traffic.specs.Networks.{index_of, notes_of};
 ghost use Rattle.mqb_turns.specs.Sends.{ComesShort, pump_at};
 ghost use Rattle.mqb_world.specs.Flowing.{Flows};
@@ -43,8 +44,8 @@ fn send<P: Power, M: Medium>(
         (P.is_stopped second.new) (M.strings medium.old) (M.strings medium.new) now) }
     ensures short { ComesShort (M.strings medium.old) (M.strings medium.new)
         (pump_at which (side_of (world alpha.old beta.old traffic.old) which) now) result }
-    ensures alpha { OnOk result (IsHeldOn (P.view first.new) alpha.new) }
-    ensures beta { OnOk result (IsHeldOn (P.view second.new) beta.new) }
+    ensures alpha { Lasts (P.view first.old) (P.view first.new) alpha.old alpha.new }
+    ensures beta { Lasts (P.view second.old) (P.view second.new) beta.old beta.new }
     ensures alpha_faults { OnErr result
         ((P.view first.new).faults ≡ (P.view first.old).faults) }
     ensures beta_faults { OnErr result
@@ -79,6 +80,8 @@ fn deliver_all<P: Power, M: Medium>(
         (world alpha.new beta.new traffic.new) (P.view first.old) (P.view first.new)
         (P.view second.old) (P.view second.new) (P.is_stopped first.new)
         (P.is_stopped second.new) (M.strings medium.now) now before count) }
+    ensures alpha { Lasts (P.view first.old) (P.view first.new) alpha.old alpha.new }
+    ensures beta { Lasts (P.view second.old) (P.view second.new) beta.old beta.new }
     ensures alpha_switch { (P.view first.new).switch ≡ (P.view first.old).switch }
     ensures beta_switch { (P.view second.new).switch ≡ (P.view second.old).switch }
 {
@@ -118,8 +121,8 @@ pub(crate) fn flow<P: Power, M: Medium>(
         (event.Flow (index_of which) now) (M.strings medium.old) (M.strings medium.new) result }
     ensures noted { OnOk result
         (length traffic.new.notes ≡ length (M.strings medium.new)) }
-    ensures alpha { OnOk result (IsHeldOn (P.view first.new) alpha.new) }
-    ensures beta { OnOk result (IsHeldOn (P.view second.new) beta.new) }
+    ensures alpha { Lasts (P.view first.old) (P.view first.new) alpha.old alpha.new }
+    ensures beta { Lasts (P.view second.old) (P.view second.new) beta.old beta.new }
     ensures alpha_faults { IfOk result (λ given. FailsAs
         (failures_in (notes_of traffic.new) (index_of which) 0 given)
         (P.is_stopped first.new) (P.view first.old).faults (P.view first.new).faults) }

@@ -7,6 +7,7 @@ ghost use Rattle.mqb_runs.specs.Events.{event_of};
 ghost use Rattle.mqb_runs.specs.Guarantees.{AlwaysKeepsGuarantees};
 ghost use Rattle.mqb_runs.specs.Streams.{AlwaysShowsStreams};
 ghost use Rattle.mqb_script.specs.Formed.{IsFormed};
+ghost use Rattle.mqb_seats.specs.Lasting.{Lasts};
 ghost use Rattle.mqb_traffic.specs.Networks.{notes_of};
 ghost use Rattle.mqb_turns.specs.Starts.{records_of};
 ghost use Rattle.mqb_world.specs.Disks.{FaultsGo, RecordsGo, StaysAsLeft, SwitchGoes, failures_told, switching};
@@ -113,8 +114,8 @@ impl World {
             AlwaysKeepsGuarantees ms }
         ensures streams { (ms : List Move) → Stands self.new (M.strings medium.new) ms →
             AlwaysShowsStreams ms }
-        ensures alpha { OnOk result (IsHeldOn (P.view first.new) self.new.alpha) }
-        ensures beta { OnOk result (IsHeldOn (P.view second.new) self.new.beta) }
+        ensures alpha { Lasts (P.view first.old) (P.view first.new) self.old.alpha self.new.alpha }
+        ensures beta { Lasts (P.view second.old) (P.view second.new) self.old.beta self.new.beta }
         ensures alpha_switch { SwitchGoes (switching Which.Alpha event.now) (P.armed first.new)
             (P.view first.old).switch (P.view first.new).switch }
         ensures beta_switch { SwitchGoes (switching Which.Beta event.now) (P.armed second.new)

@@ -16,7 +16,8 @@ pub returns-in_err-hosts-clause-played : goal.returns-in_err-hosts-clause-played
 returns-in_err-hosts-clause-played g c =
     let p = err_from_is_err_and c.from_residual.result c.from_residual.ensures.1 in
     let b : Devices = devices (g.M.Medium.strings c.args.medium.now) (g.P.Disk.view c.args.first.now) (g.P.Disk.view c.args.second.now) in
-    rw (p.1, p.2) (none_played c.runs_keep_guarantees.ensures c.args.script.now b b (g.K.Sink.taken c.args.out.now) (g.K.Sink.taken c.args.out.now) c.requires.stands.stands.spelled refl refl refl)
+    rw (p.1, p.2) (none_played c.runs_keep_guarantees.ensures c.args.script.now c.args.world.now b b (g.K.Sink.taken c.args.out.now) (g.K.Sink.taken c.args.out.now) c.requires.stands c.requires.alpha c.requires.beta
+    refl refl refl refl refl)
 
 pub loop-line-init : goal.loop-line-init
 loop-line-init g c = record {

@@ -11,14 +11,14 @@ returns-clause-turned g c = turn_answered c.args.line.now c.args.world.now c.app
     (record {
       goes = c.in_ok-reply.ensures.applied;
       alpha = record {
-        held = c.in_ok-reply.ensures.alpha;
+        held = c.in_ok-reply.ensures.alpha.held;
         stopped = g.P.Power.is_stopped c.apply.new.first;
         faults = c.in_ok-reply.ensures.alpha_faults;
         armed = g.P.Power.armed c.apply.new.first;
         switch = c.in_ok-reply.ensures.alpha_switch;
       };
       beta = record {
-        held = c.in_ok-reply.ensures.beta;
+        held = c.in_ok-reply.ensures.beta.held;
         stopped = g.P.Power.is_stopped c.apply.new.second;
         faults = c.in_ok-reply.ensures.beta_faults;
         armed = g.P.Power.armed c.apply.new.second;

@@ -1,6 +1,7 @@
 use Rattle.std.proofs.Common.{refl}
 use Rattle.mqb_model.specs.calls.Take.{take_message}
 use Rattle.mqb_seats.specs.Seats.{seated}
+use Rattle.mqb_seats.specs.lemmas.Keeping.{lasts_then_stored}
 use Rattle.mqb_network.specs.Replies as network
 use Rattle.mqb_replies.specs.Replies as replies
 use Rattle.mqb_turns.proofs.Turning.{call_turn, if_ok}
@@ -10,4 +11,7 @@ pub returns-clause-turn : goal.returns-clause-turn
 returns-clause-turn g c = let told = c.in_ok-called.ensures {u = tt} in if_ok c.settle.result (λ given settles.
     call_turn c.args.which c.args.own.now c.take.new.self c.args.other.now c.args.traffic.now _ _ _ (g.P.Power.is_stopped c.take.new.disk)
     (λ k. take_message k c.args.place.now c.args.now) (network.Took) (replies.take_reply) (λ a ls. refl) (λ same a ls. same)
-    ((c.refusals_change_nothing.ensures (seated c.args.own.now)).take_whole c.args.place.now c.args.now).touches c.in_ok-called.called given told.called (settles c.args.which)) c.settle.ensures
+    ((c.refusals_change_nothing.ensures (seated c.args.own.now)).take_whole c.args.place.now c.args.now).touches c.in_ok-called.called given told.called (settles c.args.which)) c.settle.ensures.settled
+
+pub returns-clause-lasts : goal.returns-clause-lasts
+returns-clause-lasts g c = lasts_then_stored c.take.ensures.lasts c.settle.ensures.own

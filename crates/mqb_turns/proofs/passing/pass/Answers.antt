@@ -1,6 +1,8 @@
 use Rattle.std.proofs.Common.{◌≡◌, false, true, ap, rules, ◌∙◌}
 use Rattle.mqb_traffic.specs.Networks.{index_of, note_of}
+use Rattle.mqb_seats.specs.lemmas.Keeping.{lasts_then_stored}
 use Rattle.mqb_turns.proofs.Heard.{broke_by_seat, gone_by_seat, heard_by_seat, not_underway, underway_so}
+use Rattle.mqb_turns.proofs.Parting.{ended_stored}
 use Rattle.mqb_turns.specs.Sides.{side}
 use Rattle.mqb_turns.proofs.passing.pass.Goals as goal
 
@@ -29,3 +31,17 @@ returns-in-Broke-clause-passed g c = let underway : c.is_underway.result ≡ tru
     (underway_so c.args.which c.args.own.now c.args.other.now c.args.traffic.now (note_of c.args.sent.now) c.is_underway.result c.is_underway.ensures ∙ underway) _ _ _
     c.in_ok-passed.passed c.in-Broke.how c.in-Broke.is (heard.heard p is) (side c.part.new.own c.part.new.other c.part.new.traffic) (c.part.ensures c.args.which)
     c.failed.result c.failed.ensures
+
+pub returns-in_ok-lines-in-Heard-clause-lasts : goal.returns-in_ok-lines-in-Heard-clause-lasts
+returns-in_ok-lines-in-Heard-clause-lasts g c = lasts_then_stored c.hear.ensures.lasts (ended_stored c.args.which c.ends.result (side c.hear.new.self c.args.other.now c.note.new.traffic)
+    (side c.part_where.new.own c.part_where.new.other c.part_where.new.traffic) (c.part_where.ensures c.args.which)).0
+
+pub returns-in_ok-lines-in-Heard-clause-beside : goal.returns-in_ok-lines-in-Heard-clause-beside
+returns-in_ok-lines-in-Heard-clause-beside g c = (ended_stored c.args.which c.ends.result (side c.hear.new.self c.args.other.now c.note.new.traffic)
+    (side c.part_where.new.own c.part_where.new.other c.part_where.new.traffic) (c.part_where.ensures c.args.which)).1
+
+pub returns-in-Broke-clause-lasts : goal.returns-in-Broke-clause-lasts
+returns-in-Broke-clause-lasts g c = lasts_then_stored c.hear.ensures.lasts (c.part.ensures c.args.which).own
+
+pub returns-in-Broke-clause-beside : goal.returns-in-Broke-clause-beside
+returns-in-Broke-clause-beside g c = (c.part.ensures c.args.which).beside

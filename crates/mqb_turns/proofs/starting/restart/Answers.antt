@@ -1,5 +1,6 @@
 use Rattle.std.proofs.Common.{Bool, subst}
 use Rattle.mqb_seats.specs.Stored.{stored_held}
+use Rattle.mqb_seats.specs.lemmas.Keeping.{stored_then_lasts}
 use Rattle.mqb_turns.proofs.Started.{started_so}
 use Rattle.mqb_turns.proofs.Turning.{if_ok}
 use Rattle.mqb_turns.specs.Settling.{IsNoted}
@@ -16,3 +17,21 @@ returns-clause-turn g c = let opened = c.in_ok-opened.ensures {u = tt} in if_ok 
     c.in_ok-opened.opened opened.opened
     (subst (λ (kept : Bool). IsNoted c.args.which (side c.restart.new.self c.part.new.other c.part.new.traffic) (side c.restart.new.self c.part.new.other c.note.new.traffic) kept)
     c.was_kept.ensures (c.in_ok-note.ensures {u = tt} c.args.which)) given_is) c.told.ensures
+
+pub returns-in_err-opened-clause-lasts : goal.returns-in_err-opened-clause-lasts
+returns-in_err-opened-clause-lasts g c = stored_then_lasts c.requires.held (c.part.ensures c.args.which).own c.restart.ensures.lasts
+
+pub returns-in_err-opened-clause-beside : goal.returns-in_err-opened-clause-beside
+returns-in_err-opened-clause-beside g c = (c.part.ensures c.args.which).beside
+
+pub returns-in_err-note-clause-lasts : goal.returns-in_err-note-clause-lasts
+returns-in_err-note-clause-lasts g c = stored_then_lasts c.requires.held (c.part.ensures c.args.which).own c.restart.ensures.lasts
+
+pub returns-in_err-note-clause-beside : goal.returns-in_err-note-clause-beside
+returns-in_err-note-clause-beside g c = (c.part.ensures c.args.which).beside
+
+pub returns-clause-lasts : goal.returns-clause-lasts
+returns-clause-lasts g c = stored_then_lasts c.requires.held (c.part.ensures c.args.which).own c.restart.ensures.lasts
+
+pub returns-clause-beside : goal.returns-clause-beside
+returns-clause-beside g c = (c.part.ensures c.args.which).beside

@@ -1,3 +1,4 @@
+use Rattle.mqb_seats.specs.lemmas.Keeping.{lasts_held, lasts_stored}
 use Rattle.mqb_turns.specs.Sides.{side}
 use Rattle.mqb_world.proofs.Actions.{acted_as, call_acted, call_left, call_switch, disconnect_acted, if_ok, is_call, ok_is_full, pump_acted, pump_is, resend_acted, resend_is, restart_is, start_acted}
 use Rattle.mqb_world.proofs.acting.act.Goals as goal
@@ -36,5 +37,19 @@ returns-in_ok-call_own-in_default g c = let x = side c.args.own.now c.args.other
       short = tt;
       switch = call_switch c.args.which c.args.event.now call _ _ _ c.call_own.ensures.switch;
       left = call_left c.args.which c.args.event.now call _;
+      lasts = c.call_own.ensures.lasts;
+      beside = c.call_own.ensures.beside;
       full = λ is. absurd (ok_is_full c.in_ok-call_own-in_default.field-0 is);
     }
+
+pub returns-in-Disconnect-clause-lasts : goal.returns-in-Disconnect-clause-lasts
+returns-in-Disconnect-clause-lasts g c = lasts_stored c.requires.held (c.disconnect.ensures c.args.which).own
+
+pub returns-in-Disconnect-clause-beside : goal.returns-in-Disconnect-clause-beside
+returns-in-Disconnect-clause-beside g c = (c.disconnect.ensures c.args.which).beside
+
+pub returns-in-Resend-clause-lasts : goal.returns-in-Resend-clause-lasts
+returns-in-Resend-clause-lasts g c = lasts_stored c.requires.held (c.resend.ensures c.args.which).own
+
+pub returns-in-Arm-clause-lasts : goal.returns-in-Arm-clause-lasts
+returns-in-Arm-clause-lasts g c = lasts_held c.arm.ensures.held c.arm.ensures.faults

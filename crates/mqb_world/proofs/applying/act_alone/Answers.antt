@@ -1,5 +1,6 @@
 use Rattle.std.proofs.Common.{subst}
 use Rattle.mqb_script.specs.declared.managers.Which.TheVariants.{Alpha, Beta}
+use Rattle.mqb_seats.specs.lemmas.Keeping.{lasts_stored}
 use Rattle.mqb_world.proofs.Actions.{if_ok}
 use Rattle.mqb_world.proofs.Happening.{alpha_happens, beta_happens, left_stays, switch_stays}
 use Rattle.mqb_world.specs.Acting.{IsOf}
@@ -26,3 +27,9 @@ returns-in-Beta-clause-alpha_switch g c = switch_stays Beta c.args.event.now (su
 
 pub returns-in-Beta-clause-alpha_left : goal.returns-in-Beta-clause-alpha_left
 returns-in-Beta-clause-alpha_left g c = left_stays Beta c.args.event.now (subst (λ which. IsOf which c.args.event.now) c.in-Beta.is c.requires.acts) _
+
+pub returns-in-Alpha-clause-beta : goal.returns-in-Alpha-clause-beta
+returns-in-Alpha-clause-beta g c = lasts_stored c.requires.beta c.act.ensures.beside
+
+pub returns-in-Beta-clause-alpha : goal.returns-in-Beta-clause-alpha
+returns-in-Beta-clause-alpha g c = lasts_stored c.requires.alpha c.act-in-Beta.ensures.beside

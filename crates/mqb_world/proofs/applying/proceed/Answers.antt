@@ -11,4 +11,4 @@ returns-in-Connect-clause-short g c = connect_short (world c.args.alpha.now c.ar
 pub returns-in-Flow-clause-happens : goal.returns-in-Flow-clause-happens
 returns-in-Flow-clause-happens g c = let w = world c.args.alpha.now c.args.beta.now c.args.traffic.now in let w_now = world c.flow.new.alpha c.flow.new.beta c.flow.new.traffic in
     flow_so w w_now _ _ _ _ _ _ _ _ c.args.event.now c.in-Flow.manager c.in-Flow.now c.in-Flow.is c.flow.result
-    (flow_happens w w_now _ _ _ _ _ _ _ _ c.in-Flow.manager c.in-Flow.now c.flow.result c.flow.ensures.step c.flow.ensures.alpha c.flow.ensures.beta c.flow.ensures.alpha_faults c.flow.ensures.beta_faults)
+    (flow_happens w w_now _ _ _ _ _ _ _ _ c.in-Flow.manager c.in-Flow.now c.flow.result c.flow.ensures.step c.flow.ensures.alpha.held c.flow.ensures.beta.held c.flow.ensures.alpha_faults c.flow.ensures.beta_faults)

@@ -6,6 +6,7 @@ use Rattle.mqb_network.specs.Courses.{course_from}
 use Rattle.mqb_network.specs.Network.{Network}
 use Rattle.mqb_runs.specs.Events.{window_of}
 use Rattle.mqb_script.specs.Managers.{other}
+use Rattle.mqb_seats.specs.lemmas.Keeping.{stored_then_lasts}
 use Rattle.mqb_traffic.specs.Networks.{index_of}
 use Rattle.mqb_world.proofs.Joined.{connected_short, connected_so, none_linked, ok_of, up_so}
 use Rattle.mqb_world.proofs.Proceeding.{known_so, unlinked_so}
@@ -44,3 +45,15 @@ returns-clause-step g c = let a_up : is_down (seated c.args.alpha.now) ≡ false
     connected_so c.args.which c.args.alpha.now c.args.beta.now c.args.traffic.now (g.M.Medium.strings c.args.medium.now) c.args.now (window_of c.args.which c.args.alpha_window c.args.beta_window)
     (window_of (other c.args.which) c.args.alpha_window c.args.beta_window) a_up b_up none (network_in c.link_both.new.alpha c.link_both.new.beta c.link_both.new.traffic) c.link_both.ensures.network
     is_up _ _ (ok_of c.set_up.result c.in_default.not-Err c.set_up.ensures.comes) c.count-before.result c.count-before.ensures
+
+pub returns-in-Err-clause-alpha : goal.returns-in-Err-clause-alpha
+returns-in-Err-clause-alpha g c = stored_then_lasts c.requires.alpha c.link_both.ensures.alpha c.set_up.ensures.alpha
+
+pub returns-in-Err-clause-beta : goal.returns-in-Err-clause-beta
+returns-in-Err-clause-beta g c = stored_then_lasts c.requires.beta c.link_both.ensures.beta c.set_up.ensures.beta
+
+pub returns-clause-alpha : goal.returns-clause-alpha
+returns-clause-alpha g c = stored_then_lasts c.requires.alpha c.link_both.ensures.alpha c.set_up.ensures.alpha
+
+pub returns-clause-beta : goal.returns-clause-beta
+returns-clause-beta g c = stored_then_lasts c.requires.beta c.link_both.ensures.beta c.set_up.ensures.beta

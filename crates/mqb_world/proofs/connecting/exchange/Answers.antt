@@ -5,6 +5,7 @@ use Rattle.mqb_deliveries.specs.Courses.{ComesTo}
 use Rattle.mqb_deliveries.specs.Steps.{IsShort}
 use Rattle.mqb_network.specs.Courses.{course_from}
 use Rattle.mqb_packet.specs.Plain.{plain_spelling}
+use Rattle.mqb_seats.specs.lemmas.Keeping.{lasts_then}
 use Rattle.mqb_script.specs.Managers.{other}
 use Rattle.mqb_script.specs.declared.managers.Which.{Which}
 use Rattle.mqb_traffic.specs.Networks.{index_of}
@@ -63,3 +64,9 @@ returns-clause-short g c = let a = index_of c.args.which in let b = index_of (ot
     let first = ok_of c.flow_quietly.result c.in_default.not-Err c.flow_quietly.ensures.comes in
     let n2 = network_in c.flow_quietly-2.new.alpha c.flow_quietly-2.new.beta c.flow_quietly-2.new.traffic in let ss2 = g.M.Medium.strings c.flow_quietly-2.new.medium in let r = c.flow_quietly-2.result in
     short_then (flows_of b now) (flow_joined law b now) ((flows_of a now) (course_from n)) n1 ss ss1 first ss2 r (subst (λ (w : Which). IsShort (map plain_spelling (flows_of (index_of w) now (course_from n1)).sent) ss1 ss2 r) c.other.ensures c.flow_quietly-2.ensures.short)
+
+pub returns-clause-alpha : goal.returns-clause-alpha
+returns-clause-alpha g c = lasts_then c.flow_quietly.ensures.alpha c.flow_quietly-2.ensures.alpha
+
+pub returns-clause-beta : goal.returns-clause-beta
+returns-clause-beta g c = lasts_then c.flow_quietly.ensures.beta c.flow_quietly-2.ensures.beta

@@ -1,3 +1,4 @@
+use Rattle.mqb_seats.specs.lemmas.Keeping.{lasts_then}
 use Rattle.mqb_deliveries.specs.lemmas.Coming.{comes_then, exchange_joined, short_then}
 use Rattle.mqb_network.specs.Connecting.{exchanged}
 use Rattle.mqb_network.specs.Courses.{course_from}
@@ -58,3 +59,9 @@ returns-clause-short g c = let a = index_of c.args.which in let b = index_of (ot
     let first = ok_of c.exchange.result c.in_default.not-Err c.exchange.ensures.comes in
     let n2 = network_in c.exchange-2.new.alpha c.exchange-2.new.beta c.exchange-2.new.traffic in let ss2 = g.M.Medium.strings c.exchange-2.new.medium in let r = c.exchange-2.result in
     short_then (exchanged a b now) (exchange_joined law a b now) ((exchanged a b now) (course_from n)) n1 ss ss1 first ss2 r c.exchange-2.ensures.short
+
+pub returns-clause-alpha : goal.returns-clause-alpha
+returns-clause-alpha g c = lasts_then c.exchange.ensures.alpha c.exchange-2.ensures.alpha
+
+pub returns-clause-beta : goal.returns-clause-beta
+returns-clause-beta g c = lasts_then c.exchange.ensures.beta c.exchange-2.ensures.beta

@@ -1,7 +1,7 @@
 use Rattle.std.proofs.Common.{◌≡◌, ap, false, true, sym, ◌∙◌, rules}
 use Rattle.mqb_deliveries.specs.lemmas.Delivered.{disk_fails, never_underway}
-use Rattle.mqb_moves.specs.lemmas.Stored.{stored_held}
 use Rattle.mqb_moves.specs.Seats.{seated}
+use Rattle.mqb_seats.specs.lemmas.Keeping.{lasts_stored}
 use Rattle.mqb_script.specs.declared.managers.Which.TheVariants.{Alpha, Beta}
 use Rattle.mqb_traffic.specs.Networks.{connections_of, note_of, notes_of}
 use Rattle.mqb_turns.specs.Sides.{side}
@@ -32,18 +32,6 @@ returns-in_ok-pass-in-Alpha-clause-delivered g c = let ok = c.in_ok-pass-in-Alph
     passed_delivered Beta (side c.args.beta.now c.args.alpha.now c.args.traffic.now) (side c.pass.new.own c.pass.new.other c.pass.new.traffic) _ _ _
     c.args.k c.args.now c.in-Some.sent there.0 c.in_ok-pass-in-Alpha.field-0 packets is there.1 (ok.passed there.0 (c.packet_at-packet.ensures.packet packets writable are ∙ there.1))
 
-pub returns-in_ok-pass-in-Alpha-clause-beta : goal.returns-in_ok-pass-in-Alpha-clause-beta
-returns-in_ok-pass-in-Alpha-clause-beta g c = let ok = c.in_ok-pass-in-Alpha.ensures {u = tt} in let is = sent_numbered c.args.traffic.now c.args.k c.note_at.result c.in-Some.sent c.note_at.ensures c.in-Some.is in
-    let there = packet_there c.args.traffic.now c.args.k c.in-Some.sent _ c.requires.packets.packets c.requires.number is c.requires.noted c.requires.packets.are in
-    let one = ok.passed there.0 (c.packet_at-packet.ensures.packet c.requires.packets.packets c.requires.packets.writable c.requires.packets.are ∙ there.1) in
-    one.held c.requires.beta
-
-pub returns-in_ok-pass-in-Alpha-clause-alpha : goal.returns-in_ok-pass-in-Alpha-clause-alpha
-returns-in_ok-pass-in-Alpha-clause-alpha g c = let ok = c.in_ok-pass-in-Alpha.ensures {u = tt} in let is = sent_numbered c.args.traffic.now c.args.k c.note_at.result c.in-Some.sent c.note_at.ensures c.in-Some.is in
-    let there = packet_there c.args.traffic.now c.args.k c.in-Some.sent _ c.requires.packets.packets c.requires.number is c.requires.noted c.requires.packets.are in
-    let one = ok.passed there.0 (c.packet_at-packet.ensures.packet c.requires.packets.packets c.requires.packets.writable c.requires.packets.are ∙ there.1) in
-    stored_held _ c.args.alpha.now c.pass.new.other one.beside c.requires.alpha
-
 pub returns-in_ok-pass-in-Alpha-clause-beta_faults : goal.returns-in_ok-pass-in-Alpha-clause-beta_faults
 returns-in_ok-pass-in-Alpha-clause-beta_faults g c = let ok = c.in_ok-pass-in-Alpha.ensures {u = tt} in let is = sent_numbered c.args.traffic.now c.args.k c.note_at.result c.in-Some.sent c.note_at.ensures c.in-Some.is in
     let there = packet_there c.args.traffic.now c.args.k c.in-Some.sent _ c.requires.packets.packets c.requires.number is c.requires.noted c.requires.packets.are in
@@ -66,18 +54,6 @@ returns-in_ok-pass-in-Beta-clause-delivered g c = let ok = c.in_ok-pass-in-Beta.
     passed_delivered Alpha (side c.args.alpha.now c.args.beta.now c.args.traffic.now) (side c.pass-in-Beta.new.own c.pass-in-Beta.new.other c.pass-in-Beta.new.traffic) _ _ _
     c.args.k c.args.now c.in-Some.sent there.0 c.in_ok-pass-in-Beta.field-0 packets is there.1 (ok.passed there.0 (c.packet_at-packet.ensures.packet packets writable are ∙ there.1))
 
-pub returns-in_ok-pass-in-Beta-clause-alpha : goal.returns-in_ok-pass-in-Beta-clause-alpha
-returns-in_ok-pass-in-Beta-clause-alpha g c = let ok = c.in_ok-pass-in-Beta.ensures {u = tt} in let is = sent_numbered c.args.traffic.now c.args.k c.note_at.result c.in-Some.sent c.note_at.ensures c.in-Some.is in
-    let there = packet_there c.args.traffic.now c.args.k c.in-Some.sent _ c.requires.packets.packets c.requires.number is c.requires.noted c.requires.packets.are in
-    let one = ok.passed there.0 (c.packet_at-packet.ensures.packet c.requires.packets.packets c.requires.packets.writable c.requires.packets.are ∙ there.1) in
-    one.held c.requires.alpha
-
-pub returns-in_ok-pass-in-Beta-clause-beta : goal.returns-in_ok-pass-in-Beta-clause-beta
-returns-in_ok-pass-in-Beta-clause-beta g c = let ok = c.in_ok-pass-in-Beta.ensures {u = tt} in let is = sent_numbered c.args.traffic.now c.args.k c.note_at.result c.in-Some.sent c.note_at.ensures c.in-Some.is in
-    let there = packet_there c.args.traffic.now c.args.k c.in-Some.sent _ c.requires.packets.packets c.requires.number is c.requires.noted c.requires.packets.are in
-    let one = ok.passed there.0 (c.packet_at-packet.ensures.packet c.requires.packets.packets c.requires.packets.writable c.requires.packets.are ∙ there.1) in
-    stored_held _ c.args.beta.now c.pass-in-Beta.new.other one.beside c.requires.beta
-
 pub returns-in_ok-pass-in-Beta-clause-alpha_faults : goal.returns-in_ok-pass-in-Beta-clause-alpha_faults
 returns-in_ok-pass-in-Beta-clause-alpha_faults g c = let ok = c.in_ok-pass-in-Beta.ensures {u = tt} in let is = sent_numbered c.args.traffic.now c.args.k c.note_at.result c.in-Some.sent c.note_at.ensures c.in-Some.is in
     let there = packet_there c.args.traffic.now c.args.k c.in-Some.sent _ c.requires.packets.packets c.requires.number is c.requires.noted c.requires.packets.are in
@@ -85,3 +61,15 @@ returns-in_ok-pass-in-Beta-clause-alpha_faults g c = let ok = c.in_ok-pass-in-Be
     disk_fails Alpha (side c.args.alpha.now c.args.beta.now c.args.traffic.now) (side c.pass-in-Beta.new.own c.pass-in-Beta.new.other c.pass-in-Beta.new.traffic) _ _ _
     (note_of c.in-Some.sent) there.0 c.args.k c.args.now c.in_ok-pass-in-Beta.field-0 is one (notes_of c.args.traffic.now) 0
     (is_for_other c.args.traffic.now c.args.k 0 c.in-Some.sent Beta is c.in-Beta.is)
+
+pub returns-in_err-pass-in-Alpha-clause-alpha : goal.returns-in_err-pass-in-Alpha-clause-alpha
+returns-in_err-pass-in-Alpha-clause-alpha g c = lasts_stored c.requires.alpha c.pass.ensures.beside
+
+pub returns-in_err-pass-in-Beta-clause-beta : goal.returns-in_err-pass-in-Beta-clause-beta
+returns-in_err-pass-in-Beta-clause-beta g c = lasts_stored c.requires.beta c.pass-in-Beta.ensures.beside
+
+pub returns-in_ok-pass-in-Alpha-clause-alpha : goal.returns-in_ok-pass-in-Alpha-clause-alpha
+returns-in_ok-pass-in-Alpha-clause-alpha g c = lasts_stored c.requires.alpha c.pass.ensures.beside
+
+pub returns-in_ok-pass-in-Beta-clause-beta : goal.returns-in_ok-pass-in-Beta-clause-beta
+returns-in_ok-pass-in-Beta-clause-beta g c = lasts_stored c.requires.beta c.pass-in-Beta.ensures.beside

@@ -1,4 +1,5 @@
 use Rattle.std.proofs.Common.{◌≡◌, ap, arith}
+use Rattle.mqb_seats.specs.lemmas.Keeping.{lasts_then}
 use Rattle.mqb_world.proofs.Flowing.{flows_first, flows_last, flows_next, never_missing}
 use Rattle.mqb_world.specs.Sides.{world}
 use Rattle.mqb_world.proofs.flows.deliver_all.Goals as goal
@@ -24,3 +25,15 @@ pub returns-clause-flows : goal.returns-clause-flows
 returns-clause-flows g c = let done : c.loop-i.i ≡ c.args.count = omega arith in
     flows_last (world c.args.alpha.now c.args.beta.now c.args.traffic.now) (world c.loop-i.alpha c.loop-i.beta c.loop-i.traffic) _ _ _ _ _ _ _ c.args.now c.args.before
     c.loop-i.i c.args.count c.loop-i.arrivals c.loop-i.invariant done
+
+pub returns-in_err-outcome-clause-alpha : goal.returns-in_err-outcome-clause-alpha
+returns-in_err-outcome-clause-alpha g c = lasts_then c.loop-i.invariant.alpha c.deliver.ensures.alpha
+
+pub returns-in_err-outcome-clause-beta : goal.returns-in_err-outcome-clause-beta
+returns-in_err-outcome-clause-beta g c = lasts_then c.loop-i.invariant.beta c.deliver.ensures.beta
+
+pub returns-in_err-push-clause-alpha : goal.returns-in_err-push-clause-alpha
+returns-in_err-push-clause-alpha g c = lasts_then c.loop-i.invariant.alpha c.deliver.ensures.alpha
+
+pub returns-in_err-push-clause-beta : goal.returns-in_err-push-clause-beta
+returns-in_err-push-clause-beta g c = lasts_then c.loop-i.invariant.beta c.deliver.ensures.beta

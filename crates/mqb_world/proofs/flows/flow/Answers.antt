@@ -5,7 +5,8 @@ use Rattle.mqb_network.specs.Events.{Flow}
 use Rattle.mqb_posts.specs.declared.faults.PostFault.TheVariants as post
 use Rattle.mqb_seats.specs.declared.packets.Pumped.TheVariants.{Broke, Refused, Went}
 use Rattle.mqb_traffic.specs.Networks.{index_of, notes_of}
-use Rattle.mqb_world.proofs.Flowed.{broke_alpha, broke_beta, broke_for_each, broke_told, flow_short_as, on_ok_of, refused_alpha, refused_beta, refused_flow, refused_for_each, sent_as, went_alpha, went_beta, went_flow, went_for_each, went_front, went_length, went_packets}
+use Rattle.mqb_seats.specs.lemmas.Keeping.{lasts_then}
+use Rattle.mqb_world.proofs.Flowed.{broke_alpha, broke_beta, broke_for_each, broke_told, flow_short_as, refused_alpha, refused_beta, refused_flow, refused_for_each, sent_as, went_alpha, went_beta, went_flow, went_for_each, went_front, went_length, went_packets}
 use Rattle.mqb_world.proofs.Flowing.{notes_stay}
 use Rattle.mqb_world.specs.Sides.{world}
 use Rattle.mqb_world.specs.Worlds.{network_of}
@@ -29,12 +30,6 @@ deliver_all-requires-clause-noted g c = went_for_each (world c.args.alpha.now c.
 pub deliver_all-requires-clause-packets : goal.deliver_all-requires-clause-packets
 deliver_all-requires-clause-packets g c = went_packets (world c.args.alpha.now c.args.beta.now c.args.traffic.now) (world c.send.new.alpha c.send.new.beta c.send.new.traffic) _ _ _ _ _ _ _ _ c.args.now c.in-Went.count c.in-Went.recorded c.requires.noted c.refusals_change_nothing.ensures c.requires.packets c.args.which (sent_as c.args.which (world c.args.alpha.now c.args.beta.now c.args.traffic.now) (world c.send.new.alpha c.send.new.beta c.send.new.traffic) _ _ _ _ _ _ _ _ c.args.now c.send.result c.in-Ok.pumped (Went c.in-Went.count c.in-Went.recorded) c.send.ensures.sent c.in-Ok.is c.in-Went.is)
 
-pub deliver_all-requires-clause-alpha : goal.deliver_all-requires-clause-alpha
-deliver_all-requires-clause-alpha g c = on_ok_of _ c.send.result c.in-Ok.pumped c.in-Ok.is c.send.ensures.alpha
-
-pub deliver_all-requires-clause-beta : goal.deliver_all-requires-clause-beta
-deliver_all-requires-clause-beta g c = on_ok_of _ c.send.result c.in-Ok.pumped c.in-Ok.is c.send.ensures.beta
-
 pub returns-in_err-deliver_all-in-Went-clause-short : goal.returns-in_err-deliver_all-in-Went-clause-short
 returns-in_err-deliver_all-in-Went-clause-short g c = let is : c.from_residual.result ≡ Err post.Memory = search rules in
     subst (λ r. FallsShort (network_of (world c.args.alpha.now c.args.beta.now c.args.traffic.now)) None (Flow (index_of c.args.which) c.args.now) (g.M.Medium.strings c.args.medium.now) (g.M.Medium.strings c.send.new.medium) r) (sym is)
@@ -46,12 +41,6 @@ returns-in_ok-deliver_all-in-Went-clause-step g c = went_flow (world c.args.alph
 pub returns-in_ok-deliver_all-in-Went-clause-noted : goal.returns-in_ok-deliver_all-in-Went-clause-noted
 returns-in_ok-deliver_all-in-Went-clause-noted g c = notes_stay (world c.send.new.alpha c.send.new.beta c.send.new.traffic) (world c.deliver_all.new.alpha c.deliver_all.new.beta c.deliver_all.new.traffic) (c.in_ok-deliver_all-in-Went.ensures {u = tt}).flows.notes
     ∙ went_for_each (world c.args.alpha.now c.args.beta.now c.args.traffic.now) (world c.send.new.alpha c.send.new.beta c.send.new.traffic) _ _ _ _ _ _ _ _ c.args.now c.in-Went.count c.in-Went.recorded c.requires.noted c.args.which c.requires.unlinked (sent_as c.args.which (world c.args.alpha.now c.args.beta.now c.args.traffic.now) (world c.send.new.alpha c.send.new.beta c.send.new.traffic) _ _ _ _ _ _ _ _ c.args.now c.send.result c.in-Ok.pumped (Went c.in-Went.count c.in-Went.recorded) c.send.ensures.sent c.in-Ok.is c.in-Went.is)
-
-pub returns-in_ok-deliver_all-in-Went-clause-alpha : goal.returns-in_ok-deliver_all-in-Went-clause-alpha
-returns-in_ok-deliver_all-in-Went-clause-alpha g c = (c.in_ok-deliver_all-in-Went.ensures {u = tt}).flows.alpha
-
-pub returns-in_ok-deliver_all-in-Went-clause-beta : goal.returns-in_ok-deliver_all-in-Went-clause-beta
-returns-in_ok-deliver_all-in-Went-clause-beta g c = (c.in_ok-deliver_all-in-Went.ensures {u = tt}).flows.beta
 
 pub returns-in_ok-deliver_all-in-Went-clause-alpha_faults : goal.returns-in_ok-deliver_all-in-Went-clause-alpha_faults
 returns-in_ok-deliver_all-in-Went-clause-alpha_faults g c = went_alpha (world c.args.alpha.now c.args.beta.now c.args.traffic.now) (world c.send.new.alpha c.send.new.beta c.send.new.traffic) _ _ _ _ _ _ _ _ c.args.now c.in-Went.count c.in-Went.recorded c.requires.noted c.refusals_change_nothing.ensures c.requires.packets (world c.deliver_all.new.alpha c.deliver_all.new.beta c.deliver_all.new.traffic) _ _ _ _ c.count-before.result c.in_ok-deliver_all-in-Went.field-0 c.count-before.ensures (c.in_ok-deliver_all-in-Went.ensures {u = tt}).flows c.args.which (sent_as c.args.which (world c.args.alpha.now c.args.beta.now c.args.traffic.now) (world c.send.new.alpha c.send.new.beta c.send.new.traffic) _ _ _ _ _ _ _ _ c.args.now c.send.result c.in-Ok.pumped (Went c.in-Went.count c.in-Went.recorded) c.send.ensures.sent c.in-Ok.is c.in-Went.is)
@@ -65,12 +54,6 @@ returns-in-Refused-clause-step g c = refused_flow c.args.which (world c.args.alp
 pub returns-in-Refused-clause-noted : goal.returns-in-Refused-clause-noted
 returns-in-Refused-clause-noted g c = refused_for_each (world c.args.alpha.now c.args.beta.now c.args.traffic.now) (world c.send.new.alpha c.send.new.beta c.send.new.traffic) _ _ _ _ _ _ _ _ c.args.now (notes_of c.send.new.traffic) c.args.which c.in-Refused.reply c.requires.noted (sent_as c.args.which (world c.args.alpha.now c.args.beta.now c.args.traffic.now) (world c.send.new.alpha c.send.new.beta c.send.new.traffic) _ _ _ _ _ _ _ _ c.args.now c.send.result c.in-Ok.pumped (Refused c.in-Refused.reply) c.send.ensures.sent c.in-Ok.is c.in-Refused.is)
 
-pub returns-in-Refused-clause-alpha : goal.returns-in-Refused-clause-alpha
-returns-in-Refused-clause-alpha g c = on_ok_of _ c.send.result c.in-Ok.pumped c.in-Ok.is c.send.ensures.alpha
-
-pub returns-in-Refused-clause-beta : goal.returns-in-Refused-clause-beta
-returns-in-Refused-clause-beta g c = on_ok_of _ c.send.result c.in-Ok.pumped c.in-Ok.is c.send.ensures.beta
-
 pub returns-in-Refused-clause-alpha_faults : goal.returns-in-Refused-clause-alpha_faults
 returns-in-Refused-clause-alpha_faults g c = refused_alpha (world c.args.alpha.now c.args.beta.now c.args.traffic.now) (world c.send.new.alpha c.send.new.beta c.send.new.traffic) _ _ _ _ _ _ _ _ c.args.now (notes_of c.send.new.traffic) c.args.which c.in-Refused.reply (sent_as c.args.which (world c.args.alpha.now c.args.beta.now c.args.traffic.now) (world c.send.new.alpha c.send.new.beta c.send.new.traffic) _ _ _ _ _ _ _ _ c.args.now c.send.result c.in-Ok.pumped (Refused c.in-Refused.reply) c.send.ensures.sent c.in-Ok.is c.in-Refused.is)
 
@@ -83,12 +66,6 @@ returns-in-Broke-clause-step g c = broke_told c.args.which (world c.args.alpha.n
 pub returns-in-Broke-clause-noted : goal.returns-in-Broke-clause-noted
 returns-in-Broke-clause-noted g c = broke_for_each (world c.args.alpha.now c.args.beta.now c.args.traffic.now) (world c.send.new.alpha c.send.new.beta c.send.new.traffic) _ _ _ _ _ _ _ _ c.args.now (notes_of c.send.new.traffic) c.args.which c.in-Broke.how c.requires.noted (sent_as c.args.which (world c.args.alpha.now c.args.beta.now c.args.traffic.now) (world c.send.new.alpha c.send.new.beta c.send.new.traffic) _ _ _ _ _ _ _ _ c.args.now c.send.result c.in-Ok.pumped (Broke c.in-Broke.how) c.send.ensures.sent c.in-Ok.is c.in-Broke.is)
 
-pub returns-in-Broke-clause-alpha : goal.returns-in-Broke-clause-alpha
-returns-in-Broke-clause-alpha g c = on_ok_of _ c.send.result c.in-Ok.pumped c.in-Ok.is c.send.ensures.alpha
-
-pub returns-in-Broke-clause-beta : goal.returns-in-Broke-clause-beta
-returns-in-Broke-clause-beta g c = on_ok_of _ c.send.result c.in-Ok.pumped c.in-Ok.is c.send.ensures.beta
-
 pub returns-in-Broke-clause-alpha_faults : goal.returns-in-Broke-clause-alpha_faults
 returns-in-Broke-clause-alpha_faults g c = subst (λ r. FailsAs (failures_in (notes_of c.send.new.traffic) (index_of c.args.which) 0 r) (g.P.Power.is_stopped c.send.new.first)
     (g.P.Disk.view c.args.first.now).faults (g.P.Disk.view c.send.new.first).faults) (sym c.failure_reply.ensures)
@@ -98,3 +75,15 @@ pub returns-in-Broke-clause-beta_faults : goal.returns-in-Broke-clause-beta_faul
 returns-in-Broke-clause-beta_faults g c = subst (λ r. FailsAs (failures_in (notes_of c.send.new.traffic) (index_of c.args.which) 1 r) (g.P.Power.is_stopped c.send.new.second)
     (g.P.Disk.view c.args.second.now).faults (g.P.Disk.view c.send.new.second).faults) (sym c.failure_reply.ensures)
     (broke_beta (world c.args.alpha.now c.args.beta.now c.args.traffic.now) (world c.send.new.alpha c.send.new.beta c.send.new.traffic) _ _ _ _ _ _ _ _ c.args.now (notes_of c.send.new.traffic) c.args.which c.in-Broke.how (sent_as c.args.which (world c.args.alpha.now c.args.beta.now c.args.traffic.now) (world c.send.new.alpha c.send.new.beta c.send.new.traffic) _ _ _ _ _ _ _ _ c.args.now c.send.result c.in-Ok.pumped (Broke c.in-Broke.how) c.send.ensures.sent c.in-Ok.is c.in-Broke.is))
+
+pub returns-in_ok-deliver_all-in-Went-clause-alpha : goal.returns-in_ok-deliver_all-in-Went-clause-alpha
+returns-in_ok-deliver_all-in-Went-clause-alpha g c = lasts_then c.send.ensures.alpha c.deliver_all.ensures.alpha
+
+pub returns-in_ok-deliver_all-in-Went-clause-beta : goal.returns-in_ok-deliver_all-in-Went-clause-beta
+returns-in_ok-deliver_all-in-Went-clause-beta g c = lasts_then c.send.ensures.beta c.deliver_all.ensures.beta
+
+pub returns-in_err-deliver_all-in-Went-clause-alpha : goal.returns-in_err-deliver_all-in-Went-clause-alpha
+returns-in_err-deliver_all-in-Went-clause-alpha g c = lasts_then c.send.ensures.alpha c.deliver_all.ensures.alpha
+
+pub returns-in_err-deliver_all-in-Went-clause-beta : goal.returns-in_err-deliver_all-in-Went-clause-beta
+returns-in_err-deliver_all-in-Went-clause-beta g c = lasts_then c.send.ensures.beta c.deliver_all.ensures.beta

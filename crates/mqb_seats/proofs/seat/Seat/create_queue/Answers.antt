@@ -3,7 +3,7 @@ use Rattle.mqb_model.specs.calls.CreateQueue.{create_queue}
 use Rattle.mqb_model.specs.declared.faults.CreateFault.TheVariants as fault
 use Rattle.mqb_replies.specs.Replies as replies
 use Rattle.mqb_seats.specs.Called.{alone}
-use Rattle.mqb_seats.proofs.Telling.{call_broke, call_told}
+use Rattle.mqb_seats.proofs.Telling.{call_broke, call_lasts, call_told}
 use Rattle.mqb_seats.proofs.seat.Seat.create_queue.Goals as goal
 
 pub returns-in-Err-DiskFault-clause-called : goal.returns-in-Err-DiskFault-clause-called
@@ -18,3 +18,21 @@ returns-clause-called g c =
     call_told _ _ c.self.inside.manager c.create_queue-answer.new.self c.self.inside.unread _ c.args.self.now c.self.view_is (sym c.is_down.ensures ∙ c.if-is_down.false)
     fault.Memory fault.DiskFault (λ k. create_queue k c.args.plan.now) c.create_queue-answer.result c.in_ok-reply.reply _ (alone replies.create_reply) c.create_queue-answer.ensures.call
     refl refl c.lsn-before.result c.lsn-before.ensures refl (sym c.create_reply.ensures ∙ c.in_ok-reply.ensures {u = tt}) c.told-2.result c.told-2.ensures
+
+pub returns-in-Err-DiskFault-clause-lasts : goal.returns-in-Err-DiskFault-clause-lasts
+returns-in-Err-DiskFault-clause-lasts g c =
+    call_lasts _ _ c.self.inside.manager c.create_queue-answer.new.self c.self.inside.unread (g.P.Power.is_stopped c.create_queue-answer.new.disk) c.args.self.now c.self.view_is (sym c.is_down.ensures ∙ c.if-is_down.false)
+    fault.Memory fault.DiskFault (λ k. create_queue k c.args.plan.now) c.create_queue-answer.result c.create_queue-answer.ensures.call (λ e. let none : ⊥ = cc in none) (λ k. (c.definitions_do_not_fail.ensures k).queues c.args.plan.now)
+    c.images_open_to_one.ensures (g.met.P.Disk.lawful c.create_queue-answer.new.disk) (g.met.P.Power.tells c.create_queue-answer.new.disk).0 (g.met.P.Power.tells c.create_queue-answer.new.disk).1 c.requires
+
+pub returns-in_err-reply-clause-lasts : goal.returns-in_err-reply-clause-lasts
+returns-in_err-reply-clause-lasts g c =
+    call_lasts _ _ c.self.inside.manager c.create_queue-answer.new.self c.self.inside.unread (g.P.Power.is_stopped c.create_queue-answer.new.disk) c.args.self.now c.self.view_is (sym c.is_down.ensures ∙ c.if-is_down.false)
+    fault.Memory fault.DiskFault (λ k. create_queue k c.args.plan.now) c.create_queue-answer.result c.create_queue-answer.ensures.call (λ e. let none : ⊥ = cc in none) (λ k. (c.definitions_do_not_fail.ensures k).queues c.args.plan.now)
+    c.images_open_to_one.ensures (g.met.P.Disk.lawful c.create_queue-answer.new.disk) (g.met.P.Power.tells c.create_queue-answer.new.disk).0 (g.met.P.Power.tells c.create_queue-answer.new.disk).1 c.requires
+
+pub returns-clause-lasts : goal.returns-clause-lasts
+returns-clause-lasts g c =
+    call_lasts _ _ c.self.inside.manager c.create_queue-answer.new.self c.self.inside.unread (g.P.Power.is_stopped c.create_queue-answer.new.disk) c.args.self.now c.self.view_is (sym c.is_down.ensures ∙ c.if-is_down.false)
+    fault.Memory fault.DiskFault (λ k. create_queue k c.args.plan.now) c.create_queue-answer.result c.create_queue-answer.ensures.call (λ e. let none : ⊥ = cc in none) (λ k. (c.definitions_do_not_fail.ensures k).queues c.args.plan.now)
+    c.images_open_to_one.ensures (g.met.P.Disk.lawful c.create_queue-answer.new.disk) (g.met.P.Power.tells c.create_queue-answer.new.disk).0 (g.met.P.Power.tells c.create_queue-answer.new.disk).1 c.requires

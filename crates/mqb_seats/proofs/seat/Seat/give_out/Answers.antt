@@ -6,6 +6,7 @@ use Rattle.mqb_model.specs.declared.faults.PumpFault.TheVariants as fault
 use Rattle.mqb_moves.specs.States.{manager_of}
 use Rattle.mqb_packet.specs.Plain.{plain_spelling}
 use Rattle.mqb_seats.proofs.Pumping.{pump_spelled, pump_told}
+use Rattle.mqb_seats.proofs.Telling.{call_lasts}
 use Rattle.mqb_seats.proofs.seat.Seat.give_out.Goals as goal
 use Rattle.mqb_seats.specs.Pumped.{TellsPumped}
 
@@ -40,3 +41,9 @@ returns-clause-spelled g c = if_ok c.went.result (λ q tells.
 
 pub returns-clause-faults : goal.returns-clause-faults
 returns-clause-faults g c = on_err c.went.result (λ wanted. c.pump-answer.ensures.call.stayed (λ failed. differ (sym wanted ∙ failed))) c.went.ensures.wanted
+
+pub returns-clause-lasts : goal.returns-clause-lasts
+returns-clause-lasts g c =
+    call_lasts _ _ c.self.inside.manager c.pump-answer.new.self c.self.inside.unread (g.P.Power.is_stopped c.pump-answer.new.disk) c.args.self.now c.self.view_is (sym c.is_down.ensures ∙ c.if-is_down.false)
+    fault.Memory fault.DiskFault (λ k. pump k c.args.now) c.pump-answer.result c.pump-answer.ensures.call (λ e. let none : ⊥ = cc in none) (λ k. (c.definitions_do_not_fail.ensures k).pumps c.args.now)
+    c.images_open_to_one.ensures (g.met.P.Disk.lawful c.pump-answer.new.disk) (g.met.P.Power.tells c.pump-answer.new.disk).0 (g.met.P.Power.tells c.pump-answer.new.disk).1 c.requires.held

@@ -8,6 +8,8 @@ use Rattle.mqb_moves.specs.Seats.{SeatState}
 use Rattle.mqb_outside.specs.Faults.{Rose}
 use Rattle.mqb_seats.specs.Opened.{IsOpened, opened_by}
 use Rattle.mqb_seats.specs.declared.restarting.Opened.{Opened}
+use Rattle.mqb_seats.specs.declared.restarting.Opened.TheVariants.{Unread}
+use Rattle.mqb_seats.proofs.Lasting.{opened_lasts, unstarted_lasts}
 use Rattle.mqb_seats.proofs.Opening.{as_left, not_opened, opened_so}
 use Rattle.mqb_seats.proofs.seat.Seat.restart.Goals as goal
 
@@ -47,3 +49,16 @@ returns-in-Err-Memory-clause-left g c = as_left (g.P.Disk.view c.restart.new.sel
 
 pub returns-in-Err-DiskFault-clause-left : goal.returns-in-Err-DiskFault-clause-left
 returns-in-Err-DiskFault-clause-left g c = as_left (g.P.Disk.view c.restart.new.self) _ c.restart.ensures.settled c.restart.ensures.last_left c.start.ensures.reads
+
+pub returns-in-Ok-clause-lasts : goal.returns-in-Ok-clause-lasts
+returns-in-Ok-clause-lasts g c = opened_lasts _ _ c.args.self.now c.opened.new.self c.opened.result (returns-in-Ok-clause-opened g c)
+
+pub returns-in-Err-DiskFault-clause-lasts : goal.returns-in-Err-DiskFault-clause-lasts
+returns-in-Err-DiskFault-clause-lasts g c = opened_lasts _ _ c.args.self.now _ Unread (returns-in-Err-DiskFault-clause-opened g c)
+
+pub returns-in-Err-Memory-clause-lasts : goal.returns-in-Err-Memory-clause-lasts
+returns-in-Err-Memory-clause-lasts g c =
+    let wanted : c.start.result ≡ Err fault.Memory = search rules in
+    unstarted_lasts _ (g.P.Disk.view c.restart.new.self) _ c.args.self.now c.requires c.restart.ensures.settled c.restart.ensures.one_of c.start.ensures.reads
+    (subst (λ (r : Result ManagerState OpenFault). FaultsAsSaid open_failed (g.P.Disk.view c.restart.new.self).faults (g.P.Disk.view c.start.new.disk).faults r) wanted c.start.ensures.cause
+    ∙ c.restart.ensures.faults)

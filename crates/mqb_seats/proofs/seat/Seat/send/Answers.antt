@@ -2,7 +2,7 @@ use Rattle.std.proofs.Common.{◌≡◌, Err, refl, rules, sym, ◌∙◌}
 use Rattle.mqb_model.specs.calls.Send.{send}
 use Rattle.mqb_model.specs.declared.faults.SendFault.TheVariants as fault
 use Rattle.mqb_replies.specs.Replies as replies
-use Rattle.mqb_seats.proofs.Telling.{call_broke, call_told}
+use Rattle.mqb_seats.proofs.Telling.{call_broke, call_lasts, call_told}
 use Rattle.mqb_seats.proofs.seat.Seat.send.Goals as goal
 
 pub returns-in-Err-DiskFault-clause-called : goal.returns-in-Err-DiskFault-clause-called
@@ -17,3 +17,27 @@ returns-clause-called g c =
     call_told _ _ c.self.inside.manager c.send-answer.new.self c.self.inside.unread _ c.args.self.now c.self.view_is (sym c.is_down.ensures ∙ c.if-is_down.false)
     fault.Memory fault.DiskFault (λ k. send k c.args.draft.now c.args.recoverable c.args.now) c.send-answer.result c.in_ok-reply.reply _ replies.send_reply c.send-answer.ensures.call
     refl refl c.lsn-before.result c.lsn-before.ensures (c.in_ok-lines.ensures) (sym c.send_reply.ensures ∙ c.in_ok-reply.ensures {u = tt}) c.told-2.result c.told-2.ensures
+
+pub returns-in-Err-DiskFault-clause-lasts : goal.returns-in-Err-DiskFault-clause-lasts
+returns-in-Err-DiskFault-clause-lasts g c =
+    call_lasts _ _ c.self.inside.manager c.send-answer.new.self c.self.inside.unread (g.P.Power.is_stopped c.send-answer.new.disk) c.args.self.now c.self.view_is (sym c.is_down.ensures ∙ c.if-is_down.false)
+    fault.Memory fault.DiskFault (λ k. send k c.args.draft.now c.args.recoverable c.args.now) c.send-answer.result c.send-answer.ensures.call (λ e. let none : ⊥ = cc in none) (λ k. (c.definitions_do_not_fail.ensures k).sends c.args.draft.now c.args.recoverable c.args.now)
+    c.images_open_to_one.ensures (g.met.P.Disk.lawful c.send-answer.new.disk) (g.met.P.Power.tells c.send-answer.new.disk).0 (g.met.P.Power.tells c.send-answer.new.disk).1 c.requires.held
+
+pub returns-in_err-lines-clause-lasts : goal.returns-in_err-lines-clause-lasts
+returns-in_err-lines-clause-lasts g c =
+    call_lasts _ _ c.self.inside.manager c.send-answer.new.self c.self.inside.unread (g.P.Power.is_stopped c.send-answer.new.disk) c.args.self.now c.self.view_is (sym c.is_down.ensures ∙ c.if-is_down.false)
+    fault.Memory fault.DiskFault (λ k. send k c.args.draft.now c.args.recoverable c.args.now) c.send-answer.result c.send-answer.ensures.call (λ e. let none : ⊥ = cc in none) (λ k. (c.definitions_do_not_fail.ensures k).sends c.args.draft.now c.args.recoverable c.args.now)
+    c.images_open_to_one.ensures (g.met.P.Disk.lawful c.send-answer.new.disk) (g.met.P.Power.tells c.send-answer.new.disk).0 (g.met.P.Power.tells c.send-answer.new.disk).1 c.requires.held
+
+pub returns-in_err-reply-clause-lasts : goal.returns-in_err-reply-clause-lasts
+returns-in_err-reply-clause-lasts g c =
+    call_lasts _ _ c.self.inside.manager c.send-answer.new.self c.self.inside.unread (g.P.Power.is_stopped c.send-answer.new.disk) c.args.self.now c.self.view_is (sym c.is_down.ensures ∙ c.if-is_down.false)
+    fault.Memory fault.DiskFault (λ k. send k c.args.draft.now c.args.recoverable c.args.now) c.send-answer.result c.send-answer.ensures.call (λ e. let none : ⊥ = cc in none) (λ k. (c.definitions_do_not_fail.ensures k).sends c.args.draft.now c.args.recoverable c.args.now)
+    c.images_open_to_one.ensures (g.met.P.Disk.lawful c.send-answer.new.disk) (g.met.P.Power.tells c.send-answer.new.disk).0 (g.met.P.Power.tells c.send-answer.new.disk).1 c.requires.held
+
+pub returns-clause-lasts : goal.returns-clause-lasts
+returns-clause-lasts g c =
+    call_lasts _ _ c.self.inside.manager c.send-answer.new.self c.self.inside.unread (g.P.Power.is_stopped c.send-answer.new.disk) c.args.self.now c.self.view_is (sym c.is_down.ensures ∙ c.if-is_down.false)
+    fault.Memory fault.DiskFault (λ k. send k c.args.draft.now c.args.recoverable c.args.now) c.send-answer.result c.send-answer.ensures.call (λ e. let none : ⊥ = cc in none) (λ k. (c.definitions_do_not_fail.ensures k).sends c.args.draft.now c.args.recoverable c.args.now)
+    c.images_open_to_one.ensures (g.met.P.Disk.lawful c.send-answer.new.disk) (g.met.P.Power.tells c.send-answer.new.disk).0 (g.met.P.Power.tells c.send-answer.new.disk).1 c.requires.held

@@ -1,5 +1,8 @@
+use Rattle.std.proofs.Common.{subst}
+use Rattle.mqb_seats.specs.Lasting.{Lasts}
 use Rattle.mqb_world.proofs.Answering.{err_applied, ok_applied, ordered_so}
 use Rattle.mqb_world.specs.Sides.{world}
+use Rattle.mqb_world.specs.Worlds.{WorldState}
 use Rattle.mqb_world.proofs.world.World.apply.Goals.{in-Err, in-Ok}
 use Rattle.mqb_world.proofs.world.World.apply.Goals as goal
 
@@ -17,3 +20,11 @@ returns-clause-applied g c = let w = world c.self.inside.alpha c.self.inside.bet
           (g.P.Disk.view c.args.first.now) (g.P.Disk.view c.args.first.now) (g.P.Disk.view c.args.first.now) (g.P.Disk.view c.args.first.now) (g.P.Power.is_stopped c.args.first.now) (g.P.Power.is_stopped c.args.first.now)
           c.proceed-proceeded.result c.match-proceeded.result x.in-Err.fault x.from.result x.in-Err.is x.from.ensures x.result-is c.proceed-proceeded.ensures.short
     ]
+
+pub returns-clause-alpha : goal.returns-clause-alpha
+returns-clause-alpha g c = subst (λ (w : WorldState). Lasts (g.P.Disk.view c.args.first.now) (g.P.Disk.view c.proceed-proceeded.new.first) w.alpha c.proceed-proceeded.new.alpha)
+    c.self.view_is c.proceed-proceeded.ensures.alpha
+
+pub returns-clause-beta : goal.returns-clause-beta
+returns-clause-beta g c = subst (λ (w : WorldState). Lasts (g.P.Disk.view c.args.second.now) (g.P.Disk.view c.proceed-proceeded.new.second) w.beta c.proceed-proceeded.new.beta)
+    c.self.view_is c.proceed-proceeded.ensures.beta
