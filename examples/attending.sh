@@ -15,8 +15,8 @@ cat >attending <<'END'
 while :; do
   mqb attend beta.store 1 || exit
   while order=$(mqb peek beta.store orders); do
-    ./handle $order || exit
-    mqb commit beta.store take,orders 'send,DIRECT=OS:alpha\PRIVATE$\answers,-,-,-,-,-,done' || exit
+    ./handle <<<"$order" || exit
+    mqb commit beta.store take,orders 'send,DIRECT=OS:alpha\PRIVATE$\answers,-,-,d,-,-,done' || exit
   done
   mqb push beta.store alpha
   [ $? -ne 6 ] || exit 6
@@ -25,7 +25,8 @@ done
 END
 cat >handle <<'END'
 #!/bin/bash
-echo "$1 $(printf "\x${10:0:2}")" >>handled
+read -r id _ _ _ _ _ _ _ _ body
+echo "$id $(printf "\x${body:0:2}")" >>handled
 END
 cat >mqb.service <<'END'
 [Unit]
@@ -36,6 +37,7 @@ After=network-online.target
 [Service]
 User=mqb
 WorkingDirectory=/srv/mqb
+Environment=MQB_WAIT=5000 MQB_HOLD=60
 ExecStart=/bin/bash attending
 Restart=on-failure
 RestartSec=10
@@ -53,14 +55,14 @@ mqb peer beta.store alpha 0a0b0c0d-0e0f-1011-1213-141516171819 127.0.0.2
 mqb create alpha.store answers tx 1000 none
 mqb create beta.store orders tx 1000 none
 set -m # the loop is a group of its own, as a service is
-$(sed -n 's/^ExecStart=//p' mqb.service) >log 2>&1 &
+env $(sed -n 's/^Environment=//p' mqb.service) $(sed -n 's/^ExecStart=//p' mqb.service) >log 2>&1 &
 service=$!
 set +m
 trap 'kill -- -$service; rm -rf "$folder"' EXIT
-mqb commit alpha.store 'send,DIRECT=OS:beta\PRIVATE$\orders,-,-,-,-,-,a' 'send,DIRECT=OS:beta\PRIVATE$\orders,-,-,-,-,-,b'
+mqb commit alpha.store 'send,DIRECT=OS:beta\PRIVATE$\orders,-,-,d,-,-,a' 'send,DIRECT=OS:beta\PRIVATE$\orders,-,-,d,-,-,b'
 until mqb push alpha.store beta >pushed; do kill -0 $service || exit; sleep 0.1; done
 cat pushed
-mqb commit alpha.store 'send,DIRECT=OS:beta\PRIVATE$\orders,-,-,-,-,-,c'
-until mqb list alpha.store | grep -q ' answers beta.1 beta.2 beta.3$'; do mqb fetch alpha.store beta 1 >fetched; sleep 2; done # beta attends until none comes for a second
+mqb commit alpha.store 'send,DIRECT=OS:beta\PRIVATE$\orders,-,-,d,-,-,*70000' # more than one word of a command may have
+until mqb list alpha.store | grep -q ' answers beta.1 beta.3 beta.5$'; do mqb fetch alpha.store beta 1 >fetched; sleep 2; done # beta attends until none comes for a second
 cat handled
 mqb list alpha.store

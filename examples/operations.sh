@@ -38,7 +38,7 @@ chmod 600 alpha.store beta.store
 mqb peer alpha.store beta 1a1b1c1d-1e1f-2021-2223-242526272829 127.0.0.1
 mqb peer beta.store alpha 0a0b0c0d-0e0f-1011-1213-141516171819 127.0.0.1
 mqb create beta.store orders tx 1000 none
-mqb commit alpha.store 'send,DIRECT=OS:beta\PRIVATE$\orders,-,-,-,-,-,first'
+mqb commit alpha.store 'send,DIRECT=OS:beta\PRIVATE$\orders,-,-,d,-,-,first'
 mqb serve beta.store 1 &
 serving
 mqb push alpha.store beta
@@ -73,7 +73,7 @@ mkdir moved
 flock -n beta.store cp beta.store moved/beta.store
 sync moved/beta.store
 mv beta.store beta.store.moved
-mqb commit alpha.store 'send,DIRECT=OS:beta\PRIVATE$\orders,-,-,-,-,-,second'
+mqb commit alpha.store 'send,DIRECT=OS:beta\PRIVATE$\orders,-,-,d,-,-,second'
 mqb serve moved/beta.store 1 >/dev/null &
 serving
 mqb push alpha.store beta 127.0.0.1
@@ -103,7 +103,7 @@ rm beta.store
 mqb init beta.store beta 1a1b1c1d-1e1f-2021-2223-242526272829 127.0.0.1
 mqb peer beta.store alpha 0a0b0c0d-0e0f-1011-1213-141516171819 127.0.0.1
 mqb create beta.store orders tx 1000 none
-mqb commit alpha.store 'send,DIRECT=OS:beta\PRIVATE$\orders,-,-,-,-,-,fourth'
+mqb commit alpha.store 'send,DIRECT=OS:beta\PRIVATE$\orders,-,-,d,-,-,fourth'
 miss ' 4 4 3' alpha.store beta.store beta
 
 begin 'A new manager in its place'
@@ -111,7 +111,7 @@ mqb init delta.store delta 3a3b3c3d-3e3f-4041-4243-444546474849 127.0.0.1
 mqb peer delta.store alpha 0a0b0c0d-0e0f-1011-1213-141516171819 127.0.0.1
 mqb create delta.store orders tx 1000 none
 mqb peer alpha.store delta 3a3b3c3d-3e3f-4041-4243-444546474849 127.0.0.1
-mqb commit alpha.store 'send,DIRECT=OS:delta\PRIVATE$\orders,-,-,-,-,-,fourth'
+mqb commit alpha.store 'send,DIRECT=OS:delta\PRIVATE$\orders,-,-,d,-,-,fourth'
 meet alpha.store delta.store delta
 marks alpha.store delta.store
 
@@ -141,3 +141,14 @@ meet zeta.store delta.store delta
 marks zeta.store delta.store # and now nothing shows it any more
 mqb purge delta.store orders
 mqb list delta.store | grep queue
+
+begin 'A message that is refused: without a flag it is gone'
+mqb init eta.store eta 5a5b5c5d-5e5f-6061-6263-646566676869 127.0.0.1
+mqb peer eta.store delta 3a3b3c3d-3e3f-4041-4243-444546474849 127.0.0.1
+mqb peer delta.store eta 5a5b5c5d-5e5f-6061-6263-646566676869 127.0.0.1
+mqb commit eta.store 'send,DIRECT=OS:delta\PRIVATE$\misspelt,-,-,-,-,-,gone' 'send,DIRECT=OS:delta\PRIVATE$\misspelt,-,-,dj,-,-,kept'
+meet eta.store delta.store delta
+meet delta.store eta.store eta
+mqb list eta.store
+mqb peek eta.store ';deadxact' 10
+mqb take eta.store ';journal'
