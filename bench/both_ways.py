@@ -7,31 +7,27 @@ each row is acknowledged, and no line is `netfault`; else it is said what is so,
 Seen: all of 215 rows went well, beside this program and beside another one at either end, each in under 5 seconds on a busy machine; two ends of that other program, which writes all
 before it reads, block in each of the first three loads.
 
-It stands outside the gate. Its port must be free: 1801, or MQB_PORT. MQB names another program, PEER the other one.
+It stands outside the gate. Its port must be free: 1801, or MQB_PORT. MQB names another program than `./mqb --where` does, PEER the other one.
 """
 import os, pathlib, random, re, subprocess, sys, tempfile, time
+from managers import GUIDS, MQB, OTHER, listening
 
-TOP = pathlib.Path(__file__).resolve().parent.parent
-MQB = os.environ.get("MQB", str(TOP / "crates/mqb/out/mqb"))
 PEER = os.environ.get("PEER")
-PORT = int(os.environ.get("MQB_PORT", "1801"))
 LIMIT = float(os.environ.get("LIMIT", "30"))
 DRAWN = int(sys.argv[1]) if len(sys.argv) > 1 else 40
-HOSTS = {"alpha": "0a0b0c0d-0e0f-1011-1213-141516171819", "beta": "1a1b1c1d-1e1f-2021-2223-242526272829"}
-OTHER = {"alpha": "beta", "beta": "alpha"}
 
 
 class Ends:
     """Two managers, each by its program, and how many messages each has sent to the queue of the other."""
 
     def __init__(self, folder, programs):
-        self.programs, self.sent, self.lines = programs, {host: 0 for host in HOSTS}, []
-        self.stores = {host: f"{folder}/{host}.store" for host in HOSTS}
-        for host in HOSTS:
+        self.programs, self.sent, self.lines = programs, {host: 0 for host in GUIDS}, []
+        self.stores = {host: f"{folder}/{host}.store" for host in GUIDS}
+        for host in GUIDS:
             pathlib.Path(self.stores[host]).unlink(missing_ok=True)
-            self.asked(host, "init", host, HOSTS[host], "127.0.0.1")
-        for host in HOSTS:
-            self.asked(host, "peer", OTHER[host], HOSTS[OTHER[host]], "127.0.0.1")
+            self.asked(host, "init", host, GUIDS[host], "127.0.0.1")
+        for host in GUIDS:
+            self.asked(host, "peer", OTHER[host], GUIDS[OTHER[host]], "127.0.0.1")
             self.asked(host, "create", "orders", "tx", "1000000", "none")
 
     def asked(self, host, word, *words):
@@ -63,7 +59,7 @@ class Ends:
     def wanting(self):
         """What is not yet as it is to be: a queue without each message once, a row that is not acknowledged."""
         said = []
-        for host in HOSTS:
+        for host in GUIDS:
             queue, acknowledged = [], 0
             for line in self.asked(host, "list"):
                 if line.startswith(f"{host} queue orders"):
@@ -76,15 +72,6 @@ class Ends:
             if acknowledged != self.sent[host]:
                 said.append(f"{acknowledged} of {self.sent[host]} of {host} are acknowledged")
         return said
-
-
-def listening(process):
-    """Waits until somebody listens on the port, without connecting: a connection would be served."""
-    while process.poll() is None:
-        if any(line.split()[1].endswith(f":{PORT:04X}") and line.split()[3] == "0A" for line in open("/proc/net/tcp").readlines()[1:]):
-            return
-        time.sleep(0.005)
-    raise SystemExit(f"nobody listens: {process.communicate()[0]}")
 
 
 def by_fetch(ends):
@@ -105,7 +92,7 @@ def by_turns(ends):
 def tried(name, way, programs, folder, load):
     """Says how a load went, and whether it went well."""
     ends = Ends(folder, programs)
-    for host in HOSTS:
+    for host in GUIDS:
         ends.commit(host, load[host])
     began = time.time()
     whole = way(ends)
@@ -117,13 +104,13 @@ def tried(name, way, programs, folder, load):
 
 def drawn():
     """A load of both sides: up to 60 messages, of up to 2,000,000 bytes, most of them small."""
-    sizes = {host: [int(10 ** random.uniform(0, 6.3)) for _ in range(random.randrange(60))] for host in HOSTS}
+    sizes = {host: [int(10 ** random.uniform(0, 6.3)) for _ in range(random.randrange(60))] for host in GUIDS}
     return {host: [size for at, size in enumerate(found) if sum(found[:at]) < 20_000_000] for host, found in sizes.items()}
 
 
 def main():
     random.seed(20)
-    loads = [(f"{count} of {size} each way", {host: [size] * count for host in HOSTS}) for count, size in ((64, 80_000), (2, 3_000_000), (64, 1_000_000))]
+    loads = [(f"{count} of {size} each way", {host: [size] * count for host in GUIDS}) for count, size in ((64, 80_000), (2, 3_000_000), (64, 1_000_000))]
     loads += [(f"drawn load {at + 1}", drawn()) for at in range(DRAWN)]
     pairs = [("beside itself", {"alpha": MQB, "beta": MQB})]
     if PEER:

@@ -9,11 +9,9 @@ syncs went; show 10 million bytes a second. On one that was less busy, with MOST
 A store gets its records by messages that are pushed to it: each that arrives is one. FOLDER is where the files stand, which decides what a sync costs. It stands
 outside the gate. Its port must be free: 1801, or MQB_PORT. MQB names another program than `./mqb --where` does.
 """
-import os, pathlib, subprocess, sys, tempfile, time
+import os, subprocess, sys, time
+from managers import MQB, folder, listening
 
-TOP = pathlib.Path(__file__).resolve().parent.parent
-MQB = os.environ.get("MQB") or subprocess.check_output([TOP / "mqb", "--where"], text=True).strip()
-PORT = int(os.environ.get("MQB_PORT", "1801"))
 MOST = int(sys.argv[1]) if len(sys.argv) > 1 else 100_000
 ALPHA = ("alpha", "0a0b0c0d-0e0f-1011-1213-141516171819", "127.0.0.2")
 BETA = ("beta", "1a1b1c1d-1e1f-2021-2223-242526272829", "127.0.0.1")
@@ -34,14 +32,6 @@ def timed(action):
     return time.perf_counter() - start
 
 
-def listening():
-    for _ in range(6000):
-        if any(line.split()[1].endswith(f":{PORT:04X}") and line.split()[3] == "0A" for line in open("/proc/net/tcp").readlines()[1:]):
-            return
-        time.sleep(0.01)
-    raise SystemExit("nobody listens")
-
-
 def fill(alpha, beta, count):
     """Brings so many messages to beta, each a record of its store, and says how long that took from `push` to `serve`. A connection carries 65,535 of them at most."""
     took = 0.0
@@ -50,7 +40,7 @@ def fill(alpha, beta, count):
         for at in range(0, part, 64):
             asked("commit", alpha, *[f"send,{ORDERS},-,-,-,-,-,{BODY}"] * min(64, part - at))
         serving = subprocess.Popen([MQB, "serve", beta, "1"], stdout=subprocess.PIPE)
-        listening()
+        listening(serving)
         took += timed(lambda: asked("push", alpha, "beta"))
         assert serving.communicate()[0] == b"connection 1: ended\n"
         count -= part
@@ -69,8 +59,8 @@ def raw(folder, count):
 
 
 def main():
-    with tempfile.TemporaryDirectory(dir=os.environ.get("FOLDER")) as folder:
-        alpha, beta = f"{folder}/alpha.store", f"{folder}/beta.store"
+    with folder() as name:
+        alpha, beta = f"{name}/alpha.store", f"{name}/beta.store"
         for store, own, other in ((alpha, ALPHA, BETA), (beta, BETA, ALPHA)):
             asked("init", store, *own)
             asked("peer", store, *other)
@@ -82,7 +72,7 @@ def main():
             took = fill(alpha, beta, count)
             held = size + 3
             if count >= 500:
-                same = raw(folder, min(count, 5_000)) / min(count, 5_000)
+                same = raw(name, min(count, 5_000)) / min(count, 5_000)
                 print(f"push to serve: {count / took:.0f} messages a second, {same * count / took:.2f} of a raw loop of the same syncs")
             for word, action in (("commit", lambda: asked("commit", beta, f"send,{NOTES},-,-,-,-,-,{BODY}")), ("list", lambda: asked("list", beta))):
                 best = min(timed(action) for _ in range(3))

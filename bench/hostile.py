@@ -5,13 +5,11 @@ push must end well, and what was acknowledged must be there. A server waits MQB_
 
 Seen: 10,000 and 1,000 in 104 seconds, 20 pushes in between; these 20 ended well, the others were `netfault`, and each message was there once.
 
-It stands outside the gate. Its port must be free: 1801, or MQB_PORT. MQB names another program.
+It stands outside the gate. Its port must be free: 1801, or MQB_PORT. MQB names another program than `./mqb --where` does.
 """
-import os, pathlib, random, re, socket, struct, subprocess, sys, tempfile, time
+import os, random, re, socket, struct, subprocess, sys, tempfile, time
+from managers import MQB, PORT, listening
 
-TOP = pathlib.Path(__file__).resolve().parent.parent
-MQB = os.environ.get("MQB", str(TOP / "crates/mqb/out/mqb"))
-PORT = int(os.environ.get("MQB_PORT", "1801"))
 RESETS = int(sys.argv[1]) if len(sys.argv) > 1 else 10_000
 SLOW = int(sys.argv[2]) if len(sys.argv) > 2 else 1_000
 ALPHA = ("alpha", "0a0b0c0d-0e0f-1011-1213-141516171819", "127.0.0.1")
@@ -104,9 +102,7 @@ def main():
         pushes = [at for at in range(len(ways)) if (at % 1000 == 999 if at < RESETS else (at - RESETS) % 100 == 99)]
         said = open(f"{folder}/said", "w+")  # a pipe that is not read would hold the server
         serving = subprocess.Popen([MQB, "serve", beta, str(len(ways) + len(pushes))], stdout=said)
-        while not any(line.split()[1].endswith(f":{PORT:04X}") and line.split()[3] == "0A" for line in open("/proc/net/tcp").readlines()[1:]):
-            assert serving.poll() is None, "the server ended"
-            time.sleep(0.005)
+        listening(serving)
         began = time.time()
         for at, way in enumerate(ways):
             way(bytes_)

@@ -14,7 +14,7 @@ It stands outside the gate. Its port and the next one must be free: 1801, or MQB
 two seconds, or MQB_HOLD.
 """
 import collections, os, random, re, subprocess, sys, time
-from managers import PORT, Ends, asked, folder, has, ids_of, is_listening, listening, marks_of, send, started
+from managers import PORT, Ends, asked, folder, has, ids_of, is_listening, listening, send, started
 
 ROUNDS = int(sys.argv[1]) if len(sys.argv) > 1 else 200
 SEED = int(sys.argv[2]) if len(sys.argv) > 2 else int(time.time())

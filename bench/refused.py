@@ -19,9 +19,8 @@ than `./mqb --where` does.
 """
 import collections, os, pathlib, shutil, subprocess, sys, tempfile, threading
 from concurrent.futures import ThreadPoolExecutor
+from managers import MQB, TOP
 
-TOP = pathlib.Path(__file__).resolve().parent.parent
-MQB = os.environ.get("MQB") or subprocess.check_output([TOP / "mqb", "--where"], text=True).strip()
 MOST = int(sys.argv[1]) if len(sys.argv) > 1 else None
 MEMORY = 10
 ALPHA = ("alpha", "0a0b0c0d-1112-1314-1516-1718191a1b1c", "127.0.0.1")
