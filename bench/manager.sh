@@ -51,6 +51,6 @@ for file in $(cd "$crate" && find src specs proofs -name '*.txt'); do # no check
   mv "$crate/$file" "$crate/${file%.txt}.$ending"
 done
 sed -i "s/^const MESSAGES: u32 = .*/const MESSAGES: u32 = ${MESSAGES:-50_000};/; s|FOLDER|$folder|" "$crate/src/main.rt"
-echo 'mqb_kept: mqb_base mqb_outside mqb_disk mqb_heads mqb_hearing mqb_model mqb_packet mqb_store mqb_manager thiserror' >> "$work/crates.txt"
+echo 'mqb_kept: mqb_base mqb_outside mqb_disk mqb_heads mqb_hearing mqb_model mqb_packet mqb_store_laws mqb_store mqb_manager thiserror' >> "$work/crates.txt"
 cd "$crate"
 rt ${HOW:-run}
