@@ -40,6 +40,7 @@ mqb peer beta.store alpha 0a0b0c0d-0e0f-1011-1213-141516171819 127.0.0.1
 mqb create beta.store orders tx 1000 none
 mqb commit alpha.store 'send,DIRECT=OS:beta\PRIVATE$\orders,-,-,d,-,-,first'
 mqb serve beta.store 1 &
+sleep 1
 serving
 mqb push alpha.store beta
 wait $!
@@ -60,7 +61,8 @@ kill -STOP $holder # a halted program holds it, too
 MQB_HOLD=0 mqb list beta.store
 says
 disown $holder # else this shell says that it was killed
-kill -9 $holder # and an ended one does not
+kill -9 $holder
+while kill -0 $holder 2>/dev/null; do sleep 0.02; done # and an ended one does not
 MQB_HOLD=0 mqb take beta.store orders
 says
 
