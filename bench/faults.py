@@ -19,7 +19,8 @@ It stands outside the gate, and wants strace. Its port must be free: 1801, or MQ
 import collections, os, re, shutil, signal, subprocess, sys, time
 from managers import MQB, Ends, asked, folder, has, ids_of, listening, marks_of, send, started
 
-ERRORS = ("EIO", "ENOSPC", "EINTR")
+ERRORS = os.environ.get("ERRORS", "EIO ENOSPC EINTR").split()
+MANY = 40  # of a call that is made more often the first half of them are failed, and behind them each tenth
 LIMIT = float(os.environ.get("LIMIT", "20"))
 STOCK = ["stock0", "stock1"]  # the bodies of the messages that alpha has from itself
 os.environ["MQB_WAIT"] = "2000"
@@ -107,6 +108,11 @@ def calls_of(trace):
     return {name: count for name, count in made.items() if name not in ("execve", "exit_group")}
 
 
+def numbers(count):
+    """Which of so many calls of a name are failed."""
+    return [at for at in range(1, count + 1) if count <= MANY or at <= MANY // 2 or at % 10 == 0]
+
+
 def fail_each(tried, word):
     way = {"commit": tried.call, "take": tried.call, "serve": tried.serving, "attend": tried.serving, "push": tried.reaching, "fetch": tried.reaching}[word]
     tried.again()
@@ -115,7 +121,7 @@ def fail_each(tried, word):
     for error in ERRORS:
         ends, began = collections.defaultdict(list), time.time()
         for name, count in made.items():
-            for at in range(1, count + 1):
+            for at in numbers(count):
                 tried.again()
                 status = way((name, error, at), word)
                 reached = "(INJECTED)" in open(tried.trace).read()
@@ -126,7 +132,7 @@ def fail_each(tried, word):
                     print(f"{word}: {error} of {name} {at}: status {status}: {said}", flush=True)
                     ends["BAD"].append(name)
         counts = ", ".join(f"{len(names)} {end} ({' '.join(sorted(set(names)))})" for end, names in sorted(ends.items()))
-        print(f"{word}: {error} of each of {sum(made.values())} calls: {counts}; {time.time() - began:.0f} s", flush=True)
+        print(f"{word}: {error} of {sum(len(numbers(count)) for count in made.values())} of {sum(made.values())} calls: {counts}; {time.time() - began:.0f} s", flush=True)
 
 
 def main():
