@@ -7,11 +7,10 @@ brought over and taken: each message once, in the order of the commits. It print
 was not (`made`), and nothing was done (`not`); `part` is an `init` that left a file which is no store. Of connections: all that waited on both sides was acknowledged
 (`whole`), something was decided that its sender had not heard of (`ahead`), or neither (`short`).
 
-Seen, of 1,000 kills each, by the released program from before `attend`, on a machine with five to ten times as many busy programs as processors (said, made, not): peer 350, 58,
-592; create 442, 33, 525; send 401, 29, 570; commit 452, 27, 521; take 520, 38, 442; purge 533, 24, 443; init 729, 43, 99, and 129 part; (whole, ahead, short): serve 328, 459, 213; probe
-177, 627, 196; push 161, 560, 279, and the 18,000 messages of these three came once each, in order. By a proved program with `attend`, from before
-the one that is released with these words:
-tick 580, 14, 406; roll 500, 9, 491; fetch 891, 23, 86; attend 832, 44, 124, and the 12,000 messages of these two came once each, in order.
+Seen, of 1,000 kills each, by the released program whose sum begins with 9bc0e1e0, on a machine that became busy with five times as many programs as processors (said, made, not): peer 512, 10,
+478; create 531, 14, 455; send 493, 10, 497; commit 433, 43, 524; take 468, 79, 453; purge 488, 71, 441; tick 537, 67, 396; roll 433, 23, 544; init 866, 15, 67, and 52 part; (whole, ahead, short):
+serve 867, 61, 72; attend 718, 142, 140; probe 337, 466, 197; push 584, 232, 184; fetch 175, 597, 228, and the 30,000 messages of these five came once each, in order. Two runs side by side, on ports
+of their own, took 19 minutes for the words that make one call and 54 for those that have a connection; on a machine that is not busy a word takes half a minute to three.
 
 It stands outside the gate. Its port must be free: 1801, or MQB_PORT. MQB names another program than `./mqb --where` does.
 """
