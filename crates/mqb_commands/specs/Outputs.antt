@@ -1,17 +1,11 @@
 -- What a command says, how it ends, and what an output takes of that.
-use Rattle.std.specs.Prelude.{[], ◌++◌, ◌≡◌, ◌⊎◌, List, Option, ℕ}
+use Rattle.std.specs.Prelude.{[], ◌≡◌, ◌⊎◌, List, Option, ℕ}
 use Rattle.mqb_outside.specs.Faults.{Rose}
 use Rattle.mqb_outside.specs.Told.{Took}
+pub use Rattle.mqb_serving.specs.Steps.{TookFront}
 use Rattle.mqb_commands.specs.declared.status.Status.{Status}
 use Rattle.mqb_commands.specs.declared.status.Status.TheVariants as status
 use Rattle.mqb_commands.specs.Texts.{fault_text}
-
--- a sink that had taken before took a front of this text, and has taken after
-pub record TookFront (before after : Option (List ℕ)) (text : List ℕ) : Type 0 where
-  pub written : List ℕ
-  pub left : List ℕ
-  pub whole : written ++ left ≡ text
-  pub took : Took before after written
 
 -- The text was written and the program ended so, or a front of it was, and the output failed.
 abbrev pub Tells : List ℕ → Status → Option (List ℕ) → Option (List ℕ) → Status → Type 0

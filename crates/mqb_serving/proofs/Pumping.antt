@@ -149,6 +149,6 @@ pumps_stop c i x y z asks moment m n f why s p =
       written = h.1.written;
       took = h.1.took;
       begins = subst (λ (t : List ℕ). Begins (bytes_of d.given ++ h.1.written) t) (sym (flat_map-append plain_spelling d.given o.packets))
-          (begins_behind (bytes_of d.given) h.1.written (bytes_of o.packets) h.1.begins);
+          (begins_behind (bytes_of d.given) h.1.written (bytes_of o.packets) (h.1.left, sym h.1.whole));
       left = h.0;
     }

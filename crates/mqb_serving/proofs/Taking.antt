@@ -46,7 +46,7 @@ pub begins_then : (x y z : List ℕ) → Begins x y → Begins y z → Begins x 
 begins_then x y z first second = (first.0 ++ second.0, second.1 ∙ ap (λ (t : List ℕ). t ++ second.0) first.1 ∙ append_assoc x first.0 second.0)
 
 pub front_none : (a b : Option (List ℕ)) (bytes : List ℕ) → b ≡ a → TookFront a b bytes
-front_none a b bytes same = record { written = []; begins = (bytes, refl); took = took_same a b same }
+front_none a b bytes same = record { written = []; left = bytes; whole = refl; took = took_same a b same }
 
 -- Of a text this was taken, and that is left.
 pub record TookSoFar (before after : Option (List ℕ)) (text left : List ℕ) : Type 0 where
@@ -66,7 +66,7 @@ so_far_then a b c text left n before more = record {
 
 -- a front was
 pub so_far_front : (a b c : Option (List ℕ)) (text left : List ℕ) → TookSoFar a b text left → c ≡ b → TookFront a c text
-so_far_front a b c text left s same = record { written = s.written; begins = (left, sym s.whole); took = subst (λ (o : Option (List ℕ)). Took a o s.written) (sym same) s.took }
+so_far_front a b c text left s same = record { written = s.written; left = left; whole = s.whole; took = subst (λ (o : Option (List ℕ)). Took a o s.written) (sym same) s.took }
 
 -- and in the end all
 pub so_far_all : (a b : Option (List ℕ)) (text left : List ℕ) → left ≡ [] → TookSoFar a b text left → Took a b text

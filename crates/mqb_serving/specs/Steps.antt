@@ -24,7 +24,8 @@ use Rattle.mqb_serving.specs.Serving.{Hears, hearing}
 -- A sink that had taken before took a front of these bytes, and has taken after.
 pub record TookFront (before after : Option (List ℕ)) (bytes : List ℕ) : Type 0 where
   pub written : List ℕ
-  pub begins : Begins written bytes
+  pub left : List ℕ
+  pub whole : written ++ left ≡ bytes
   pub took : Took before after written
 
 -- What a fault leaves: the disk failed in the next call of a manager, or nothing has changed. No peer's fault does.
