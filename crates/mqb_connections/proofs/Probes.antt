@@ -5,7 +5,8 @@ use Rattle.mqb_outside.specs.Disk.{View}
 use Rattle.mqb_journal.specs.Causes.{FaultsAsSaid}
 use Rattle.mqb_manager.specs.Keeping.{KeepsDisk}
 use Rattle.mqb_manager.specs.lemmas.Keeping.{keeping_goes_on}
-use Rattle.mqb_manager.specs.States.{IsUp, ManagerState, manager_of}
+use Rattle.mqb_manager.specs.States.{IsUp, ManagerState}
+use Rattle.mqb_serve.specs.Talking.{stored_of}
 use Rattle.mqb_serving.specs.declared.purpose.Purpose.TheVariants as purpose
 use Rattle.mqb_outside.specs.Faults.{Rose}
 use Rattle.mqb_serving.specs.Serving.{Answer, Serves, ServesWhole, is_disk_fault, is_read_fault, is_write_fault}
@@ -20,8 +21,8 @@ use Rattle.mqb_connections.specs.Statuses.{IsFaultless, probe_status}
 
 pub store_probes : (steady : Option ℕ) (d f e : View) (m n : ManagerState) (now : ℕ) (end : Answer) (held held_now taken taken_now : Option (List ℕ)) (r : Status)
     → OpensAs d m → OnlySettles d f → f.faults ≡ d.faults → IsMoment steady now
-    → Serves purpose.Serve now (manager_of m) (manager_of n) held held_now taken taken_now end
-    → ServesWhole end purpose.Serve now (manager_of m) (manager_of n) held taken taken_now
+    → Serves purpose.Serve now (stored_of m) (stored_of n) held held_now taken taken_now end
+    → ServesWhole end purpose.Serve now (stored_of m) (stored_of n) held taken taken_now
     → KeepsDisk f e m n → (end ≢ Err fault.DiskFault → IsUp n) → FaultsAsSaid is_disk_fault f.faults e.faults end → r ≡ probe_status end
     → ProbesStore steady d e held held_now taken taken_now r
 store_probes steady d f e m n now end held held_now taken taken_now r opened reads same moment serves whole kept up disk ends = inl (record {

@@ -5,7 +5,8 @@ use Rattle.mqb_outside.specs.Disk.{View}
 use Rattle.mqb_outside.specs.Images.{Each}
 use Rattle.mqb_journal.specs.Causes.{FaultsAsSaid}
 use Rattle.mqb_manager.specs.Keeping.{KeepsDisk}
-use Rattle.mqb_manager.specs.States.{IsUp, ManagerState, manager_of}
+use Rattle.mqb_manager.specs.States.{IsUp, ManagerState}
+use Rattle.mqb_serve.specs.Talking.{stored_of}
 use Rattle.mqb_serving.specs.declared.purpose.Purpose.TheVariants as purpose
 use Rattle.mqb_outside.specs.Faults.{Rose}
 use Rattle.mqb_serving.specs.Serving.{Answer, Serves, ServesWhole, is_disk_fault}
@@ -23,8 +24,8 @@ pub record Probes (steady : Option ℕ) (d e : View) (held held_now taken taken_
   pub end : Answer
   pub opened : OpensAs d first
   pub moment : IsMoment steady now
-  pub serves : Serves purpose.Serve now (manager_of first) (manager_of last) held held_now taken taken_now end
-  pub whole : ServesWhole end purpose.Serve now (manager_of first) (manager_of last) held taken taken_now
+  pub serves : Serves purpose.Serve now (stored_of first) (stored_of last) held held_now taken taken_now end
+  pub whole : ServesWhole end purpose.Serve now (stored_of first) (stored_of last) held taken taken_now
   pub disk : KeepsDisk d e first last
   -- so the disk is settled still, where it was, and stands for that manager
   pub up : end ≢ Err fault.DiskFault → IsUp last

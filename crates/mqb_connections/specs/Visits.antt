@@ -4,7 +4,8 @@ use Rattle.std.specs.Prelude.{[], ◌+◌, ◌++◌, ◌∷◌, ◌≡◌, Err, 
 use Rattle.mqb_commands.specs.Opened.{IsMoment}
 use Rattle.mqb_outside.specs.Net.{Ended}
 use Rattle.mqb_journal.specs.Causes.{FaultsAsSaid}
-use Rattle.mqb_manager.specs.States.{ManagerState, manager_of}
+use Rattle.mqb_manager.specs.States.{ManagerState}
+use Rattle.mqb_serve.specs.Talking.{stored_of}
 use Rattle.mqb_serving.specs.declared.purpose.Purpose.{Purpose}
 use Rattle.mqb_serving.specs.Serving.{Answer, Serves, ServesWhole, is_read_fault, is_write_fault}
 use Rattle.mqb_serving.specs.declared.faults.ConnFault.TheVariants as fault
@@ -23,8 +24,8 @@ pub record IsVisit (asks : Purpose) (steady : Option ℕ) (m : ManagerState) (v 
   -- what was sent on it before, which is nothing where it tells that
   pub sent : Option (List ℕ)
   pub fresh : IfSome sent (λ text. text ≡ [])
-  pub serves : Serves asks v.now (manager_of m) (manager_of v.after) v.ended.given v.ended.held sent v.ended.taken v.end
-  pub whole : ServesWhole v.end asks v.now (manager_of m) (manager_of v.after) v.ended.given sent v.ended.taken
+  pub serves : Serves asks v.now (stored_of m) (stored_of v.after) v.ended.given v.ended.held sent v.ended.taken v.end
+  pub whole : ServesWhole v.end asks v.now (stored_of m) (stored_of v.after) v.ended.given sent v.ended.taken
   pub reads : FaultsAsSaid is_read_fault 0 v.ended.read_faults v.end
   pub writes : FaultsAsSaid is_write_fault 0 v.ended.write_faults v.end
 

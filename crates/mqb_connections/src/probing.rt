@@ -7,7 +7,8 @@ ghost use Rattle.mqb_connections.specs.Probed.{CompletesProbe, ProbesStore};
 ghost use Rattle.mqb_connections.specs.Statuses.{probe_status};
 ghost use Rattle.mqb_journal.specs.Causes.{FaultsAsSaid};
 ghost use Rattle.mqb_manager.specs.Keeping.{KeepsDisk};
-ghost use Rattle.mqb_manager.specs.States.{IsOnDisk, IsUp, manager_of};
+ghost use Rattle.mqb_manager.specs.States.{IsOnDisk, IsUp};
+ghost use Rattle.mqb_serve.specs.Talking.{stored_of};
 ghost use Rattle.mqb_serving.specs.Serving.{Serves, ServesWhole, is_disk_fault, is_read_fault, is_write_fault};
 ghost use Rattle.mqb_commands.specs.Outputs.{ReadFaultHasCause, WriteFaultHasCause};
 
@@ -45,10 +46,10 @@ fn serve_piped<S: Source, K: Sink, D: Disk>(
     requires up { IsUp manager.old }
     requires on { IsOnDisk (D.view disk.old) manager.old }
     requires unlinked { manager.old.session ≡ None }
-    ensures served { Serves Purpose.Serve now (manager_of manager.old) (manager_of manager.new)
+    ensures served { Serves Purpose.Serve now (stored_of manager.old) (stored_of manager.new)
         (S.held input.old) (S.held input.new) (K.taken out.old) (K.taken out.new) result }
-    ensures whole { ServesWhole result Purpose.Serve now (manager_of manager.old)
-        (manager_of manager.new) (S.held input.old) (K.taken out.old) (K.taken out.new) }
+    ensures whole { ServesWhole result Purpose.Serve now (stored_of manager.old)
+        (stored_of manager.new) (S.held input.old) (K.taken out.old) (K.taken out.new) }
     ensures up { result ≢ Err ConnFault.DiskFault → IsUp manager.new }
     ensures disk { KeepsDisk (D.view disk.old) (D.view disk.new) manager.old manager.new }
     ensures disk_faults { FaultsAsSaid is_disk_fault (D.view disk.old).faults

@@ -8,8 +8,9 @@ ghost use Rattle.mqb_connections.specs.Reached.{CompletesReach, IsReach, Reaches
 ghost use Rattle.mqb_connections.specs.Statuses.{reach_status};
 ghost use Rattle.mqb_journal.specs.Causes.{FaultsAsSaid};
 ghost use Rattle.mqb_manager.specs.Keeping.{KeepsDisk};
-ghost use Rattle.mqb_manager.specs.States.{IsOnDisk, IsUp, manager_of};
+ghost use Rattle.mqb_manager.specs.States.{IsOnDisk, IsUp};
 ghost use Rattle.mqb_outside.specs.Faults.{HasCause, Rose};
+ghost use Rattle.mqb_serve.specs.Talking.{stored_of};
 ghost use Rattle.mqb_serving.specs.Serving.{Serves, ServesWhole, is_disk_fault, is_read_fault, is_write_fault};
 ghost use Rattle.mqb_commands.specs.Outputs.{WriteFaultHasCause};
 
@@ -76,11 +77,11 @@ fn serve_peer<D: Disk, C: Conn>(
 ) -> Result<(), ConnFault>
     requires up { IsUp manager.old }
     requires on { IsOnDisk (D.view disk.old) manager.old }
-    ensures served { Serves (Purpose.Reach why peer) now (manager_of manager.old)
-        (manager_of manager.new) (C.held conn.old) (C.held conn.new) (C.taken conn.old)
+    ensures served { Serves (Purpose.Reach why peer) now (stored_of manager.old)
+        (stored_of manager.new) (C.held conn.old) (C.held conn.new) (C.taken conn.old)
         (C.taken conn.new) result }
-    ensures whole { ServesWhole result (Purpose.Reach why peer) now (manager_of manager.old)
-        (manager_of manager.new) (C.held conn.old) (C.taken conn.old) (C.taken conn.new) }
+    ensures whole { ServesWhole result (Purpose.Reach why peer) now (stored_of manager.old)
+        (stored_of manager.new) (C.held conn.old) (C.taken conn.old) (C.taken conn.new) }
     ensures unlinked { manager.new.session ≡ None }
     ensures up { result ≢ Err ConnFault.DiskFault → IsUp manager.new }
     ensures disk { KeepsDisk (D.view disk.old) (D.view disk.new) manager.old manager.new }

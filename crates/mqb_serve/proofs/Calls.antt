@@ -1,6 +1,8 @@
 -- What a call of a manager leaves, by what it answers.
-use Rattle.std.proofs.Common.{◌≡◌, Bool, true, false, cond, List, [], ◌++◌, Option, Result, Ok, Err, ℕ, refl, sym, ap, subst, inl, inr, ◌∙◌}
-use Rattle.std.specs.Prelude.{IfErr, OnErr, OnOk, flat_map}
+use Rattle.std.proofs.Common.{◌≡◌, ◌+◌, Bool, true, false, cond, List, [], ◌++◌, None, Option, Some, Result, Ok, Err, ℕ, refl, sym, ap, subst, inl, inr, ◌∙◌}
+use Rattle.std.specs.Option.{option_map_or}
+use Rattle.std.specs.Prelude.{IfErr, IsSome, OnErr, OnOk, flat_map}
+use Rattle.mqb_journal.specs.States.{JournalState}
 use Rattle.mqb_base.specs.declared.heard.Heard.{Heard}
 use Rattle.mqb_packet.specs.Plain.{plain_spelling}
 use Rattle.mqb_packet.specs.declared.packet.Packet.{Packet}
@@ -12,36 +14,66 @@ use Rattle.mqb_model.specs.declared.faults.PumpFault.{PumpFault}
 use Rattle.mqb_model.specs.declared.faults.PumpFault.TheVariants as pump_fault
 use Rattle.mqb_model.specs.laws.Refusals.{RefusalsChangeNothing}
 use Rattle.mqb_model.specs.managers.Manager.{Down, Manager, Up}
-use Rattle.mqb_model.specs.managers.Outcomes.{Outcome, answering, failed, succeeded}
+use Rattle.mqb_model.specs.managers.Outcomes.{Outcome, answering, failed_under, succeeded}
 use Rattle.mqb_model.specs.records.Reading.{record_of}
 use Rattle.mqb_model.specs.records.Record.{Record}
-use Rattle.mqb_manager.specs.Calls.{Ends}
-use Rattle.mqb_manager.specs.States.{IsUp, ManagerState, condition_of, manager_of}
+use Rattle.mqb_manager.specs.Calls.{Ends, FailsUnder, Succeeds}
+use Rattle.mqb_manager.specs.States.{IsSame, IsUp, ManagerState, condition_of, manager_of}
+use Rattle.mqb_serving.specs.Conversations.{StoredManager, stored_after, stored_under}
+use Rattle.mqb_serve.specs.Talking.{stored_of}
 use Rattle.mqb_serving.proofs.Never.{IsHearAnswer, IsPumpAnswer, is_hear_answer, is_pump_answer}
 
 errs : {V E : Type 0} (a b : E) → (a ≡ b → ⊥) → ◌≡◌ {A = Result V E} (Err a) (Err b) → ⊥
 errs a b differ same = differ (let e : a ≡ b = cc in e)
 
+-- A manager with its records.
+
+both : (a b : Manager) (x y : ℕ) → a ≡ b → x ≡ y → ◌≡◌ {A = StoredManager} (record { manager = a; count = x }) (record { manager = b; count = y })
+both a b x y same count =
+    ap {B = StoredManager} (λ (k : Manager). record { manager = k; count = x }) same ∙ ap {B = StoredManager} (λ (i : ℕ). record { manager = b; count = i }) count
+
+pub stored_so : {A : Type 0} (m n : ManagerState) (o : Outcome A) → Succeeds m n o → stored_of n ≡ stored_after (stored_of m) o
+stored_so m n o s = both (manager_of n) (succeeded (manager_of m) o) n.store.journal.count (m.store.journal.count + option_map_or (λ _. 1) o.entry 0) s.manager s.count
+
+stored_same : (m n : ManagerState) → IsSame m n → stored_of n ≡ stored_of m
+stored_same m n s = both (manager_of n) (manager_of m) n.store.journal.count m.store.journal.count s.manager (ap (λ (j : JournalState). j.count) s.store.journal)
+
+some_entry : (o : Option Record) → IsSome o → (r : Record) × (o ≡ Some r)
+some_entry (Some r) some = (r, refl)
+some_entry None some = absurd some
+
+-- the record that is in doubt
+abbrev pub InDoubt : {A : Type 0} → ManagerState → ManagerState → Outcome A → Type 0
+InDoubt m n o = (r : Record) × (o.entry ≡ Some r) × (stored_of n ≡ stored_under (stored_of m) r)
+
+in_doubt : {A : Type 0} (m n : ManagerState) (o : Outcome A) → FailsUnder m n o → InDoubt m n o
+in_doubt m n o f = let r = some_entry o.entry f.entry in (
+  r.0,
+  r.1,
+  both (manager_of n) (failed_under (manager_of m) (Some r.0)) n.store.journal.count m.store.journal.count
+      (f.manager ∙ ap (λ (e : Option Record). failed_under (manager_of m) e) r.1) f.count,
+)
+
 -- neither memory nor the disk was wanting
 pub answered_so : {V E : Type 0} (memory broken : E) (m n : ManagerState) (o : Outcome (Result V E)) (r : Result V E) → Ends memory broken m n o r
-    → (r ≡ Err memory → ⊥) → (r ≡ Err broken → ⊥) → (r ≡ o.answer) × (manager_of n ≡ succeeded (manager_of m) o)
-answered_so memory broken m n o r (inl h) some works = (h.0, h.1.manager)
+    → (r ≡ Err memory → ⊥) → (r ≡ Err broken → ⊥) → (r ≡ o.answer) × (stored_of n ≡ stored_after (stored_of m) o)
+answered_so memory broken m n o r (inl h) some works = (h.0, stored_so m n o h.1)
 answered_so memory broken m n o r (inr (inl h)) some works = absurd (some h.0)
 answered_so memory broken m n o r (inr (inr h)) some works = absurd (works h.0)
 
 -- memory was
 pub memory_so : {V E : Type 0} (memory broken : E) (m n : ManagerState) (o : Outcome (Result V E)) (r : Result V E) → Ends memory broken m n o r
-    → r ≡ Err memory → (memory ≡ broken → ⊥) → (o.answer ≡ Err memory → ⊥) → manager_of n ≡ manager_of m
+    → r ≡ Err memory → (memory ≡ broken → ⊥) → (o.answer ≡ Err memory → ⊥) → stored_of n ≡ stored_of m
 memory_so memory broken m n o r (inl h) is differ never = absurd (never (sym h.0 ∙ is))
-memory_so memory broken m n o r (inr (inl h)) is differ never = h.1.manager
+memory_so memory broken m n o r (inr (inl h)) is differ never = stored_same m n h.1
 memory_so {V} memory broken m n o r (inr (inr h)) is differ never = absurd (errs {V = V} memory broken differ (sym is ∙ h.0))
 
 -- the disk failed
 pub broken_so : {V E : Type 0} (memory broken : E) (m n : ManagerState) (o : Outcome (Result V E)) (r : Result V E) → Ends memory broken m n o r
-    → r ≡ Err broken → (memory ≡ broken → ⊥) → (o.answer ≡ Err broken → ⊥) → manager_of n ≡ failed (manager_of m) o
+    → r ≡ Err broken → (memory ≡ broken → ⊥) → (o.answer ≡ Err broken → ⊥) → InDoubt m n o
 broken_so memory broken m n o r (inl h) is differ never = absurd (never (sym h.0 ∙ is))
 broken_so {V} memory broken m n o r (inr (inl h)) is differ never = absurd (errs {V = V} memory broken differ (sym h.0 ∙ is))
-broken_so memory broken m n o r (inr (inr h)) is differ never = h.1.manager
+broken_so memory broken m n o r (inr (inr h)) is differ never = in_doubt m n o h.1
 
 -- A manager stays up unless the disk fails.
 

@@ -5,10 +5,9 @@ use Rattle.mqb_journal.specs.Causes.{FaultsAsSaid}
 use Rattle.mqb_model.specs.calls.Link.{link, unlink}
 use Rattle.mqb_model.specs.declared.answers.Role.{Role}
 use Rattle.mqb_model.specs.managers.Manager.{Manager}
-use Rattle.mqb_model.specs.managers.Outcomes.{succeeded}
 use Rattle.mqb_manager.specs.Calls.{Succeeds}
 use Rattle.mqb_manager.specs.States.{IsOnDisk, IsUp, ManagerState, manager_of}
-use Rattle.mqb_serving.specs.Conversations.{Conversation, End, linked, no_bytes, role_of}
+use Rattle.mqb_serving.specs.Conversations.{Conversation, End, StoredManager, linked, no_bytes, role_of, stored_after}
 use Rattle.mqb_serving.specs.declared.purpose.Purpose.{Purpose}
 use Rattle.mqb_serving.specs.declared.faults.ConnFault.{ConnFault}
 use Rattle.mqb_serving.specs.declared.faults.ConnFault.TheVariants as fault
@@ -20,7 +19,8 @@ use Rattle.mqb_serving.specs.Steps.{Converses, Stands}
 use Rattle.mqb_serving.proofs.Ending.{linked_stands, serves_end, serves_part, serves_stop, serves_whole}
 use Rattle.mqb_manager.specs.Keeping.{KeepsDisk}
 use Rattle.mqb_manager.specs.lemmas.Keeping.{keeping_goes_on, links_keep_disks, unlinks_keep_disks}
-use Rattle.mqb_serve.proofs.Calls.{quietly_up}
+use Rattle.mqb_serve.specs.Talking.{stored_of}
+use Rattle.mqb_serve.proofs.Calls.{quietly_up, stored_so}
 
 pub disk_is : (why : ConnFault) → is_disk_fault why ≡ true → why ≡ fault.DiskFault
 disk_is (fault.Peer why) is = absurd (let wrong : ⊥ = cc in wrong)
@@ -48,29 +48,32 @@ module _ (m n : ManagerState) (asks : Purpose) (role : Role) (is_role : role ≡
 
   -- It conversed.
   module _ (now : ℕ) (o : ManagerState) (h i x y : Option (List ℕ)) (r : Result End ConnFault)
-      (converses : (c : Conversation) → Stands c asks now (manager_of n) no_bytes → Converses c h i x y (manager_of o) r) where
-    conversed : Converses (linked (manager_of m) asks now) h i x y (manager_of o) r
-    conversed = converses (linked (manager_of m) asks now) (linked_stands (manager_of m) (manager_of n) asks now
-        (subst (λ (r : Role). manager_of n ≡ succeeded (manager_of m) (link (manager_of m) r WINDOW)) is_role left.manager))
+      (converses : (c : Conversation) → Stands c asks now (stored_of n) no_bytes → Converses c h i x y (stored_of o) r) where
+    conversed : Converses (linked (stored_of m) asks now) h i x y (stored_of o) r
+    conversed = converses (linked (stored_of m) asks now) (linked_stands (stored_of m) (stored_of n) asks now
+        (subst (λ (r : Role). stored_of n ≡ stored_after (stored_of m) (link (manager_of m) r WINDOW)) is_role (stored_so m n (link (manager_of m) role WINDOW) left)))
 
     -- and was unlinked
     module _ (p : ManagerState) (gone : Succeeds o p (unlink (manager_of o))) where
-      pub end_served : (end : End) → r ≡ Ok end → Serves asks now (manager_of m) (manager_of p) h i x y (answer_of end)
-      end_served end is = serves_end (manager_of m) asks now h i x y (manager_of o) (manager_of p) end
-          (subst (λ (q : Result End ConnFault). Converses (linked (manager_of m) asks now) h i x y (manager_of o) q) is conversed) gone.manager
+      left_so : stored_of p ≡ stored_after (stored_of o) (unlink (manager_of o))
+      left_so = stored_so o p (unlink (manager_of o)) gone
 
-      pub end_whole : (end : End) → r ≡ Ok end → ServesWhole (answer_of end) asks now (manager_of m) (manager_of p) h x y
-      end_whole end is = serves_whole (manager_of m) asks now h i x y (manager_of o) (manager_of p) end
-          (subst (λ (q : Result End ConnFault). Converses (linked (manager_of m) asks now) h i x y (manager_of o) q) is conversed) gone.manager
+      pub end_served : (end : End) → r ≡ Ok end → Serves asks now (stored_of m) (stored_of p) h i x y (answer_of end)
+      end_served end is = serves_end (stored_of m) asks now h i x y (stored_of o) (stored_of p) end
+          (subst (λ (q : Result End ConnFault). Converses (linked (stored_of m) asks now) h i x y (stored_of o) q) is conversed) left_so
 
-      pub cut_served : (why : ConnFault) → r ≡ Err why → (why ≡ fault.DiskFault → ⊥) → Serves asks now (manager_of m) (manager_of p) h i x y (Err why)
-      cut_served why is works = serves_stop (manager_of m) asks now h i x y (manager_of o) (manager_of p) why
-          (subst (λ (q : Result End ConnFault). Converses (linked (manager_of m) asks now) h i x y (manager_of o) q) is conversed)
-          (λ broken. absurd (works broken)) (λ _. gone.manager)
+      pub end_whole : (end : End) → r ≡ Ok end → ServesWhole (answer_of end) asks now (stored_of m) (stored_of p) h x y
+      end_whole end is = serves_whole (stored_of m) asks now h i x y (stored_of o) (stored_of p) end
+          (subst (λ (q : Result End ConnFault). Converses (linked (stored_of m) asks now) h i x y (stored_of o) q) is conversed) left_so
 
-      pub cut_whole : (why : ConnFault) → r ≡ Err why → ServesWhole (Err why) asks now (manager_of m) (manager_of p) h x y
-      cut_whole why is = serves_part (manager_of m) asks now h i x y (manager_of o) (manager_of p) why
-          (subst (λ (q : Result End ConnFault). Converses (linked (manager_of m) asks now) h i x y (manager_of o) q) is conversed)
+      pub cut_served : (why : ConnFault) → r ≡ Err why → (why ≡ fault.DiskFault → ⊥) → Serves asks now (stored_of m) (stored_of p) h i x y (Err why)
+      cut_served why is works = serves_stop (stored_of m) asks now h i x y (stored_of o) (stored_of p) why
+          (subst (λ (q : Result End ConnFault). Converses (linked (stored_of m) asks now) h i x y (stored_of o) q) is conversed)
+          (λ broken. absurd (works broken)) (λ _. left_so)
+
+      pub cut_whole : (why : ConnFault) → r ≡ Err why → ServesWhole (Err why) asks now (stored_of m) (stored_of p) h x y
+      cut_whole why is = serves_part (stored_of m) asks now h i x y (stored_of o) (stored_of p) why
+          (subst (λ (q : Result End ConnFault). Converses (linked (stored_of m) asks now) h i x y (stored_of o) q) is conversed)
 
       pub gone_unlinked : p.session ≡ None
       gone_unlinked = ap (λ (k : Manager). k.rest.session) gone.manager
@@ -83,18 +86,18 @@ module _ (m n : ManagerState) (asks : Purpose) (role : Role) (is_role : role ≡
           keeping_goes_on d d e m n p (linked_keeps d) (linked_up up) (keeping_goes_on d e e n o p kept still (unlinks_keep_disks e o p gone same))
 
     -- or its disk failed
-    pub down_served : (why : ConnFault) → r ≡ Err why → is_disk_fault why ≡ true → Serves asks now (manager_of m) (manager_of o) h i x y (Err why)
-    down_served why is broken = serves_stop (manager_of m) asks now h i x y (manager_of o) (manager_of o) why
-        (subst (λ (q : Result End ConnFault). Converses (linked (manager_of m) asks now) h i x y (manager_of o) q) is conversed)
+    pub down_served : (why : ConnFault) → r ≡ Err why → is_disk_fault why ≡ true → Serves asks now (stored_of m) (stored_of o) h i x y (Err why)
+    down_served why is broken = serves_stop (stored_of m) asks now h i x y (stored_of o) (stored_of o) why
+        (subst (λ (q : Result End ConnFault). Converses (linked (stored_of m) asks now) h i x y (stored_of o) q) is conversed)
         (λ _. refl) (λ works. absurd (works (disk_is why broken)))
 
-    pub down_whole : (why : ConnFault) → r ≡ Err why → ServesWhole (Err why) asks now (manager_of m) (manager_of o) h x y
-    down_whole why is = serves_part (manager_of m) asks now h i x y (manager_of o) (manager_of o) why
-        (subst (λ (q : Result End ConnFault). Converses (linked (manager_of m) asks now) h i x y (manager_of o) q) is conversed)
+    pub down_whole : (why : ConnFault) → r ≡ Err why → ServesWhole (Err why) asks now (stored_of m) (stored_of o) h x y
+    down_whole why is = serves_part (stored_of m) asks now h i x y (stored_of o) (stored_of o) why
+        (subst (λ (q : Result End ConnFault). Converses (linked (stored_of m) asks now) h i x y (stored_of o) q) is conversed)
 
     pub down_unlinked : (why : ConnFault) → r ≡ Err why → is_disk_fault why ≡ true → o.session ≡ None
-    down_unlinked why is broken = let c = subst (λ (q : Result End ConnFault). Converses (linked (manager_of m) asks now) h i x y (manager_of o) q) (is ∙ ap Err (disk_is why broken)) conversed in
-        ap (λ (k : Manager). k.rest.session) c.ends.left.1
+    down_unlinked why is broken = let c = subst (λ (q : Result End ConnFault). Converses (linked (stored_of m) asks now) h i x y (stored_of o) q) (is ∙ ap Err (disk_is why broken)) conversed in
+        ap (λ (k : StoredManager). k.manager.rest.session) c.ends.left.2
 
     pub down_keeps : (d e : View) → IsUp m → KeepsDisk d e n o → KeepsDisk d e m o
     down_keeps d e up kept = keeping_goes_on d d e m n o (linked_keeps d) (linked_up up) kept

@@ -17,14 +17,14 @@ use Rattle.mqb_model.specs.declared.faults.HearFault.TheVariants as hear_fault
 use Rattle.mqb_model.specs.declared.faults.PumpFault.{PumpFault}
 use Rattle.mqb_model.specs.declared.faults.PumpFault.TheVariants as pump_fault
 use Rattle.mqb_model.specs.laws.Refusals.{RefusalsChangeNothing}
-use Rattle.mqb_model.specs.managers.Outcomes.{succeeded}
+use Rattle.mqb_serving.specs.Conversations.{stored_after}
 use Rattle.mqb_manager.specs.Calls.{IsCall}
 use Rattle.mqb_manager.specs.States.{IsUp, ManagerState, manager_of}
 use Rattle.mqb_serving.specs.declared.faults.ConnFault.{ConnFault}
 use Rattle.mqb_serving.specs.declared.faults.ConnFault.TheVariants as fault
 use Rattle.mqb_serving.specs.Serving.{is_read_fault, is_write_fault}
-use Rattle.mqb_serving.specs.Steps.{IsHeard, IsPumped, LeftBy, PumpStops, TookFront}
-use Rattle.mqb_serve.specs.Talking.{Keeps, stopped_hearing, stopped_pumping}
+use Rattle.mqb_serving.specs.Steps.{HearsBy, IsHeard, IsPumped, LeftBy, PumpStops, TookFront}
+use Rattle.mqb_serve.specs.Talking.{Keeps, stopped_hearing, stopped_pumping, stored_of}
 use Rattle.mqb_serve.proofs.Calls.{answered_so, broken_so, memory_so, never_fails, never_fails_to_hear, never_wants, never_wants_to_hear, pump_adds}
 use Rattle.mqb_serve.proofs.Keeps.{keeps_call, keeps_fault, keeps_memory}
 
@@ -41,21 +41,20 @@ went r none = (λ is. let wrong : ⊥ = none_some (ap stopped_pumping (sym is) �
 
 module _ (d e : View) (m n : ManagerState) (now : ℕ) (up : IsUp m) where
   pub pump_stopped : (r : Result ℕ PumpFault) (why : ConnFault) (x : Option (List ℕ)) → IsCall pump_fault.Memory pump_fault.DiskFault d e m n (pump (manager_of m) now) r
-      → stopped_pumping r ≡ Some why → PumpStops (manager_of m) now (manager_of n) x x why
+      → stopped_pumping r ≡ Some why → PumpStops (stored_of m) now (stored_of n) x x why
   pump_stopped (Ok count) why x call is = absurd (let wrong : ⊥ = cc in wrong)
   pump_stopped (Err pump_fault.Down) why x call is = absurd (let wrong : ⊥ = cc in wrong)
   pump_stopped (Err pump_fault.NotLinked) why x call is = absurd (let wrong : ⊥ = cc in wrong)
   pump_stopped (Err pump_fault.Spent) why x call is = absurd (let wrong : ⊥ = cc in wrong)
   pump_stopped (Err pump_fault.Memory) why x call is =
-      subst (λ (w : ConnFault). PumpStops (manager_of m) now (manager_of n) x x w) (some_is fault.Memory why is)
+      subst (λ (w : ConnFault). PumpStops (stored_of m) now (stored_of n) x x w) (some_is fault.Memory why is)
       (inl (memory_so pump_fault.Memory pump_fault.DiskFault m n (pump (manager_of m) now) (Err pump_fault.Memory) call.ends refl (λ same. let wrong : ⊥ = cc in wrong) (never_wants (manager_of m) now), refl))
   pump_stopped (Err pump_fault.DiskFault) why x call is =
-      subst (λ (w : ConnFault). PumpStops (manager_of m) now (manager_of n) x x w) (some_is fault.DiskFault why is)
+      subst (λ (w : ConnFault). PumpStops (stored_of m) now (stored_of n) x x w) (some_is fault.DiskFault why is)
       (inl (
         (
-          (pump (manager_of m) now).entry,
-          broken_so pump_fault.Memory pump_fault.DiskFault m n (pump (manager_of m) now) (Err pump_fault.DiskFault) call.ends refl (λ same. let wrong : ⊥ = cc in wrong) (never_fails (manager_of m) now),
-        ),
+            broken_so pump_fault.Memory pump_fault.DiskFault m n (pump (manager_of m) now) (Err pump_fault.DiskFault) call.ends refl (λ same. let wrong : ⊥ = cc in wrong) (never_fails (manager_of m) now)
+            ),
         refl,
       ))
 
@@ -74,7 +73,7 @@ module _ (d e : View) (m n : ManagerState) (now : ℕ) (up : IsUp m) where
 
   -- a pump that was made
   module _ (r : Result ℕ PumpFault) (call : IsCall pump_fault.Memory pump_fault.DiskFault d e m n (pump (manager_of m) now) r) (none : stopped_pumping r ≡ None) where
-    made : (r ≡ (pump (manager_of m) now).answer) × (manager_of n ≡ succeeded (manager_of m) (pump (manager_of m) now))
+    made : (r ≡ (pump (manager_of m) now).answer) × (stored_of n ≡ stored_after (stored_of m) (pump (manager_of m) now))
     made = answered_so pump_fault.Memory pump_fault.DiskFault m n (pump (manager_of m) now) r call.ends (went r none).0 (went r none).1
 
     pub pump_kept : {T : Type 0} (x : T) → Keeps d e m n (Ok x)
@@ -85,10 +84,10 @@ module _ (d e : View) (m n : ManagerState) (now : ℕ) (up : IsUp m) where
       added : after ≡ flat_map plain_spelling (pump (manager_of m) now).packets
       added = pump_adds (manager_of m) now before after r law empty made.0 sent refused
 
-      pub pump_sent : (x y : Option (List ℕ)) → Took x y after → IsPumped (manager_of m) now (manager_of n) x y r
+      pub pump_sent : (x y : Option (List ℕ)) → Took x y after → IsPumped (stored_of m) now (stored_of n) x y r
       pump_sent x y took = record { answer = made.0; manager = made.1; took = subst (λ (t : List ℕ). Took x y t) added took }
 
-      pub pump_cut : (x y : Option (List ℕ)) → TookFront x y after → PumpStops (manager_of m) now (manager_of n) x y fault.WriteFault
+      pub pump_cut : (x y : Option (List ℕ)) → TookFront x y after → PumpStops (stored_of m) now (stored_of n) x y fault.WriteFault
       pump_cut x y front = inr (made.1, subst (λ (t : List ℕ). TookFront x y t) added front)
 
 -- Packets that are heard.
@@ -116,21 +115,21 @@ module _ (d e : View) (m n : ManagerState) (v : PacketView) (now : ℕ) (up : Is
   one : IsCall hear_fault.Memory hear_fault.DiskFault d e m n (hear (manager_of m) p now) r
   one = call p is_shown
 
-  by_fault : (why : ConnFault) (q : Result Heard HearFault) → r ≡ q → stopped_hearing q ≡ Some why → LeftBy why (manager_of m) (manager_of n)
-  by_fault why (Ok heard) same is = absurd (let wrong : ⊥ = cc in wrong)
-  by_fault why (Err hear_fault.Down) same is = absurd (let wrong : ⊥ = cc in wrong)
-  by_fault why (Err hear_fault.NotLinked) same is = absurd (let wrong : ⊥ = cc in wrong)
-  by_fault why (Err hear_fault.Memory) same is =
-      subst (λ (w : ConnFault). LeftBy w (manager_of m) (manager_of n)) (some_is fault.Memory why is)
-      (memory_so hear_fault.Memory hear_fault.DiskFault m n (hear (manager_of m) p now) r one.ends same (λ same. let wrong : ⊥ = cc in wrong) (never_wants_to_hear (manager_of m) p now))
-  by_fault why (Err hear_fault.DiskFault) same is =
-      subst (λ (w : ConnFault). LeftBy w (manager_of m) (manager_of n)) (some_is fault.DiskFault why is) (
-        (hear (manager_of m) p now).entry,
-        broken_so hear_fault.Memory hear_fault.DiskFault m n (hear (manager_of m) p now) r one.ends same (λ same. let wrong : ⊥ = cc in wrong) (never_fails_to_hear (manager_of m) p now),
-      )
+  module _ (frame : List ℕ) (read : packet_of frame ≡ Ok (seen_packet v)) where
+    by_fault : (why : ConnFault) (q : Result Heard HearFault) → r ≡ q → stopped_hearing q ≡ Some why → LeftBy why (HearsBy frame (stored_of m) now) (stored_of m) (stored_of n)
+    by_fault why (Ok heard) same is = absurd (let wrong : ⊥ = cc in wrong)
+    by_fault why (Err hear_fault.Down) same is = absurd (let wrong : ⊥ = cc in wrong)
+    by_fault why (Err hear_fault.NotLinked) same is = absurd (let wrong : ⊥ = cc in wrong)
+    by_fault why (Err hear_fault.Memory) same is =
+        subst (λ (w : ConnFault). LeftBy w (HearsBy frame (stored_of m) now) (stored_of m) (stored_of n)) (some_is fault.Memory why is)
+        (memory_so hear_fault.Memory hear_fault.DiskFault m n (hear (manager_of m) p now) r one.ends same (λ same. let wrong : ⊥ = cc in wrong) (never_wants_to_hear (manager_of m) p now))
+    by_fault why (Err hear_fault.DiskFault) same is =
+        let doubt = broken_so hear_fault.Memory hear_fault.DiskFault m n (hear (manager_of m) p now) r one.ends same (λ same. let wrong : ⊥ = cc in wrong) (never_fails_to_hear (manager_of m) p now) in
+        subst (λ (w : ConnFault). LeftBy w (HearsBy frame (stored_of m) now) (stored_of m) (stored_of n)) (some_is fault.DiskFault why is)
+        (doubt.0, record { packet = p; spells = record { parts = seen_packet v; read = read; said = is_shown }; comes_to = doubt.1 }, doubt.2)
 
-  pub hear_stopped : (why : ConnFault) → stopped_hearing r ≡ Some why → LeftBy why (manager_of m) (manager_of n)
-  hear_stopped why is = by_fault why r refl is
+    pub hear_stopped : (why : ConnFault) → stopped_hearing r ≡ Some why → LeftBy why (HearsBy frame (stored_of m) now) (stored_of m) (stored_of n)
+    hear_stopped why is = by_fault why r refl is
 
   keeps_by : {T : Type 0} (why : ConnFault) (q : Result Heard HearFault) → r ≡ q → stopped_hearing q ≡ Some why → Keeps {T = T} d e m n (Err why)
   keeps_by why (Ok heard) same is = absurd (let wrong : ⊥ = cc in wrong)
@@ -150,7 +149,7 @@ module _ (d e : View) (m n : ManagerState) (v : PacketView) (now : ℕ) (up : Is
   hear_keeps why is = keeps_by why r refl is
 
   -- it was heard
-  pub hear_made : (frame : List ℕ) → packet_of frame ≡ Ok (seen_packet v) → stopped_hearing r ≡ None → IsHeard frame (manager_of m) now (manager_of n)
+  pub hear_made : (frame : List ℕ) → packet_of frame ≡ Ok (seen_packet v) → stopped_hearing r ≡ None → IsHeard frame (stored_of m) now (stored_of n)
   hear_made frame read none = record {
     packet = p;
     spells = record { parts = seen_packet v; read = read; said = is_shown };

@@ -1,4 +1,4 @@
--- What the steps of a connection leave of the disk.
+-- The manager of a connection with its records, and what the steps of a connection leave of its disk.
 use Rattle.std.specs.Prelude.{Err, None, Ok, Option, Result, Some, cond, ℕ}
 use Rattle.mqb_base.specs.declared.heard.Heard.{Heard}
 use Rattle.mqb_outside.specs.Disk.{View}
@@ -7,11 +7,16 @@ use Rattle.mqb_model.specs.declared.faults.HearFault.{HearFault}
 use Rattle.mqb_model.specs.declared.faults.HearFault.TheVariants as hear_fault
 use Rattle.mqb_model.specs.declared.faults.PumpFault.{PumpFault}
 use Rattle.mqb_model.specs.declared.faults.PumpFault.TheVariants as pump_fault
+use Rattle.mqb_serving.specs.Conversations.{StoredManager}
 use Rattle.mqb_serving.specs.declared.faults.ConnFault.{ConnFault}
 use Rattle.mqb_serving.specs.declared.faults.ConnFault.TheVariants as fault
-use Rattle.mqb_manager.specs.States.{IsUp, ManagerState}
+use Rattle.mqb_manager.specs.States.{IsUp, ManagerState, manager_of}
 use Rattle.mqb_serving.specs.Serving.{is_disk_fault}
 use Rattle.mqb_manager.specs.Keeping.{KeepsDisk}
+
+-- the manager that it is, with as many records as its journal has
+abbrev pub stored_of : ManagerState → StoredManager
+stored_of m = record { manager = manager_of m; count = m.store.journal.count }
 
 -- a manager is up, unless the disk failed
 abbrev pub UpUnless : {T : Type 0} → Result T ConnFault → ManagerState → Type 0

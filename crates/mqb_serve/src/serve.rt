@@ -1,8 +1,8 @@
 ghost use Rattle.std.specs.Prelude.{◌≡◌, ◌≢◌, Err, None};
 ghost use Rattle.mqb_journal.specs.Causes.{FaultsAsSaid};
-ghost use Rattle.mqb_manager.specs.States.{IsOnDisk, IsUp, manager_of};
+ghost use Rattle.mqb_manager.specs.States.{IsOnDisk, IsUp};
 ghost use Rattle.mqb_manager.specs.Keeping.{KeepsDisk};
-ghost use Rattle.mqb_serve.specs.Talking.{Keeps};
+ghost use Rattle.mqb_serve.specs.Talking.{Keeps, stored_of};
 ghost use Rattle.mqb_serving.specs.Serving.{Serves, ServesWhole, answer_of, is_disk_fault, is_read_fault, is_write_fault};
 ghost use Rattle.mqb_serving.specs.Steps.{Converses, Stands};
 ghost use Rattle.mqb_serving.specs.Conversations.{Conversation, no_bytes};
@@ -28,9 +28,9 @@ fn converse<D: Disk, C: Conn>(
     requires up { IsUp manager.old }
     requires on { IsOnDisk (D.view disk.old) manager.old }
     ensures converses { (c : Conversation) →
-        Stands c purpose now (manager_of manager.old) no_bytes →
+        Stands c purpose now (stored_of manager.old) no_bytes →
         Converses c (C.held conn.old) (C.held conn.new) (C.taken conn.old) (C.taken conn.new)
-        (manager_of manager.new) result }
+        (stored_of manager.new) result }
     ensures keeps { Keeps (D.view disk.old) (D.view disk.new) manager.old manager.new result }
     ensures write_faults { FaultsAsSaid is_write_fault (C.write_faults conn.old)
         (C.write_faults conn.new) result }
@@ -74,9 +74,9 @@ fn serve<D: Disk, C: Conn>(
 ) -> Result<(), ConnFault>
     requires up { IsUp manager.old }
     requires on { IsOnDisk (D.view disk.old) manager.old }
-    ensures served { Serves purpose now (manager_of manager.old) (manager_of manager.new)
+    ensures served { Serves purpose now (stored_of manager.old) (stored_of manager.new)
         (C.held conn.old) (C.held conn.new) (C.taken conn.old) (C.taken conn.new) result }
-    ensures whole { ServesWhole result purpose now (manager_of manager.old) (manager_of manager.new)
+    ensures whole { ServesWhole result purpose now (stored_of manager.old) (stored_of manager.new)
         (C.held conn.old) (C.taken conn.old) (C.taken conn.new) }
     ensures unlinked { manager.new.session ≡ None }
     ensures up { result ≢ Err ConnFault.DiskFault → IsUp manager.new }
@@ -120,10 +120,10 @@ pub fn serve_one<D: Disk, C: Conn>(
 ) -> Result<(), ConnFault>
     requires up { IsUp manager.old }
     requires on { IsOnDisk (D.view disk.old) manager.old }
-    ensures served { Serves Purpose.Serve now (manager_of manager.old) (manager_of manager.new)
+    ensures served { Serves Purpose.Serve now (stored_of manager.old) (stored_of manager.new)
         (C.held conn.old) (C.held conn.new) (C.taken conn.old) (C.taken conn.new) result }
-    ensures whole { ServesWhole result Purpose.Serve now (manager_of manager.old)
-        (manager_of manager.new) (C.held conn.old) (C.taken conn.old) (C.taken conn.new) }
+    ensures whole { ServesWhole result Purpose.Serve now (stored_of manager.old)
+        (stored_of manager.new) (C.held conn.old) (C.taken conn.old) (C.taken conn.new) }
     ensures unlinked { manager.new.session ≡ None }
     ensures up { result ≢ Err ConnFault.DiskFault → IsUp manager.new }
     ensures disk { KeepsDisk (D.view disk.old) (D.view disk.new) manager.old manager.new }
@@ -155,10 +155,10 @@ pub fn push_one<D: Disk, C: Conn>(
 ) -> Result<(), ConnFault>
     requires up { IsUp manager.old }
     requires on { IsOnDisk (D.view disk.old) manager.old }
-    ensures served { Serves (Purpose.Reach Errand.Push peer) now (manager_of manager.old) (manager_of manager.new)
+    ensures served { Serves (Purpose.Reach Errand.Push peer) now (stored_of manager.old) (stored_of manager.new)
         (C.held conn.old) (C.held conn.new) (C.taken conn.old) (C.taken conn.new) result }
-    ensures whole { ServesWhole result (Purpose.Reach Errand.Push peer) now (manager_of manager.old)
-        (manager_of manager.new) (C.held conn.old) (C.taken conn.old) (C.taken conn.new) }
+    ensures whole { ServesWhole result (Purpose.Reach Errand.Push peer) now (stored_of manager.old)
+        (stored_of manager.new) (C.held conn.old) (C.taken conn.old) (C.taken conn.new) }
     ensures unlinked { manager.new.session ≡ None }
     ensures up { result ≢ Err ConnFault.DiskFault → IsUp manager.new }
     ensures disk { KeepsDisk (D.view disk.old) (D.view disk.new) manager.old manager.new }
@@ -200,10 +200,10 @@ pub fn fetch_one<D: Disk, C: Conn>(
 ) -> Result<(), ConnFault>
     requires up { IsUp manager.old }
     requires on { IsOnDisk (D.view disk.old) manager.old }
-    ensures served { Serves (Purpose.Reach Errand.Fetch peer) now (manager_of manager.old) (manager_of manager.new)
+    ensures served { Serves (Purpose.Reach Errand.Fetch peer) now (stored_of manager.old) (stored_of manager.new)
         (C.held conn.old) (C.held conn.new) (C.taken conn.old) (C.taken conn.new) result }
-    ensures whole { ServesWhole result (Purpose.Reach Errand.Fetch peer) now (manager_of manager.old)
-        (manager_of manager.new) (C.held conn.old) (C.taken conn.old) (C.taken conn.new) }
+    ensures whole { ServesWhole result (Purpose.Reach Errand.Fetch peer) now (stored_of manager.old)
+        (stored_of manager.new) (C.held conn.old) (C.taken conn.old) (C.taken conn.new) }
     ensures unlinked { manager.new.session ≡ None }
     ensures up { result ≢ Err ConnFault.DiskFault → IsUp manager.new }
     ensures disk { KeepsDisk (D.view disk.old) (D.view disk.new) manager.old manager.new }

@@ -4,7 +4,7 @@ ghost use Rattle.mqb_outside.specs.Told.{Gave};
 ghost use Rattle.mqb_journal.specs.Causes.{FaultsAsSaid};
 ghost use Rattle.mqb_manager.specs.States.{IsOnDisk, IsUp, manager_of};
 ghost use Rattle.mqb_model.specs.managers.Readers.{phase_of};
-ghost use Rattle.mqb_serve.specs.Talking.{Keeps, stopped_hearing, stopped_pumping};
+ghost use Rattle.mqb_serve.specs.Talking.{Keeps, stopped_hearing, stopped_pumping, stored_of};
 ghost use Rattle.mqb_serving.specs.Serving.{Hears, is_read_fault, is_write_fault};
 ghost use Rattle.mqb_serving.specs.Steps.{Converses, Goes, HearsFrame, HearsHeld, Itself, Listens, PumpsOnce, Stands, end_of};
 ghost use Rattle.mqb_serving.specs.declared.limits.TheConstants.{MAX_READ};
@@ -125,7 +125,7 @@ fn hear_frame<D: Disk>(
 ) -> Result<Result<(), HeadFault>, ConnFault>
     requires up { IsUp manager.old }
     requires on { IsOnDisk (D.view disk.old) manager.old }
-    ensures hears { HearsFrame frame.now (manager_of manager.old) moment (manager_of manager.new)
+    ensures hears { HearsFrame frame.now (stored_of manager.old) moment (stored_of manager.new)
         result }
     ensures keeps { Keeps (D.view disk.old) (D.view disk.new) manager.old manager.new result }
     ensures no_write { IfErr result (λ why. is_write_fault why ≡ false) }
@@ -178,7 +178,7 @@ impl Talk {
     ) -> Result<Result<u32, PumpFault>, ConnFault>
         requires up { IsUp manager.old }
         requires on { IsOnDisk (D.view disk.old) manager.old }
-        ensures pumps { PumpsOnce (manager_of manager.old) self.old.moment (manager_of manager.new)
+        ensures pumps { PumpsOnce (stored_of manager.old) self.old.moment (stored_of manager.new)
             (C.taken conn.old) (C.taken conn.new) result }
         ensures keeps { Keeps (D.view disk.old) (D.view disk.new) manager.old manager.new result }
         ensures purpose { self.new.purpose ≡ self.old.purpose }
@@ -216,9 +216,9 @@ impl Talk {
         requires up { IsUp manager.old }
         requires on { IsOnDisk (D.view disk.old) manager.old }
         ensures goes { (c : Conversation) →
-            Stands c self.old.purpose self.old.moment (manager_of manager.old) self.old.framer →
+            Stands c self.old.purpose self.old.moment (stored_of manager.old) self.old.framer →
             Goes (Itself c) c (pumped MAX_PUMPS c) (C.taken conn.old) (C.taken conn.new)
-            self.new.purpose self.new.moment (manager_of manager.new) self.new.framer result }
+            self.new.purpose self.new.moment (stored_of manager.new) self.new.framer result }
         ensures keeps { Keeps (D.view disk.old) (D.view disk.new) manager.old manager.new result }
         ensures purpose { self.new.purpose ≡ self.old.purpose }
         ensures moment { self.new.moment ≡ self.old.moment }
@@ -252,9 +252,9 @@ impl Talk {
         requires up { IsUp manager.old }
         requires on { IsOnDisk (D.view disk.old) manager.old }
         ensures goes { (c : Conversation) →
-            Stands c self.old.purpose self.old.moment (manager_of manager.old) self.old.framer →
+            Stands c self.old.purpose self.old.moment (stored_of manager.old) self.old.framer →
             Goes (HearsHeld c) c (answered (next c.framing) c) (C.taken conn.old)
-            (C.taken conn.new) self.new.purpose self.new.moment (manager_of manager.new)
+            (C.taken conn.new) self.new.purpose self.new.moment (stored_of manager.new)
             self.new.framer result }
         ensures wants { result ≡ Ok None → wants_more (next self.new.framer) ≡ true }
         ensures came { self.new.came ≡ self.old.came }
@@ -295,9 +295,9 @@ impl Talk {
         requires up { IsUp manager.old }
         requires on { IsOnDisk (D.view disk.old) manager.old }
         ensures goes { (c : Conversation) →
-            Stands c self.old.purpose self.old.moment (manager_of manager.old) self.old.framer →
+            Stands c self.old.purpose self.old.moment (stored_of manager.old) self.old.framer →
             Goes (HearsHeld c) c (looked_at c) (C.taken conn.old) (C.taken conn.new)
-            self.new.purpose self.new.moment (manager_of manager.new) self.new.framer result }
+            self.new.purpose self.new.moment (stored_of manager.new) self.new.framer result }
         ensures wants { result ≡ Ok None → wants_more (next self.new.framer) ≡ true }
         ensures came { self.new.came ≡ self.old.came }
         ensures less { result ≡ Ok None → self.new.came < MAX_READ }
@@ -355,9 +355,9 @@ impl Talk {
         requires few { self.old.came + length piece.now ≤ MAX_READ }
         requires less { self.old.came < MAX_READ }
         ensures goes { (c : Conversation) →
-            Stands c self.old.purpose self.old.moment (manager_of manager.old) self.old.framer →
+            Stands c self.old.purpose self.old.moment (stored_of manager.old) self.old.framer →
             Goes (Hears c piece.now) c (read_on c piece.now) (C.taken conn.old) (C.taken conn.new)
-            self.new.purpose self.new.moment (manager_of manager.new) self.new.framer result }
+            self.new.purpose self.new.moment (stored_of manager.new) self.new.framer result }
         ensures wants { result ≡ Ok None → wants_more (next self.new.framer) ≡ true }
         ensures came { result ≡ Ok None → self.new.came ≡ self.old.came + length piece.now }
         ensures less { result ≡ Ok None → self.new.came < MAX_READ }
@@ -434,9 +434,9 @@ impl Talk {
         requires less { self.old.came < MAX_READ }
         requires room { 0 < length buffer.old }
         ensures listens { (c : Conversation) →
-            Stands c self.old.purpose self.old.moment (manager_of manager.old) self.old.framer →
+            Stands c self.old.purpose self.old.moment (stored_of manager.old) self.old.framer →
             Listens c (C.held conn.old) (C.held conn.new) (C.taken conn.old) (C.taken conn.new)
-            (manager_of manager.new) result }
+            (stored_of manager.new) result }
         ensures keeps { Keeps (D.view disk.old) (D.view disk.new) manager.old manager.new result }
         ensures write_faults { FaultsAsSaid is_write_fault (C.write_faults conn.old)
             (C.write_faults conn.new) result }
@@ -471,9 +471,9 @@ impl Talk {
         requires nothing { self.old.framer ≡ no_bytes }
         requires room { 0 < length buffer.old }
         ensures converses { (c : Conversation) →
-            Stands c self.old.purpose self.old.moment (manager_of manager.old) self.old.framer →
+            Stands c self.old.purpose self.old.moment (stored_of manager.old) self.old.framer →
             Converses c (C.held conn.old) (C.held conn.new) (C.taken conn.old) (C.taken conn.new)
-            (manager_of manager.new) result }
+            (stored_of manager.new) result }
         ensures keeps { Keeps (D.view disk.old) (D.view disk.new) manager.old manager.new result }
         ensures write_faults { FaultsAsSaid is_write_fault (C.write_faults conn.old)
             (C.write_faults conn.new) result }

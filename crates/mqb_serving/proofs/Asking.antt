@@ -12,19 +12,17 @@ use Rattle.mqb_packet.proofs.Behind.{plain_length}
 use Rattle.mqb_stream.specs.Cutting.{packet_size}
 use Rattle.mqb_stream.specs.Framing.{Answer, Broken, next}
 use Rattle.mqb_stream.proofs.Filling.{end_least, end_short}
-use Rattle.mqb_model.specs.calls.Link.{unlink}
 use Rattle.mqb_serving.specs.declared.purpose.Purpose.TheVariants as purpose
-use Rattle.mqb_model.specs.managers.Outcomes.{succeeded}
 use Rattle.mqb_model.specs.runs.Samples.{alpha, beta, manager_of}
-use Rattle.mqb_serving.specs.Conversations.{Conversation, answered, bytes_of, end_of_bytes, ended, holding, limited, no_bytes, opened, read_on}
+use Rattle.mqb_serving.specs.Conversations.{Conversation, answered, bytes_of, closed, end_of_bytes, ended, holding, limited, no_bytes, opened, read_on}
 use Rattle.mqb_serving.specs.Laws.{IsWritable, packet_heard}
-use Rattle.mqb_serving.specs.Worked.{OneIsAsked, OneIsBad, OneIsCutOff, OneIsEarly, early, establish, first_bytes, other_version, parameters, question}
+use Rattle.mqb_serving.specs.Worked.{OneIsAsked, OneIsBad, OneIsCutOff, OneIsEarly, early, establish, first_bytes, other_version, parameters, question, two_records}
 use Rattle.mqb_serving.specs.declared.faults.PeerFault.TheVariants as fault
 use Rattle.mqb_serving.proofs.Filling.{limit_far, look_wants, wants_before}
 use Rattle.mqb_serving.proofs.Hearing.{bytes_looked_at, packets_served}
 
 abbrev begun : Conversation
-begun = opened (manager_of alpha beta) purpose.Serve 1000
+begun = opened (two_records (manager_of alpha beta)) purpose.Serve 1000
 
 question_writable : AllByRecursion IsWritable question
 question_writable = (
@@ -42,11 +40,12 @@ question_count =
     omega (arith, first, rest, whole)
 
 pub one_is_asked : OneIsAsked
-one_is_asked = let heard = packets_served (manager_of alpha beta) purpose.Serve 1000 question question_writable (omega arith) in record {
+one_is_asked = let heard = packets_served (two_records (manager_of alpha beta)) purpose.Serve 1000 question question_writable (omega arith) in record {
   written = ap (λ (c : Conversation). bytes_of c.given) heard ∙ ap bytes_of given;
   count = question_count;
   end = ap (λ (c : Conversation). unwrap_or c.end (end_of_bytes c)) heard ∙ end;
-  unlinked = ap (λ (c : Conversation). (succeeded c.manager (unlink c.manager)).rest.session) heard ∙ refl;
+  unlinked = ap (λ (c : Conversation). (closed c).stored.manager.rest.session) heard ∙ refl;
+  records = ap (λ (c : Conversation). (closed c).stored.count) heard ∙ refl;
 }
   where
     given : (fold packet_heard begun question).given ≡ question
@@ -66,7 +65,7 @@ early_writable = (
 )
 
 pub one_is_early : OneIsEarly
-one_is_early = let heard = packets_served (manager_of alpha beta) purpose.Serve 1000 early early_writable (omega arith) in record {
+one_is_early = let heard = packets_served (two_records (manager_of alpha beta)) purpose.Serve 1000 early early_writable (omega arith) in record {
   written = ap (λ (c : Conversation). bytes_of c.given) heard ∙ refl;
   end = ap (λ (c : Conversation). unwrap_or c.end (end_of_bytes c)) heard ∙ refl;
 }
@@ -75,7 +74,7 @@ first_looked_at : read_on begun first_bytes ≡ holding begun first_bytes
 first_looked_at =
     let short = end_short MAX_PACKET first_bytes (ltb-true _ _ refl) in
     let count : length first_bytes ≡ 15 = refl in
-    bytes_looked_at (manager_of alpha beta) purpose.Serve 1000 first_bytes refl (omega (arith, count)) (omega (arith, count, short)) (omega (arith, count))
+    bytes_looked_at (two_records (manager_of alpha beta)) purpose.Serve 1000 first_bytes refl (omega (arith, count)) (omega (arith, count, short)) (omega (arith, count))
     ∙ look_wants (holding begun first_bytes) (wants_before (holding begun first_bytes).framing (omega (arith, count, short))) (ltb-true _ _ refl)
 
 pub one_is_cut_off : OneIsCutOff
@@ -94,7 +93,7 @@ broken = refl
 other_looked_at : read_on begun other_version ≡ ended (Err (fault.Bad 0 version_fault)) (holding begun other_version)
 other_looked_at =
     let count : length other_version ≡ 16 = refl in
-    bytes_looked_at (manager_of alpha beta) purpose.Serve 1000 other_version refl (omega (arith, count)) (omega (arith, count, end_least MAX_PACKET other_version)) (omega (arith, count))
+    bytes_looked_at (two_records (manager_of alpha beta)) purpose.Serve 1000 other_version refl (omega (arith, count)) (omega (arith, count, end_least MAX_PACKET other_version)) (omega (arith, count))
     ∙ ap (λ (a : Answer). limited (answered a (holding begun other_version))) broken
     ∙ limit_far (ended (Err (fault.Bad 0 version_fault)) (holding begun other_version)) (ltb-true _ _ refl)
 

@@ -12,8 +12,7 @@ use Rattle.mqb_packet.specs.declared.packet.Packet.{Packet}
 use Rattle.mqb_stream.specs.Framing.{Answer, Broken, Wants, Whole, advanced, next}
 use Rattle.mqb_model.specs.calls.hear.Hear.{hear}
 use Rattle.mqb_model.specs.calls.pump.Pump.{PumpOutcome, pump}
-use Rattle.mqb_model.specs.managers.Outcomes.{succeeded}
-use Rattle.mqb_serving.specs.Conversations.{Conversation, answered, at_rest, byte_read, bytes_of, count_read, frame_heard, gave, heard, heard_as, holding, limited, looked_at, opened, pumped, read_on, sent_some, served}
+use Rattle.mqb_serving.specs.Conversations.{Conversation, answered, at_rest, byte_read, bytes_of, count_read, frame_heard, gave, heard, heard_as, holding, limited, looked_at, opened, pumped, read_on, sent_some, served, stored_after}
 use Rattle.mqb_serving.specs.Laws.{Begins, PrefixesWritePrefixes}
 use Rattle.mqb_serving.specs.declared.faults.PeerFault.TheVariants as fault
 use Rattle.mqb_serving.specs.declared.limits.TheConstants.{MAX_PUMPS, MAX_READ}
@@ -35,10 +34,10 @@ mutual_pump count c outcome false more = (outcome.packets, refl)
 
 pumps_grow : (count : ℕ) (c : Conversation) → Grows c (pumped count c)
 pumps_grow zero c = same c c refl
-pumps_grow (suc count) c = mutual_pump count c (pump c.manager c.now) (sent_some (pump c.manager c.now).answer) (pumps_grow count)
+pumps_grow (suc count) c = mutual_pump count c (pump c.stored.manager c.now) (sent_some (pump c.stored.manager c.now).answer) (pumps_grow count)
 
 hearing_grows : (c : Conversation) (p : Packet) → Grows c (heard c p)
-hearing_grows c p = pumps_grow MAX_PUMPS (record c { manager = succeeded c.manager (hear c.manager p c.now) })
+hearing_grows c p = pumps_grow MAX_PUMPS (record c { stored = stored_after c.stored (hear c.stored.manager p c.now) })
 
 packet_grows : (c : Conversation) (p : Option Packet) → Grows c (option_map_or (heard c) p c)
 packet_grows c (Some p) = hearing_grows c p

@@ -31,9 +31,7 @@ use Rattle.mqb_stream.proofs.Filling.{end_long, size_is}
 use Rattle.mqb_model.specs.calls.hear.Hear.{hear}
 use Rattle.mqb_model.specs.calls.pump.Pump.{PumpOutcome, pump}
 use Rattle.mqb_serving.specs.declared.purpose.Purpose.{Purpose}
-use Rattle.mqb_model.specs.managers.Manager.{Manager}
-use Rattle.mqb_model.specs.managers.Outcomes.{succeeded}
-use Rattle.mqb_serving.specs.Conversations.{Conversation, End, answered, at_rest, byte_read, bytes_of, count_read, frame_heard, gave, heard, heard_as, holding, limited, linked, looked_at, opened, pumped, read_on, sent_some}
+use Rattle.mqb_serving.specs.Conversations.{Conversation, End, StoredManager, answered, at_rest, byte_read, bytes_of, count_read, frame_heard, gave, heard, heard_as, holding, limited, linked, looked_at, opened, pumped, read_on, sent_some, stored_after}
 use Rattle.mqb_serving.specs.Laws.{IsBetween, IsWritable, PacketsAreHeard, packet_heard, passed}
 use Rattle.mqb_serving.specs.declared.limits.TheConstants.{MAX_PUMPS, MAX_READ}
 use Rattle.mqb_serving.proofs.Filling.{fills, limit_far}
@@ -79,10 +77,10 @@ pump_keeps count c outcome false more = refl
 
 framing_stays : (count : ℕ) (c : Conversation) → (pumped count c).framing ≡ c.framing
 framing_stays zero c = refl
-framing_stays (suc count) c = pump_keeps count c (pump c.manager c.now) (sent_some (pump c.manager c.now).answer) (framing_stays count)
+framing_stays (suc count) c = pump_keeps count c (pump c.stored.manager c.now) (sent_some (pump c.stored.manager c.now).answer) (framing_stays count)
 
 heard_stays : (c : Conversation) (p : Packet) → (heard c p).framing ≡ c.framing
-heard_stays c p = framing_stays MAX_PUMPS (record c { manager = succeeded c.manager (hear c.manager p c.now) })
+heard_stays c p = framing_stays MAX_PUMPS (record c { stored = stored_after c.stored (hear c.stored.manager p c.now) })
 
 -- One packet.
 
@@ -154,10 +152,10 @@ packets_are_heard c (p ∷ packets) between w few =
     one_and_more c p packets between w.0 few (λ d between few. packets_are_heard d packets between w.1 few) c.end refl
 
 -- a connection begins between packets
-pub opened_between : (m : Manager) (asks : Purpose) (now : ℕ) → IsBetween (opened m asks now)
+pub opened_between : (m : StoredManager) (asks : Purpose) (now : ℕ) → IsBetween (opened m asks now)
 opened_between m asks now = let same = framing_stays MAX_PUMPS (linked m asks now) in record { limit = ap (λ (f : Framing). f.limit) same; held = ap (λ (f : Framing). f.held) same }
 
-none_read : (m : Manager) (asks : Purpose) (now : ℕ) → count_read (opened m asks now) ≡ 0
+none_read : (m : StoredManager) (asks : Purpose) (now : ℕ) → count_read (opened m asks now) ≡ 0
 none_read m asks now = ap (λ (f : Framing). f.place + length f.held) (framing_stays MAX_PUMPS (linked m asks now))
 
 few_bytes : (packets : List Packet) → AllByRecursion IsWritable packets → length (bytes_of packets) ≤ length packets * MAX_PACKET
@@ -168,13 +166,13 @@ few_bytes (p ∷ packets) w =
     omega (arith, long, size, few_bytes packets w.1)
 
 -- what a conversation hears from its beginning on
-pub packets_served : (m : Manager) (asks : Purpose) (now : ℕ) (packets : List Packet) → AllByRecursion IsWritable packets → length packets < 256
+pub packets_served : (m : StoredManager) (asks : Purpose) (now : ℕ) (packets : List Packet) → AllByRecursion IsWritable packets → length packets < 256
     → read_on (opened m asks now) (bytes_of packets) ≡ fold packet_heard (opened m asks now) packets
 packets_served m asks now packets w few =
     packets_are_heard (opened m asks now) packets (opened_between m asks now) w (omega (arith, few, few_bytes packets w, none_read m asks now))
 
 -- the first bytes, up to the end of a packet or before it
-pub bytes_looked_at : (m : Manager) (asks : Purpose) (now : ℕ) (bytes : List ℕ) → (opened m asks now).end ≡ None → 0 < length bytes → length bytes ≤ packet_end MAX_PACKET bytes → length bytes < MAX_READ
+pub bytes_looked_at : (m : StoredManager) (asks : Purpose) (now : ℕ) (bytes : List ℕ) → (opened m asks now).end ≡ None → 0 < length bytes → length bytes ≤ packet_end MAX_PACKET bytes → length bytes < MAX_READ
     → read_on (opened m asks now) bytes ≡ looked_at (holding (opened m asks now) bytes)
 bytes_looked_at m asks now bytes e some one few =
     let c = opened m asks now in

@@ -1,5 +1,6 @@
 pub mod Reading
 pub mod Growing
+pub mod Moments
 pub mod Filling
 pub mod Hearing
 pub mod Resting

@@ -1,5 +1,5 @@
 -- A piece is taken, packet by packet.
-use Rattle.std.proofs.Common.{◌≡◌, ◌≤◌, ◌<◌, ◌+◌, ◌-◌, ℕ, zero, suc, Bool, true, false, cond, ltb, List, [], ◌∷◌, ◌++◌, length, take, Result, Ok, Err, refl, sym, ap, subst, ◌∙◌, inl, inr, arith, length-append, append_assoc}
+use Rattle.std.proofs.Common.{◌≡◌, ◌≤◌, ◌<◌, ◌+◌, ◌-◌, ℕ, zero, suc, Bool, true, false, cond, ltb, List, [], ◌∷◌, ◌++◌, length, take, Option, Result, Ok, Err, refl, sym, ap, subst, ◌∙◌, inl, inr, arith, length-append, append_assoc}
 use Rattle.std.proofs.lemmas.Bool.{cases_lt, le-ltb, ltb-true}
 use Rattle.std.proofs.lemmas.List.{append-nil, length-take}
 use Rattle.mqb_fields.specs.declared.faults.HeadFault.{HeadFault}
@@ -7,11 +7,12 @@ use Rattle.mqb_stream.specs.Cutting.{packet_size}
 use Rattle.mqb_stream.specs.Framing.{Framing, Wants, Whole, advanced, by_size, end_by, fed, next, packet_end, taken_of, wants_more}
 use Rattle.mqb_stream.specs.Histories.{part_of}
 use Rattle.mqb_stream.proofs.Filling.{end_least, end_long, end_short, held_end, same_end}
-use Rattle.mqb_serving.specs.Conversations.{Conversation, count_read, holding, looked_at, read_on}
+use Rattle.mqb_serving.specs.Conversations.{Conversation, StoredManager, count_read, holding, looked_at, read_on}
 use Rattle.mqb_serving.specs.Laws.{GoesOn, passed}
 use Rattle.mqb_serving.specs.declared.limits.TheConstants.{MAX_READ}
 use Rattle.mqb_serving.proofs.Filling.{fills, look_wants, pieces_fill_packets, wants_before}
-use Rattle.mqb_serving.specs.Serving.{Fills, Hears, hearing}
+use Rattle.mqb_model.specs.records.Record.{Record}
+use Rattle.mqb_serving.specs.Serving.{Fills, Hears, heard_by, hearing}
 use Rattle.mqb_serving.specs.Steps.{HearsHeld}
 
 -- What a framer takes of a piece.
@@ -148,14 +149,16 @@ module _ (d : Conversation) (piece : List ℕ) (on : GoesOn d) (some : 0 < lengt
   pub part_read : read_on d (part_of d.framing piece) ≡ looked_at (record d { framing = fed d.framing piece })
   part_read = pieces_fill_packets d piece on some few
 
-  pub held_part : (from : Conversation) → HearsHeld (record d { framing = fed d.framing piece }) from → Hears d (part_of d.framing piece) from
-  held_part from h = record {
+  pub held_part : (by : StoredManager) (entry : Option Record) (from : Conversation) → HearsHeld (record d { framing = fed d.framing piece }) by entry from → Hears d (part_of d.framing piece) by entry from
+  held_part by entry from h = record {
     front = s.front;
     byte = s.last;
     packet = h.packet;
     begins = ([], s.is ∙ sym (append-nil (s.front ++ s.last ∷ [])));
     fills = subst (λ (e : Conversation). Fills e s.last h.packet) (sym front)
         (record { end = on.end; frame = h.frame; whole = ap next framing ∙ h.whole; spells = h.spells });
+    manager = h.manager ∙ sym (ap (λ (e : Conversation). e.stored) front);
+    comes_to = ap (λ (e : Conversation). heard_by e h.packet) front ∙ h.comes_to;
     heard = h.heard ∙ ap (λ (f : Framing). hearing (record d { framing = advanced f }) h.packet) (sym framing)
         ∙ ap (λ (e : Conversation). hearing (passed e (s.last ∷ [])) h.packet) (sym front);
   }

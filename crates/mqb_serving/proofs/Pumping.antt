@@ -6,18 +6,18 @@ use Rattle.mqb_stream.specs.Framing.{Framing}
 use Rattle.mqb_model.specs.calls.pump.Pump.{PumpOutcome, pump}
 use Rattle.mqb_serving.specs.declared.purpose.Purpose.{Purpose}
 use Rattle.mqb_model.specs.declared.faults.PumpFault.{PumpFault}
-use Rattle.mqb_model.specs.managers.Manager.{Manager}
-use Rattle.mqb_model.specs.managers.Outcomes.{succeeded}
-use Rattle.mqb_serving.specs.Conversations.{Conversation, End, at_rest, bytes_of, end_after, gave, pumped, sent_some}
+use Rattle.mqb_serving.specs.Conversations.{Conversation, End, StoredManager, at_rest, bytes_of, end_after, gave, pumped, sent_some, stored_after}
 use Rattle.mqb_serving.specs.Laws.{Begins}
 use Rattle.mqb_serving.specs.declared.faults.ConnFault.{ConnFault}
-use Rattle.mqb_serving.specs.Steps.{Gives, IsPumped, IsSameSide, Itself, PumpStops, Reaches, Stands, Stops}
-use Rattle.mqb_serving.proofs.Stopping.{gives_none, gives_then, stops_here, stops_then}
+use Rattle.mqb_serving.specs.Steps.{Gives, IsPumped, IsSameSide, Itself, PumpStops, PumpsBy, Reaches, Stands, Stops}
+use Rattle.mqb_serving.specs.Serving.{IsNext}
+use Rattle.mqb_serving.proofs.Points.{within_itself}
+use Rattle.mqb_serving.proofs.Stopping.{gives_none, gives_then, left_map, stops_here, stops_then}
 use Rattle.mqb_serving.proofs.Taking.{begins_behind}
 
 -- what the next pump comes to
 abbrev next_pump : Conversation → PumpOutcome
-next_pump d = pump d.manager d.now
+next_pump d = pump d.stored.manager d.now
 
 -- so many pumps lead from one conversation to another: those that follow are the same
 abbrev pub IsAhead : ℕ → Conversation → Conversation → Type 0
@@ -33,8 +33,8 @@ pumped_one : (d : Conversation) → IsSameSide (pumped 1 d) (gave (next_pump d) 
 pumped_one d = at (sent_some (next_pump d).answer)
   where
     at : (b : Bool) → IsSameSide (cond b (pumped 0 (gave (next_pump d) d)) (at_rest (next_pump d).answer (gave (next_pump d) d))) (gave (next_pump d) d)
-    at true = record { manager = refl; given = refl }
-    at false = record { manager = refl; given = refl }
+    at true = record { manager = refl; now = refl; given = refl }
+    at false = record { manager = refl; now = refl; given = refl }
 
 ahead_none : (c : Conversation) → IsAhead 0 c c
 ahead_none c k = ap (λ (n : ℕ). pumped n c) (zero-add k)
@@ -45,32 +45,32 @@ ahead_more i c d ahead some k =
     ap (λ (n : ℕ). pumped n c) e ∙ ahead (suc k) ∙ pumped_more k d some
 
 -- Where the code stands behind some of them.
-pub record Pumps (c : Conversation) (i : ℕ) (before after : Option (List ℕ)) (asks : Purpose) (moment : ℕ) (m : Manager) (f : Framing) : Type 0 where
+pub record Pumps (c : Conversation) (i : ℕ) (before after : Option (List ℕ)) (asks : Purpose) (moment : ℕ) (m : StoredManager) (f : Framing) : Type 0 where
   pub at : Conversation
   pub ahead : IsAhead i c at
   pub stands : Stands at asks moment m f
   pub gives : Gives c at before after
 
-pub pumps_none : (c : Conversation) (a : Option (List ℕ)) (asks : Purpose) (moment : ℕ) (m : Manager) (f : Framing) → Stands c asks moment m f → Pumps c 0 a a asks moment m f
+pub pumps_none : (c : Conversation) (a : Option (List ℕ)) (asks : Purpose) (moment : ℕ) (m : StoredManager) (f : Framing) → Stands c asks moment m f → Pumps c 0 a a asks moment m f
 pumps_none c a asks moment m f s = record { at = c; ahead = ahead_none c; stands = s; gives = gives_none c c a a refl refl }
 
 -- One more.
 
 -- the pump of the code is that of the conversation
-pumped_at : (d : Conversation) (asks : Purpose) (moment : ℕ) (m n : Manager) (f : Framing) (a b : Option (List ℕ)) (r : Result ℕ PumpFault) → Stands d asks moment m f
-    → IsPumped m moment n a b r → IsPumped d.manager d.now n a b r
+pumped_at : (d : Conversation) (asks : Purpose) (moment : ℕ) (m n : StoredManager) (f : Framing) (a b : Option (List ℕ)) (r : Result ℕ PumpFault) → Stands d asks moment m f
+    → IsPumped m moment n a b r → IsPumped d.stored d.now n a b r
 pumped_at d asks moment m n f a b r s p =
-    subst (λ (k : Manager). IsPumped k d.now n a b r) (sym s.manager) (subst (λ (t : ℕ). IsPumped m t n a b r) (sym s.now) p)
+    subst (λ (k : StoredManager). IsPumped k d.now n a b r) (sym s.manager) (subst (λ (t : ℕ). IsPumped m t n a b r) (sym s.now) p)
 
-stopped_at : (d : Conversation) (asks : Purpose) (moment : ℕ) (m n : Manager) (f : Framing) (a b : Option (List ℕ)) (why : ConnFault) → Stands d asks moment m f
-    → PumpStops m moment n a b why → PumpStops d.manager d.now n a b why
+stopped_at : (d : Conversation) (asks : Purpose) (moment : ℕ) (m n : StoredManager) (f : Framing) (a b : Option (List ℕ)) (why : ConnFault) → Stands d asks moment m f
+    → PumpStops m moment n a b why → PumpStops d.stored d.now n a b why
 stopped_at d asks moment m n f a b why s p =
-    subst (λ (k : Manager). PumpStops k d.now n a b why) (sym s.manager) (subst (λ (t : ℕ). PumpStops m t n a b why) (sym s.now) p)
+    subst (λ (k : StoredManager). PumpStops k d.now n a b why) (sym s.manager) (subst (λ (t : ℕ). PumpStops m t n a b why) (sym s.now) p)
 
-gave_given : (c d : Conversation) (x y z : Option (List ℕ)) (n : Manager) (r : Result ℕ PumpFault) → Gives c d x y → IsPumped d.manager d.now n y z r → Gives c (gave (next_pump d) d) x z
+gave_given : (c d : Conversation) (x y z : Option (List ℕ)) (n : StoredManager) (r : Result ℕ PumpFault) → Gives c d x y → IsPumped d.stored d.now n y z r → Gives c (gave (next_pump d) d) x z
 gave_given c d x y z n r g p = gives_then c d (gave (next_pump d) d) x y z g (record { packets = (next_pump d).packets; given = refl; took = p.took })
 
-pub pumps_more : (c : Conversation) (i : ℕ) (x y z : Option (List ℕ)) (asks : Purpose) (moment : ℕ) (m n : Manager) (f : Framing) (r : Result ℕ PumpFault) (some : Bool)
+pub pumps_more : (c : Conversation) (i : ℕ) (x y z : Option (List ℕ)) (asks : Purpose) (moment : ℕ) (m n : StoredManager) (f : Framing) (r : Result ℕ PumpFault) (some : Bool)
     → Pumps c i x y asks moment m f → IsPumped m moment n y z r → some ≡ sent_some r → some ≡ true → Pumps c (i + 1) x z asks moment n f
 pumps_more c i x y z asks moment m n f r some s p is went =
     let d = s.at in
@@ -84,15 +84,15 @@ pumps_more c i x y z asks moment m n f r some s p is went =
 
 -- They come to rest.
 
-rest_reached : (c d : Conversation) (x z : Option (List ℕ)) (asks : Purpose) (moment : ℕ) (m n : Manager) (f : Framing) (r : Result ℕ PumpFault) (end : Option End)
-    → Stands d asks moment m f → r ≡ (next_pump d).answer → n ≡ succeeded d.manager (next_pump d) → Gives c (gave (next_pump d) d) x z → end ≡ end_after r asks n
+rest_reached : (c d : Conversation) (x z : Option (List ℕ)) (asks : Purpose) (moment : ℕ) (m n : StoredManager) (f : Framing) (r : Result ℕ PumpFault) (end : Option End)
+    → Stands d asks moment m f → r ≡ (next_pump d).answer → n ≡ stored_after d.stored (next_pump d) → Gives c (gave (next_pump d) d) x z → end ≡ end_after r asks n.manager
     → Reaches c (at_rest (next_pump d).answer (gave (next_pump d) d)) x z asks moment n f end
 rest_reached c d x z asks moment m n f r end s answer manager gives is =
     let o = next_pump d in
-    let e : end_after o.answer d.purpose (succeeded d.manager o) ≡ end =
-    ap (λ (q : Result ℕ PumpFault). end_after q d.purpose (succeeded d.manager o)) (sym answer)
-    ∙ ap (λ (k : Manager). end_after r d.purpose k) (sym manager)
-    ∙ ap (λ (t : Purpose). end_after r t n) s.purpose ∙ sym is in
+    let e : end_after o.answer d.purpose (stored_after d.stored o).manager ≡ end =
+    ap (λ (q : Result ℕ PumpFault). end_after q d.purpose (stored_after d.stored o).manager) (sym answer)
+    ∙ ap (λ (k : StoredManager). end_after r d.purpose k.manager) (sym manager)
+    ∙ ap (λ (t : Purpose). end_after r t n.manager) s.purpose ∙ sym is in
     record {
       gives = record { packets = gives.packets; given = gives.given; took = gives.took };
       manager = sym manager;
@@ -100,8 +100,8 @@ rest_reached c d x z asks moment m n f r end s answer manager gives is =
       stands = λ none. record { purpose = s.purpose; now = s.now; manager = sym manager; framing = s.framing; end = e ∙ none };
     }
 
-pub pumps_rest : (most : ℕ) (c : Conversation) (i : ℕ) (x y z : Option (List ℕ)) (asks : Purpose) (moment : ℕ) (m n : Manager) (f : Framing) (r : Result ℕ PumpFault) (some : Bool) (end : Option End)
-    → i < most → Pumps c i x y asks moment m f → IsPumped m moment n y z r → some ≡ sent_some r → some ≡ false → end ≡ end_after r asks n
+pub pumps_rest : (most : ℕ) (c : Conversation) (i : ℕ) (x y z : Option (List ℕ)) (asks : Purpose) (moment : ℕ) (m n : StoredManager) (f : Framing) (r : Result ℕ PumpFault) (some : Bool) (end : Option End)
+    → i < most → Pumps c i x y asks moment m f → IsPumped m moment n y z r → some ≡ sent_some r → some ≡ false → end ≡ end_after r asks n.manager
     → Reaches c (pumped most c) x z asks moment n f end
 pumps_rest most c i x y z asks moment m n f r some end less s p is went ends =
     let d = s.at in
@@ -114,7 +114,7 @@ pumps_rest most c i x y z asks moment m n f r some end less s p is went ends =
     (rest_reached c d x z asks moment m n f r end s.stands q.answer q.manager (gave_given c d x y z n r s.gives q) ends)
 
 -- or there were too many
-pub pumps_all : (most : ℕ) (c : Conversation) (i : ℕ) (x y : Option (List ℕ)) (asks : Purpose) (moment : ℕ) (m : Manager) (f : Framing) → i ≡ most → Pumps c i x y asks moment m f
+pub pumps_all : (most : ℕ) (c : Conversation) (i : ℕ) (x y : Option (List ℕ)) (asks : Purpose) (moment : ℕ) (m : StoredManager) (f : Framing) → i ≡ most → Pumps c i x y asks moment m f
     → Reaches c (pumped most c) x y asks moment m f None
 pumps_all most c i x y asks moment m f all s =
     let d = s.at in
@@ -125,11 +125,18 @@ pumps_all most c i x y asks moment m f all s =
 
 -- One of them stops.
 
-pub pumps_stop : (c : Conversation) (i : ℕ) (x y z : Option (List ℕ)) (asks : Purpose) (moment : ℕ) (m n : Manager) (f : Framing) (why : ConnFault)
+pub pumps_stop : (c : Conversation) (i : ℕ) (x y z : Option (List ℕ)) (asks : Purpose) (moment : ℕ) (m n : StoredManager) (f : Framing) (why : ConnFault)
     → Pumps c i x y asks moment m f → PumpStops m moment n y z why → Stops (Itself c) c x z n why
 pumps_stop c i x y z asks moment m n f why s p =
-    stops_then (Itself c) (Itself c) c d x y z n why (λ from is. is) s.gives
-    (inr (record { from = c; pumps = i + 0; start = refl; manager = ap (λ (t : Conversation). t.manager) (sym (s.ahead 0)); given = ap (λ (t : Conversation). t.given) (sym (s.ahead 0)) }))
+    stops_then (Itself c) (Itself c) c d x y z n why (within_itself (Itself c)) s.gives
+    (inr (record {
+      from = c;
+      pumps = i + 0;
+      start = (c.stored, None, (refl, refl));
+      manager = ap (λ (t : Conversation). t.stored) (sym (s.ahead 0));
+      now = ap (λ (t : Conversation). t.now) (sym (s.ahead 0));
+      given = ap (λ (t : Conversation). t.given) (sym (s.ahead 0));
+    }))
     (by_stop (stopped_at d asks moment m n f y z why s.stands p))
   where
     d : Conversation
@@ -141,14 +148,14 @@ pumps_stop c i x y z asks moment m n f why s p =
     one : IsSameSide (pumped (i + 1) c) (gave o d)
     one = subst (λ (t : Conversation). IsSameSide t (gave o d)) (sym (s.ahead 1)) (pumped_one d)
 
-    by_stop : PumpStops d.manager d.now n y z why → Stops (Itself c) d y z n why
-    by_stop (inl h) = stops_here (Itself c) d y z n why h.1 h.0
+    by_stop : PumpStops d.stored d.now n y z why → Stops (Itself c) d y z n why
+    by_stop (inl h) = stops_here (Itself c) d y z n why h.1 (left_map (PumpsBy d.stored d.now) (IsNext (Itself c) d.stored d.now) why d.stored n (λ r is. inl is) h.0)
     by_stop (inr h) = record {
       at = gave o d;
-      past = inr (record { from = c; pumps = i + 1; start = refl; manager = one.manager; given = one.given });
+      past = inr (record { from = c; pumps = i + 1; start = (c.stored, None, (refl, refl)); manager = one.manager; now = one.now; given = one.given });
       written = h.1.written;
       took = h.1.took;
       begins = subst (λ (t : List ℕ). Begins (bytes_of d.given ++ h.1.written) t) (sym (flat_map-append plain_spelling d.given o.packets))
           (begins_behind (bytes_of d.given) h.1.written (bytes_of o.packets) (h.1.left, sym h.1.whole));
-      left = h.0;
+      left = left_map (λ _. ⊥) (IsNext (Itself c) (gave o d).stored d.now) why (gave o d).stored n (λ r none. absurd none) h.0;
     }

@@ -15,10 +15,8 @@ use Rattle.mqb_packet.specs.declared.packet.Packet.{Packet}
 use Rattle.mqb_packet.specs.declared.packet.Packet.TheVariants as packet
 use Rattle.mqb_serving.specs.declared.purpose.Errand.TheVariants as errand
 use Rattle.mqb_serving.specs.declared.purpose.Purpose.TheVariants as purpose
-use Rattle.mqb_model.specs.calls.Link.{unlink}
-use Rattle.mqb_model.specs.managers.Outcomes.{succeeded}
 use Rattle.mqb_model.specs.runs.Samples.{alpha, beta, ids_of}
-use Rattle.mqb_serving.specs.Conversations.{Conversation, bytes_of, end_of_bytes, opened, read_on}
+use Rattle.mqb_serving.specs.Conversations.{Conversation, bytes_of, closed, end_of_bytes, opened, read_on}
 use Rattle.mqb_serving.specs.Laws.{IsWritable, packet_heard}
 use Rattle.mqb_serving.specs.Worked.{OneIsPushed, establish, from_alpha, from_beta, last_ack, order, order_ack, parameters, pushing, receiving}
 use Rattle.mqb_serving.proofs.Hearing.{packets_served}
@@ -135,6 +133,8 @@ one_is_pushed = record {
   pushes = ap (λ (c : Conversation). unwrap_or c.end (end_of_bytes c)) alpha_heard ∙ refl;
   answers = ap (λ (c : Conversation). bytes_of c.given) beta_heard ∙ ap bytes_of beta_given;
   serves = ap (λ (c : Conversation). unwrap_or c.end (end_of_bytes c)) beta_heard ∙ refl;
-  put = ap (λ (c : Conversation). map (λ q. ids_of q.lists.durable) (succeeded c.manager (unlink c.manager)).state.places.queues) beta_heard ∙ refl;
-  left = ap (λ (c : Conversation). map (λ row. numbers row.kept) (succeeded c.manager (unlink c.manager)).state.outs) alpha_heard ∙ refl;
+  put = ap (λ (c : Conversation). map (λ q. ids_of q.lists.durable) (closed c).stored.manager.state.places.queues) beta_heard ∙ refl;
+  left = ap (λ (c : Conversation). map (λ row. numbers row.kept) (closed c).stored.manager.state.outs) alpha_heard ∙ refl;
+  one_record = ap (λ (c : Conversation). (closed c).stored.count) beta_heard ∙ refl;
+  two_records = ap (λ (c : Conversation). (closed c).stored.count) alpha_heard ∙ refl;
 }

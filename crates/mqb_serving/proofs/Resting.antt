@@ -211,12 +211,12 @@ rest_by : (count more : ℕ) (c : Conversation) (outcome : PumpOutcome) → (sen
 rest_by count more c outcome later true is = later is
 rest_by count more c outcome later false is = refl
 
-comes_to_rest : CallsKeepValid → (count more : ℕ) (c : Conversation) → IsValidManager c.manager → count ≤ more → left_of c.manager.rest.session < count → pumped more c ≡ pumped count c
+comes_to_rest : CallsKeepValid → (count more : ℕ) (c : Conversation) → IsValidManager c.stored.manager → count ≤ more → left_of c.stored.manager.rest.session < count → pumped more c ≡ pumped count c
 comes_to_rest keep zero more c v most less = absurd (omega (arith, less))
 comes_to_rest keep (suc count) zero c v most less = absurd (omega (arith, most))
-comes_to_rest keep (suc count) (suc more) c v most less = rest_by count more c (pump c.manager c.now)
-    (λ is. comes_to_rest keep count more (gave (pump c.manager c.now) c) ((keep c.manager v).pumps c.now).succeeds (omega (arith, most)) (omega (arith, less, pump_lowers c.manager c.now v is)))
-    (sent_some (pump c.manager c.now).answer) refl
+comes_to_rest keep (suc count) (suc more) c v most less = rest_by count more c (pump c.stored.manager c.now)
+    (λ is. comes_to_rest keep count more (gave (pump c.stored.manager c.now) c) ((keep c.stored.manager v).pumps c.now).succeeds (omega (arith, most)) (omega (arith, less, pump_lowers c.stored.manager c.now v is)))
+    (sent_some (pump c.stored.manager c.now).answer) refl
 
 few_left : (session : Option one_end.State) → left_of session < MAX_PUMPS
 few_left None = omega arith
@@ -237,4 +237,4 @@ few_left (Some s) = omega (arith, at s.phase, owed s.owes)
     owed false = omega arith
 
 pub pumps_come_to_rest : CallsKeepValid → PumpsComeToRest
-pumps_come_to_rest keep c more v = comes_to_rest keep MAX_PUMPS (MAX_PUMPS + more) c v (omega arith) (few_left c.manager.rest.session)
+pumps_come_to_rest keep c more v = comes_to_rest keep MAX_PUMPS (MAX_PUMPS + more) c v (omega arith) (few_left c.stored.manager.rest.session)

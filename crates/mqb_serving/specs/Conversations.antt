@@ -19,8 +19,9 @@ use Rattle.mqb_model.specs.declared.answers.Role.{Role}
 use Rattle.mqb_model.specs.declared.answers.Role.TheVariants as role
 use Rattle.mqb_model.specs.declared.faults.PumpFault.{PumpFault}
 use Rattle.mqb_model.specs.managers.Manager.{Manager}
-use Rattle.mqb_model.specs.managers.Outcomes.{succeeded}
+use Rattle.mqb_model.specs.managers.Outcomes.{Outcome, failed_under, succeeded}
 use Rattle.mqb_model.specs.managers.Readers.{is_outstanding, phase_of}
+use Rattle.mqb_model.specs.records.Record.{Record}
 use Rattle.mqb_serving.specs.declared.faults.PeerFault.{PeerFault}
 use Rattle.mqb_serving.specs.declared.faults.PeerFault.TheVariants as fault
 use Rattle.mqb_serving.specs.declared.purpose.Errand.TheVariants as errand
@@ -37,12 +38,26 @@ abbrev pub role_of : Purpose → Role
 role_of purpose.Serve = role.Acceptor
 role_of (purpose.Reach why peer) = role.Initiator peer
 
--- What one end of a connection knows at one moment: what the connection is for and the moment of its calls, the manager, the packets that it gave, the framer of the bytes
--- that came, and how the connection ended, once it has.
+-- A manager, and how many records stand in its store.
+pub record StoredManager : Type 0 where
+  pub manager : Manager
+  pub count : ℕ
+
+-- behind a call that went well, whose record stands behind the others, where it has one
+abbrev pub stored_after : {A : Type 0} → StoredManager → Outcome A → StoredManager
+stored_after m outcome = record { manager = succeeded m.manager outcome; count = m.count + option_map_or (λ _. 1) outcome.entry 0 }
+
+-- its disk failed under this record, which is in doubt
+abbrev pub stored_under : StoredManager → Record → StoredManager
+stored_under m r = record m { manager = failed_under m.manager (Some r) }
+
+-- What one end of a connection knows at one moment: what the connection is for and the moment of its calls, the
+-- manager with its records, the packets that it gave, the framer of the bytes that came, and how the connection ended,
+-- once it has.
 pub record Conversation : Type 0 where
   pub purpose : Purpose
   pub now : ℕ
-  pub manager : Manager
+  pub stored : StoredManager
   pub given : List Packet
   pub framing : Framing
   pub end : Option End
@@ -86,16 +101,16 @@ sent_some (Err why) = false
 
 -- the packets of a pump are given
 abbrev pub gave : PumpOutcome → Conversation → Conversation
-gave outcome c = record c { manager = succeeded c.manager outcome; given = c.given ++ outcome.packets }
+gave outcome c = record c { stored = stored_after c.stored outcome; given = c.given ++ outcome.packets }
 
 -- nothing more goes
 abbrev pub at_rest : Result ℕ PumpFault → Conversation → Conversation
-at_rest answer c = record c { end = end_after answer c.purpose c.manager }
+at_rest answer c = record c { end = end_after answer c.purpose c.stored.manager }
 
 -- the manager pumps until nothing goes, at most so many times
 abbrev pub pumped : ℕ → Conversation → Conversation
 pumped zero c = c
-pumped (suc count) c = let outcome = pump c.manager c.now in
+pumped (suc count) c = let outcome = pump c.stored.manager c.now in
     if sent_some outcome.answer then pumped count (gave outcome c) else at_rest outcome.answer (gave outcome c)
 
 -- What comes.
@@ -105,23 +120,23 @@ abbrev pub no_bytes : Framing
 no_bytes = record { limit = MAX_PACKET; room = MAX_PACKET; place = 0; held = [] }
 
 -- the manager is linked
-abbrev pub linked : Manager → Purpose → ℕ → Conversation
+abbrev pub linked : StoredManager → Purpose → ℕ → Conversation
 linked m asks now = record {
   purpose = asks;
   now = now;
-  manager = succeeded m (link m (role_of asks) WINDOW);
+  stored = stored_after m (link m.manager (role_of asks) WINDOW);
   given = [];
   framing = no_bytes;
   end = None;
 }
 
 -- and pumps
-abbrev pub opened : Manager → Purpose → ℕ → Conversation
+abbrev pub opened : StoredManager → Purpose → ℕ → Conversation
 opened m asks now = pumped MAX_PUMPS (linked m asks now)
 
 -- it hears a packet, and pumps
 abbrev pub heard : Conversation → Packet → Conversation
-heard c p = pumped MAX_PUMPS (record c { manager = succeeded c.manager (hear c.manager p c.now) })
+heard c p = pumped MAX_PUMPS (record c { stored = stored_after c.stored (hear c.stored.manager p c.now) })
 
 -- what was read of a frame at a place is heard, or it is no packet
 abbrev pub heard_as : ℕ → Result PacketParts HeadFault → Conversation → Conversation
@@ -170,22 +185,22 @@ bytes_of packets = flat_map plain_spelling packets
 
 -- how it ends where no more bytes come: well where it is through and holds no part of a packet
 abbrev pub end_of_bytes : Conversation → End
-end_of_bytes c = if is_through c.manager && length c.framing.held == 0 then Ok tt else Err fault.PeerClosed
+end_of_bytes c = if is_through c.stored.manager && length c.framing.held == 0 then Ok tt else Err fault.PeerClosed
 
--- what a connection came to: the bytes that were written, the manager, which is not linked any more, and the end
+-- what a connection came to: the bytes that were written, the manager with its records, which is not linked any more, and the end
 pub record Served : Type 0 where
   pub written : List ℕ
-  pub manager : Manager
+  pub stored : StoredManager
   pub end : End
 
 -- a connection that brings no more bytes
 abbrev pub closed : Conversation → Served
 closed c = record {
   written = bytes_of c.given;
-  manager = succeeded c.manager (unlink c.manager);
+  stored = stored_after c.stored (unlink c.stored.manager);
   end = unwrap_or c.end (end_of_bytes c);
 }
 
 -- what a manager that is one end of a connection at this moment serves for the bytes that come
-abbrev pub served : Manager → Purpose → ℕ → List ℕ → Served
+abbrev pub served : StoredManager → Purpose → ℕ → List ℕ → Served
 served m asks now bytes = closed (read_on (opened m asks now) bytes)

@@ -9,9 +9,8 @@ use Rattle.mqb_stream.specs.Cutting.{joined}
 use Rattle.mqb_stream.specs.Framing.{advanced, fed, next, wants_more}
 use Rattle.mqb_stream.specs.Histories.{part_of}
 use Rattle.mqb_serving.specs.declared.purpose.Purpose.{Purpose}
-use Rattle.mqb_model.specs.managers.Manager.{Manager}
 use Rattle.mqb_model.specs.managers.Valid.{IsValidManager}
-use Rattle.mqb_serving.specs.Conversations.{Conversation, End, bytes_of, count_read, heard, holding, looked_at, opened, pumped, read_on, served}
+use Rattle.mqb_serving.specs.Conversations.{Conversation, End, StoredManager, bytes_of, count_read, heard, holding, looked_at, opened, pumped, read_on, served}
 use Rattle.mqb_serving.specs.declared.limits.TheConstants.{MAX_PUMPS, MAX_READ}
 
 -- The pieces in which bytes come do not matter.
@@ -25,7 +24,7 @@ Begins front bytes = (rest : List ℕ) × (bytes ≡ front ++ rest)
 
 -- What is written for the first of the bytes that come begins what is written for all.
 abbrev pub PrefixesWritePrefixes : Type 0
-PrefixesWritePrefixes = (m : Manager) (asks : Purpose) (now : ℕ) (front more : List ℕ)
+PrefixesWritePrefixes = (m : StoredManager) (asks : Purpose) (now : ℕ) (front more : List ℕ)
     → Begins (served m asks now front).written (served m asks now (front ++ more)).written
 
 -- A connection that has ended is not changed by what comes.
@@ -68,4 +67,4 @@ PacketsAreHeard = (c : Conversation) (packets : List Packet) → IsBetween c →
 
 -- A valid manager that pumps comes to a pump that sends nothing: more pumps would change nothing.
 abbrev pub PumpsComeToRest : Type 0
-PumpsComeToRest = (c : Conversation) (more : ℕ) → IsValidManager c.manager → pumped (MAX_PUMPS + more) c ≡ pumped MAX_PUMPS c
+PumpsComeToRest = (c : Conversation) (more : ℕ) → IsValidManager c.stored.manager → pumped (MAX_PUMPS + more) c ≡ pumped MAX_PUMPS c

@@ -17,12 +17,11 @@ use Rattle.mqb_model.specs.calls.hear.Session.{no_head}
 use Rattle.mqb_serving.specs.declared.purpose.Errand.TheVariants as errand
 use Rattle.mqb_serving.specs.declared.purpose.Purpose.TheVariants as purpose
 use Rattle.mqb_model.specs.managers.Manager.{Manager}
-use Rattle.mqb_model.specs.managers.Outcomes.{succeeded}
 use Rattle.mqb_model.specs.declared.limits.TheConstants.{FIRST_EXPRESS}
 use Rattle.mqb_model.specs.calls.Messages.{message_of}
 use Rattle.mqb_model.specs.runs.Runs.{one_commit}
 use Rattle.mqb_model.specs.runs.Samples.{alpha, beta, ids_of, manager_of, of_alpha, of_beta, orders, parts_of, plan, to_orders, with_queue_of}
-use Rattle.mqb_serving.specs.Conversations.{Served, bytes_of, served}
+use Rattle.mqb_serving.specs.Conversations.{Served, StoredManager, bytes_of, served, stored_after}
 use Rattle.mqb_serving.specs.declared.faults.PeerFault.TheVariants as fault
 use Rattle.mqb_serving.specs.declared.limits.TheConstants.{WINDOW}
 
@@ -36,20 +35,25 @@ parameters = packet.Parameters (own_parameters WINDOW)
 
 -- Alpha, which knows beta and has nothing else, is asked.
 
+-- what it is and whom it knows are two records
+abbrev pub two_records : Manager → StoredManager
+two_records m = record { manager = m; count = 2 }
+
 -- by these bytes
 abbrev pub asked : List ℕ → Served
-asked bytes = served (manager_of alpha beta) purpose.Serve 1000 bytes
+asked bytes = served (two_records (manager_of alpha beta)) purpose.Serve 1000 bytes
 
 -- for a session
 abbrev pub question : List Packet
 question = establish beta alpha 999 ∷ parameters ∷ []
 
--- Asked for a session and then left alone, it answers with the same two packets, and ends well.
+-- Asked for a session and then left alone, it answers with the same two packets, and ends well. It writes no record.
 pub record OneIsAsked : Type 0 where
   pub written : (asked (bytes_of question)).written ≡ bytes_of question
   pub count : length (bytes_of question) ≡ 604
   pub end : (asked (bytes_of question)).end ≡ Ok tt
-  pub unlinked : (asked (bytes_of question)).manager.rest.session ≡ None
+  pub unlinked : (asked (bytes_of question)).stored.manager.rest.session ≡ None
+  pub records : (asked (bytes_of question)).stored.count ≡ 2
 
 -- the first bytes of them
 abbrev pub first_bytes : List ℕ
@@ -81,12 +85,12 @@ pub record OneIsBad : Type 0 where
 -- Alpha pushes the message that it committed, to beta, which has the queue.
 
 -- alpha has it
-abbrev pub pushing : Manager
-pushing = succeeded (manager_of alpha beta) one_commit
+abbrev pub pushing : StoredManager
+pushing = stored_after (two_records (manager_of alpha beta)) one_commit
 
 -- beta has the queue
-abbrev pub receiving : Manager
-receiving = with_queue_of (manager_of beta alpha) (plan (codes "orders") true 100 false)
+abbrev pub receiving : StoredManager
+receiving = record { manager = with_queue_of (manager_of beta alpha) (plan (codes "orders") true 100 false); count = 3 }
 
 -- the header of its last packet, and of beta's
 abbrev pub last_ack : SessionHead
@@ -128,11 +132,14 @@ pushed = served pushing (purpose.Reach errand.Push 0) 1001 (bytes_of from_beta)
 abbrev pub received : Served
 received = served receiving purpose.Serve 1003 (bytes_of from_alpha)
 
--- Each writes what the other reads, both end well, the message is in beta's queue, and alpha keeps it no more.
+-- Each writes what the other reads, both end well, the message is in beta's queue, and alpha keeps it no more. That is
+-- one record of beta, and two of alpha: that it offered the message, and that beta has it.
 pub record OneIsPushed : Type 0 where
   pub asks : pushed.written ≡ bytes_of from_alpha
   pub pushes : pushed.end ≡ Ok tt
   pub answers : received.written ≡ bytes_of from_beta
   pub serves : received.end ≡ Ok tt
-  pub put : map (λ q. ids_of q.lists.durable) received.manager.state.places.queues ≡ (of_alpha 1 ∷ []) ∷ []
-  pub left : map (λ row. numbers row.kept) pushed.manager.state.outs ≡ [] ∷ []
+  pub put : map (λ q. ids_of q.lists.durable) received.stored.manager.state.places.queues ≡ (of_alpha 1 ∷ []) ∷ []
+  pub left : map (λ row. numbers row.kept) pushed.stored.manager.state.outs ≡ [] ∷ []
+  pub one_record : received.stored.count ≡ 4
+  pub two_records : pushed.stored.count ≡ 5

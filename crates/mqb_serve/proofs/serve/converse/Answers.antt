@@ -1,6 +1,5 @@
 use Rattle.std.proofs.Common.{Err, Result, ap, refl, subst, sym, ◌∙◌}
 use Rattle.std.proofs.lemmas.Result.{err_from_is_err_and}
-use Rattle.mqb_manager.specs.States.{manager_of}
 use Rattle.mqb_serving.specs.Conversations.{End, no_bytes}
 use Rattle.mqb_serving.specs.declared.faults.ConnFault.{ConnFault}
 use Rattle.mqb_serving.specs.declared.faults.ConnFault.TheVariants as fault
@@ -8,7 +7,7 @@ use Rattle.mqb_serving.specs.Serving.{is_disk_fault}
 use Rattle.mqb_serving.specs.Steps.{Converses, Itself, LeftBy}
 use Rattle.mqb_serving.proofs.Stopping.{stops_here}
 use Rattle.mqb_serving.proofs.Taken.{converses_stop}
-use Rattle.mqb_serve.specs.Talking.{Keeps}
+use Rattle.mqb_serve.specs.Talking.{Keeps, stored_of}
 use Rattle.mqb_serve.proofs.Keeps.{keeps_still}
 use Rattle.mqb_serve.proofs.Moves.{stands_at}
 use Rattle.mqb_serve.proofs.serve.converse.Goals as goal
@@ -17,7 +16,7 @@ pub returns-in_err-talk-clause-converses : goal.returns-in_err-talk-clause-conve
 returns-in_err-talk-clause-converses g c = λ k s.
     let h = g.C.Source.held c.args.conn.now in
     let x = g.C.Sink.taken c.args.conn.now in
-    let m = manager_of c.args.manager.now in
+    let m = stored_of c.args.manager.now in
     let why = c.in_err-talk.field-0.0 in
     let p = err_from_is_err_and c.from_residual.result c.from_residual.ensures.1 in
     let left : LeftBy why k.manager m = subst (λ (w : ConnFault). LeftBy w k.manager m) (sym c.in_err-talk.ensures.fault) (sym s.manager) in
@@ -36,7 +35,7 @@ pub returns-in_default-clause-converses : goal.returns-in_default-clause-convers
 returns-in_default-clause-converses g c = λ k s.
     let h = g.C.Source.held c.args.conn.now in
     let x = g.C.Sink.taken c.args.conn.now in
-    let m = manager_of c.args.manager.now in
+    let m = stored_of c.args.manager.now in
     converses_stop k h h x x m fault.Memory (stops_here (Itself k) k x x m fault.Memory refl (sym s.manager)) refl
 
 pub returns-clause-converses : goal.returns-clause-converses
@@ -44,4 +43,4 @@ returns-clause-converses g c = λ k s.
     let t = c.in_ok-talk.talk in
     let e = c.in_ok-talk.ensures in
     c.converse.ensures.converses k
-    (stands_at k c.args.purpose t.purpose c.args.now t.moment (manager_of c.args.manager.now) no_bytes t.framer e.purpose e.moment e.framer s)
+    (stands_at k c.args.purpose t.purpose c.args.now t.moment (stored_of c.args.manager.now) no_bytes t.framer e.purpose e.moment e.framer s)

@@ -1,10 +1,9 @@
 use Rattle.std.proofs.Common.{Err, Result, ap, refl, subst, sym, ◌∙◌, ◌≡◌}
 use Rattle.mqb_journal.specs.Causes.{FaultsAsSaid}
-use Rattle.mqb_manager.specs.States.{manager_of}
 use Rattle.mqb_serving.specs.Conversations.{End}
 use Rattle.mqb_serving.specs.declared.faults.ConnFault.{ConnFault}
 use Rattle.mqb_serving.specs.Serving.{Answer, Serves, ServesWhole, is_disk_fault, is_read_fault, is_write_fault}
-use Rattle.mqb_serve.specs.Talking.{Keeps}
+use Rattle.mqb_serve.specs.Talking.{Keeps, stored_of}
 use Rattle.mqb_serve.proofs.Closing.{cut_served, cut_whole, disk_is, down_keeps, down_served, down_unlinked, down_whole, end_served, end_whole, gone_keeps, gone_unlinked, gone_up, linked_on, linked_up, not_disk, said_end, up_but}
 use Rattle.mqb_serve.proofs.serve.serve.Goals as goal
 
@@ -18,12 +17,12 @@ converse-requires-clause-on g c =
 
 pub returns-in-Ok-clause-served : goal.returns-in-Ok-clause-served
 returns-in-Ok-clause-served g c =
-    subst (λ (r : Answer). Serves c.args.purpose c.args.now (manager_of c.args.manager.now) (manager_of c.unlink.new.self) (g.C.Source.held c.args.conn.now) (g.C.Source.held c.converse.new.conn) (g.C.Sink.taken c.args.conn.now) (g.C.Sink.taken c.converse.new.conn) r) (sym c.answer_of.ensures)
+    subst (λ (r : Answer). Serves c.args.purpose c.args.now (stored_of c.args.manager.now) (stored_of c.unlink.new.self) (g.C.Source.held c.args.conn.now) (g.C.Source.held c.converse.new.conn) (g.C.Sink.taken c.args.conn.now) (g.C.Sink.taken c.converse.new.conn) r) (sym c.answer_of.ensures)
     (end_served c.args.manager.now c.link-linked.new.self c.args.purpose c.role.result c.role.ensures c.link-linked.ensures.left c.link-linked.ensures.journal c.args.now c.converse.new.manager (g.C.Source.held c.args.conn.now) (g.C.Source.held c.converse.new.conn) (g.C.Sink.taken c.args.conn.now) (g.C.Sink.taken c.converse.new.conn) c.converse.result c.converse.ensures.converses c.unlink.new.self c.unlink.ensures.left c.in-Ok.end c.in-Ok.is)
 
 pub returns-in-Ok-clause-whole : goal.returns-in-Ok-clause-whole
 returns-in-Ok-clause-whole g c =
-    subst (λ (r : Answer). ServesWhole r c.args.purpose c.args.now (manager_of c.args.manager.now) (manager_of c.unlink.new.self) (g.C.Source.held c.args.conn.now) (g.C.Sink.taken c.args.conn.now) (g.C.Sink.taken c.converse.new.conn)) (sym c.answer_of.ensures)
+    subst (λ (r : Answer). ServesWhole r c.args.purpose c.args.now (stored_of c.args.manager.now) (stored_of c.unlink.new.self) (g.C.Source.held c.args.conn.now) (g.C.Sink.taken c.args.conn.now) (g.C.Sink.taken c.converse.new.conn)) (sym c.answer_of.ensures)
     (end_whole c.args.manager.now c.link-linked.new.self c.args.purpose c.role.result c.role.ensures c.link-linked.ensures.left c.link-linked.ensures.journal c.args.now c.converse.new.manager (g.C.Source.held c.args.conn.now) (g.C.Source.held c.converse.new.conn) (g.C.Sink.taken c.args.conn.now) (g.C.Sink.taken c.converse.new.conn) c.converse.result c.converse.ensures.converses c.unlink.new.self c.unlink.ensures.left c.in-Ok.end c.in-Ok.is)
 
 pub returns-in-Ok-clause-unlinked : goal.returns-in-Ok-clause-unlinked

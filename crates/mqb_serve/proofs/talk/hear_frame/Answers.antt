@@ -5,7 +5,7 @@ use Rattle.mqb_serve.proofs.talk.hear_frame.Goals as goal
 pub returns-in-Some-clause-hears : goal.returns-in-Some-clause-hears
 returns-in-Some-clause-hears g c =
     hear_stopped (g.D.Disk.view c.args.disk.now) (g.D.Disk.view c.hear-heard.new.disk) c.args.manager.now c.hear-heard.new.self c.in-Ok.packet c.args.moment c.requires.up
-    c.hear-heard.ensures.readable c.hear-heard.result c.hear-heard.ensures.call c.in-Some.fault (sym c.in-Some.ensures)
+    c.hear-heard.ensures.readable c.hear-heard.result c.hear-heard.ensures.call c.args.frame.now (sym c.in-Ok.ensures.packet) c.in-Some.fault (sym c.in-Some.ensures)
 
 pub returns-in-Some-clause-keeps : goal.returns-in-Some-clause-keeps
 returns-in-Some-clause-keeps g c =

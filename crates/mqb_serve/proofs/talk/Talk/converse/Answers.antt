@@ -1,12 +1,11 @@
 use Rattle.std.proofs.Common.{Err, Option, Result, ap, subst, sym, ◌∙◌}
 use Rattle.std.proofs.lemmas.Result.{err_from_is_err_and}
-use Rattle.mqb_manager.specs.States.{manager_of}
 use Rattle.mqb_serving.specs.Conversations.{End, pumped}
 use Rattle.mqb_serving.specs.declared.faults.ConnFault.{ConnFault}
 use Rattle.mqb_serving.specs.declared.limits.TheConstants.{MAX_PUMPS}
 use Rattle.mqb_serving.specs.Steps.{Converses, Reaches}
 use Rattle.mqb_serving.proofs.Taken.{converses_end, converses_on, converses_stop}
-use Rattle.mqb_serve.specs.Talking.{Keeps}
+use Rattle.mqb_serve.specs.Talking.{Keeps, stored_of}
 use Rattle.mqb_serve.proofs.Keeps.{keeps_err, keeps_then}
 use Rattle.mqb_serve.proofs.Moves.{none_came, none_wants}
 use Rattle.mqb_serve.proofs.talk.Talk.converse.Goals as goal
@@ -23,7 +22,7 @@ returns-in_err-ended-clause-converses g c = λ k s.
     let i = g.C.Source.held c.pump_to_rest.new.conn in
     let x = g.C.Sink.taken c.args.conn.now in
     let y = g.C.Sink.taken c.pump_to_rest.new.conn in
-    let n = manager_of c.pump_to_rest.new.manager in
+    let n = stored_of c.pump_to_rest.new.manager in
     let e = c.in_err-ended.ensures in
     let p = err_from_is_err_and c.from_residual.result c.from_residual.ensures.1 in
     subst (λ (r : Result End ConnFault). Converses k h i x y n r) (sym (p.1 ∙ ap Err p.2))
@@ -36,7 +35,7 @@ returns-in-Some-clause-converses g c = λ k s.
     let x = g.C.Sink.taken c.args.conn.now in
     let y = g.C.Sink.taken c.pump_to_rest.new.conn in
     let t = c.pump_to_rest.new.self in
-    let n = manager_of c.pump_to_rest.new.manager in
+    let n = stored_of c.pump_to_rest.new.manager in
     let e = c.in_ok-ended.ensures in
     converses_end k h i x y t.purpose t.moment n t.framer c.in-Some.end
     (subst (λ (q : Option End). Reaches k (pumped MAX_PUMPS k) x y t.purpose t.moment n t.framer q) c.in-Some.is (e.goes k s)) e.held
@@ -50,8 +49,8 @@ returns-in-None-clause-converses g c = λ k s.
     let y = g.C.Sink.taken c.pump_to_rest.new.conn in
     let z = g.C.Sink.taken c.listen.new.conn in
     let t = c.pump_to_rest.new.self in
-    let m = manager_of c.pump_to_rest.new.manager in
-    let n = manager_of c.listen.new.manager in
+    let m = stored_of c.pump_to_rest.new.manager in
+    let n = stored_of c.listen.new.manager in
     let e = c.in_ok-ended.ensures in
     converses_on k h i j x y z t.purpose t.moment m n t.framer c.listen.result
     (subst (λ (q : Option End). Reaches k (pumped MAX_PUMPS k) x y t.purpose t.moment m t.framer q) c.in-None.is (e.goes k s)) e.held (λ d f. c.listen.ensures.listens d f)

@@ -1,12 +1,12 @@
 use Rattle.std.proofs.Common.{Err, List, Ok, Option, Result, ap, arith, refl, subst, sym, take, ◌∙◌, ℕ}
 use Rattle.std.proofs.lemmas.Result.{err_from_is_err_and}
-use Rattle.mqb_manager.specs.States.{manager_of}
 use Rattle.mqb_outside.specs.Told.{Gave}
 use Rattle.mqb_serving.specs.Conversations.{End, read_on}
 use Rattle.mqb_serving.specs.declared.faults.ConnFault.{ConnFault}
 use Rattle.mqb_serving.specs.Serving.{Hears}
 use Rattle.mqb_serving.specs.Steps.{Goes, Listens}
 use Rattle.mqb_serving.proofs.Taken.{Reads, reads_end, reads_fault, reads_more, reads_out, reads_stop}
+use Rattle.mqb_serve.specs.Talking.{stored_of}
 use Rattle.mqb_serve.proofs.Keeps.{keeps_ok, keeps_then}
 use Rattle.mqb_serve.proofs.talk.Talk.listen.Goals as goal
 
@@ -19,7 +19,7 @@ returns-in_err-count-clause-listens g c = λ k s.
     let y = g.C.Sink.taken c.pieces.conn in
     let z = g.C.Sink.taken c.read.new.conn in
     let a = c.pieces.self in
-    let m = manager_of c.pieces.manager in
+    let m = stored_of c.pieces.manager in
     let e = c.in_err-count.ensures in
     let p = err_from_is_err_and c.from_residual.result c.from_residual.ensures.1 in
     subst (λ (r : Result End ConnFault). Listens k h j x z m r) (sym (p.1 ∙ ap Err p.2 ∙ ap Err e.fault))
@@ -34,7 +34,7 @@ returns-then-count-eq0-clause-listens g c = λ k s.
     let y = g.C.Sink.taken c.pieces.conn in
     let z = g.C.Sink.taken c.read.new.conn in
     let a = c.pieces.self in
-    let m = manager_of c.pieces.manager in
+    let m = stored_of c.pieces.manager in
     let e = c.in_ok-count.ensures in
     reads_out k h i j x y z a.purpose a.moment m m a.framer (c.pieces.invariant.reads k s) c.end_of_bytes.result (take c.in_ok-count.count c.read.new.buffer) e.gave
     (ap (λ (n : ℕ). take n c.read.new.buffer) c.if-count-eq0.true) (e.ended c.if-count-eq0.true) e.taken refl c.end_of_bytes.ensures
@@ -49,8 +49,8 @@ returns-in_err-ended-clause-listens g c = λ k s.
     let z = g.C.Sink.taken c.take_piece.new.conn in
     let a = c.pieces.self in
     let t = c.take_piece.new.self in
-    let m = manager_of c.pieces.manager in
-    let n = manager_of c.take_piece.new.manager in
+    let m = stored_of c.pieces.manager in
+    let n = stored_of c.take_piece.new.manager in
     let e = c.in_ok-count.ensures in
     let w = c.in_err-ended.ensures in
     let piece : List ℕ = take c.in_ok-count.count c.read.new.buffer in
@@ -71,8 +71,8 @@ returns-in-Some-clause-listens g c = λ k s.
     let z = g.C.Sink.taken c.take_piece.new.conn in
     let a = c.pieces.self in
     let t = c.take_piece.new.self in
-    let m = manager_of c.pieces.manager in
-    let n = manager_of c.take_piece.new.manager in
+    let m = stored_of c.pieces.manager in
+    let n = stored_of c.take_piece.new.manager in
     let e = c.in_ok-count.ensures in
     let w = c.in_ok-ended.ensures in
     let piece : List ℕ = take c.in_ok-count.count c.read.new.buffer in
@@ -93,8 +93,8 @@ pieces-preserved g c =
     let z = g.C.Sink.taken c.take_piece.new.conn in
     let a = c.pieces.self in
     let t = c.take_piece.new.self in
-    let m = manager_of c.pieces.manager in
-    let n = manager_of c.take_piece.new.manager in
+    let m = stored_of c.pieces.manager in
+    let n = stored_of c.take_piece.new.manager in
     let v = c.pieces.invariant in
     let e = c.in_ok-count.ensures in
     let w = c.in_ok-ended.ensures in

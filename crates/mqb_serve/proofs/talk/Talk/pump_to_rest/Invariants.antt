@@ -1,15 +1,14 @@
 use Rattle.std.proofs.Common.{◌≡◌, Ok, ℕ}
-use Rattle.mqb_manager.specs.States.{manager_of}
 use Rattle.mqb_serving.specs.Conversations.{Conversation}
 use Rattle.mqb_serving.specs.Steps.{Stands}
 use Rattle.mqb_serving.proofs.Pumping.{Pumps}
-use Rattle.mqb_serve.specs.Talking.{Keeps}
+use Rattle.mqb_serve.specs.Talking.{Keeps, stored_of}
 use Rattle.mqb_serve.proofs.talk.Talk.pump_to_rest.Given as goal
 
 abbrev pub invariant-loop-pump : goal.invariant-loop-pump
 invariant-loop-pump g l = record {
-  pumps : (c : Conversation) → Stands c l.fn.self.purpose l.fn.self.moment (manager_of l.fn.manager) l.fn.self.framer
-      → Pumps c l._pump (g.C.Sink.taken l.fn.conn) (g.C.Sink.taken l.conn) l.fn.self.purpose l.fn.self.moment (manager_of l.manager) l.fn.self.framer;
+  pumps : (c : Conversation) → Stands c l.fn.self.purpose l.fn.self.moment (stored_of l.fn.manager) l.fn.self.framer
+      → Pumps c l._pump (g.C.Sink.taken l.fn.conn) (g.C.Sink.taken l.conn) l.fn.self.purpose l.fn.self.moment (stored_of l.manager) l.fn.self.framer;
   keeps : Keeps {T = ℕ} (g.D.Disk.view l.fn.disk) (g.D.Disk.view l.disk) l.fn.manager l.manager (Ok 0);
   purpose : l.self.purpose ≡ l.fn.self.purpose;
   moment : l.self.moment ≡ l.fn.self.moment;

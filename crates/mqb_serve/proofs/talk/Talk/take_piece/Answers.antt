@@ -1,6 +1,5 @@
 use Rattle.std.proofs.Common.{◌+◌, ◌<◌, ◌≡◌, ◌≤◌, Err, List, Ok, Option, Result, ap, arith, length, rules, subst, sym, ◌∙◌, ℕ}
 use Rattle.std.proofs.lemmas.Result.{err_from_is_err_and}
-use Rattle.mqb_manager.specs.States.{manager_of}
 use Rattle.mqb_serving.specs.Conversations.{End, looked_at, read_on}
 use Rattle.mqb_serving.specs.declared.faults.ConnFault.{ConnFault}
 use Rattle.mqb_serving.specs.declared.limits.TheConstants.{MAX_READ}
@@ -8,7 +7,7 @@ use Rattle.mqb_stream.specs.Framing.{fed}
 use Rattle.mqb_serving.specs.Serving.{Hears}
 use Rattle.mqb_serving.specs.Steps.{Goes, HearsHeld}
 use Rattle.mqb_serving.proofs.Taken.{Takes, takes_all, takes_end, takes_more, takes_stop}
-use Rattle.mqb_serve.specs.Talking.{Keeps}
+use Rattle.mqb_serve.specs.Talking.{Keeps, stored_of}
 use Rattle.mqb_serve.proofs.Keeps.{keeps_ok, keeps_then}
 use Rattle.mqb_serve.proofs.Moves.{none_left, stands_at}
 use Rattle.mqb_serve.proofs.talk.Talk.take_piece.Goals as goal
@@ -25,8 +24,8 @@ returns-in_err-ended-clause-goes g c = λ k s.
     let t = c.look.new.self in
     let w = c.feed-count.ensures in
     let rest = c.loop-rest.rest.now in
-    let m = manager_of c.loop-rest.manager in
-    let n = manager_of c.look.new.manager in
+    let m = stored_of c.loop-rest.manager in
+    let n = stored_of c.look.new.manager in
     let p = err_from_is_err_and c.from_residual.result c.from_residual.ensures.1 in
     let some : 0 < length rest = search rules in
     let few : a.framer.place + length a.framer.held + length rest ≤ MAX_READ = omega (arith, a.count, i.few, c.requires.few) in
@@ -54,8 +53,8 @@ returns-in-Some-clause-goes g c = λ k s.
     let t = c.look.new.self in
     let w = c.feed-count.ensures in
     let rest = c.loop-rest.rest.now in
-    let m = manager_of c.loop-rest.manager in
-    let n = manager_of c.look.new.manager in
+    let m = stored_of c.loop-rest.manager in
+    let n = stored_of c.look.new.manager in
     let some : 0 < length rest = search rules in
     let few : a.framer.place + length a.framer.held + length rest ≤ MAX_READ = omega (arith, a.count, i.few, c.requires.few) in
     takes_end k c.args.piece.now rest x y z a.purpose t.purpose a.moment t.moment m n a.framer t.framer c.feed-count.result (i.takes k s) i.wants some few w.part c.in-Some.end
@@ -76,8 +75,8 @@ loop-rest-preserved g c =
     let w = c.feed-count.ensures in
     let e = c.in_ok-ended.ensures in
     let rest = c.loop-rest.rest.now in
-    let m = manager_of c.loop-rest.manager in
-    let n = manager_of c.look.new.manager in
+    let m = stored_of c.loop-rest.manager in
+    let n = stored_of c.look.new.manager in
     let some : 0 < length rest = search rules in
     let few : a.framer.place + length a.framer.held + length rest ≤ MAX_READ = omega (arith, a.count, i.few, c.requires.few) in
     record {
@@ -103,5 +102,5 @@ returns-clause-goes g c = λ k s.
     let taken = g.C.Sink.taken in
     let a = c.loop-rest.self in
     let none : length c.loop-rest.rest.now ≡ 0 = search rules in
-    takes_all k c.args.piece.now c.loop-rest.rest.now (taken c.args.conn.now) (taken c.loop-rest.conn) a.purpose a.moment (manager_of c.loop-rest.manager) a.framer (none_left c.loop-rest.rest.now none)
+    takes_all k c.args.piece.now c.loop-rest.rest.now (taken c.args.conn.now) (taken c.loop-rest.conn) a.purpose a.moment (stored_of c.loop-rest.manager) a.framer (none_left c.loop-rest.rest.now none)
     (c.loop-rest.invariant.takes k s)
