@@ -20,10 +20,11 @@ Makes orders text status.Done = text ≡ generated orders
 Makes orders text status.Memory = text ≡ []
 Makes orders text _ = ⊥
 
--- A disk that was empty is the store of a new manager, and settled.
+-- A disk that was empty is the store of a new manager, and settled. What the manager is is its one record.
 pub record IsNewStore (identity : Identity) (d e : View) : Type 0 where
   pub manager : ManagerState
   pub new : manager_of manager ≡ new_manager identity
+  pub one : manager.store.journal.count ≡ 1
   pub up : IsUp manager
   pub on : IsOnDisk e manager
   pub settled : IsSettled e
