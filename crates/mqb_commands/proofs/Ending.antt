@@ -26,6 +26,7 @@ done_line lines a b took = subst (Took a b) (sym (append-nil lines)) took
 pub done_shows : (held left a b : Option (List ℕ)) → ShowsAll held left a b (Ok tt) → Shows held left a b status.Done
 done_shows held left a b all = record {
   bytes = all.bytes;
+  most = all.most;
   packets = all.packets;
   rest = all.rest;
   gave = all.gave;
@@ -62,6 +63,7 @@ by_stop place rest lines left a b c fault.Memory r ends stopped =
 pub stop_shows : (held left a b c : Option (List ℕ)) (why : ShowFault) (r : Status) → ShowsAll held left a b (Err why) → Stopped why b c r → Shows held left a c r
 stop_shows held left a b c why r all stopped = record {
   bytes = all.bytes;
+  most = all.most;
   packets = all.packets;
   rest = all.rest;
   gave = all.gave;

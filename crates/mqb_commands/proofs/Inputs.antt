@@ -1,5 +1,5 @@
 -- What was shown of an input so far.
-use Rattle.std.proofs.Common.{◌≡◌, ◌<◌, ◌+◌, ℕ, List, [], ◌∷◌, ◌++◌, length, Option, None, Some, Result, Err, refl, sym, ap, subst, ◌∙◌, arith, length-append, append_assoc, append-nil, zero-add}
+use Rattle.std.proofs.Common.{◌≡◌, ◌≤◌, ◌<◌, ◌+◌, ℕ, List, [], ◌∷◌, ◌++◌, length, Option, None, Some, Result, Err, refl, sym, ap, subst, ◌∙◌, arith, length-append, append_assoc, append-nil, zero-add}
 use Rattle.std.specs.Option.{option_map}
 use Rattle.mqb_outside.specs.Told.{Gave, Took}
 use Rattle.mqb_serving.specs.declared.faults.PeerFault.TheVariants as peer
@@ -11,7 +11,7 @@ use Rattle.mqb_commands.specs.declared.shown_faults.ShowFault.{ShowFault}
 use Rattle.mqb_commands.specs.declared.shown_faults.ShowFault.TheVariants as fault
 use Rattle.mqb_commands.specs.Cuts.{BeginsBad, IsCut, IsUnfinished, held_at}
 use Rattle.mqb_commands.specs.Lines.{lines_from}
-use Rattle.mqb_commands.specs.Shown.{IsAtEnd}
+use Rattle.mqb_commands.specs.Shown.{IsAtEnd, IsWithin}
 use Rattle.mqb_commands.specs.Showing.{EndsWith, ShowsAll}
 use Rattle.mqb_commands.specs.Viewing.{GoesOn, IsOpen, Stops, StopsBehind, end_of}
 use Rattle.mqb_commands.proofs.Going.{goes_count, goes_framer, goes_nowhere, goes_then, more_goes, open_empty, stops_then}
@@ -87,17 +87,23 @@ held_of f bytes before after so = record {
 unfinished : (f : Framing) (place : ℕ) → f ≡ held_at place f.held → IsOpen f → IsUnfinished place f.held
 unfinished f place is wants = ap (λ (g : Framing). wants_more (next g)) (sym is) ∙ wants
 
-pub ends_by_fault : (held left later before after : Option (List ℕ)) (f : Framing) (count : ℕ) → SoFar held left before after f count → later ≡ left
+-- Few bytes came: packets and what follows them.
+within_all : (bytes rest : List ℕ) (packets : List (List ℕ)) → IsCut bytes packets rest → length bytes < MAX_READ → IsWithin (length (joined packets)) rest
+within_all bytes rest packets cut less = omega (arith, less, ap (λ (t : List ℕ). length t) cut.whole, length-append (joined packets) rest)
+
+pub ends_by_fault : (held left later before after : Option (List ℕ)) (f : Framing) (count : ℕ) → SoFar held left before after f count → count < MAX_READ → later ≡ left
     → ShowsAll held later before after (Err fault.ReadFault)
-ends_by_fault held left later before after f count so same =
+ends_by_fault held left later before after f count so less same =
     let is = held_of f so.bytes before after so.goes in
+    let few : length so.bytes < MAX_READ = omega (arith, less, so.same) in
     record {
       bytes = so.bytes;
+      most = omega (arith, few);
       packets = is.packets;
       rest = f.held;
       gave = subst (λ (o : Option (List ℕ)). Gave held o so.bytes) (sym same) so.gave;
       cut = is.cut;
-      ends = (unfinished f (length (joined is.packets)) is.place so.wants, is.wrote);
+      ends = ((unfinished f (length (joined is.packets)) is.place so.wants, within_all so.bytes f.held is.packets is.cut few), is.wrote);
     }
 
 pub ends_by_limit : (held left before after : Option (List ℕ)) (f : Framing) (count : ℕ) → SoFar held left before after f count → count ≡ MAX_READ
@@ -108,6 +114,7 @@ ends_by_limit held left before after f count so most =
     omega (arith, most, so.same, ap (λ (t : List ℕ). length t) is.cut.whole, length-append (joined is.packets) f.held) in
     record {
       bytes = so.bytes;
+      most = omega (arith, most, so.same);
       packets = is.packets;
       rest = f.held;
       gave = so.gave;
@@ -116,25 +123,27 @@ ends_by_limit held left before after f count so most =
     }
 
 by_end : (place : ℕ) (held lines : List ℕ) (left before after : Option (List ℕ)) (r : Result (Unit {0}) ShowFault) → r ≡ end_of held → IsUnfinished place held → IsAtEnd left
-    → Took before after lines → EndsWith place held lines left before after r
-by_end place [] lines left before after r is open_ end took = subst (EndsWith place [] lines left before after) (sym is) ((refl, end), took)
-by_end place (b ∷ held) lines left before after r is open_ end took =
+    → IsWithin place held → Took before after lines → EndsWith place held lines left before after r
+by_end place [] lines left before after r is open_ end within took = subst (EndsWith place [] lines left before after) (sym is) ((refl, end, within), took)
+by_end place (b ∷ held) lines left before after r is open_ end within took =
     let some : 0 < length (b ∷ held) = omega arith in
-    subst (EndsWith place (b ∷ held) lines left before after) (sym is) ((some, open_, end), took)
+    subst (EndsWith place (b ∷ held) lines left before after) (sym is) ((some, open_, end, within), took)
 
 pub ends_by_end : (held left later before after : Option (List ℕ)) (f : Framing) (count : ℕ) (r : Result (Unit {0}) ShowFault) → SoFar held left before after f count
-    → Gave left later [] → IsAtEnd left → r ≡ end_of f.held → ShowsAll held later before after r
-ends_by_end held left later before after f count r so gave end is_end =
+    → count < MAX_READ → Gave left later [] → IsAtEnd left → r ≡ end_of f.held → ShowsAll held later before after r
+ends_by_end held left later before after f count r so less gave end is_end =
     let is = held_of f so.bytes before after so.goes in
     let same = gave_empty left later gave in
+    let few : length so.bytes < MAX_READ = omega (arith, less, so.same) in
     record {
       bytes = so.bytes;
+      most = omega (arith, few);
       packets = is.packets;
       rest = f.held;
       gave = subst (λ (o : Option (List ℕ)). Gave held o so.bytes) same so.gave;
       cut = is.cut;
       ends = by_end (length (joined is.packets)) f.held (lines_from 0 is.packets) later before after r is_end
-          (unfinished f (length (joined is.packets)) is.place so.wants) (subst IsAtEnd same end) is.wrote;
+          (unfinished f (length (joined is.packets)) is.place so.wants) (subst IsAtEnd same end) (within_all so.bytes f.held is.packets is.cut few) is.wrote;
     }
 
 by_stop : (place other : ℕ) (rest lines : List ℕ) (left before after : Option (List ℕ)) (why : ShowFault) → place ≡ other → StopsBehind place rest lines before after why
@@ -150,11 +159,12 @@ by_stop place other rest lines left before after fault.WriteFault same stops = s
 by_stop place other rest lines left before after fault.Memory same stops = stops
 
 pub ends_by_stop : (held left later before after then : Option (List ℕ)) (f : Framing) (count : ℕ) (piece : List ℕ) (why : ShowFault) → SoFar held left before after f count
-    → Gave left later piece → Stops f piece after then why → ShowsAll held later before then (Err why)
-ends_by_stop held left later before after then f count piece why so gave stops =
+    → Gave left later piece → count + length piece ≤ MAX_READ → Stops f piece after then why → ShowsAll held later before then (Err why)
+ends_by_stop held left later before after then f count piece why so gave most stops =
     let all = stops_then (held_at 0 []) f (so.bytes ++ piece) piece before after then why (more_goes (held_at 0 []) f so.bytes piece before after so.goes) stops in
     record {
       bytes = so.bytes ++ piece;
+      most = omega (arith, most, so.same, length-append so.bytes piece);
       packets = all.packets;
       rest = all.rest;
       gave = gave_more held left later so.bytes piece so.gave gave;
@@ -166,6 +176,7 @@ ends_by_stop held left later before after then f count piece why so gave stops =
 pub ends_at_once : (held before : Option (List ℕ)) → ShowsAll held held before before (Err fault.Memory)
 ends_at_once held before = record {
   bytes = [];
+  most = omega arith;
   packets = [];
   rest = [];
   gave = gave_none held;

@@ -1,7 +1,8 @@
 -- What was shown of an input before its fault line is written.
-use Rattle.std.specs.Prelude.{◌≡◌, ◌≢◌, Err, List, Ok, Option, Result, length, ℕ}
+use Rattle.std.specs.Prelude.{◌≡◌, ◌≢◌, ◌≤◌, Err, List, Ok, Option, Result, length, ℕ}
 use Rattle.mqb_outside.specs.Faults.{Rose}
 use Rattle.mqb_outside.specs.Told.{Gave, Took}
+use Rattle.mqb_serving.specs.declared.limits.TheConstants.{MAX_READ}
 use Rattle.mqb_stream.specs.Cutting.{joined}
 use Rattle.mqb_commands.specs.Outputs.{IsFaultLine, Says, TookFront}
 use Rattle.mqb_commands.specs.declared.status.Status.{Status}
@@ -29,6 +30,7 @@ EndsWith place rest lines left before after (Err why) = EndsBehind place rest le
 -- The packets at the front of what an input gave were shown, up to a fault.
 pub record ShowsAll (held left before after : Option (List ℕ)) (r : Result (Unit {0}) ShowFault) : Type 0 where
   pub bytes : List ℕ
+  pub most : length bytes ≤ MAX_READ
   pub packets : List (List ℕ)
   pub rest : List ℕ
   pub gave : Gave held left bytes

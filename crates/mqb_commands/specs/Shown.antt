@@ -1,5 +1,5 @@
 -- What is shown of an input, and how that ends.
-use Rattle.std.specs.Prelude.{[], ◌+◌, ◌++◌, ◌<◌, ◌≡◌, ◌⊎◌, IfSome, List, Option, length, ℕ}
+use Rattle.std.specs.Prelude.{[], ◌+◌, ◌++◌, ◌<◌, ◌≡◌, ◌≤◌, ◌⊎◌, IfSome, List, Option, length, ℕ}
 use Rattle.mqb_outside.specs.Told.{Gave, Took}
 use Rattle.mqb_serving.specs.declared.faults.PeerFault.TheVariants as peer
 use Rattle.mqb_serving.specs.declared.limits.TheConstants.{MAX_READ}
@@ -15,13 +15,17 @@ use Rattle.mqb_commands.specs.Lines.{lines_from}
 abbrev pub IsAtEnd : Option (List ℕ) → Type 0
 IsAtEnd left = IfSome left (λ rest. rest ≡ [])
 
+-- Behind packets that are `place` bytes this followed, and the limit was not reached.
+abbrev pub IsWithin : (place : ℕ) (rest : List ℕ) → Type 0
+IsWithin place rest = place + length rest < MAX_READ
+
 -- Why no more is shown behind packets that are `place` bytes: what follows them, and what is left of the input. Done is where nothing follows.
 abbrev pub EndsBehind : (place : ℕ) (rest : List ℕ) → Option (List ℕ) → Status → Type 0
-EndsBehind place rest left status.Done = (rest ≡ []) × IsAtEnd left
-EndsBehind place rest left (status.Peer peer.PeerClosed) = (0 < length rest) × IsUnfinished place rest × IsAtEnd left
+EndsBehind place rest left status.Done = (rest ≡ []) × IsAtEnd left × IsWithin place rest
+EndsBehind place rest left (status.Peer peer.PeerClosed) = (0 < length rest) × IsUnfinished place rest × IsAtEnd left × IsWithin place rest
 EndsBehind place rest left (status.Peer (peer.Bad at why)) = (at ≡ place) × BeginsBad place rest why
 EndsBehind place rest left (status.Peer peer.TooMuch) = (place + length rest ≡ MAX_READ) × IsUnfinished place rest
-EndsBehind place rest left status.ReadFault = IsUnfinished place rest
+EndsBehind place rest left status.ReadFault = IsUnfinished place rest × IsWithin place rest
 EndsBehind place rest left _ = ⊥
 
 -- What was written of the lines of packets and a fault line.
@@ -34,6 +38,7 @@ Writes lines meant before after r = meant r × Took before after (lines ++ fault
 -- The packets at the front of what an input gave were shown, from what it held and the output had taken before.
 pub record Shows (held left before after : Option (List ℕ)) (r : Status) : Type 0 where
   pub bytes : List ℕ
+  pub most : length bytes ≤ MAX_READ
   pub packets : List (List ℕ)
   pub rest : List ℕ
   pub gave : Gave held left bytes

@@ -40,7 +40,7 @@ stored_same m n s = both (manager_of n) (manager_of m) n.store.journal.count m.s
 
 some_entry : (o : Option Record) → IsSome o → (r : Record) × (o ≡ Some r)
 some_entry (Some r) some = (r, refl)
-some_entry None some = absurd some
+some_entry None some = absurd (let wrong : ⊥ = cc some in wrong)
 
 -- the record that is in doubt
 abbrev pub InDoubt : {A : Type 0} → ManagerState → ManagerState → Outcome A → Type 0

@@ -1,4 +1,5 @@
-use Rattle.std.proofs.Common.{◌≡◌, ◌≤◌, List, ℕ, length, take, refl, ◌∙◌, arith, length-take}
+use Rattle.std.proofs.Common.{◌≡◌, ◌≤◌, ◌+◌, List, ℕ, length, take, refl, ◌∙◌, arith, length-take}
+use Rattle.mqb_serving.specs.declared.limits.TheConstants.{MAX_READ}
 use Rattle.mqb_commands.proofs.Inputs.{ends_at_once, ends_by_stop, none_so_far, so_far_more}
 use Rattle.mqb_commands.proofs.showing.show_all.Goals as goal
 
@@ -40,6 +41,10 @@ returns-in-Err-clause-shown g c =
     let held = g.S.Source.held in
     let taken = g.K.Sink.taken in
     let n = c.in-Ok-read_front.n in
+    let small : n ≤ 4096 = omega (arith, c.in-Ok-read_front.ensures.within, c.min-room.ensures) in
+    let len : length c.read_front.new.buffer ≡ 4096 = omega (arith, c.loop-count.invariant.buffer, c.read_front.auto.buffer) in
+    let most : c.loop-count.count + length (take n c.read_front.new.buffer) ≤ MAX_READ =
+    omega (arith, piece_length n 4096 c.read_front.new.buffer len small, c.in-Ok-read_front.ensures.within, c.min-room.ensures, c.loop-count-test.true) in
     ends_by_stop (held c.args.input.now) (held c.loop-count.input) (held c.read_front.new.input) (taken c.args.out.now) (taken c.loop-count.out) (taken c.show_piece.new.out)
     c.loop-count.viewer.framer c.loop-count.count (take n c.read_front.new.buffer) c.in-Err.why c.loop-count.invariant.so_far
-    c.in-Ok-read_front.ensures.gave c.in-Err.ensures.shown
+    c.in-Ok-read_front.ensures.gave most c.in-Err.ensures.shown
