@@ -3,7 +3,7 @@ use Rattle.std.proofs.lemmas.Result.{err_from_is_err_and}
 use Rattle.mqb_serving.specs.Conversations.{End, no_bytes}
 use Rattle.mqb_serving.specs.declared.faults.ConnFault.{ConnFault}
 use Rattle.mqb_serving.specs.declared.faults.ConnFault.TheVariants as fault
-use Rattle.mqb_serving.specs.Serving.{is_disk_fault}
+use Rattle.mqb_serving.specs.Serving.{IsNext, is_disk_fault}
 use Rattle.mqb_serving.specs.Steps.{Converses, Itself, LeftBy}
 use Rattle.mqb_serving.proofs.Stopping.{stops_here}
 use Rattle.mqb_serving.proofs.Taken.{converses_stop}
@@ -19,7 +19,8 @@ returns-in_err-talk-clause-converses g c = λ k s.
     let m = stored_of c.args.manager.now in
     let why = c.in_err-talk.field-0.0 in
     let p = err_from_is_err_and c.from_residual.result c.from_residual.ensures.1 in
-    let left : LeftBy why k.manager m = subst (λ (w : ConnFault). LeftBy w k.manager m) (sym c.in_err-talk.ensures.fault) (sym s.manager) in
+    let left : LeftBy why (IsNext (Itself k) k.stored k.now) k.stored m =
+    subst (λ (w : ConnFault). LeftBy w (IsNext (Itself k) k.stored k.now) k.stored m) (sym c.in_err-talk.ensures.fault) (sym s.manager) in
     subst (λ (r : Result End ConnFault). Converses k h h x x m r) (sym (p.1 ∙ ap Err p.2))
     (converses_stop k h h x x m why (stops_here (Itself k) k x x m why refl left) refl)
 
