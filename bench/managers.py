@@ -1,4 +1,4 @@
-"""Two managers on this machine, alpha and beta, for the benches that disturb them, kill.py, race.py, faults.py and day.py; and the program and the port of these and the other ones.
+"""Two managers on this machine, alpha and beta, for the benches that disturb them, kill.py, race.py, faults.py, unsettled.py and day.py; and the program and the port of these and the other ones.
 
 MQB names another program than `./mqb --where` does, MQB_PORT another port than 1801, FOLDER another place for the stores than the system's for files that pass.
 """
