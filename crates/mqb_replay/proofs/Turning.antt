@@ -75,7 +75,7 @@ short_of keep lines first rest split w b a h = (
   where
     stands : (which : Which) (d : View) (s : SeatState) → IsHeldOn d s → seated s ≡ manager_at (course_of h.run).network (index_of which)
         → StandsBehind (manager_at (course_of h.run).network (index_of which)) d
-    stands which d s held is = held_behind d s s (manager_at (course_of h.run).network (index_of which)) held (keeps_all {s} {s} refl refl) is
+    stands which d s held is = held_behind d s s (manager_at (course_of h.run).network (index_of which)) held (keeps_all refl refl) is
 
 -- The ends of a loop over lines.
 

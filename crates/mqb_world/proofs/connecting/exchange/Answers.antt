@@ -70,3 +70,9 @@ returns-clause-alpha g c = lasts_then c.flow_quietly.ensures.alpha c.flow_quietl
 
 pub returns-clause-beta : goal.returns-clause-beta
 returns-clause-beta g c = lasts_then c.flow_quietly.ensures.beta c.flow_quietly-2.ensures.beta
+
+pub flow_quietly-requires-2-clause-alpha : goal.flow_quietly-requires-2-clause-alpha
+flow_quietly-requires-2-clause-alpha g c = c.flow_quietly.ensures.alpha.held
+
+pub flow_quietly-requires-2-clause-beta : goal.flow_quietly-requires-2-clause-beta
+flow_quietly-requires-2-clause-beta g c = c.flow_quietly.ensures.beta.held

@@ -65,3 +65,9 @@ returns-clause-alpha g c = lasts_then c.exchange.ensures.alpha c.exchange-2.ensu
 
 pub returns-clause-beta : goal.returns-clause-beta
 returns-clause-beta g c = lasts_then c.exchange.ensures.beta c.exchange-2.ensures.beta
+
+pub exchange-requires-2-clause-alpha : goal.exchange-requires-2-clause-alpha
+exchange-requires-2-clause-alpha g c = c.exchange.ensures.alpha.held
+
+pub exchange-requires-2-clause-beta : goal.exchange-requires-2-clause-beta
+exchange-requires-2-clause-beta g c = c.exchange.ensures.beta.held

@@ -87,3 +87,9 @@ returns-in_err-deliver_all-in-Went-clause-alpha g c = lasts_then c.send.ensures.
 
 pub returns-in_err-deliver_all-in-Went-clause-beta : goal.returns-in_err-deliver_all-in-Went-clause-beta
 returns-in_err-deliver_all-in-Went-clause-beta g c = lasts_then c.send.ensures.beta c.deliver_all.ensures.beta
+
+pub deliver_all-requires-clause-alpha : goal.deliver_all-requires-clause-alpha
+deliver_all-requires-clause-alpha g c = c.send.ensures.alpha.held
+
+pub deliver_all-requires-clause-beta : goal.deliver_all-requires-clause-beta
+deliver_all-requires-clause-beta g c = c.send.ensures.beta.held
