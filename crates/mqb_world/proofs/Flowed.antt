@@ -2,7 +2,7 @@
 use Rattle.std.proofs.Common.{◌≡◌, ℕ, zero, suc, ◌+◌, Bool, true, List, [], ◌∷◌, ◌++◌, Option, Some, None, Result, Ok, Err, length, refl, sym, ap, subst, ◌∙◌, arith, length-append}
 use Rattle.std.proofs.lemmas.List.{length-map}
 use Rattle.std.specs.Option.{option_map_or}
-use Rattle.std.specs.Prelude.{IfOk, OnOk, find, is_some, map, replicate}
+use Rattle.std.specs.Prelude.{IfOk, find, is_some, map, replicate}
 use Rattle.mqb_deliveries.specs.Failing.{FailsAs, failures_at, failures_in}
 use Rattle.mqb_deliveries.specs.lemmas.Flowed.{all_packets, all_spelled, all_writable, are_packets, broke_step, flow_sends, pumped_course, refused_step, went_short, went_step}
 use Rattle.mqb_deliveries.specs.Flows.{Flown, sent_behind}

@@ -3,13 +3,12 @@ use Rattle.std.proofs.Common.{◌≡◌, ◌<◌, ℕ, ◌+◌, Bool, true, fals
 use Rattle.std.proofs.lemmas.List.{length-map}
 use Rattle.std.proofs.lemmas.List.Elements.{filter_map-append}
 use Rattle.std.specs.List.{cons_option}
-use Rattle.std.specs.Prelude.{IfOk, IsSome, OnOk, map}
+use Rattle.std.specs.Prelude.{IfOk, IsSome, map}
 use Rattle.mqb_deliveries.specs.Delivers.{Delivers, WasDelivered}
 use Rattle.mqb_deliveries.specs.Failing.{CutBehind, FailsAs, arrived, failure_at, failure_told, failures_at, is_for}
 use Rattle.mqb_deliveries.specs.lemmas.Flowing.{flown_next, flown_none}
 use Rattle.mqb_deliveries.specs.Flows.{Flown}
 use Rattle.mqb_outside.specs.Disk.{View}
-use Rattle.mqb_moves.specs.lemmas.Stored.{stored_held}
 use Rattle.mqb_moves.specs.Seats.{IsHeldOn, SeatState}
 use Rattle.mqb_network.specs.Choices.{Failure}
 use Rattle.mqb_network.specs.Network.{Network, Note}

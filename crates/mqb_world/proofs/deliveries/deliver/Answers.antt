@@ -1,7 +1,7 @@
 use Rattle.std.proofs.Common.{◌≡◌, ap, false, true, sym, ◌∙◌, rules}
 use Rattle.mqb_deliveries.specs.lemmas.Delivered.{disk_fails, never_underway}
 use Rattle.mqb_moves.specs.Seats.{seated}
-use Rattle.mqb_seats.specs.lemmas.Keeping.{lasts_stored}
+use Rattle.mqb_seats.specs.lemmas.Keeping.{lasts_same, lasts_stored}
 use Rattle.mqb_script.specs.declared.managers.Which.TheVariants.{Alpha, Beta}
 use Rattle.mqb_traffic.specs.Networks.{connections_of, note_of, notes_of}
 use Rattle.mqb_turns.specs.Sides.{side}
@@ -73,3 +73,15 @@ returns-in_ok-pass-in-Alpha-clause-alpha g c = lasts_stored c.requires.alpha c.p
 
 pub returns-in_ok-pass-in-Beta-clause-beta : goal.returns-in_ok-pass-in-Beta-clause-beta
 returns-in_ok-pass-in-Beta-clause-beta g c = lasts_stored c.requires.beta c.pass-in-Beta.ensures.beside
+
+pub returns-in_default-clause-alpha : goal.returns-in_default-clause-alpha
+returns-in_default-clause-alpha g c = lasts_same c.requires.alpha
+
+pub returns-in_default-clause-beta : goal.returns-in_default-clause-beta
+returns-in_default-clause-beta g c = lasts_same c.requires.beta
+
+pub returns-then-not-is_underway-clause-alpha : goal.returns-then-not-is_underway-clause-alpha
+returns-then-not-is_underway-clause-alpha g c = lasts_same c.requires.alpha
+
+pub returns-then-not-is_underway-clause-beta : goal.returns-then-not-is_underway-clause-beta
+returns-then-not-is_underway-clause-beta g c = lasts_same c.requires.beta

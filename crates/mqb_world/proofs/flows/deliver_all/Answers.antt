@@ -37,3 +37,9 @@ returns-in_err-push-clause-alpha g c = lasts_then c.loop-i.invariant.alpha c.del
 
 pub returns-in_err-push-clause-beta : goal.returns-in_err-push-clause-beta
 returns-in_err-push-clause-beta g c = lasts_then c.loop-i.invariant.beta c.deliver.ensures.beta
+
+pub deliver-requires-clause-alpha : goal.deliver-requires-clause-alpha
+deliver-requires-clause-alpha g c = c.loop-i.invariant.alpha.held
+
+pub deliver-requires-clause-beta : goal.deliver-requires-clause-beta
+deliver-requires-clause-beta g c = c.loop-i.invariant.beta.held
