@@ -1,4 +1,5 @@
-use Rattle.mqb_seats.specs.lemmas.Keeping.{lasts_held, lasts_stored}
+use Rattle.mqb_moves.specs.lemmas.Stored.{same_stores}
+use Rattle.mqb_seats.specs.lemmas.Keeping.{lasts_held, lasts_same, lasts_stored}
 use Rattle.mqb_turns.specs.Sides.{side}
 use Rattle.mqb_world.proofs.Actions.{acted_as, call_acted, call_left, call_switch, disconnect_acted, if_ok, is_call, ok_is_full, pump_acted, pump_is, resend_acted, resend_is, restart_is, start_acted}
 use Rattle.mqb_world.proofs.acting.act.Goals as goal
@@ -51,5 +52,21 @@ returns-in-Disconnect-clause-beside g c = (c.disconnect.ensures c.args.which).be
 pub returns-in-Resend-clause-lasts : goal.returns-in-Resend-clause-lasts
 returns-in-Resend-clause-lasts g c = lasts_stored c.requires.held (c.resend.ensures c.args.which).own
 
+pub returns-in-Resend-clause-beside : goal.returns-in-Resend-clause-beside
+returns-in-Resend-clause-beside g c = same_stores c.args.other.now
+
+pub returns-in-Drop-clause-lasts : goal.returns-in-Drop-clause-lasts
+returns-in-Drop-clause-lasts g c = lasts_same c.requires.held
+
+pub returns-in-Drop-clause-beside : goal.returns-in-Drop-clause-beside
+returns-in-Drop-clause-beside g c = same_stores c.args.other.now
+
 pub returns-in-Arm-clause-lasts : goal.returns-in-Arm-clause-lasts
 returns-in-Arm-clause-lasts g c = lasts_held c.arm.ensures.held c.arm.ensures.faults
+
+pub returns-in-Arm-clause-beside : goal.returns-in-Arm-clause-beside
+returns-in-Arm-clause-beside g c = same_stores c.args.other.now
+
+pub returns-in_err-call_own-in_default-clause-left : goal.returns-in_err-call_own-in_default-clause-left
+returns-in_err-call_own-in_default-clause-left g c = call_left c.args.which c.args.event.now (is_call c.args.which c.args.event.now c.in_default.not-Disconnect c.in_default.not-Resend c.in_default.not-Drop
+    c.in_default.not-Pump c.in_default.not-Arm c.in_default.not-Restart c.requires.acts) _
