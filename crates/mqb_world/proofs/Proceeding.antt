@@ -199,6 +199,9 @@ module _ (w w_now : WorldState) (strings strings_now : List (List ℕ)) (first f
   pub flow_so : (asked : Event) (m : Which) (now : ℕ) → asked ≡ event.Flow m now → (r : Result Reply PostFault) → IfOk r (HappensSo (event.Flow m now) strings_now) → IfOk r (HappensSo asked strings_now)
   flow_so asked m now is r = subst (λ (a : Event). IfOk r (HappensSo a strings_now)) (sym is)
 
+  pub connect_so : (asked : Event) (m : Which) (now a b : ℕ) → asked ≡ event.Connect m now a b → (r : Result Reply PostFault) → IfOk r (HappensSo (event.Connect m now a b) strings_now) → IfOk r (HappensSo asked strings_now)
+  connect_so asked m now a b is r = subst (λ (x : Event). IfOk r (HappensSo x strings_now)) (sym is)
+
   pub connect_short : (asked : Event) (m : Which) (now a b : ℕ) → asked ≡ event.Connect m now a b → (r : Result Reply PostFault)
       → FallsShort (network_of w) None (event_of (event.Connect m now a b)) strings strings_now r → ShortAmong w asked strings strings_now r
   connect_short asked m now a b is r short = subst (λ (e : Event). ShortAmong w e strings strings_now r) (sym is) (λ packets writable spelled. short)

@@ -28,3 +28,6 @@ returns-clause-alpha g c = subst (λ (w : WorldState). Lasts (g.P.Disk.view c.ar
 pub returns-clause-beta : goal.returns-clause-beta
 returns-clause-beta g c = subst (λ (w : WorldState). Lasts (g.P.Disk.view c.args.second.now) (g.P.Disk.view c.proceed-proceeded.new.second) w.beta c.proceed-proceeded.new.beta)
     c.self.view_is c.proceed-proceeded.ensures.beta
+
+pub returns-clause-streams : goal.returns-clause-streams
+returns-clause-streams g c = λ ms stands. c.runs_show_streams.ensures ms stands.run
