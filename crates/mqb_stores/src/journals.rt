@@ -6,16 +6,14 @@ use std::alloc::Global;
 use std::fmt::Display;
 use std::test::Fail;
 
-/// What a formatted disk answers to two appends.
+/// What a formatted disk answers to an append.
 fn append<D: Disk>(
     alloc: Global,
     disk: &mut D,
-    first: &[u8],
-    second: &[u8],
-) -> Result<(Result<(), AppendFault>, Result<(), AppendFault>), OpenFault> {
+    entry: &[u8],
+) -> Result<Result<(), AppendFault>, OpenFault> {
     let mut journal = Journal::format(alloc, disk, Guid([9; 16]))?;
-    let refused = journal.append(disk, first);
-    Ok((refused, journal.append(disk, second)))
+    Ok(journal.append(disk, entry))
 }
 
 /// What is written, in this order.
@@ -23,14 +21,13 @@ const WRITTEN: &[u8] =
     b"MQBJ\x01\0\0\0\x09\x09\x09\x09\x09\x09\x09\x09\x09\x09\x09\x09\x09\x09\x09\x09\0\
 \x03\0\0\0\x01\x02\x03\0\x01";
 
-/// The header with the gate; nothing for a record over the limit; the length, the record and the next gate; and the gate.
+/// The header with the gate; the length, the record and the next gate; and the gate.
 #[test]
 fn the_calls_of_an_append(rt: HostRuntime) -> Result<(), Fail> {
     let alloc = rt.alloc();
     let mut disk = TraceDisk::new(alloc, 64, 16)?;
-    let entry = Vec::from_elem(alloc, 0, 8_388_609)?;
-    let answers = append(alloc, &mut disk, &entry, &[1, 2, 3])?;
-    assert_eq!(rt; answers, (Err(AppendFault::TooLarge), Ok(())));
+    let answer = append(alloc, &mut disk, &[1, 2, 3])?;
+    assert_eq!(rt; answer, Ok(()));
     let wrote = |at, from, len| Call::Wrote { at, from, len };
     assert_eq!(rt;
         disk.calls(),
