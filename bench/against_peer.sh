@@ -3,8 +3,8 @@
 # Prints a line a load, and the greatest ratio. MQB names another program than ./mqb --where does; ONLY=WORD takes the loads whose names have that word.
 # What is wanted: 3 at most for what is put and taken, 2 at `trial`, `show` and `list`, 2.5 at the three replays of commits; 163,840 messages at most 4.6 times
 # 40,960, and 81,920 with priorities or due messages, purged, swept or expired, at most 2.4 times 40,960; an empty replay at most 20 milliseconds in all.
-# Seen on a busy machine, one round each: `trial 10000` 3.9 times, `show` of 100,000 packets 1.5, `list` of 20,000 records 2.7, an empty replay 28 to 44 milliseconds; of takes
-# none, since they grow with the square of the queue: 2,560 messages put and taken by 64 took 0.31 seconds beside 0.013.
+# Seen on a busy machine, one round: 40,960 messages put and taken by 64 2.2 times, taken one by one 3.8; 163,840 3.2 and 5.6, which is 4.5 and 3.5 times 40,960; `trial 10000` 2.0, the replays 2.6, 5.6 and
+# 6.6, `show` 1.0, `list` 2.4, and an empty replay 1 millisecond of user time. Of priorities in turn, due messages, purges, sweeps and expiries none: a list whose members leave in the middle still grows with the square.
 # It stands outside the gate.
 set -e
 top=$(cd "$(dirname "$0")/.." && pwd)
