@@ -7,10 +7,9 @@ brought over and taken: each message once, in the order of the commits. It print
 was not (`made`), and nothing was done (`not`); `part` is an `init` that left a file which is no store. Of connections: all that waited on both sides was acknowledged
 (`whole`), something was decided that its sender had not heard of (`ahead`), or neither (`short`).
 
-Seen, of 1,000 kills each, by the released program whose sum begins with 9bc0e1e0, on a machine that became busy with five times as many programs as processors (said, made, not): peer 512, 10,
-478; create 531, 14, 455; send 493, 10, 497; commit 433, 43, 524; take 468, 79, 453; purge 488, 71, 441; tick 537, 67, 396; roll 433, 23, 544; init 866, 15, 67, and 52 part; (whole, ahead, short):
-serve 867, 61, 72; attend 718, 142, 140; probe 337, 466, 197; push 584, 232, 184; fetch 175, 597, 228, and the 30,000 messages of these five came once each, in order. Two runs side by side, on ports
-of their own, took 19 minutes for the words that make one call and 54 for those that have a connection; on a machine that is not busy a word takes half a minute to three.
+Seen, of 1,000 kills each, by the released program whose sum begins with 21bffc63, on a machine with four times as many busy programs as processors (said, made, not): peer 507, 34, 459; create 423, 47,
+530; send 411, 61, 528; commit 410, 70, 520; take 405, 103, 492; purge 476, 38, 486; tick 495, 63, 442; roll 356, 115, 529; init 748, 50, 67, and 135 part; (whole, ahead, short): serve 409, 461, 130; attend
+375, 453, 172; probe 366, 479, 155; push 375, 482, 143; fetch 407, 444, 149, and the 30,000 messages of these five came once each, in order. Seven runs side by side, on ports of their own, took ten minutes.
 
 It stands outside the gate. Its port must be free: 1801, or MQB_PORT. MQB names another program than `./mqb --where` does.
 """
