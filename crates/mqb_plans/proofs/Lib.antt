@@ -3,3 +3,4 @@ pub mod Counts
 pub mod Drafted
 pub mod Planned
 pub mod Spelled
+pub mod Taken

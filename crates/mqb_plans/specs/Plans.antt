@@ -1,5 +1,5 @@
 -- What a call comes to, as a plan: the record that is written, and what is done beside it.
-use Rattle.std.specs.Prelude.{[], ◌≡◌, Err, IfSome, Ok, Option, Result, false, is_some}
+use Rattle.std.specs.Prelude.{[], ◌≡◌, Err, IfSome, IsOk, Ok, Option, Result, false, is_some}
 use Rattle.mqb_model.specs.declared.faults.SendFault.{SendFault}
 use Rattle.mqb_model.specs.declared.faults.SendFault.TheVariants as send_fault
 use Rattle.mqb_model.specs.declared.faults.TakeFault.{TakeFault}
@@ -41,9 +41,9 @@ ComesTo s call p answer = OfManagers s (λ m. call m ≡ outcome_of m p (Ok answ
 abbrev pub Refuses : {V E : Type 0} → State → (Manager → Outcome (Result V E)) → E → Type 0
 Refuses s call why = OfManagers s (λ m. call m ≡ answering m (Err why))
 
--- It refuses a take so, or memory is wanting.
+-- It refuses a take so; memory is wanting for none that it refuses.
 abbrev pub RefusesTake : {V : Type 0} → State → (Manager → Outcome (Result V TakeFault)) → TakeFault → Type 0
-RefusesTake s call take_fault.Memory = Unit {0}
+RefusesTake s call take_fault.Memory = OfManagers s (λ m. IsOk (call m).answer)
 RefusesTake s call why = Refuses s call why
 
 -- It refuses a send so, or memory is wanting.
