@@ -1,6 +1,6 @@
 -- A call of a manager, by what it writes.
 use Rattle.std.proofs.Common.{inl, inr, refl, sym, ap, subst, ◌∙◌, arith}
-use Rattle.std.specs.Prelude.{◌≡◌, ◌≤◌, Err, IfSome, IsSome, IsSomeAnd, None, Ok, OnErr, OnOk, Option, Result, Some, false, length, option_map, true}
+use Rattle.std.specs.Prelude.{◌≡◌, ◌≤◌, Err, IfSome, IsOk, IsSome, IsSomeAnd, None, Ok, OnErr, OnOk, Option, Result, Some, false, length, option_map, true}
 use Rattle.mqb_outside.specs.Disk.{Lawful, View}
 use Rattle.mqb_entries.specs.SpelledEntries.{Fits, spelled}
 use Rattle.mqb_entries.specs.declared.entry.Entry.{Entry}
@@ -93,7 +93,12 @@ unmade_call memory broken d m o law differ = record {
 pub first_refused : {V E : Type 0} (why : E) (m : Manager) (o : Outcome (Result V E)) → o ≡ answering m (Err why) → OnErr o.answer (Err why ≡ o.answer)
 first_refused {V} {E} why m o is = subst (λ (p : Outcome (Result V E)). OnErr p.answer (Err why ≡ p.answer)) (sym is) refl
 
--- nothing refuses it
+-- nothing refuses it, whatever it answers
+pub first_unrefused : {V E : Type 0} (answer result : Result V E) → IsOk answer → OnErr answer (result ≡ answer)
+first_unrefused (Ok value) result ok = tt
+first_unrefused (Err why) result ok = absurd (let none : ⊥ = cc in none)
+
+-- nothing refuses it, and it is written
 pub first_written : {V E : Type 0} (value : V) (m : Manager) (r : Option Record) (b : Beside) (o : Outcome (Result V E)) (result : Result V E)
     → o ≡ outcome_by m r b (Ok value) → OnErr o.answer (result ≡ o.answer)
 first_written {V} {E} value m r b o result is = subst (λ (p : Outcome (Result V E)). OnErr p.answer (result ≡ p.answer)) (sym is) tt

@@ -28,7 +28,7 @@ use Rattle.mqb_queue.specs.Places.{lists_at, place_named}
 use Rattle.mqb_queue.specs.declared.first.Position.{Position}
 use Rattle.mqb_manager.specs.Calls.{IsCall}
 use Rattle.mqb_manager.specs.States.{ManagerState, manager_of}
-use Rattle.mqb_manager.proofs.Calls.{first_refused, refused_call, unless_some, unmade_call}
+use Rattle.mqb_manager.proofs.Calls.{first_refused, first_unrefused, refused_call, unless_some, unmade_call}
 use Rattle.mqb_manager.proofs.Planned.{Keeps, planned_refused}
 
 -- The manager is down.
@@ -41,6 +41,13 @@ take_down d m place now law valid down = let k = manager_of m in
     (option_map_or (take_at k now) (place_named k.state.places.queues place) (answering k (Err take_fault.NoQueue)))
     (ap (λ (b : Bool). if b then Some take_fault.Down else None) down))
     (λ same. let none : ⊥ = cc in none)
+
+pub take_down_first : (m : Manager) (place : Place) (now : ℕ) → is_down m ≡ true
+    → OnErr (take_message m place now).answer (Err take_fault.Down ≡ (take_message m place now).answer)
+take_down_first m place now down = first_refused take_fault.Down m (take_message m place now)
+    (unless_some m (take_refusal m) take_fault.Down
+    (option_map_or (take_at m now) (place_named m.state.places.queues place) (answering m (Err take_fault.NoQueue)))
+    (ap (λ (b : Bool). if b then Some take_fault.Down else None) down))
 
 pub purge_down : (d : View) (m : ManagerState) (place : Place) (now : ℕ) → Lawful d → IsValidManager (manager_of m) → is_down (manager_of m) ≡ true
     → IsCall purge_fault.Memory purge_fault.DiskFault d d m m (purge (manager_of m) place now) (Err purge_fault.Down)
@@ -124,6 +131,23 @@ take_refused d m s place now why law keeps refused = by why refused
     by : (why : TakeFault) → RefusesTake s (λ m. take_message m place now) why
         → IsCall take_fault.Memory take_fault.DiskFault d d m m (take_message (manager_of m) place now) (Err why)
     by take_fault.Memory r = unmade_call take_fault.Memory take_fault.DiskFault d m (take_message (manager_of m) place now) law (λ same. let none : ⊥ = cc in none)
+    by take_fault.Down r = same take_fault.Down r
+    by take_fault.NoQueue r = same take_fault.NoQueue r
+    by take_fault.QueueEmpty r = same take_fault.QueueEmpty r
+    by take_fault.DiskFault r = same take_fault.DiskFault r
+
+-- Want of memory comes before no refusal.
+pub take_first : (s : State) (m : ManagerState) (place : Place) (now : ℕ) (why : TakeFault) → Keeps s m → RefusesTake s (λ m. take_message m place now) why
+    → OnErr (take_message (manager_of m) place now).answer (Err why ≡ (take_message (manager_of m) place now).answer)
+take_first s m place now why keeps refused = by why refused
+  where
+    same : (why : TakeFault) → Refuses s (λ m. take_message m place now) why
+        → OnErr (take_message (manager_of m) place now).answer (Err why ≡ (take_message (manager_of m) place now).answer)
+    same why refused = first_refused why (manager_of m) (take_message (manager_of m) place now) (refused (manager_of m) keeps.kept keeps.up)
+
+    by : (why : TakeFault) → RefusesTake s (λ m. take_message m place now) why
+        → OnErr (take_message (manager_of m) place now).answer (Err why ≡ (take_message (manager_of m) place now).answer)
+    by take_fault.Memory r = first_unrefused (take_message (manager_of m) place now).answer (Err take_fault.Memory) (r (manager_of m) keeps.kept keeps.up)
     by take_fault.Down r = same take_fault.Down r
     by take_fault.NoQueue r = same take_fault.NoQueue r
     by take_fault.QueueEmpty r = same take_fault.QueueEmpty r

@@ -29,6 +29,8 @@ impl Manager {
             (take_message (manager_of self.old) place.now now) result }
         ensures down { is_down (manager_of self.old) ≡ true
             → (result ≡ Err TakeFault.Down) × (self.new ≡ self.old) }
+        ensures first { OnErr (take_message (manager_of self.old) place.now now).answer
+            (result ≡ (take_message (manager_of self.old) place.now now).answer) }
         ensures untouched { (take_message (manager_of self.old) place.now now).entry ≡ None
             → disk.new ≡ disk.old }
         ensures memory { result ≡ Err TakeFault.Memory → disk.new ≡ disk.old }
