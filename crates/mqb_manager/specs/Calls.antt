@@ -1,8 +1,9 @@
 -- How a call of a manager ends, and what it leaves on the disk.
 use Rattle.std.specs.Option.{option_map_or}
-use Rattle.std.specs.Prelude.{◌+◌, ◌≡◌, ◌⊎◌, Err, IsSome, Result}
-use Rattle.mqb_outside.specs.Disk.{IsSettled, LeavesOnly, View}
+use Rattle.std.specs.Prelude.{◌+◌, ◌≡◌, ◌⊎◌, Err, IfSome, IsSome, None, OnErr, OnOk, Option, Result, false, true}
+use Rattle.mqb_outside.specs.Disk.{Counted, IsSettled, LeavesOnly, View}
 use Rattle.mqb_outside.specs.Images.{Each}
+use Rattle.mqb_model.specs.managers.Manager.{is_down}
 use Rattle.mqb_model.specs.managers.Outcomes.{Outcome, failed, succeeded}
 use Rattle.mqb_model.specs.records.Applying.{lines_of}
 use Rattle.mqb_model.specs.records.Reading.{record_of}
@@ -45,3 +46,21 @@ pub record IsCall {V E : Type 0} (memory broken : E) (d e : View) (m n : Manager
   pub rose : r ≡ Err broken → Rose d.faults e.faults
   pub stayed : (r ≡ Err broken → ⊥) → e.faults ≡ d.faults
   pub switch : e.switch ≡ d.switch
+
+-- What is said beside this.
+
+-- A manager that is down says so, and stays as it is.
+abbrev pub SaysDown : {V E : Type 0} → E → ManagerState → ManagerState → Result V E → Type 0
+SaysDown down m n r = is_down (manager_of m) ≡ true → (r ≡ Err down) × (n ≡ m)
+
+-- One that is up and not linked says that, and stays as it is.
+abbrev pub SaysUnlinked : {V E : Type 0} → E → ManagerState → ManagerState → Result V E → Type 0
+SaysUnlinked unlinked m n r = is_down (manager_of m) ≡ false → m.session ≡ None → (r ≡ Err unlinked) × (n ≡ m)
+
+-- What refuses a call comes before want of memory.
+abbrev pub RefusesFirst : {V E : Type 0} → Outcome (Result V E) → Result V E → Type 0
+RefusesFirst o r = OnErr o.answer (r ≡ o.answer)
+
+-- A record is four calls of the disk.
+abbrev pub CallsForRecord : {R V E : Type 0} → View → View → Option R → Result V E → Type 0
+CallsForRecord d e written r = OnOk r (IfSome written (λ _. Counted 4 d.calls e.calls))

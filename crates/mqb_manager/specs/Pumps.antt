@@ -1,7 +1,7 @@
 -- How a pump goes, step by step.
-use Rattle.std.specs.Prelude.{[], ◌++◌, ◌∷◌, ◌≡◌, All, Bool, Err, IfSome, IsSomeAnd, List, None, OnErr, OnOk, Result, Some, flat_map, fold, map, slice_get, ℕ}
+use Rattle.std.specs.Prelude.{[], ◌++◌, ◌∷◌, ◌≡◌, All, Bool, Err, IsSomeAnd, List, None, OnErr, OnOk, Result, Some, flat_map, fold, map, slice_get, ℕ}
 use Rattle.mqb_base.specs.declared.heads.SessionHead.{SessionHead}
-use Rattle.mqb_outside.specs.Disk.{Counted, View}
+use Rattle.mqb_outside.specs.Disk.{View}
 use Rattle.mqb_packet.specs.Plain.{plain_spelling}
 use Rattle.mqb_packet.specs.Values.{IsPacket}
 use Rattle.mqb_session.specs.State as one_end
@@ -18,7 +18,7 @@ use Rattle.mqb_model.specs.state.State.{State}
 use Rattle.mqb_store.specs.declared.faults.WriteFault.{WriteFault}
 use Rattle.mqb_store.specs.declared.faults.WriteFault.TheVariants as write
 use Rattle.mqb_choosing.specs.Plans as plans
-use Rattle.mqb_manager.specs.Calls.{IsCall}
+use Rattle.mqb_manager.specs.Calls.{CallsForRecord, IsCall}
 use Rattle.mqb_manager.specs.Seen.{seen}
 use Rattle.mqb_manager.specs.States.{IsOnDisk, IsUp, ManagerState, manager_of}
 
@@ -72,4 +72,4 @@ pub record IsPumped (d e : View) (kept : Type 0) (m n : ManagerState) (o : PumpO
   pub refused : OnErr r (after ≡ before)
   pub untouched : o.entry ≡ None → kept
   pub memory : r ≡ Err fault.Memory → kept
-  pub calls : OnOk r (IfSome o.entry (λ _. Counted 4 d.calls e.calls))
+  pub calls : CallsForRecord d e o.entry r

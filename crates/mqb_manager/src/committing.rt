@@ -1,12 +1,11 @@
-ghost use Rattle.std.specs.Prelude.{◌≡◌, Err, IfSome, None, OnOk, Some, true};
+ghost use Rattle.std.specs.Prelude.{◌≡◌, Err, None, OnOk, Some};
 ghost use Rattle.mqb_outside.specs.Disk.{Counted};
 ghost use Rattle.mqb_entries.specs.declared.entry.Entry.TheVariants as form;
-ghost use Rattle.mqb_manager.specs.Calls.{IsCall};
+ghost use Rattle.mqb_manager.specs.Calls.{CallsForRecord, IsCall, SaysDown};
 ghost use Rattle.mqb_manager.specs.States.{IsOnDisk, IsUp, manager_of};
 ghost use Rattle.mqb_manager.specs.Writing.{IsReady, write_of};
 ghost use Rattle.mqb_model.specs.calls.Commit.{commit};
 ghost use Rattle.mqb_model.specs.managers.Beside.{Nothing};
-ghost use Rattle.mqb_model.specs.managers.Manager.{is_down};
 
 use crate::manager::Manager;
 use crate::writing::{answer, calls_can_be_written};
@@ -52,13 +51,12 @@ impl Manager {
         requires { IsUp self.old → IsOnDisk (D.view disk.old) self.old }
         ensures call { IsCall CommitFault.Memory CommitFault.DiskFault (D.view disk.old)
             (D.view disk.new) self.old self.new (commit (manager_of self.old) ops.now now) result }
-        ensures down { is_down (manager_of self.old) ≡ true
-            → (result ≡ Err CommitFault.Down) × (self.new ≡ self.old) }
+        ensures down { SaysDown CommitFault.Down self.old self.new result }
         ensures untouched { (commit (manager_of self.old) ops.now now).entry ≡ None
             → disk.new ≡ disk.old }
         ensures memory { result ≡ Err CommitFault.Memory → disk.new ≡ disk.old }
-        ensures calls { OnOk result (IfSome (commit (manager_of self.old) ops.now now).entry
-            (λ _. Counted 4 (D.view disk.old).calls (D.view disk.new).calls)) }
+        ensures calls { CallsForRecord (D.view disk.old) (D.view disk.new)
+            (commit (manager_of self.old) ops.now now).entry result }
     {
         calls_can_be_written();
         ops_fit(ops);

@@ -1,9 +1,8 @@
 //! How a connection begins and ends, and how it starts sending anew. None of it writes a record or takes memory.
-ghost use Rattle.std.specs.Prelude.{◌≡◌, ◌≤◌, Err, true};
-ghost use Rattle.mqb_manager.specs.Calls.{Succeeds};
+ghost use Rattle.std.specs.Prelude.{◌≡◌, ◌≤◌};
+ghost use Rattle.mqb_manager.specs.Calls.{SaysDown, Succeeds};
 ghost use Rattle.mqb_manager.specs.States.{manager_of};
 ghost use Rattle.mqb_model.specs.calls.Link.{link, resend, session_for, unlink};
-ghost use Rattle.mqb_model.specs.managers.Manager.{is_down};
 
 use crate::manager::Manager;
 use crate::readers::linked_peer;
@@ -33,8 +32,7 @@ impl Manager {
     pub fn link(&mut self, role: Role, window: u16) -> Result<(), LinkFault>
         requires { 1 ≤ window }
         ensures answer { result ≡ (link (manager_of self.old) role window).answer }
-        ensures down { is_down (manager_of self.old) ≡ true
-            → (result ≡ Err LinkFault.Down) × (self.new ≡ self.old) }
+        ensures down { SaysDown LinkFault.Down self.old self.new result }
         ensures left { Succeeds self.old self.new (link (manager_of self.old) role window) }
         // So the disk stands for its records as before.
         ensures journal { self.new.store.journal ≡ self.old.store.journal }

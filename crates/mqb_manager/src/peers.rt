@@ -1,13 +1,11 @@
-ghost use Rattle.std.specs.Prelude.{◌<◌, ◌≡◌, ◌≤◌, All, Err, IfSome, None, OnErr, OnOk, length, true};
-ghost use Rattle.mqb_outside.specs.Disk.{Counted};
+ghost use Rattle.std.specs.Prelude.{◌<◌, ◌≡◌, ◌≤◌, All, Err, None, length};
 ghost use Rattle.mqb_entries.specs.SpelledEntries.{spelled};
 ghost use Rattle.mqb_entries.specs.declared.entry.Entry.TheVariants as form;
-ghost use Rattle.mqb_manager.specs.Calls.{IsCall};
+ghost use Rattle.mqb_manager.specs.Calls.{CallsForRecord, IsCall, RefusesFirst, SaysDown};
 ghost use Rattle.mqb_manager.specs.States.{IsOnDisk, IsUp, manager_of};
 ghost use Rattle.mqb_model.specs.calls.AddPeer.{add_peer, add_peer_refusal};
 ghost use Rattle.mqb_model.specs.declared.limits.TheConstants.{MAX_RECORD};
 ghost use Rattle.mqb_model.specs.records.Reading.{identity_of};
-ghost use Rattle.mqb_model.specs.managers.Manager.{is_down};
 ghost use Rattle.mqb_names.specs.Values.{IsName};
 
 use crate::manager::Manager;
@@ -67,18 +65,14 @@ impl Manager {
         requires { IsUp self.old → IsOnDisk (D.view disk.old) self.old }
         ensures call { IsCall AddPeerFault.Memory AddPeerFault.DiskFault (D.view disk.old)
             (D.view disk.new) self.old self.new (add_peer (manager_of self.old) peer.now) result }
-        ensures down { is_down (manager_of self.old) ≡ true
-            → (result ≡ Err AddPeerFault.Down) × (self.new ≡ self.old) }
-        // What refuses it comes before want of memory.
-        ensures first { OnErr (add_peer (manager_of self.old) peer.now).answer
-            (result ≡ (add_peer (manager_of self.old) peer.now).answer) }
+        ensures down { SaysDown AddPeerFault.Down self.old self.new result }
+        ensures first { RefusesFirst (add_peer (manager_of self.old) peer.now) result }
         // Where no record is written the disk is not called.
         ensures untouched { (add_peer (manager_of self.old) peer.now).entry ≡ None
             → disk.new ≡ disk.old }
         ensures memory { result ≡ Err AddPeerFault.Memory → disk.new ≡ disk.old }
-        // A record is four calls of the disk.
-        ensures calls { OnOk result (IfSome (add_peer (manager_of self.old) peer.now).entry
-            (λ _. Counted 4 (D.view disk.old).calls (D.view disk.new).calls)) }
+        ensures calls { CallsForRecord (D.view disk.old) (D.view disk.new)
+            (add_peer (manager_of self.old) peer.now).entry result }
     {
         calls_can_be_written();
         self.is_valid();

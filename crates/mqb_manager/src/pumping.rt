@@ -2,18 +2,16 @@
 //!
 //! Room for their bytes is made before the disk is called, since that takes memory. Where a mark rises it is recorded, and only then are the packets spelled.
 //! That, and what is noted behind it, takes no memory.
-ghost use Rattle.std.specs.Prelude.{[], ◌∷◌, ◌++◌, ◌<◌, ◌≡◌, ◌≤◌, ◌==◌, All, Err, IfSome, None, OnErr, OnOk, Some, false, flat_map, length, nat_lt, not, true};
+ghost use Rattle.std.specs.Prelude.{[], ◌∷◌, ◌++◌, ◌<◌, ◌≡◌, ◌≤◌, ◌==◌, All, Err, None, OnErr, OnOk, flat_map, length, nat_lt, not};
 ghost use Rattle.mqb_choosing.specs.Going.{any_waits};
-ghost use Rattle.mqb_outside.specs.Disk.{Counted};
 ghost use Rattle.mqb_heads.specs.declared.base.TheConstants.{MAX_PACKET};
-ghost use Rattle.mqb_manager.specs.Calls.{IsCall};
+ghost use Rattle.mqb_manager.specs.Calls.{CallsForRecord, IsCall, SaysDown, SaysUnlinked};
 ghost use Rattle.mqb_manager.specs.Quiet.{IsQuiet};
 ghost use Rattle.mqb_manager.specs.Pumps.{ComesToSend, IsLinkedOn, IsPlanned, IsPumped, pump_fault, waiting_for};
 ghost use Rattle.mqb_manager.specs.States.{IsOnDisk, IsUp, manager_of};
 ghost use Rattle.mqb_model.specs.calls.pump.Pump.{pump, pump_at, sending_ack, sending_one, set_up_packet};
-ghost use Rattle.mqb_model.specs.managers.Manager.{is_down, linked_peer};
+ghost use Rattle.mqb_model.specs.managers.Manager.{linked_peer};
 ghost use Rattle.mqb_session.specs.Phases.{owed_by};
-ghost use Rattle.mqb_model.specs.managers.Beside.{noted};
 ghost use Rattle.mqb_model.specs.managers.Outcomes.{succeeded};
 ghost use Rattle.mqb_model.specs.managers.Valid.{IsValidManager};
 ghost use Rattle.mqb_packet.specs.Plain.{IsWellFormedPacket, packet_size, plain_spelling};
@@ -276,8 +274,7 @@ impl Manager {
         requires on { IsOnDisk (D.view disk.old) self.old }
         ensures pumped { IsPumped (D.view disk.old) (D.view disk.new) (disk.new ≡ disk.old) self.old
             self.new (pump (manager_of self.old) now) out.old.items out.new.items result }
-        ensures unlinked { self.old.session ≡ None
-            → (result ≡ Err PumpFault.NotLinked) × (self.new ≡ self.old) }
+        ensures unlinked { SaysUnlinked PumpFault.NotLinked self.old self.new result }
     {
         self.is_valid();
         match self.linked() {
@@ -300,21 +297,18 @@ impl Manager {
         requires { IsUp self.old → IsOnDisk (D.view disk.old) self.old }
         ensures call { IsCall PumpFault.Memory PumpFault.DiskFault (D.view disk.old)
             (D.view disk.new) self.old self.new (pump (manager_of self.old) now) result }
-        ensures down { is_down (manager_of self.old) ≡ true
-            → (result ≡ Err PumpFault.Down) × (self.new ≡ self.old) }
-        ensures unlinked { is_down (manager_of self.old) ≡ false → self.old.session ≡ None
-            → (result ≡ Err PumpFault.NotLinked) × (self.new ≡ self.old) }
+        ensures down { SaysDown PumpFault.Down self.old self.new result }
+        ensures unlinked { SaysUnlinked PumpFault.NotLinked self.old self.new result }
         // The packets' plain spelling, in turn.
         ensures sent { OnOk result (out.new.items ≡ out.old.items ++ flat_map plain_spelling
             (pump (manager_of self.old) now).packets) }
         // Their numbers fit their types, so that they can be read back.
         ensures fits { OnOk result (All IsPacket (pump (manager_of self.old) now).packets) }
         ensures refused { OnErr result (out.new.items ≡ out.old.items) }
-        ensures untouched { (pump (manager_of self.old) now).entry ≡ None
-            → disk.new ≡ disk.old }
+        ensures untouched { (pump (manager_of self.old) now).entry ≡ None → disk.new ≡ disk.old }
         ensures memory { result ≡ Err PumpFault.Memory → disk.new ≡ disk.old }
-        ensures calls { OnOk result (IfSome (pump (manager_of self.old) now).entry
-            (λ _. Counted 4 (D.view disk.old).calls (D.view disk.new).calls)) }
+        ensures calls { CallsForRecord (D.view disk.old) (D.view disk.new)
+            (pump (manager_of self.old) now).entry result }
     {
         self.is_valid();
         if self.is_down() {

@@ -1,14 +1,12 @@
-ghost use Rattle.std.specs.Prelude.{◌≡◌, ◌≤◌, Err, IfSome, None, OnErr, OnOk, length, true};
-ghost use Rattle.mqb_outside.specs.Disk.{Counted};
+ghost use Rattle.std.specs.Prelude.{◌≡◌, ◌≤◌, Err, None, length};
 ghost use Rattle.mqb_entries.specs.SpelledEntries.{spelled};
 ghost use Rattle.mqb_entries.specs.declared.entry.Entry.TheVariants as form;
-ghost use Rattle.mqb_manager.specs.Calls.{IsCall};
+ghost use Rattle.mqb_manager.specs.Calls.{CallsForRecord, IsCall, RefusesFirst, SaysDown};
 ghost use Rattle.mqb_manager.specs.States.{IsOnDisk, IsUp, manager_of};
 ghost use Rattle.mqb_model.specs.calls.CreateQueue.{create_queue, create_refusal};
 ghost use Rattle.mqb_model.specs.declared.limits.TheConstants.{MAX_RECORD};
 ghost use Rattle.mqb_model.specs.records.Peer.{next_queue};
 ghost use Rattle.mqb_model.specs.records.Reading.{plan_of};
-ghost use Rattle.mqb_model.specs.managers.Manager.{is_down};
 
 use crate::manager::Manager;
 use crate::writing::{answer, calls_can_be_written};
@@ -69,15 +67,13 @@ impl Manager {
         ensures call { IsCall CreateFault.Memory CreateFault.DiskFault (D.view disk.old)
             (D.view disk.new) self.old self.new
             (create_queue (manager_of self.old) plan.now) result }
-        ensures down { is_down (manager_of self.old) ≡ true
-            → (result ≡ Err CreateFault.Down) × (self.new ≡ self.old) }
-        ensures first { OnErr (create_queue (manager_of self.old) plan.now).answer
-            (result ≡ (create_queue (manager_of self.old) plan.now).answer) }
+        ensures down { SaysDown CreateFault.Down self.old self.new result }
+        ensures first { RefusesFirst (create_queue (manager_of self.old) plan.now) result }
         ensures untouched { (create_queue (manager_of self.old) plan.now).entry ≡ None
             → disk.new ≡ disk.old }
         ensures memory { result ≡ Err CreateFault.Memory → disk.new ≡ disk.old }
-        ensures calls { OnOk result (IfSome (create_queue (manager_of self.old) plan.now).entry
-            (λ _. Counted 4 (D.view disk.old).calls (D.view disk.new).calls)) }
+        ensures calls { CallsForRecord (D.view disk.old) (D.view disk.new)
+            (create_queue (manager_of self.old) plan.now).entry result }
     {
         calls_can_be_written();
         self.is_valid();

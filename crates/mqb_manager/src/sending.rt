@@ -1,11 +1,10 @@
 //! What goes to a peer: it is planned, room is made for its bytes, its marks are written, its bytes are made, and then it is noted.
-ghost use Rattle.std.specs.Prelude.{◌+◌, ◌++◌, ◌<◌, ◌≡◌, ◌≤◌, ◌==◌, All, Err, IfOk, IfSome, IsSomeAnd, None, OnOk, Some, flat_map, fold, length, map, not, slice_get};
+ghost use Rattle.std.specs.Prelude.{◌+◌, ◌++◌, ◌<◌, ◌≡◌, ◌≤◌, ◌==◌, All, Err, IfOk, IsSomeAnd, None, OnOk, flat_map, fold, length, map, not, slice_get};
 ghost use Rattle.std.specs.Vec.{vec_capacity};
 ghost use Rattle.mqb_choosing.specs.Choices.{IsThere, bytes_in, origin_of, shown_in};
 ghost use Rattle.mqb_choosing.specs.Going.{any_waits};
-ghost use Rattle.mqb_outside.specs.Disk.{Counted};
 ghost use Rattle.mqb_store.specs.Noting as noting;
-ghost use Rattle.mqb_manager.specs.Calls.{IsCall};
+ghost use Rattle.mqb_manager.specs.Calls.{CallsForRecord, IsCall};
 ghost use Rattle.mqb_manager.specs.Pumps.{CanNoteAll, IsPlanned, pump_fault, sent_as, waiting_for, with_sent};
 ghost use Rattle.mqb_manager.specs.States.{manager_of};
 ghost use Rattle.mqb_manager.specs.Writing.{IsReady, write_of};
@@ -144,8 +143,8 @@ impl Manager {
             (write_of (manager_of self.old) (offered_form marks.now) beside.Nothing) result }
         ensures untouched { offered_form marks.now ≡ None → disk.new ≡ disk.old }
         ensures memory { result ≡ Err WriteFault.Memory → disk.new ≡ disk.old }
-        ensures calls { OnOk result (IfSome (offered_form marks.now)
-            (λ _. Counted 4 (D.view disk.old).calls (D.view disk.new).calls)) }
+        ensures calls { CallsForRecord (D.view disk.old) (D.view disk.new)
+            (offered_form marks.now) result }
     {
         let entry = offered_entry(marks);
         self.write(disk, entry.as_ref(), ExpressWork::Nothing)

@@ -1,9 +1,7 @@
-ghost use Rattle.std.specs.Prelude.{◌≡◌, Err, IfSome, None, OnOk, true};
-ghost use Rattle.mqb_outside.specs.Disk.{Counted};
-ghost use Rattle.mqb_manager.specs.Calls.{IsCall};
+ghost use Rattle.std.specs.Prelude.{◌≡◌, Err, None};
+ghost use Rattle.mqb_manager.specs.Calls.{CallsForRecord, IsCall, SaysDown};
 ghost use Rattle.mqb_manager.specs.States.{IsOnDisk, IsUp, manager_of};
 ghost use Rattle.mqb_model.specs.calls.Send.{send};
-ghost use Rattle.mqb_model.specs.managers.Manager.{is_down};
 
 use crate::manager::Manager;
 use crate::writing::{answer, calls_can_be_written};
@@ -25,14 +23,12 @@ impl Manager {
         ensures call { IsCall SendFault.Memory SendFault.DiskFault (D.view disk.old)
             (D.view disk.new) self.old self.new
             (send (manager_of self.old) draft.now recoverable now) result }
-        ensures down { is_down (manager_of self.old) ≡ true
-            → (result ≡ Err SendFault.Down) × (self.new ≡ self.old) }
+        ensures down { SaysDown SendFault.Down self.old self.new result }
         ensures untouched { (send (manager_of self.old) draft.now recoverable now).entry ≡ None
             → disk.new ≡ disk.old }
         ensures memory { result ≡ Err SendFault.Memory → disk.new ≡ disk.old }
-        ensures calls { OnOk result
-            (IfSome (send (manager_of self.old) draft.now recoverable now).entry
-            (λ _. Counted 4 (D.view disk.old).calls (D.view disk.new).calls)) }
+        ensures calls { CallsForRecord (D.view disk.old) (D.view disk.new)
+            (send (manager_of self.old) draft.now recoverable now).entry result }
     {
         calls_can_be_written();
         self.is_valid();

@@ -1,12 +1,10 @@
 //! How messages leave places without being sent: each call makes a plan, and has it written.
-ghost use Rattle.std.specs.Prelude.{◌≡◌, Err, IfSome, None, OnErr, OnOk, true};
-ghost use Rattle.mqb_outside.specs.Disk.{Counted};
-ghost use Rattle.mqb_manager.specs.Calls.{IsCall};
+ghost use Rattle.std.specs.Prelude.{◌≡◌, Err, None};
+ghost use Rattle.mqb_manager.specs.Calls.{CallsForRecord, IsCall, RefusesFirst, SaysDown};
 ghost use Rattle.mqb_manager.specs.States.{IsOnDisk, IsUp, manager_of};
 ghost use Rattle.mqb_model.specs.calls.Purge.{purge};
 ghost use Rattle.mqb_model.specs.calls.Take.{take_message};
 ghost use Rattle.mqb_model.specs.calls.Tick.{tick};
-ghost use Rattle.mqb_model.specs.managers.Manager.{is_down};
 
 use crate::manager::Manager;
 use crate::writing::answer;
@@ -27,16 +25,13 @@ impl Manager {
         ensures call { IsCall TakeFault.Memory TakeFault.DiskFault (D.view disk.old)
             (D.view disk.new) self.old self.new
             (take_message (manager_of self.old) place.now now) result }
-        ensures down { is_down (manager_of self.old) ≡ true
-            → (result ≡ Err TakeFault.Down) × (self.new ≡ self.old) }
-        ensures first { OnErr (take_message (manager_of self.old) place.now now).answer
-            (result ≡ (take_message (manager_of self.old) place.now now).answer) }
+        ensures down { SaysDown TakeFault.Down self.old self.new result }
+        ensures first { RefusesFirst (take_message (manager_of self.old) place.now now) result }
         ensures untouched { (take_message (manager_of self.old) place.now now).entry ≡ None
             → disk.new ≡ disk.old }
         ensures memory { result ≡ Err TakeFault.Memory → disk.new ≡ disk.old }
-        ensures calls { OnOk result
-            (IfSome (take_message (manager_of self.old) place.now now).entry
-            (λ _. Counted 4 (D.view disk.old).calls (D.view disk.new).calls)) }
+        ensures calls { CallsForRecord (D.view disk.old) (D.view disk.new)
+            (take_message (manager_of self.old) place.now now).entry result }
     {
         self.is_valid();
         if self.is_down() {
@@ -68,15 +63,13 @@ impl Manager {
         ensures call { IsCall PurgeFault.Memory PurgeFault.DiskFault (D.view disk.old)
             (D.view disk.new) self.old self.new
             (purge (manager_of self.old) place.now now) result }
-        ensures down { is_down (manager_of self.old) ≡ true
-            → (result ≡ Err PurgeFault.Down) × (self.new ≡ self.old) }
-        ensures first { OnErr (purge (manager_of self.old) place.now now).answer
-            (result ≡ (purge (manager_of self.old) place.now now).answer) }
+        ensures down { SaysDown PurgeFault.Down self.old self.new result }
+        ensures first { RefusesFirst (purge (manager_of self.old) place.now now) result }
         ensures untouched { (purge (manager_of self.old) place.now now).entry ≡ None
             → disk.new ≡ disk.old }
         ensures memory { result ≡ Err PurgeFault.Memory → disk.new ≡ disk.old }
-        ensures calls { OnOk result (IfSome (purge (manager_of self.old) place.now now).entry
-            (λ _. Counted 4 (D.view disk.old).calls (D.view disk.new).calls)) }
+        ensures calls { CallsForRecord (D.view disk.old) (D.view disk.new)
+            (purge (manager_of self.old) place.now now).entry result }
     {
         self.is_valid();
         if self.is_down() {
@@ -102,12 +95,11 @@ impl Manager {
         requires { IsUp self.old → IsOnDisk (D.view disk.old) self.old }
         ensures call { IsCall StoreFault.Memory StoreFault.DiskFault (D.view disk.old)
             (D.view disk.new) self.old self.new (tick (manager_of self.old) now) result }
-        ensures down { is_down (manager_of self.old) ≡ true
-            → (result ≡ Err StoreFault.Down) × (self.new ≡ self.old) }
+        ensures down { SaysDown StoreFault.Down self.old self.new result }
         ensures untouched { (tick (manager_of self.old) now).entry ≡ None → disk.new ≡ disk.old }
         ensures memory { result ≡ Err StoreFault.Memory → disk.new ≡ disk.old }
-        ensures calls { OnOk result (IfSome (tick (manager_of self.old) now).entry
-            (λ _. Counted 4 (D.view disk.old).calls (D.view disk.new).calls)) }
+        ensures calls { CallsForRecord (D.view disk.old) (D.view disk.new)
+            (tick (manager_of self.old) now).entry result }
     {
         self.is_valid();
         if self.is_down() {

@@ -1,8 +1,7 @@
 //! A record is written and what a connection knows is kept, or forgotten where the disk failed.
-ghost use Rattle.std.specs.Prelude.{◌≡◌, Err, IfSome, None, OnOk, option_copied};
-ghost use Rattle.mqb_outside.specs.Disk.{Counted};
+ghost use Rattle.std.specs.Prelude.{◌≡◌, Err, None, option_copied};
 ghost use Rattle.mqb_store.specs.Work.{beside_of};
-ghost use Rattle.mqb_manager.specs.Calls.{IsCall};
+ghost use Rattle.mqb_manager.specs.Calls.{CallsForRecord, IsCall};
 ghost use Rattle.mqb_manager.specs.States.{manager_of};
 ghost use Rattle.mqb_manager.specs.Writing.{IsReady, answered, write_of};
 ghost use Rattle.mqb_model.specs.laws.Durable.{CallsLeaveStore};
@@ -67,8 +66,8 @@ impl Manager {
             (write_of (manager_of self.old) (option_copied entry.entry) (beside_of work)) result }
         ensures untouched { option_copied entry.entry ≡ None → disk.new ≡ disk.old }
         ensures memory { result ≡ Err WriteFault.Memory → disk.new ≡ disk.old }
-        ensures calls { OnOk result (IfSome (option_copied entry.entry)
-            (λ _. Counted 4 (D.view disk.old).calls (D.view disk.new).calls)) }
+        ensures calls { CallsForRecord (D.view disk.old) (D.view disk.new)
+            (option_copied entry.entry) result }
     {
         match self.store.write(disk, entry, work) {
             Ok(()) => Ok(()),

@@ -31,7 +31,7 @@ pub returns : goal.returns
 returns g c = let h = c.pump_up.ensures.pumped in record {
   call = h.call;
   down = λ down. absurd (let wrong : false ≡ true = sym (sym c.is_down.ensures ∙ c.if-is_down.false) ∙ down in let nothing : ⊥ = cc in nothing);
-  unlinked = λ up none. c.pump_up.ensures.unlinked none;
+  unlinked = c.pump_up.ensures.unlinked;
   sent = h.sent;
   fits = h.fits;
   refused = h.refused;
