@@ -155,8 +155,9 @@ pub fn push_one<D: Disk, C: Conn>(
 ) -> Result<(), ConnFault>
     requires up { IsUp manager.old }
     requires on { IsOnDisk (D.view disk.old) manager.old }
-    ensures served { Serves (Purpose.Reach Errand.Push peer) now (stored_of manager.old) (stored_of manager.new)
-        (C.held conn.old) (C.held conn.new) (C.taken conn.old) (C.taken conn.new) result }
+    ensures served { Serves (Purpose.Reach Errand.Push peer) now (stored_of manager.old)
+        (stored_of manager.new) (C.held conn.old) (C.held conn.new) (C.taken conn.old)
+        (C.taken conn.new) result }
     ensures whole { ServesWhole result (Purpose.Reach Errand.Push peer) now (stored_of manager.old)
         (stored_of manager.new) (C.held conn.old) (C.taken conn.old) (C.taken conn.new) }
     ensures unlinked { manager.new.session ≡ None }
@@ -200,8 +201,9 @@ pub fn fetch_one<D: Disk, C: Conn>(
 ) -> Result<(), ConnFault>
     requires up { IsUp manager.old }
     requires on { IsOnDisk (D.view disk.old) manager.old }
-    ensures served { Serves (Purpose.Reach Errand.Fetch peer) now (stored_of manager.old) (stored_of manager.new)
-        (C.held conn.old) (C.held conn.new) (C.taken conn.old) (C.taken conn.new) result }
+    ensures served { Serves (Purpose.Reach Errand.Fetch peer) now (stored_of manager.old)
+        (stored_of manager.new) (C.held conn.old) (C.held conn.new) (C.taken conn.old)
+        (C.taken conn.new) result }
     ensures whole { ServesWhole result (Purpose.Reach Errand.Fetch peer) now (stored_of manager.old)
         (stored_of manager.new) (C.held conn.old) (C.taken conn.old) (C.taken conn.new) }
     ensures unlinked { manager.new.session ≡ None }
