@@ -1,9 +1,8 @@
-ghost use Rattle.std.specs.Prelude.{◌≡◌, Err, None, OnOk, Some};
-ghost use Rattle.mqb_outside.specs.Disk.{Counted};
+ghost use Rattle.std.specs.Prelude.{◌≡◌, Err, None, Some};
 ghost use Rattle.mqb_entries.specs.declared.entry.Entry.TheVariants as form;
 ghost use Rattle.mqb_manager.specs.Calls.{CallsForRecord, IsCall, SaysDown};
 ghost use Rattle.mqb_manager.specs.States.{IsOnDisk, IsUp, manager_of};
-ghost use Rattle.mqb_manager.specs.Writing.{IsReady, write_of};
+ghost use Rattle.mqb_manager.specs.Writing.{IsReady, WritesEntry};
 ghost use Rattle.mqb_model.specs.calls.Commit.{commit};
 ghost use Rattle.mqb_model.specs.managers.Beside.{Nothing};
 
@@ -27,11 +26,8 @@ impl Manager {
     ) -> Result<(), WriteFault>
         requires { IsReady (D.view disk.old) self.old
             (Some (form.Commit now trial.now.ops)) Nothing }
-        ensures call { IsCall WriteFault.Memory WriteFault.DiskFault (D.view disk.old)
-            (D.view disk.new) self.old self.new
-            (write_of (manager_of self.old) (Some (form.Commit now trial.now.ops)) Nothing) result }
-        ensures memory { result ≡ Err WriteFault.Memory → disk.new ≡ disk.old }
-        ensures calls { OnOk result (Counted 4 (D.view disk.old).calls (D.view disk.new).calls) }
+        ensures { WritesEntry (D.view disk.old) (D.view disk.new) (disk.new ≡ disk.old) self.old
+            self.new (Some (form.Commit now trial.now.ops)) Nothing result }
     {
         let views = trial.ops(self.alloc)?;
         let entry = Entry::Commit {

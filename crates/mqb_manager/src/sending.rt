@@ -1,17 +1,15 @@
 //! What goes to a peer: it is planned, room is made for its bytes, its marks are written, its bytes are made, and then it is noted.
-ghost use Rattle.std.specs.Prelude.{◌+◌, ◌++◌, ◌<◌, ◌≡◌, ◌≤◌, ◌==◌, All, Err, IfOk, IsSomeAnd, None, OnOk, flat_map, fold, length, map, not, slice_get};
+ghost use Rattle.std.specs.Prelude.{◌+◌, ◌++◌, ◌<◌, ◌≡◌, ◌≤◌, ◌==◌, All, IfOk, IsSomeAnd, OnOk, flat_map, fold, length, map, not, slice_get};
 ghost use Rattle.std.specs.Vec.{vec_capacity};
 ghost use Rattle.mqb_choosing.specs.Choices.{IsThere, bytes_in, origin_of, shown_in};
 ghost use Rattle.mqb_choosing.specs.Going.{any_waits};
 ghost use Rattle.mqb_store.specs.Noting as noting;
-ghost use Rattle.mqb_manager.specs.Calls.{CallsForRecord, IsCall};
 ghost use Rattle.mqb_manager.specs.Pumps.{CanNoteAll, IsPlanned, pump_fault, sent_as, waiting_for, with_sent};
 ghost use Rattle.mqb_manager.specs.States.{manager_of};
-ghost use Rattle.mqb_manager.specs.Writing.{IsReady, write_of};
+ghost use Rattle.mqb_manager.specs.Writing.{IsReady, WritesEntry};
 ghost use Rattle.mqb_model.specs.calls.pump.Pump.{marks_for, packet_for};
 ghost use Rattle.mqb_model.specs.declared.limits.TheConstants.{MAX_PACKETS};
-ghost use Rattle.mqb_model.specs.managers.Beside as beside;
-ghost use Rattle.mqb_model.specs.managers.Beside.{noted};
+ghost use Rattle.mqb_model.specs.managers.Beside.{Nothing, noted};
 ghost use Rattle.mqb_model.specs.managers.Valid.{IsValidManager};
 ghost use Rattle.mqb_packet.specs.Plain.{plain_spelling};
 ghost use Rattle.mqb_packet.specs.Values.{IsPacket};
@@ -137,14 +135,9 @@ impl Manager {
         marks: &[Mark],
     ) -> Result<(), WriteFault>
         requires few { length marks.now ≤ MAX_PACKETS }
-        requires ready { IsReady (D.view disk.old) self.old (offered_form marks.now) beside.Nothing }
-        ensures call { IsCall WriteFault.Memory WriteFault.DiskFault (D.view disk.old)
-            (D.view disk.new) self.old self.new
-            (write_of (manager_of self.old) (offered_form marks.now) beside.Nothing) result }
-        ensures untouched { offered_form marks.now ≡ None → disk.new ≡ disk.old }
-        ensures memory { result ≡ Err WriteFault.Memory → disk.new ≡ disk.old }
-        ensures calls { CallsForRecord (D.view disk.old) (D.view disk.new)
-            (offered_form marks.now) result }
+        requires ready { IsReady (D.view disk.old) self.old (offered_form marks.now) Nothing }
+        ensures { WritesEntry (D.view disk.old) (D.view disk.new) (disk.new ≡ disk.old) self.old
+            self.new (offered_form marks.now) Nothing result }
     {
         let entry = offered_entry(marks);
         self.write(disk, entry.as_ref(), ExpressWork::Nothing)

@@ -1,9 +1,8 @@
 //! A record is written and what a connection knows is kept, or forgotten where the disk failed.
-ghost use Rattle.std.specs.Prelude.{◌≡◌, Err, None, option_copied};
+ghost use Rattle.std.specs.Prelude.{◌≡◌, option_copied};
 ghost use Rattle.mqb_store.specs.Work.{beside_of};
-ghost use Rattle.mqb_manager.specs.Calls.{CallsForRecord, IsCall};
 ghost use Rattle.mqb_manager.specs.States.{manager_of};
-ghost use Rattle.mqb_manager.specs.Writing.{IsReady, answered, write_of};
+ghost use Rattle.mqb_manager.specs.Writing.{IsReady, WritesEntry, answered};
 ghost use Rattle.mqb_model.specs.laws.Durable.{CallsLeaveStore};
 ghost use Rattle.mqb_model.specs.laws.Fitting.{RecordsFit, RecordsAreSpelled};
 ghost use Rattle.mqb_model.specs.laws.Keeping.{CallsKeepValid};
@@ -61,13 +60,8 @@ impl Manager {
         work: ExpressWork,
     ) -> Result<(), WriteFault>
         requires { IsReady (D.view disk.old) self.old (option_copied entry) (beside_of work) }
-        ensures call { IsCall WriteFault.Memory WriteFault.DiskFault (D.view disk.old)
-            (D.view disk.new) self.old self.new
-            (write_of (manager_of self.old) (option_copied entry.entry) (beside_of work)) result }
-        ensures untouched { option_copied entry.entry ≡ None → disk.new ≡ disk.old }
-        ensures memory { result ≡ Err WriteFault.Memory → disk.new ≡ disk.old }
-        ensures calls { CallsForRecord (D.view disk.old) (D.view disk.new)
-            (option_copied entry.entry) result }
+        ensures { WritesEntry (D.view disk.old) (D.view disk.new) (disk.new ≡ disk.old) self.old
+            self.new (option_copied entry.entry) (beside_of work) result }
     {
         match self.store.write(disk, entry, work) {
             Ok(()) => Ok(()),
