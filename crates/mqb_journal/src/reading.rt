@@ -6,7 +6,7 @@ ghost use Rattle.mqb_outside.specs.Images.{Each};
 ghost use Rattle.mqb_outside.specs.Disk.{OnlyReads, Counted, AtMost};
 ghost use Rattle.mqb_outside.specs.declared.disk.TheConstants.{MAX_DISK};
 ghost use Rattle.mqb_journal.specs.Store.{MAGIC, header};
-ghost use Rattle.mqb_journal.specs.Scan.{HasGate, HasNext, IsBadAt, IsOpenAt};
+ghost use Rattle.mqb_journal.specs.Scan.{HasGate, HasNext, IsBadAt, IsOpenAt, ReadsOnlyAt};
 ghost use Rattle.mqb_journal.specs.Causes.{FaultsAsSaid, scan_failed};
 
 use crate::faults::ScanFault;
@@ -124,6 +124,8 @@ pub(crate) fn read_next<D: Disk>(
         → (D.view disk.new).reached ≤ max (D.view disk.old).reached (gate + 5) }
     ensures furthest { (D.view disk.new).reached
         ≤ max (D.view disk.old).reached (gate + 6 + MAX_RECORD) }
+    ensures no_further { Each (D.view disk.old).reads
+        (ReadsOnlyAt gate (D.view disk.old).reached (D.view disk.new).reached) }
     ensures most { AtMost 2 (D.view disk.old).calls (D.view disk.new).calls }
     ensures cause { FaultsAsSaid scan_failed (D.view disk.old).faults
         (D.view disk.new).faults result }

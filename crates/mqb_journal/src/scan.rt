@@ -3,7 +3,7 @@ ghost use Rattle.mqb_outside.specs.Images.{Each};
 ghost use Rattle.mqb_outside.specs.Disk.{OnlyReads, AtMost};
 ghost use Rattle.mqb_outside.specs.declared.disk.TheConstants.{MAX_DISK};
 ghost use Rattle.mqb_journal.specs.States.{begun, advanced, ended, finished};
-ghost use Rattle.mqb_journal.specs.Scan.{HasGate, HasNext, IsClosedAt, IsBadAt};
+ghost use Rattle.mqb_journal.specs.Scan.{HasGate, HasNext, IsClosedAt, IsBadAt, ReadsOnlyAt};
 ghost use Rattle.mqb_journal.specs.Causes.{FaultsAsSaid, scan_failed};
 
 use crate::faults::ScanFault;
@@ -112,6 +112,9 @@ impl Scan {
             → (D.view disk.new).reached ≤ max (D.view disk.old).reached (at + 5) }
         ensures furthest { (D.view disk.new).reached
             ≤ max (D.view disk.old).reached (self.old.gate + 6 + MAX_RECORD) }
+        // However it ends.
+        ensures no_further { Each (D.view disk.old).reads (ReadsOnlyAt self.old.gate
+            (D.view disk.old).reached (D.view disk.new).reached) }
         ensures most { AtMost 2 (D.view disk.old).calls (D.view disk.new).calls }
         ensures cause { FaultsAsSaid scan_failed (D.view disk.old).faults
             (D.view disk.new).faults result }
@@ -149,6 +152,9 @@ impl Scan {
             → (D.view disk.new).reached ≤ max (D.view disk.old).reached (at + 5) }
         ensures furthest { (D.view disk.new).reached
             ≤ max (D.view disk.old).reached (self.old.gate + 6 + MAX_RECORD) }
+        // However it ends.
+        ensures no_further { Each (D.view disk.old).reads (ReadsOnlyAt self.old.gate
+            (D.view disk.old).reached (D.view disk.new).reached) }
         ensures most { AtMost 2 (D.view disk.old).calls (D.view disk.new).calls }
         ensures cause { FaultsAsSaid scan_failed (D.view disk.old).faults
             (D.view disk.new).faults result }

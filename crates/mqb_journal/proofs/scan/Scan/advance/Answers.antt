@@ -1,6 +1,6 @@
 use Rattle.std.proofs.Common.{◌≡◌, ◌+◌, ℕ, List, length, take, refl, sym, ◌∙◌, ap, subst, arith}
 use Rattle.std.proofs.lemmas.List.{length-take-le}
-use Rattle.mqb_journal.specs.Scan.{HasGate, HasNext, IsBadAt}
+use Rattle.mqb_journal.specs.Scan.{HasGate, HasNext, IsBadAt, ReadsOnlyAt}
 use Rattle.mqb_journal.specs.States.{ScanState}
 use Rattle.mqb_journal.specs.Journals.{Lent}
 use Rattle.mqb_journal.proofs.Chains.{next_not_bad}
@@ -26,3 +26,8 @@ pub returns-clause-not_bad : goal.returns-clause-not_bad
 returns-clause-not_bad g c d told bad =
     next_not_bad c.self.inside.gate _ d (c.in_ok-n.ensures.next d told)
     (subst (λ (k : ℕ). IsBadAt k d) (sym (ap (λ (s : ScanState). s.gate) c.self.view_is)) bad)
+
+pub returns-clause-no_further : goal.returns-clause-no_further
+returns-clause-no_further g c d told =
+    subst (λ (s : ScanState). ReadsOnlyAt s.gate (g.D.Disk.view c.args.disk.now).reached (g.D.Disk.view c.read_next.new.disk).reached d) c.self.view_is
+    (c.read_next.ensures.no_further d told)
