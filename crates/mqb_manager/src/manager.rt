@@ -6,6 +6,7 @@ ghost use Rattle.mqb_model.specs.managers.Manager.{new_manager, unlinked};
 ghost use Rattle.mqb_model.specs.managers.Valid.{IsValidManager};
 ghost use Rattle.mqb_model.specs.state.Durable.{durable};
 ghost use Rattle.mqb_manager.specs.States.{IsOnDisk, IsUp, manager_of};
+ghost use Rattle.mqb_store.specs.Reaching.{ReadsInOrder};
 ghost use Rattle.mqb_store_laws.specs.Faults.{IsBadStore};
 ghost use Rattle.mqb_store_laws.specs.Images.{HasLastLines, OpensTo};
 ghost use Rattle.mqb_store_laws.specs.Settling.{OnlySettles};
@@ -117,6 +118,8 @@ impl Manager {
         ensures reads { OnlySettles (D.view disk.old) (D.view disk.new) }
         ensures reached { IfOk result (λ n. (D.view disk.new).reached
             ≤ max (max (D.view disk.old).reached 25) (n.store.journal.end + 1)) }
+        ensures no_further { Each (D.view disk.old).reads
+            (ReadsInOrder (D.view disk.old).reached (D.view disk.new).reached) }
         ensures cause { FaultsAsSaid open_failed (D.view disk.old).faults
             (D.view disk.new).faults result }
     {

@@ -31,7 +31,7 @@ goes_to d s records at c told = record {
   within = omega (arith, at.within, at.lent.long c told);
 }
 
-goes_well : (d : View) (s : ScanState) (records : List (List ℕ)) → StandsBehind d s records → MayGoOn s.guid records → Each d.reads (GoesWell s.guid records s.gate)
+pub goes_well : (d : View) (s : ScanState) (records : List (List ℕ)) → StandsBehind d s records → MayGoOn s.guid records → Each d.reads (GoesWell s.guid records s.gate)
 goes_well d s records at good c told = record { whole = at.whole; goes = goes_to d s records at c told; good = good }
 
 -- there is no record

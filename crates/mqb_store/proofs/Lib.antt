@@ -4,3 +4,4 @@ pub mod Kept
 pub mod Faulty
 pub mod Read
 pub mod Steps
+pub mod Reaching

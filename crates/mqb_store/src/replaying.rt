@@ -1,12 +1,14 @@
 //! The state of a store is made again from its records, one at a time.
-ghost use Rattle.std.specs.Prelude.{[], ◌-◌, ◌<◌, ◌≡◌, ◌≢◌, ◌+◌, ◌≤◌, Err, IfOk, IsSomeAnd, OnOk, false, max, true, ℕ};
+ghost use Rattle.std.specs.Prelude.{[], ◌-◌, ◌<◌, ◌≡◌, ◌≢◌, ◌+◌, ◌≤◌, Err, IfOk, IsSomeAnd, OnOk, false, length, max, true, ℕ};
 ghost use Rattle.mqb_outside.specs.Disk.{IsSettled, OnlyReads};
 ghost use Rattle.mqb_outside.specs.Images.{Each};
 ghost use Rattle.mqb_journal.specs.Causes.{FaultsAsSaid, open_failed};
 ghost use Rattle.mqb_journal.specs.Journals.{Lent};
+ghost use Rattle.mqb_journal.specs.Scan.{ReadsOnlyAt};
 ghost use Rattle.mqb_model.specs.records.Applying.{effect_of, fits};
 ghost use Rattle.mqb_model.specs.records.Reading.{record_of};
 ghost use Rattle.mqb_state.specs.Unfit.{is_fit};
+ghost use Rattle.mqb_store.specs.Reaching.{StopsBehind};
 ghost use Rattle.mqb_store.specs.Replaying.{IsReadUpTo};
 ghost use Rattle.mqb_store_laws.specs.Faults.{IsBadStore};
 ghost use Rattle.mqb_store_laws.specs.Settling.{OnlySettles};
@@ -40,6 +42,9 @@ pub(crate) fn first<D: Disk>(
     ensures reads { OnlyReads (D.view disk.old) (D.view disk.new) }
     ensures reached { OnOk result
         ((D.view disk.new).reached ≤ max (D.view disk.old).reached (scan.new.gate + 1)) }
+    ensures whole { length scan.old.guid.0 ≡ 16 }
+    ensures no_further { Each (D.view disk.old).reads (ReadsOnlyAt scan.old.gate
+        (D.view disk.old).reached (D.view disk.new).reached) }
     ensures cause { FaultsAsSaid open_failed (D.view disk.old).faults
         (D.view disk.new).faults result }
 {
@@ -108,6 +113,8 @@ fn step<D: Disk>(
     ensures reads { OnlyReads (D.view disk.old) (D.view disk.new) }
     ensures reached { OnOk result
         ((D.view disk.new).reached ≤ max (D.view disk.old).reached (scan.new.gate + 1)) }
+    ensures no_further { Each (D.view disk.old).reads (ReadsOnlyAt scan.old.gate
+        (D.view disk.old).reached (D.view disk.new).reached) }
     ensures cause { FaultsAsSaid open_failed (D.view disk.old).faults
         (D.view disk.new).faults result }
 {
@@ -140,6 +147,9 @@ fn replay<D: Disk>(
     ensures reads { OnlyReads (D.view disk.old) (D.view disk.new) }
     ensures reached { OnOk result
         ((D.view disk.new).reached ≤ max (D.view disk.old).reached (scan.new.gate + 1)) }
+    ensures no_further { (before : ℕ)
+        → (D.view disk.old).reached ≤ max before (scan.old.gate + 1)
+        → Each (D.view disk.old).reads (StopsBehind before (D.view disk.new).reached) }
     ensures cause { FaultsAsSaid open_failed (D.view disk.old).faults
         (D.view disk.new).faults result }
 {
@@ -168,6 +178,9 @@ pub(crate) fn replay_durably<D: Disk>(
     ensures reads { OnlySettles (D.view disk.old) (D.view disk.new) }
     ensures reached { OnOk result
         ((D.view disk.new).reached ≤ max (D.view disk.old).reached (scan.new.gate + 1)) }
+    ensures no_further { (before : ℕ)
+        → (D.view disk.old).reached ≤ max before (scan.old.gate + 1)
+        → Each (D.view disk.old).reads (StopsBehind before (D.view disk.new).reached) }
     ensures cause { FaultsAsSaid open_failed (D.view disk.old).faults
         (D.view disk.new).faults result }
 {

@@ -6,6 +6,7 @@ ghost use Rattle.mqb_journal.specs.Journals.{GoesOn};
 ghost use Rattle.mqb_journal.specs.States.{appended};
 ghost use Rattle.mqb_model.specs.state.Durable.{durable};
 ghost use Rattle.mqb_model.specs.state.State.{empty};
+ghost use Rattle.mqb_store.specs.Reaching.{ReadsInOrder};
 ghost use Rattle.mqb_store.specs.States.{IsStoredOn, IsUp};
 ghost use Rattle.mqb_store.specs.declared.spelling.TheConstants.{FIRST_RECORD};
 ghost use Rattle.mqb_store_laws.specs.Faults.{IsBadStore};
@@ -125,6 +126,9 @@ impl Store {
         // No further than the gate behind the last record.
         ensures reached { IfOk result (λ w. (D.view disk.new).reached
             ≤ max (max (D.view disk.old).reached 25) (w.journal.end + 1)) }
+        // However it ends: in the order of the records, and no further than the one at which it stops.
+        ensures no_further { Each (D.view disk.old).reads
+            (ReadsInOrder (D.view disk.old).reached (D.view disk.new).reached) }
         ensures cause { FaultsAsSaid open_failed (D.view disk.old).faults
             (D.view disk.new).faults result }
     {

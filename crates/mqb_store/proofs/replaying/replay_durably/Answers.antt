@@ -1,12 +1,13 @@
-use Rattle.std.proofs.Common.{◌∙◌, ap, sym}
+use Rattle.std.proofs.Common.{◌∙◌, ap, subst, sym}
 use Rattle.std.proofs.lemmas.Result.{err_from_is_err_and}
-use Rattle.std.specs.Prelude.{Err}
+use Rattle.std.specs.Prelude.{Err, ℕ}
 use Rattle.mqb_journal.specs.declared.faults.OpenFault.{OpenFault}
 use Rattle.mqb_journal.specs.declared.faults.OpenFault.TheVariants as opening
 use Rattle.mqb_outside.specs.Disk.{View}
 use Rattle.mqb_store.proofs.Read.{read_settled}
 use Rattle.mqb_store.proofs.Steps.{same_fault}
 use Rattle.mqb_store.proofs.replaying.replay_durably.Goals as goal
+use Rattle.mqb_store.specs.Reaching.{StopsBehind}
 use Rattle.mqb_store_laws.specs.lemmas.Settling.{reads_settle, settles_then, sync_settles}
 
 pub returns-clause-read : goal.returns-clause-read
@@ -40,3 +41,11 @@ pub returns-in_err-lines-clause-bad : goal.returns-in_err-lines-clause-bad
 returns-in_err-lines-clause-bad g c at is =
     let p = err_from_is_err_and c.from_residual.result c.from_residual.ensures.1 in
     c.in_err-lines.ensures.bad at (ap (λ (f : OpenFault). Err f) (sym p.2 ∙ same_fault p.0 (opening.BadStore at) (sym p.1 ∙ is)))
+
+pub returns-in_err-sync-clause-no_further : goal.returns-in_err-sync-clause-no_further
+returns-in_err-sync-clause-no_further g c before so_far content told =
+    subst (λ (k : ℕ). StopsBehind before k content) (sym c.sync.ensures.reached) (c.replay.ensures.no_further before so_far content told)
+
+pub returns-clause-no_further : goal.returns-clause-no_further
+returns-clause-no_further g c before so_far content told =
+    subst (λ (k : ℕ). StopsBehind before k content) (sym c.sync.ensures.reached) (c.replay.ensures.no_further before so_far content told)
