@@ -4,7 +4,6 @@ use Rattle.std.specs.Option.{option_map_or}
 use Rattle.std.specs.Prelude.{IfOk, IfSome, IsSomeAnd, OnOk}
 use Rattle.mqb_base.specs.declared.answers.Memory.{Memory}
 use Rattle.mqb_base.specs.declared.heads.SessionHead.{SessionHead}
-use Rattle.mqb_base.specs.declared.heard.Cause.{Cause}
 use Rattle.mqb_base.specs.declared.heard.Cause.TheVariants as cause
 use Rattle.mqb_timeouts.specs.Work.{beside_of}
 use Rattle.mqb_packet.specs.Parts.{seen_packet}
@@ -23,7 +22,7 @@ use Rattle.mqb_model.specs.declared.faults.HearFault.TheVariants as fault
 use Rattle.mqb_model.specs.laws.Fitting.{IsAsRead, IsFitting}
 use Rattle.mqb_model.specs.managers.Beside.{beside_done}
 use Rattle.mqb_model.specs.managers.Manager.{Condition, Down, Manager, Up, is_down}
-use Rattle.mqb_model.specs.managers.Outcomes.{answering, recorded, state_after, succeeded, unless}
+use Rattle.mqb_model.specs.managers.Outcomes.{answering, recorded, state_after, unless}
 use Rattle.mqb_model.specs.managers.Valid.{IsLinkedWell, IsValidManager, IsWritable}
 use Rattle.mqb_model.specs.records.Applying.{fits}
 use Rattle.mqb_model.specs.records.Carrying.{IsRead}
@@ -102,11 +101,11 @@ module _ (s : State) (session : one_end.State) (now : ℕ) (v : PacketView) wher
       holds h m p.0 valid same p.2 (linked_hears m p.0 now session valid linked ∙ made_for h made m p.0 same p.1)
   of_valid (Err e) made shows P holds = tt
 
-  pub writes : (h : Hearing) (m : Manager) → m.state ≡ s → (given : HeardOutcome) → given ≡ outcome_of m h → IsFitting m given → IsAsRead given → IfSome h.arrival (IsWritable s)
-  writes h m same given is goes read = subst (λ (x : State). IfSome h.arrival (IsWritable x)) same
-      (writable m.state h.arrival (subst (λ (o : HeardOutcome). IsFitting m o) is goes) (subst (λ (o : HeardOutcome). IsAsRead o) is read))
+  pub writes : (h : Hearing) (m : Manager) → m.state ≡ s → (given : HeardOutcome) → given ≡ outcome_of m h → IsFitting m given → IsAsRead given → IfSome h.arrival.written (IsWritable s)
+  writes h m same given is goes read = subst (λ (x : State). IfSome h.arrival.written (IsWritable x)) same
+      (writable m.state h.arrival.written (subst (λ (o : HeardOutcome). IsFitting m o) is goes) (subst (λ (o : HeardOutcome). IsAsRead o) is read))
 
   pub leaves : (h : Hearing) (m : Manager) → m.state ≡ s → (given : HeardOutcome) → given ≡ outcome_of m h → IsValidState (state_after m given)
-      → IsValidState (beside_done (beside_of h.work) (recorded s h.arrival))
-  leaves h m same given is stays = subst (λ (x : State). IsValidState (beside_done (beside_of h.work) (recorded x h.arrival))) same
+      → IsValidState (beside_done (beside_of h.work) (recorded s h.arrival.written))
+  leaves h m same given is stays = subst (λ (x : State). IsValidState (beside_done (beside_of h.work) (recorded x h.arrival.written))) same
       (subst (λ (o : HeardOutcome). IsValidState (state_after m o)) is stays)

@@ -1,4 +1,5 @@
 pub mod Acks
+pub mod Brought
 pub mod Heard
 pub mod Planned
 pub mod Records

@@ -1,30 +1,23 @@
 -- A plan that was made is what the definitions come to.
-use Rattle.std.proofs.Common.{◌≡◌, ℕ, Bool, true, false, cond, Option, None, Some, Result, refl, sym, ap, subst, ◌∙◌}
-use Rattle.std.specs.Option.{option_map_or}
-use Rattle.mqb_base.specs.declared.answers.Memory.{Memory}
+use Rattle.std.proofs.Common.{◌≡◌, ℕ, [], Option, None, Some, sym, ap, ◌∙◌}
 use Rattle.mqb_base.specs.declared.class.Class.{Class}
 use Rattle.mqb_base.specs.declared.heard.Heard.{Heard}
 use Rattle.mqb_base.specs.declared.message.Message.{Message}
 use Rattle.mqb_timeouts.specs.declared.work.ExpressWork.{ExpressWork}
 use Rattle.mqb_timeouts.specs.declared.work.ExpressWork.TheVariants as work
-use Rattle.mqb_timeouts.specs.Work.{beside_of}
-use Rattle.mqb_session.specs.Sending.{noted_stored}
 use Rattle.mqb_session.specs.State as one_end
 use Rattle.mqb_model.specs.calls.hear.Hear.{listening}
-use Rattle.mqb_model.specs.calls.hear.Plain.{express_arrived, with_stored}
+use Rattle.mqb_model.specs.calls.hear.Plain.{express_arrived}
 use Rattle.mqb_model.specs.calls.hear.Session.{HeardOutcome, arrival_entry, heard_as, numbers_released}
-use Rattle.mqb_model.specs.calls.hear.Streams.{owing}
 use Rattle.mqb_model.specs.managers.Manager.{Manager, linked_peer}
 use Rattle.mqb_model.specs.records.Record.{Part, Record}
-use Rattle.mqb_model.specs.state.State.{State}
 use Rattle.mqb_hearing.specs.Arrivals.{arrival_of}
-use Rattle.mqb_hearing.specs.Plans.{Behind, Hears, Makes, in_state, listening_so, outcome_of, owing_at}
-use Rattle.mqb_hearing.specs.declared.hearing.Hearing.{Hearing}
+use Rattle.mqb_hearing.specs.Plans.{Behind, in_state, listening_so, outcome_of, owing_at}
 use Rattle.mqb_hearing.proofs.Records.{entry_is}
 
 -- an outcome of these parts
 abbrev outcome : Manager → Heard → one_end.State → Option Record → ExpressWork → Option ℕ → HeardOutcome
-outcome m answer session arrival work owes = outcome_of m (record { answer = answer; session = session; arrival = arrival; work = work; owes = owes })
+outcome m answer session arrival work owes = outcome_of m (record { answer = answer; session = session; arrival = record { written = arrival; packet = [] }; work = work; owes = owes })
 
 module _ (b : Behind) (part : Part) (answer : Heard) (arrival : Option Record) (peer number : ℕ)
     (arrived : arrival ≡ arrival_of b.moment (numbers_released (listening_so b)) part) (whose : peer ≡ linked_peer b.state b.session)

@@ -1,7 +1,9 @@
--- What arrived, as the record that tells of it.
+-- What arrived, as the record that tells of it, and the bytes of its packet.
 use Rattle.std.specs.Prelude.{[], ◌==◌, ◌≤◌, IsSome, List, None, Option, Some, if◌then◌else◌, length, unwrap_or, ℕ}
 use Rattle.mqb_entries.specs.declared.entry.ArrivedPart.{ArrivedPart}
 use Rattle.mqb_entries.specs.declared.entry.ArrivedPart.TheVariants as part
+use Rattle.mqb_entries.specs.declared.entry.Entry.{Entry}
+use Rattle.mqb_entries.specs.declared.entry.Entry.TheVariants as form
 use Rattle.mqb_heads.specs.declared.base.TheConstants.{MAX_PACKET}
 use Rattle.mqb_model.specs.declared.limits.TheConstants.{MAX_RELEASED}
 use Rattle.mqb_model.specs.records.Reading.{part_of}
@@ -23,6 +25,20 @@ bytes_in (part.Decided bytes) = bytes
 bytes_in (part.Stored bytes) = bytes
 bytes_in (part.Final bytes) = bytes
 bytes_in _ = []
+
+-- the bytes of the packet that arrived, where an entry tells of one
+abbrev pub bytes_of_packet : Entry → List ℕ
+bytes_of_packet (form.Arrived now released part) = bytes_in part
+bytes_of_packet _ = []
+
+-- What arrived: the record that tells of it, or none, and the bytes of its packet, where there is one.
+pub record Arrived : Type 0 where
+  pub written : Option Record
+  pub packet : List ℕ
+
+-- at a moment, with released numbers, as a part of an entry
+abbrev pub arrived_as : ℕ → List ℕ → ArrivedPart → Arrived
+arrived_as now numbers part = record { written = arrival_of now numbers (part_shown part); packet = bytes_in part }
 
 -- Its packet was read, and is not longer than one can be.
 pub record IsPartRead (part : ArrivedPart) : Type 0 where

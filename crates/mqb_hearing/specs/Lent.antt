@@ -1,5 +1,5 @@
 -- A user packet whose parts are lent.
-use Rattle.std.specs.Prelude.{◌≡◌, ◌≤◌, Option, Some, length, option_and_then}
+use Rattle.std.specs.Prelude.{◌≡◌, ◌≤◌, List, Option, Some, length, option_and_then, ℕ}
 use Rattle.mqb_base.specs.declared.queue_names.QueueName.{QueueName}
 use Rattle.mqb_heads.specs.Fields.{WireName}
 use Rattle.mqb_heads.specs.declared.base.TheConstants.{MAX_PACKET}
@@ -19,6 +19,11 @@ name_shown name = option_and_then name_in name
 abbrev pub packet_shown : UserView → QueueName → UserPacket
 packet_shown v destination = user_packet (seen_user v)
     (message_with (seen_user v) destination (name_shown (seen_user v).user.admin) (name_shown (seen_user v).user.response))
+
+-- A user packet as it was heard: what its bytes say, and all of them.
+pub record PacketHeard : Type 0 where
+  pub said : UserPacket
+  pub whole : List ℕ
 
 -- The view is of bytes that spell that packet, and it can be heard.
 pub record IsShown (v : UserView) (destination : QueueName) : Type 0 where

@@ -1,10 +1,13 @@
 -- What a manager makes of a packet, as a plan.
-use Rattle.std.specs.Prelude.{[], ◌≡◌, IfOk, IsSomeAnd, None, Ok, Option, Result, Some, is_some, ℕ}
+use Rattle.std.specs.Prelude.{[], ◌≡◌, ◌⊎◌, IfOk, IsSomeAnd, List, None, Ok, Option, Result, Some, is_some, ℕ}
 use Rattle.mqb_base.specs.declared.answers.Memory.{Memory}
 use Rattle.mqb_timeouts.specs.Work.{beside_of}
+use Rattle.mqb_entries.specs.SpelledEntries.{spelled}
+use Rattle.mqb_entries.specs.declared.entry.Entry.{Entry}
 use Rattle.mqb_packet.specs.Parts.{seen_packet}
 use Rattle.mqb_packet.specs.Spelled.{packet_in}
 use Rattle.mqb_packet.specs.declared.lent.PacketView.{PacketView}
+use Rattle.mqb_packet.specs.declared.lent.PacketView.TheVariants as view
 use Rattle.mqb_packet.specs.declared.packet.Packet.{Packet}
 use Rattle.mqb_session.specs.State as one_end
 use Rattle.mqb_model.specs.calls.hear.Hear.{IsReadable, hear_linked, listening}
@@ -12,7 +15,10 @@ use Rattle.mqb_model.specs.calls.hear.Session.{HeardOutcome, Listening, with_ses
 use Rattle.mqb_model.specs.calls.hear.Streams.{owing, with_owed}
 use Rattle.mqb_model.specs.managers.Manager.{Manager, Rest, Up, no_rest}
 use Rattle.mqb_model.specs.managers.Valid.{IsValidManager}
+use Rattle.mqb_model.specs.records.Reading.{record_in}
+use Rattle.mqb_model.specs.records.Record.{Record}
 use Rattle.mqb_model.specs.state.State.{State}
+use Rattle.mqb_hearing.specs.Arrivals.{bytes_of_packet}
 use Rattle.mqb_hearing.specs.declared.hearing.Hearing.{Hearing}
 
 -- an incoming row owes an acknowledgement besides, where there is one
@@ -28,8 +34,8 @@ rest_after h rest = owing_row h.owes (with_session rest h.session)
 abbrev pub outcome_of : Manager → Hearing → HeardOutcome
 outcome_of m h = record {
   answer = Ok h.answer;
-  touches = is_some h.arrival;
-  entry = h.arrival;
+  touches = is_some h.arrival.written;
+  entry = h.arrival.written;
   beside = beside_of h.work;
   rest = rest_after h m.rest;
   packets = [];
@@ -73,3 +79,19 @@ WhereValid s session P = (m : Manager) → IsValidManager m → m.state ≡ s �
 -- A view shows a packet that can be heard.
 abbrev pub ShowsReadable : PacketView → Type 0
 ShowsReadable v = IsSomeAnd (packet_in (seen_packet v)) IsReadable
+
+-- What is to be written has no packet, or the one of these bytes.
+abbrev pub Brings : List ℕ → Result Hearing Memory → Type 0
+Brings whole r = IfOk r (λ h. (h.arrival.packet ≡ []) ⊎ (h.arrival.packet ≡ whole))
+
+-- the bytes of a user packet that a view shows
+abbrev pub whole_of : PacketView → List ℕ
+whole_of (view.User v) = v.whole.now
+whole_of _ = []
+
+-- These bytes spell a record, in which a packet that arrived has the bytes that were heard.
+pub record IsAsHeard (whole bytes : List ℕ) (r : Record) : Type 0 where
+  pub entry : Entry
+  pub told : record_in entry ≡ Some r
+  pub spells : bytes ≡ spelled entry
+  pub packet : (bytes_of_packet entry ≡ []) ⊎ (bytes_of_packet entry ≡ whole)

@@ -1,15 +1,15 @@
-ghost use Rattle.std.specs.Prelude.{◌&&◌, ◌==◌, ◌≡◌, ◌≤◌, IfSome, None, Some, length, option_map};
+ghost use Rattle.std.specs.Prelude.{[], ◌&&◌, ◌==◌, ◌≡◌, ◌≤◌, IfSome, None, Some, length, option_map};
 ghost use Rattle.mqb_entries.specs.SpelledEntries.{Fits, spelled};
 ghost use Rattle.mqb_model.specs.declared.limits.TheConstants.{MAX_RECORD};
 ghost use Rattle.mqb_model.specs.records.Reading.{record_in};
-ghost use Rattle.mqb_hearing.specs.Arrivals.{IsArrival, arrival_of, part_shown};
+ghost use Rattle.mqb_hearing.specs.Arrivals.{IsArrival, arrived_as, bytes_of_packet};
 
 use mqb_entries::{ArrivedPart, Entry, Numbers, PacketSlice};
 use std::alloc::Global;
 use std::marker::Model;
 
 /// What arrived: the numbers of the messages that the peer has stored, and what the packet brings. Contracts see the record that tells of it, or none
-/// where there is nothing to tell.
+/// where there is nothing to tell, and the bytes of the packet.
 #[derive(Debug, Drop)]
 pub struct Arrival<'a> {
     moment: u32,
@@ -18,13 +18,11 @@ pub struct Arrival<'a> {
 }
 
 impl<'a> Model for Arrival<'a> {
-    ghost use Rattle.std.specs.Prelude.{Option};
-    ghost use Rattle.mqb_model.specs.records.Record.{Record};
-    ghost use Rattle.mqb_hearing.specs.Arrivals.{IsArrival, arrival_of, part_shown};
+    ghost use Rattle.mqb_hearing.specs.Arrivals.{Arrived, IsArrival, arrived_as};
 
-    ghost Value = { Option Record };
+    ghost Value = { Arrived };
 
-    ghost view = { λ a. arrival_of a.moment a.released.items (part_shown a.part) };
+    ghost view = { λ a. arrived_as a.moment a.released.items a.part };
 
     ghost invariant = { λ a. IsArrival a.released.items a.part };
 }
@@ -47,7 +45,7 @@ fn again<'a>(part: &ArrivedPart<'a>) -> ArrivedPart<'a>
 impl<'a> Arrival<'a> {
     pub(crate) fn new(now: u32, released: Vec<u32>, part: ArrivedPart<'a>) -> Arrival<'a>
         requires { IsArrival released.items part }
-        ensures { result ≡ arrival_of now released.items (part_shown part.entry) }
+        ensures { result ≡ arrived_as now released.items part.entry }
     {
         Arrival {
             moment: now,
@@ -58,15 +56,16 @@ impl<'a> Arrival<'a> {
 
     /// Nothing arrived.
     pub(crate) fn nothing(alloc: Global, now: u32) -> Arrival<'a>
-        ensures { result ≡ None }
+        ensures { result ≡ record { written = None; packet = [] } }
     {
         Arrival::new(now, Vec::new(alloc), ArrivedPart::Nothing)
     }
 
     /// The entry that is to be written.
     pub fn entry(&self) -> Option<Entry<'_>>
-        ensures record { option_map record_in result ≡ option_map (λ r. Some r) self.now }
+        ensures record { option_map record_in result ≡ option_map (λ r. Some r) self.now.written }
         ensures fits { IfSome result Fits }
+        ensures packet { IfSome result (λ e. bytes_of_packet e ≡ self.now.packet) }
         ensures size { IfSome result (λ e. length (spelled e) ≤ MAX_RECORD) }
     {
         if self.released.is_empty() && matches!(self.part, ArrivedPart::Nothing) {

@@ -17,7 +17,7 @@ ghost use Rattle.mqb_packet.specs.declared.packet.Packet.TheVariants as packet;
 ghost use Rattle.mqb_session.specs.Sending.{is_ready};
 ghost use Rattle.mqb_session.specs.State.{IsKept};
 ghost use Rattle.mqb_session.specs.declared.heads.HeadHeard.TheVariants as head;
-ghost use Rattle.mqb_hearing.specs.Plans.{Hears, Makes, OnHeard, ShowsReadable, WhereValid, outcome_of, rest_after};
+ghost use Rattle.mqb_hearing.specs.Plans.{Brings, Hears, Makes, OnHeard, ShowsReadable, WhereValid, outcome_of, rest_after, whole_of};
 
 use crate::arrival::Arrival;
 use crate::lent::LentPacket;
@@ -56,7 +56,8 @@ pub struct Hearing<'a> {
 
 /// A packet changes the session alone.
 fn by_session<'a>(alloc: Global, session: Session, answer: Heard, now: u32) -> Hearing<'a>
-    ensures { (m : Manager) → by_session m session answer ≡ outcome_of m result }
+    ensures heard { (m : Manager) → by_session m session answer ≡ outcome_of m result }
+    ensures brings { result.arrival.packet ≡ [] }
 {
     Hearing {
         answer,
@@ -95,15 +96,15 @@ fn is_from(session: &Session, source: Guid) -> bool
 
 /// Whether a packet is not from the session's peer, or not for this manager.
 fn is_foreign(contents: &Contents, session: &Session, packet: &LentPacket<'_>) -> bool
-    ensures { result ≡ is_foreign contents.now.lists session.now packet.now }
+    ensures { result ≡ is_foreign contents.now.lists session.now packet.now.said }
 {
     !(is_from(session, packet.source()) && packet.target() == contents.identity().guid)
 }
 
 /// What a session makes of a user packet.
 fn user_heard(contents: &Contents, session: &mut Session, packet: &LentPacket<'_>) -> HeadHeard
-    ensures heard { result ≡ (user_heard contents.now.lists session.old packet.now).0 }
-    ensures left { session.new ≡ (user_heard contents.now.lists session.old packet.now).1 }
+    ensures heard { result ≡ (user_heard contents.now.lists session.old packet.now.said).0 }
+    ensures left { session.new ≡ (user_heard contents.now.lists session.old packet.now.said).1 }
     ensures got { result ≡ head.InOrder → session.new.stored < session.new.got }
 {
     if is_ready(session) && is_foreign(contents, session, packet) {
@@ -119,7 +120,8 @@ impl Listener<'_> {
     fn hear_user<'a>(&self, packet: &LentPacket<'a>, in_order: bool) -> Result<Hearing<'a>, Memory>
         requires valid { IsValidState self.now.state }
         requires got { in_order ≡ true → self.now.session.stored < self.now.session.got }
-        ensures { Hears self.now result (λ l. hear_user l in_order packet.now) }
+        ensures heard { Hears self.now result (λ l. hear_user l in_order packet.now.said) }
+        ensures brings { Brings packet.now.whole result }
     {
         match packet.tx() {
             Some(tx) => self.hear_in_stream(packet, &tx),
@@ -139,8 +141,9 @@ fn hear_behind<'a>(
 ) -> Result<Hearing<'a>, Memory>
     requires valid { IsValidState contents.now.lists }
     requires got { heard ≡ head.InOrder → session.stored < session.got }
-    ensures { Makes contents.now.lists result
-        (λ m. hear_behind m now packet.now heard session) }
+    ensures made { Makes contents.now.lists result
+        (λ m. hear_behind m now packet.now.said heard session) }
+    ensures brings { Brings packet.now.whole result }
 {
     let listener = Listener::new(alloc, contents, session, now);
     match heard {
@@ -163,6 +166,7 @@ fn hear_user_packet<'a>(
     ensures made { (p : Packet) → packet_in (seen_packet (lent.User view.now)) ≡ Some p →
         Makes contents.now.lists result (λ m. hear_linked m now p session) }
     ensures readable { OnOk result (ShowsReadable (lent.User view.now)) }
+    ensures brings { Brings view.now.whole.now result }
 {
     let packet = LentPacket::new(alloc, view)?;
     let mut session = session;
@@ -178,8 +182,9 @@ fn hear_ack<'a>(
     head: &SessionHead,
     now: u32,
 ) -> Result<Hearing<'a>, Memory>
-    ensures { Makes contents.now.lists result
+    ensures made { Makes contents.now.lists result
         (λ m. hear_linked m now (packet.Ack head.now) session) }
+    ensures brings { Brings [] result }
 {
     let mut session = session;
     let head = SessionHead { user: 0, ..*head };
@@ -193,7 +198,8 @@ fn hear_ack<'a>(
 
 /// A set-up packet left this session.
 fn hear_set_up<'a>(alloc: Global, session: Session, now: u32) -> Hearing<'a>
-    ensures { (m : Manager) → hear_set_up m session ≡ outcome_of m result }
+    ensures heard { (m : Manager) → hear_set_up m session ≡ outcome_of m result }
+    ensures brings { result.arrival.packet ≡ [] }
 {
     let answer = set_up_answer(session.phase());
     by_session(alloc, session, answer, now)
@@ -212,6 +218,7 @@ fn plan<'a>(
     ensures made { (p : Packet) → packet_in (seen_packet packet.now) ≡ Some p →
         Makes contents.now.lists result (λ m. hear_linked m now p session) }
     ensures readable { OnOk result (ShowsReadable packet.now) }
+    ensures brings { Brings (whole_of packet.now) result }
 {
     let mut session = session;
     match packet {
@@ -245,22 +252,25 @@ pub fn hear<'a>(
     ensures answer { IfOk result (λ h. OnHeard contents.now.lists session now packet.now
         (λ m o. o.answer ≡ Ok h.answer)) }
     ensures entry { IfOk result (λ h. OnHeard contents.now.lists session now packet.now
-        (λ m o. o.entry ≡ h.arrival)) }
+        (λ m o. o.entry ≡ h.arrival.written)) }
     ensures beside { IfOk result (λ h. OnHeard contents.now.lists session now packet.now
         (λ m o. o.beside ≡ beside_of h.work)) }
     ensures rest { IfOk result (λ h. OnHeard contents.now.lists session now packet.now
         (λ m o. o.rest ≡ rest_after h m.rest)) }
     ensures touches { IfOk result (λ h. OnHeard contents.now.lists session now packet.now
-        (λ m o. o.touches ≡ is_some h.arrival)) }
+        (λ m o. o.touches ≡ is_some h.arrival.written)) }
     ensures packets { IfOk result (λ h. OnHeard contents.now.lists session now packet.now
         (λ m o. o.packets ≡ [])) }
 
+    // A record's packet is the very bytes that were heard.
+    ensures brings { Brings (whole_of packet.now) result }
+
     // Where that manager is valid.
     ensures writable { IfOk result (λ h. WhereValid contents.now.lists session
-        (IfSome h.arrival (IsWritable contents.now.lists))) }
+        (IfSome h.arrival.written (IsWritable contents.now.lists))) }
     ensures leaves_valid { IfOk result (λ h. WhereValid contents.now.lists session
         (IsValidState (beside_done (beside_of h.work)
-        (recorded contents.now.lists h.arrival)))) }
+        (recorded contents.now.lists h.arrival.written)))) }
 {
     records_fit();
     records_are_read();

@@ -17,7 +17,8 @@ use mqb_packet::{
 use std::alloc::Global;
 use std::marker::Model;
 
-/// A user packet that is heard. Its destination is owned, since names are looked up by it, and its other parts are lent. Contracts see the packet.
+/// A user packet that is heard. Its destination is owned, since names are looked up by it, and its other parts are lent. Contracts see the packet
+/// and its bytes.
 #[derive(Debug, Drop)]
 pub(crate) struct LentPacket<'a> {
     view: UserView<'a>,
@@ -25,12 +26,14 @@ pub(crate) struct LentPacket<'a> {
 }
 
 impl<'a> Model for LentPacket<'a> {
-    ghost use Rattle.mqb_packet.specs.declared.packet.UserPacket.{UserPacket};
-    ghost use Rattle.mqb_hearing.specs.Lent.{IsShown, packet_shown};
+    ghost use Rattle.mqb_hearing.specs.Lent.{IsShown, PacketHeard, packet_shown};
 
-    ghost Value = { UserPacket };
+    ghost Value = { PacketHeard };
 
-    ghost view = { λ p. packet_shown p.view p.destination };
+    ghost view = { λ p. record {
+      said = packet_shown p.view p.destination;
+      whole = p.view.whole.now;
+    } };
 
     ghost invariant = { λ p. IsShown p.view p.destination };
 }
@@ -44,8 +47,9 @@ impl<'a> LentPacket<'a> {
     pub(crate) fn new(alloc: Global, view: &UserView<'a>) -> Result<LentPacket<'a>, Memory>
         requires { IsLent (lent.User view.now) }
         ensures shown { IfOk result (λ p. packet_in (seen_packet (lent.User view.now)) ≡
-            Some (packet.User p)) }
-        ensures readable { IfOk result (λ p. IsReadable (packet.User p)) }
+            Some (packet.User p.said)) }
+        ensures readable { IfOk result (λ p. IsReadable (packet.User p.said)) }
+        ensures bytes { IfOk result (λ p. p.whole ≡ view.now.whole.now) }
     {
         each_view_spells_a_packet();
         read_is_written();
@@ -59,40 +63,40 @@ impl<'a> LentPacket<'a> {
 
     /// The manager from which it comes.
     pub(crate) fn source(&self) -> Guid
-        ensures { result ≡ self.now.message.id.qm }
+        ensures { result ≡ self.now.said.message.id.qm }
     {
         self.view.user.source
     }
 
     /// The manager to which it goes.
     pub(crate) fn target(&self) -> Guid
-        ensures { result ≡ self.now.to }
+        ensures { result ≡ self.now.said.to }
     {
         self.view.user.target
     }
 
     /// The seconds that are left for its message to reach its queue.
     pub(crate) fn remaining(&self) -> u32
-        ensures { result ≡ self.now.remaining }
+        ensures { result ≡ self.now.said.remaining }
     {
         self.view.base.reach
     }
 
     pub(crate) fn tx(&self) -> Option<TxHead>
-        ensures { result ≡ self.now.tx }
+        ensures { result ≡ self.now.said.tx }
     {
         self.view.tx
     }
 
     pub(crate) fn session(&self) -> Option<SessionHead>
-        ensures { result ≡ self.now.session }
+        ensures { result ≡ self.now.said.session }
     {
         self.view.session
     }
 
     /// The identifier of its message.
     pub(crate) fn id(&self) -> MessageId
-        ensures { result ≡ self.now.message.id }
+        ensures { result ≡ self.now.said.message.id }
     {
         MessageId {
             qm: self.view.user.source,
@@ -101,20 +105,20 @@ impl<'a> LentPacket<'a> {
     }
 
     pub(crate) fn class(&self) -> Class
-        ensures { result ≡ self.now.message.class }
+        ensures { result ≡ self.now.said.message.class }
     {
         self.view.props.class
     }
 
     /// Whether its message is of the class of ordinary messages.
     pub(crate) fn is_ordinary(&self) -> bool
-        ensures { result ≡ is_ordinary self.now.message }
+        ensures { result ≡ is_ordinary self.now.said.message }
     {
         self.view.props.class == Class::NORMAL
     }
 
     pub(crate) fn delivery(&self) -> Delivery
-        ensures { result ≡ self.now.message.delivery }
+        ensures { result ≡ self.now.said.message.delivery }
     {
         match (self.view.tx.is_some(), self.view.user.recoverable) {
             (true, _) => Delivery::Transactional,
@@ -124,33 +128,34 @@ impl<'a> LentPacket<'a> {
     }
 
     pub(crate) fn is_express(&self) -> bool
-        ensures { result ≡ is_express self.now.message.delivery }
+        ensures { result ≡ is_express self.now.said.message.delivery }
     {
         matches!(self.delivery(), Delivery::Express)
     }
 
     pub(crate) fn destination(&self) -> &QueueName
-        ensures { result.now ≡ self.now.message.destination }
+        ensures { result.now ≡ self.now.said.message.destination }
     {
         &self.destination
     }
 
     /// The message about which its message tells.
     pub(crate) fn correlation(&self) -> MessageId
-        ensures { result ≡ self.now.message.correlation }
+        ensures { result ≡ self.now.said.message.correlation }
     {
         self.view.props.correlation
     }
 
     pub(crate) fn body(&self) -> &'a [u8]
-        ensures { result.now ≡ self.now.message.body }
+        ensures { result.now ≡ self.now.said.message.body }
     {
         self.view.props.body
     }
 
     /// All of its bytes.
     pub(crate) fn whole(&self) -> PacketSlice<'a>
-        ensures spells { user_packet_of result ≡ Some self.now }
+        ensures spells { user_packet_of result ≡ Some self.now.said }
+        ensures bytes { result ≡ self.now.whole }
         ensures size { length result ≤ MAX_PACKET }
     {
         PacketSlice::new(self.view.whole)
@@ -158,7 +163,7 @@ impl<'a> LentPacket<'a> {
 
     /// Its message, with its parts copied.
     pub(crate) fn to_message(&self, alloc: Global) -> Result<Message, Memory>
-        ensures { IfOk result (λ m. m ≡ self.now.message) }
+        ensures { IfOk result (λ m. m ≡ self.now.said.message) }
     {
         match to_owned(alloc, &PacketView::User(self.view))? {
             Packet::User(owned) => Ok(owned.message),

@@ -1,4 +1,4 @@
-ghost use Rattle.std.specs.Prelude.{◌+◌, ◌<◌, ◌≡◌, ◌≤◌, IfOk, Some, length, map};
+ghost use Rattle.std.specs.Prelude.{[], ◌+◌, ◌<◌, ◌≡◌, ◌≤◌, IfOk, Some, length, map};
 ghost use Rattle.mqb_base.specs.declared.message.Message.{Message};
 ghost use Rattle.mqb_model.specs.calls.hear.Plain.{express_arrived};
 ghost use Rattle.mqb_model.specs.calls.hear.Session.{discarded, heard_as, numbers_released};
@@ -6,8 +6,8 @@ ghost use Rattle.mqb_model.specs.managers.Manager.{linked_peer};
 ghost use Rattle.mqb_model.specs.records.Record.{Nothing};
 ghost use Rattle.mqb_model.specs.declared.limits.TheConstants.{MAX_RELEASED};
 ghost use Rattle.mqb_session.specs.Sending.{noted_stored};
-ghost use Rattle.mqb_hearing.specs.Arrivals.{IsPartRead, arrival_of, part_shown};
-ghost use Rattle.mqb_hearing.specs.Plans.{Hears, listening_so, owing_at};
+ghost use Rattle.mqb_hearing.specs.Arrivals.{IsPartRead, arrived_as, bytes_in, part_shown};
+ghost use Rattle.mqb_hearing.specs.Plans.{Brings, Hears, listening_so, owing_at};
 
 use crate::arrival::Arrival;
 use crate::hearing::Hearing;
@@ -155,9 +155,8 @@ impl<'c> Listener<'c> {
     /// What arrived with this part of a packet.
     fn arrival<'a>(&self, part: ArrivedPart<'a>) -> Result<Arrival<'a>, Memory>
         requires { IsPartRead part }
-        ensures { IfOk result (λ a. a ≡ arrival_of self.now.moment
-            (numbers_released (listening_so self.now))
-            (part_shown part.entry)) }
+        ensures { IfOk result (λ a. a ≡ arrived_as self.now.moment
+            (numbers_released (listening_so self.now)) part.entry) }
     {
         let released = self.released()?;
         Ok(Arrival::new(self.moment, released, part))
@@ -171,8 +170,9 @@ impl<'c> Listener<'c> {
         owes: Option<u32>,
     ) -> Result<Hearing<'a>, Memory>
         requires { IsPartRead part }
-        ensures { Hears self.now result
+        ensures heard { Hears self.now result
             (λ l. owing_at owes (heard_as l (part_shown part.entry) answer)) }
+        ensures brings { Brings (bytes_in part.entry) result }
     {
         let arrival = self.arrival(part)?;
         let work = ExpressWork::Drops {
@@ -195,21 +195,24 @@ impl<'c> Listener<'c> {
         answer: Heard,
     ) -> Result<Hearing<'a>, Memory>
         requires { IsPartRead part }
-        ensures { Hears self.now result (λ l. heard_as l (part_shown part.entry) answer) }
+        ensures heard { Hears self.now result (λ l. heard_as l (part_shown part.entry) answer) }
+        ensures brings { Brings (bytes_in part.entry) result }
     {
         self.heard_owing(part, answer, None)
     }
 
     /// A packet brings nothing, and its header counts all the same.
     pub(crate) fn heard_bare<'a>(&self, answer: Heard) -> Result<Hearing<'a>, Memory>
-        ensures { Hears self.now result (λ l. heard_as l Nothing answer) }
+        ensures heard { Hears self.now result (λ l. heard_as l Nothing answer) }
+        ensures brings { Brings [] result }
     {
         self.heard_as(ArrivedPart::Nothing, answer)
     }
 
     /// A packet is discarded.
     pub(crate) fn discarded<'a>(&self) -> Result<Hearing<'a>, Memory>
-        ensures { Hears self.now result discarded }
+        ensures heard { Hears self.now result discarded }
+        ensures brings { Brings [] result }
     {
         self.heard_bare(Heard::Discarded)
     }
@@ -221,8 +224,9 @@ impl<'c> Listener<'c> {
         answer: Heard,
         refusal: Option<Class>,
     ) -> Result<Hearing<'a>, Memory>
-        ensures { Hears self.now result (λ l. record (heard_as l Nothing answer)
+        ensures heard { Hears self.now result (λ l. record (heard_as l Nothing answer)
             { beside = express_arrived l message refusal }) }
+        ensures brings { Brings [] result }
     {
         let heard = self.arrival(ArrivedPart::Nothing);
         match heard {

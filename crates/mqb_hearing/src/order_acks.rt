@@ -1,9 +1,9 @@
-ghost use Rattle.std.specs.Prelude.{◌≡◌};
+ghost use Rattle.std.specs.Prelude.{[], ◌≡◌};
 ghost use Rattle.std.specs.List.{list_any};
 ghost use Rattle.mqb_model.specs.calls.hear.Streams.{acknowledged_in, may_acknowledge, hear_order_ack, order_acked, raises};
 ghost use Rattle.mqb_model.specs.state.Valid.{IsValidState};
 ghost use Rattle.mqb_orders.specs.Rows.{row_of};
-ghost use Rattle.mqb_hearing.specs.Plans.{Hears};
+ghost use Rattle.mqb_hearing.specs.Plans.{Brings, Hears};
 
 use crate::hearing::Hearing;
 use crate::lent::LentPacket;
@@ -16,7 +16,7 @@ use mqb_orders::OutRow;
 use mqb_rules::is_for_order_layer;
 
 fn may_acknowledge(contents: &Contents, packet: &LentPacket<'_>) -> bool
-    ensures { result ≡ may_acknowledge contents.now.lists packet.now.message }
+    ensures { result ≡ may_acknowledge contents.now.lists packet.now.said.message }
 {
     packet.is_express()
         && packet.class() == Class::ORDER_ACKNOWLEDGEMENT
@@ -25,7 +25,7 @@ fn may_acknowledge(contents: &Contents, packet: &LentPacket<'_>) -> bool
 
 /// What a packet acknowledges, where it is an order acknowledgement.
 pub(crate) fn acknowledged_in(contents: &Contents, packet: &LentPacket<'_>) -> Option<OrderAck>
-    ensures { result ≡ acknowledged_in contents.now.lists packet.now.message }
+    ensures { result ≡ acknowledged_in contents.now.lists packet.now.said.message }
 {
     if may_acknowledge(contents, packet) {
         OrderAck::read(packet.body())
@@ -57,7 +57,8 @@ fn raises_any(contents: &Contents, peer: u32, ack: OrderAck) -> bool
 
 impl Listener<'_> {
     fn order_acked<'a>(&self, ack: OrderAck) -> Result<Hearing<'a>, Memory>
-        ensures { Hears self.now result (λ l. order_acked l ack) }
+        ensures heard { Hears self.now result (λ l. order_acked l ack) }
+        ensures brings { Brings [] result }
     {
         let OrderAck { sequence, number } = ack;
         let ordinal = sequence.ordinal;
@@ -70,7 +71,8 @@ impl Listener<'_> {
     /// An order acknowledgement that raises a mark is recorded.
     pub(crate) fn hear_order_ack<'a>(&self, ack: OrderAck) -> Result<Hearing<'a>, Memory>
         requires { IsValidState self.now.state }
-        ensures { Hears self.now result (λ l. hear_order_ack l ack) }
+        ensures heard { Hears self.now result (λ l. hear_order_ack l ack) }
+        ensures brings { Brings [] result }
     {
         if raises_any(self.contents(), self.peer(), ack) {
             self.order_acked(ack)

@@ -1,7 +1,7 @@
-ghost use Rattle.std.specs.Prelude.{◌<◌, ◌≡◌, true};
+ghost use Rattle.std.specs.Prelude.{[], ◌<◌, ◌≡◌, true};
 ghost use Rattle.mqb_model.specs.calls.hear.Plain.{express_answer, hear_arriving, hear_express, hear_final, hear_in_order, hear_message, hear_plain, hear_recoverable, hear_stored, stored_answer};
 ghost use Rattle.mqb_model.specs.state.Valid.{IsValidState};
-ghost use Rattle.mqb_hearing.specs.Plans.{Hears};
+ghost use Rattle.mqb_hearing.specs.Plans.{Brings, Hears};
 
 use crate::hearing::Hearing;
 use crate::lent::LentPacket;
@@ -36,7 +36,8 @@ impl Listener<'_> {
         packet: &LentPacket<'_>,
         refusal: Option<Class>,
     ) -> Result<Hearing<'a>, Memory>
-        ensures { Hears self.now result (λ l. hear_arriving l packet.now.message refusal) }
+        ensures heard { Hears self.now result (λ l. hear_arriving l packet.now.said.message refusal) }
+        ensures brings { Brings [] result }
     {
         let message = packet.to_message(self.alloc())?;
         let answer = express_answer(&message, refusal);
@@ -45,7 +46,8 @@ impl Listener<'_> {
 
     /// An express message in order is put or refused without a record. The order layer takes none.
     fn hear_express<'a>(&self, packet: &LentPacket<'_>) -> Result<Hearing<'a>, Memory>
-        ensures { Hears self.now result (λ l. hear_express l packet.now) }
+        ensures heard { Hears self.now result (λ l. hear_express l packet.now.said) }
+        ensures brings { Brings [] result }
     {
         let contents = self.contents();
         if is_for_order_layer(contents, packet.destination()) {
@@ -57,7 +59,8 @@ impl Listener<'_> {
 
     fn hear_final<'a>(&self, packet: &LentPacket<'a>) -> Result<Hearing<'a>, Memory>
         requires { self.now.session.stored < self.now.session.got }
-        ensures { Hears self.now result (λ l. hear_final l packet.now) }
+        ensures heard { Hears self.now result (λ l. hear_final l packet.now.said) }
+        ensures brings { Brings packet.now.whole result }
     {
         let answer = Heard::Final {
             id: packet.correlation(),
@@ -69,7 +72,8 @@ impl Listener<'_> {
 
     fn hear_stored<'a>(&self, packet: &LentPacket<'a>) -> Result<Hearing<'a>, Memory>
         requires { self.now.session.stored < self.now.session.got }
-        ensures { Hears self.now result (λ l. hear_stored l packet.now) }
+        ensures heard { Hears self.now result (λ l. hear_stored l packet.now.said) }
+        ensures brings { Brings packet.now.whole result }
     {
         let answer = stored_answer(storing_refusal(self.contents(), packet));
         let part = ArrivedPart::Stored(packet.whole());
@@ -79,7 +83,8 @@ impl Listener<'_> {
     /// A recoverable message in order is recorded, and then counts as stored.
     fn hear_recoverable<'a>(&self, packet: &LentPacket<'a>) -> Result<Hearing<'a>, Memory>
         requires { self.now.session.stored < self.now.session.got }
-        ensures { Hears self.now result (λ l. hear_recoverable l packet.now) }
+        ensures heard { Hears self.now result (λ l. hear_recoverable l packet.now.said) }
+        ensures brings { Brings packet.now.whole result }
     {
         if is_final(self.contents(), packet) {
             self.hear_final(packet)
@@ -90,7 +95,8 @@ impl Listener<'_> {
 
     fn hear_in_order<'a>(&self, packet: &LentPacket<'a>) -> Result<Hearing<'a>, Memory>
         requires { self.now.session.stored < self.now.session.got }
-        ensures { Hears self.now result (λ l. hear_in_order l packet.now) }
+        ensures heard { Hears self.now result (λ l. hear_in_order l packet.now.said) }
+        ensures brings { Brings packet.now.whole result }
     {
         if packet.is_express() {
             self.hear_express(packet)
@@ -106,7 +112,8 @@ impl Listener<'_> {
         in_order: bool,
     ) -> Result<Hearing<'a>, Memory>
         requires { in_order ≡ true → self.now.session.stored < self.now.session.got }
-        ensures { Hears self.now result (λ l. hear_message l in_order packet.now) }
+        ensures heard { Hears self.now result (λ l. hear_message l in_order packet.now.said) }
+        ensures brings { Brings packet.now.whole result }
     {
         if in_order {
             self.hear_in_order(packet)
@@ -123,7 +130,8 @@ impl Listener<'_> {
     ) -> Result<Hearing<'a>, Memory>
         requires valid { IsValidState self.now.state }
         requires got { in_order ≡ true → self.now.session.stored < self.now.session.got }
-        ensures { Hears self.now result (λ l. hear_plain l in_order packet.now) }
+        ensures heard { Hears self.now result (λ l. hear_plain l in_order packet.now.said) }
+        ensures brings { Brings packet.now.whole result }
     {
         match acknowledged_in(self.contents(), packet) {
             Some(ack) => self.hear_order_ack(ack),

@@ -11,7 +11,7 @@ use mqb_rules::{is_for_order_layer, resolved, target_refusal};
 
 /// Why the arrival of a packet's message is refused.
 pub(crate) fn refusal_of(contents: &Contents, packet: &LentPacket<'_>) -> Option<Class>
-    ensures { result ≡ refusal_of contents.now.lists packet.now }
+    ensures { result ≡ refusal_of contents.now.lists packet.now.said }
 {
     if packet.remaining() == 0 {
         return Some(Class::REACH_TIMEOUT);
@@ -22,7 +22,7 @@ pub(crate) fn refusal_of(contents: &Contents, packet: &LentPacket<'_>) -> Option
 
 /// Why the arrival of a recoverable message is: the order layer takes none.
 pub(crate) fn storing_refusal(contents: &Contents, packet: &LentPacket<'_>) -> Option<Class>
-    ensures { result ≡ storing_refusal contents.now.lists packet.now }
+    ensures { result ≡ storing_refusal contents.now.lists packet.now.said }
 {
     if is_for_order_layer(contents, packet.destination()) {
         return Some(Class::BAD_DESTINATION);
@@ -38,7 +38,7 @@ fn is_recoverable(delivery: Delivery) -> bool
 
 /// Whether a packet's message is a final acknowledgement for this manager's order layer.
 pub(crate) fn is_final(contents: &Contents, packet: &LentPacket<'_>) -> bool
-    ensures { result ≡ is_final contents.now.lists packet.now.message }
+    ensures { result ≡ is_final contents.now.lists packet.now.said.message }
 {
     is_recoverable(packet.delivery())
         && is_final_class(packet.class())

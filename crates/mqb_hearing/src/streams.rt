@@ -1,8 +1,8 @@
-ghost use Rattle.std.specs.Prelude.{◌<◌, ◌≡◌, IfSome, length};
+ghost use Rattle.std.specs.Prelude.{[], ◌<◌, ◌≡◌, IfSome, length};
 ghost use Rattle.mqb_model.specs.calls.hear.Streams.{decided_answer, has_sequence, hear_duplicate, hear_in_stream, hear_next, index_for, judged};
 ghost use Rattle.mqb_model.specs.state.Rows.{in_index, in_row};
 ghost use Rattle.mqb_orders.specs.Judging.{verdict_of};
-ghost use Rattle.mqb_hearing.specs.Plans.{Hears};
+ghost use Rattle.mqb_hearing.specs.Plans.{Brings, Hears};
 
 use crate::hearing::Hearing;
 use crate::lent::LentPacket;
@@ -15,7 +15,7 @@ use mqb_orders::{Verdict, judge};
 
 /// The index of the incoming row to which a packet belongs.
 fn in_index(contents: &Contents, packet: &LentPacket<'_>) -> Option<u32>
-    ensures index { result ≡ in_index contents.now.lists packet.now.message }
+    ensures index { result ≡ in_index contents.now.lists packet.now.said.message }
     ensures within { IfSome result (λ k. k < length contents.now.lists.ins) }
 {
     contents.in_index(packet.source(), packet.destination())
@@ -23,7 +23,7 @@ fn in_index(contents: &Contents, packet: &LentPacket<'_>) -> Option<u32>
 
 /// The index of the row to which it belongs, or will.
 fn index_for(contents: &Contents, packet: &LentPacket<'_>) -> u32
-    ensures { result ≡ index_for contents.now.lists packet.now.message }
+    ensures { result ≡ index_for contents.now.lists packet.now.said.message }
 {
     match in_index(contents, packet) {
         Some(k) => k,
@@ -32,7 +32,7 @@ fn index_for(contents: &Contents, packet: &LentPacket<'_>) -> u32
 }
 
 fn has_sequence(contents: &Contents, packet: &LentPacket<'_>, tx: &TxHead) -> bool
-    ensures { result ≡ has_sequence contents.now.lists packet.now.message tx.now }
+    ensures { result ≡ has_sequence contents.now.lists packet.now.said.message tx.now }
 {
     match in_index(contents, packet) {
         Some(k) => contents.ins()[k as usize].sequence == tx.sequence,
@@ -41,7 +41,7 @@ fn has_sequence(contents: &Contents, packet: &LentPacket<'_>, tx: &TxHead) -> bo
 }
 
 fn verdict_of(contents: &Contents, packet: &LentPacket<'_>, tx: &TxHead) -> Verdict
-    ensures { result ≡ verdict_of (in_row contents.now.lists packet.now.message) tx.now }
+    ensures { result ≡ verdict_of (in_row contents.now.lists packet.now.said.message) tx.now }
 {
     match in_index(contents, packet) {
         Some(k) => judge(Some(&contents.ins()[k as usize]), tx),
@@ -70,7 +70,8 @@ fn decided_answer(tx: &TxHead, refusal: Option<Class>) -> Heard
 impl Listener<'_> {
     /// A message that is next is decided, and its row owes.
     fn hear_next<'a>(&self, packet: &LentPacket<'a>, tx: &TxHead) -> Result<Hearing<'a>, Memory>
-        ensures { Hears self.now result (λ l. hear_next l packet.now tx.now) }
+        ensures heard { Hears self.now result (λ l. hear_next l packet.now.said tx.now) }
+        ensures brings { Brings packet.now.whole result }
     {
         let contents = self.contents();
         let answer = decided_answer(tx, refusal_of(contents, packet));
@@ -85,7 +86,8 @@ impl Listener<'_> {
         packet: &LentPacket<'_>,
         tx: &TxHead,
     ) -> Result<Hearing<'a>, Memory>
-        ensures { Hears self.now result (λ l. hear_duplicate l packet.now.message tx.now) }
+        ensures heard { Hears self.now result (λ l. hear_duplicate l packet.now.said.message tx.now) }
+        ensures brings { Brings [] result }
     {
         let contents = self.contents();
         let answer = Heard::Duplicate {
@@ -106,7 +108,8 @@ impl Listener<'_> {
         tx: &TxHead,
         verdict: Verdict,
     ) -> Result<Hearing<'a>, Memory>
-        ensures { Hears self.now result (λ l. judged l packet.now tx.now verdict) }
+        ensures heard { Hears self.now result (λ l. judged l packet.now.said tx.now verdict) }
+        ensures brings { Brings packet.now.whole result }
     {
         let TxHead {
             sequence,
@@ -127,7 +130,8 @@ impl Listener<'_> {
         packet: &LentPacket<'a>,
         tx: &TxHead,
     ) -> Result<Hearing<'a>, Memory>
-        ensures { Hears self.now result (λ l. hear_in_stream l packet.now tx.now) }
+        ensures heard { Hears self.now result (λ l. hear_in_stream l packet.now.said tx.now) }
+        ensures brings { Brings packet.now.whole result }
     {
         if packet.is_ordinary() {
             let verdict = verdict_of(self.contents(), packet, tx);

@@ -84,10 +84,10 @@ IsPlan m now v h = (p : Packet) → packet_in (seen_packet v) ≡ Some p → hea
 -- What is said of a plan for those with this state and this session.
 pub record IsPlanned (s : State) (session : one_end.State) (now : ℕ) (v : PacketView) (h : Hearing) : Type 0 where
   pub answer : OnHeard s session now v (λ m o. o.answer ≡ Ok h.answer)
-  pub entry : OnHeard s session now v (λ m o. o.entry ≡ h.arrival)
+  pub entry : OnHeard s session now v (λ m o. o.entry ≡ h.arrival.written)
   pub beside : OnHeard s session now v (λ m o. o.beside ≡ beside_of h.work)
   pub rest : OnHeard s session now v (λ m o. o.rest ≡ rest_after h m.rest)
-  pub touches : OnHeard s session now v (λ m o. o.touches ≡ is_some h.arrival)
+  pub touches : OnHeard s session now v (λ m o. o.touches ≡ is_some h.arrival.written)
   pub packets : OnHeard s session now v (λ m o. o.packets ≡ [])
 
 -- A manager is up, and has this state and this session.
@@ -183,7 +183,7 @@ module _ (w x : StoreState) (session : Option one_end.State) (cs : List ℕ) (os
 
   -- the state after it
   abbrev s : State
-  s = beside_done (beside_of h.work) (recorded w.state h.arrival)
+  s = beside_done (beside_of h.work) (recorded w.state h.arrival.written)
 
   rest_by : (owes : Option ℕ) → rest_for s (owing_row owes (with_session (manager_of m).rest h.session))
       ≡ record { session = Some h.session; cursors = grown 0 (length s.outs) m.cursors; owes = grown false (length s.ins) (marked owes m.owes) }
@@ -226,18 +226,18 @@ module _ (w x : StoreState) (session : Option one_end.State) (cs : List ℕ) (os
   heard_valid : stores.IsUp w → stores.IsUp x → x.state ≡ s → IsValidManager (succeeded (manager_of m) o) → IsValidManager (manager_of n)
   heard_valid up still state valid = subst IsValidManager (sym (heard_manager up still state valid)) valid
 
-  module _ (d e : View) (entry : Option Entry) (shows : Shows entry h.arrival) where
-    is : change_in entry ≡ h.arrival
-    is = change_is entry h.arrival shows
+  module _ (d e : View) (entry : Option Entry) (shows : Shows entry h.arrival.written) where
+    is : change_in entry ≡ h.arrival.written
+    is = change_is entry h.arrival.written shows
 
     -- the state after the write
     left : x.state ≡ written w.state entry (beside_of h.work) → x.state ≡ s
     left state = state ∙ ap (λ (r : Option Record). beside_done (beside_of h.work) (recorded w.state r)) is
 
-    opens : (t : View) → LeavesOnly d t (Opens w.journal w.state (change_in entry)) → LeavesOnly d t (Opens w.journal w.state h.arrival)
+    opens : (t : View) → LeavesOnly d t (Opens w.journal w.state (change_in entry)) → LeavesOnly d t (Opens w.journal w.state h.arrival.written)
     opens t run = subst (λ (r : Option Record). LeavesOnly d t (Opens w.journal w.state r)) is run
 
-    wrote_as : (t : View) → WritesOne d t w.journal x.journal x.entry (change_in entry) → WritesOne d t w.journal x.journal x.entry h.arrival
+    wrote_as : (t : View) → WritesOne d t w.journal x.journal x.entry (change_in entry) → WritesOne d t w.journal x.journal x.entry h.arrival.written
     wrote_as t wrote = subst (λ (r : Option Record). WritesOne d t w.journal x.journal x.entry r) is wrote
 
     pub heard_after : stores.IsUp w → IsStored d e w x entry (beside_of h.work) → IsValidManager (succeeded (manager_of m) o) → IsValidManager (manager_of n)
@@ -251,7 +251,7 @@ module _ (w x : StoreState) (session : Option one_end.State) (cs : List ℕ) (os
         record {
           manager = heard_manager up stored.up (left stored.state) valid;
           lines = stored.lines ∙ ap (λ (r : Option Record). option_map_or (lines_of w.state) r w.lines) is;
-          count = stored.count ∙ ap (λ k. w.journal.count + k) (counted entry h.arrival shows);
+          count = stored.count ∙ ap (λ k. w.journal.count + k) (counted entry h.arrival.written shows);
           guid = stored.guid;
         },
       );
@@ -283,7 +283,7 @@ module _ (w x : StoreState) (session : Option one_end.State) (cs : List ℕ) (os
       ends = inr (inr (
         refl,
         record {
-          entry = there entry h.arrival shows _ broken.doubt;
+          entry = there entry h.arrival.written shows _ broken.doubt;
           manager = writes.broken_manager d e w x session cs os entry (beside_of h.work) broken ∙ ap (failed_under (manager_of m)) is;
           lines = broken.lines;
           count = ap (λ (j : JournalState). j.count) broken.journal;
@@ -309,10 +309,10 @@ module _ (w x : StoreState) (session : Option one_end.State) (cs : List ℕ) (os
       mine = subst (λ (k : ManagerState). CanFollow k h) (sym parts) ready
 
       pub may_write : IfSome entry Fits → IfSome entry (λ e. length (spelled e) ≤ MAX_RECORD) → IfSome entry (CanWrite w.state)
-      may_write put small = can_write w.state entry h.arrival shows put small mine.fits
+      may_write put small = can_write w.state entry h.arrival.written shows put small mine.fits
 
       pub may_leave : LeavesValid w.state entry (beside_of h.work)
-      may_leave = leaves_valid w.state entry h.arrival (beside_of h.work) shows mine.valid.succeeds.state
+      may_leave = leaves_valid w.state entry h.arrival.written (beside_of h.work) shows mine.valid.succeeds.state
 
       pub leaves_store : LeavesStore w.state entry (beside_of h.work)
       leaves_store = subst (λ (r : Option Record). durable (beside_done (beside_of h.work) (recorded w.state r)) ≡ durable (recorded w.state r)) (sym is) mine.stored

@@ -54,9 +54,9 @@ impl Manager {
         ensures call { IsCall HearFault.Memory HearFault.DiskFault (D.view disk.old)
             (D.view disk.new) self.old self.new
             (outcome_of (manager_of self.old) hearing.entry) result }
-        ensures untouched { hearing.entry.arrival ≡ None → disk.new ≡ disk.old }
+        ensures untouched { hearing.entry.arrival.written ≡ None → disk.new ≡ disk.old }
         ensures memory { result ≡ Err HearFault.Memory → disk.new ≡ disk.old }
-        ensures calls { OnOk result (IfSome hearing.entry.arrival
+        ensures calls { OnOk result (IfSome hearing.entry.arrival.written
             (λ _. Counted 4 (D.view disk.old).calls (D.view disk.new).calls)) }
     {
         let Hearing {

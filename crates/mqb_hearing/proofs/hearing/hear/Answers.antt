@@ -16,7 +16,7 @@ returns-clause-answer c = told c.args.contents.now.lists c.args.session c.args.n
 
 pub returns-clause-entry : goal.returns-clause-entry
 returns-clause-entry c = told c.args.contents.now.lists c.args.session c.args.now c.args.packet.now c.plan.result c.plan.ensures.made
-    (λ h m o. o.entry ≡ h.arrival) (λ h m. refl)
+    (λ h m o. o.entry ≡ h.arrival.written) (λ h m. refl)
 
 pub returns-clause-beside : goal.returns-clause-beside
 returns-clause-beside c = told c.args.contents.now.lists c.args.session c.args.now c.args.packet.now c.plan.result c.plan.ensures.made
@@ -28,7 +28,7 @@ returns-clause-rest c = told c.args.contents.now.lists c.args.session c.args.now
 
 pub returns-clause-touches : goal.returns-clause-touches
 returns-clause-touches c = told c.args.contents.now.lists c.args.session c.args.now c.args.packet.now c.plan.result c.plan.ensures.made
-    (λ h m o. o.touches ≡ is_some h.arrival) (λ h m. refl)
+    (λ h m o. o.touches ≡ is_some h.arrival.written) (λ h m. refl)
 
 pub returns-clause-packets : goal.returns-clause-packets
 returns-clause-packets c = told c.args.contents.now.lists c.args.session c.args.now c.args.packet.now c.plan.result c.plan.ensures.made
@@ -36,13 +36,13 @@ returns-clause-packets c = told c.args.contents.now.lists c.args.session c.args.
 
 pub returns-clause-writable : goal.returns-clause-writable
 returns-clause-writable c = let s = c.args.contents.now.lists in
-    of_valid s c.args.session c.args.now c.args.packet.now c.plan.result c.plan.ensures.made c.plan.ensures.readable (λ h. IfSome h.arrival (IsWritable s))
+    of_valid s c.args.session c.args.now c.args.packet.now c.plan.result c.plan.ensures.made c.plan.ensures.readable (λ h. IfSome h.arrival.written (IsWritable s))
     (λ h m p valid same readable is. writes s c.args.session c.args.now c.args.packet.now h m same (hear m p c.args.now) is
     ((c.records_fit.ensures m).hears valid p c.args.now readable) ((c.records_are_read.ensures m).hears valid p c.args.now readable))
 
 pub returns-clause-leaves_valid : goal.returns-clause-leaves_valid
 returns-clause-leaves_valid c = let s = c.args.contents.now.lists in
     of_valid s c.args.session c.args.now c.args.packet.now c.plan.result c.plan.ensures.made c.plan.ensures.readable
-    (λ h. IsValidState (beside_done (beside_of h.work) (recorded s h.arrival)))
+    (λ h. IsValidState (beside_done (beside_of h.work) (recorded s h.arrival.written)))
     (λ h m p valid same readable is. leaves s c.args.session c.args.now c.args.packet.now h m same (hear m p c.args.now) is
     ((c.calls_keep_valid.ensures m valid).hears p c.args.now readable).succeeds.state)

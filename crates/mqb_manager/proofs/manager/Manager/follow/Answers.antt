@@ -89,7 +89,7 @@ returns-in-Ok-clause-call g c =
 pub returns-in-Ok-clause-calls : goal.returns-in-Ok-clause-calls
 returns-in-Ok-clause-calls g c =
     let shows = ap (λ (o : Option Entry). option_map record_in o) c.as_ref.ensures.value ∙ c.entry-entry.ensures.«record» in
-    entry_there (option_copied c.as_ref.result) c.args.hearing.arrival _ shows c.in-Ok.ensures.calls
+    entry_there (option_copied c.as_ref.result) c.args.hearing.arrival.written _ shows c.in-Ok.ensures.calls
 
 pub returns-in-Err-Memory-clause-call : goal.returns-in-Err-Memory-clause-call
 returns-in-Err-Memory-clause-call g c =
