@@ -1,8 +1,8 @@
 -- The record of what arrived, and how long its entry is.
-use Rattle.std.proofs.Common.{◌≡◌, ◌+◌, ◌*◌, ◌≤◌, ℕ, Bool, true, false, cond, List, [], ◌∷◌, ◌++◌, Option, None, Some, length, refl, sym, ap, subst, ◌∙◌, arith}
+use Rattle.std.proofs.Common.{◌≡◌, ◌+◌, ◌*◌, ◌≤◌, ℕ, List, [], ◌∷◌, ◌++◌, Option, None, Some, length, refl, sym, ap, subst, arith}
 use Rattle.std.proofs.lemmas.List.{length-append}
 use Rattle.std.specs.List.{flat_map}
-use Rattle.std.specs.Prelude.{◌==◌, IsSome, option_map, unwrap_or}
+use Rattle.std.specs.Prelude.{IsSome, option_map, unwrap_or}
 use Rattle.mqb_entries.specs.Spelled.{spelled_packet}
 use Rattle.mqb_entries.specs.SpelledEntries.{spelled, spelled_numbers, spelled_part}
 use Rattle.mqb_entries.specs.declared.entry.ArrivedPart.{ArrivedPart}
@@ -11,8 +11,8 @@ use Rattle.mqb_entries.specs.declared.entry.Entry.TheVariants as form
 use Rattle.mqb_fields.specs.Writing.{bytes_of}
 use Rattle.mqb_heads.specs.declared.base.TheConstants.{MAX_PACKET}
 use Rattle.mqb_model.specs.calls.hear.Session.{Listening, arrival_entry, numbers_released}
-use Rattle.mqb_model.specs.declared.limits.TheConstants.{MAX_RECORD, MAX_RELEASED}
-use Rattle.mqb_model.specs.records.Reading.{part_of, record_in, user_packet_of}
+use Rattle.mqb_model.specs.declared.limits.TheConstants.{MAX_RECORD}
+use Rattle.mqb_model.specs.records.Reading.{part_of, user_packet_of}
 use Rattle.mqb_model.specs.records.Record.{Part, Record}
 use Rattle.mqb_model.specs.records.Record as entry
 use Rattle.mqb_packet.specs.declared.packet.UserPacket.{UserPacket}

@@ -1,4 +1,4 @@
-use Rattle.std.proofs.Common.{◌≡◌, ◌<◌, subst, sym, ◌∙◌}
+use Rattle.std.proofs.Common.{◌<◌, subst, sym, ◌∙◌}
 use Rattle.mqb_session.specs.State as one_end
 use Rattle.mqb_hearing.proofs.Heard.{got_more}
 use Rattle.mqb_hearing.proofs.hearing.user_heard.Goals as goal

@@ -1,4 +1,4 @@
-use Rattle.std.proofs.Common.{◌≡◌, Option, None, Some, false, ap, sym, ◌∙◌}
+use Rattle.std.proofs.Common.{Option, None, Some, false, ap, sym, ◌∙◌}
 use Rattle.std.specs.Option.{option_map_or}
 use Rattle.mqb_model.specs.calls.hear.Streams.{raises}
 use Rattle.mqb_orders.specs.Rows.{Row}

@@ -1,4 +1,4 @@
-use Rattle.std.proofs.Common.{◌≡◌, ℕ, List, subst, sym, ◌∙◌}
+use Rattle.std.proofs.Common.{ℕ, List, subst, sym, ◌∙◌}
 use Rattle.mqb_entries.specs.declared.entry.ArrivedPart.{ArrivedPart}
 use Rattle.mqb_hearing.specs.Arrivals.{IsArrival}
 use Rattle.mqb_hearing.proofs.Records.{entry_len}
