@@ -1,12 +1,13 @@
 -- What a manager makes of a packet by a plan.
 use Rattle.std.proofs.Common.{inl, inr, refl, sym, ap, subst, ◌∙◌, length}
 use Rattle.std.specs.Option.{option_map_or}
-use Rattle.std.specs.Prelude.{[], ◌+◌, ◌≡◌, ◌≤◌, Bool, Err, IfSome, IsSome, IsSomeAnd, List, None, Ok, Option, Some, cond, false, is_some, option_map, true, ℕ}
+use Rattle.std.specs.Prelude.{[], ◌+◌, ◌≡◌, ◌≤◌, ◌⊎◌, Bool, Err, IfSome, IsSome, IsSomeAnd, List, None, Ok, Option, Some, cond, false, is_some, option_map, true, ℕ}
 use Rattle.mqb_outside.specs.Disk.{Lawful, LeavesOnly, View}
 use Rattle.mqb_entries.specs.SpelledEntries.{Fits, spelled}
 use Rattle.mqb_entries.specs.declared.entry.Entry.{Entry}
 use Rattle.mqb_store.specs.Work.{beside_of}
-use Rattle.mqb_hearing.specs.Plans.{OnHeard, ShowsReadable, outcome_of, owing_row, rest_after}
+use Rattle.mqb_hearing.specs.Arrivals.{bytes_of_packet}
+use Rattle.mqb_hearing.specs.Plans.{IsAsHeard, OnHeard, ShowsReadable, outcome_of, owing_row, rest_after}
 use Rattle.mqb_hearing.specs.declared.hearing.Hearing.{Hearing}
 use Rattle.mqb_journal.specs.States.{JournalState}
 use Rattle.mqb_model.specs.Lists.{grown}
@@ -162,6 +163,28 @@ entry_there None None P shows h = tt
 entry_there None (Some r) P shows h = absurd (let none : ⊥ = cc in none)
 entry_there (Some form) None P shows h = tt
 entry_there (Some form) (Some r) P shows h = h
+
+-- what was spelled of an entry is as it arrived
+pub spelled_as : (bytes packet : List ℕ) (entry : Option Entry) (arrival : Option Record) → Shows entry arrival → IfSome entry (λ e. bytes_of_packet e ≡ packet)
+    → IfSome entry (λ e. bytes ≡ spelled e) → IfSome arrival (IsAsHeard packet bytes)
+spelled_as bytes packet None None shows whole spells = tt
+spelled_as bytes packet (Some form) None shows whole spells = tt
+spelled_as bytes packet None (Some r) shows whole spells = absurd (let none : ⊥ = cc in none)
+spelled_as bytes packet (Some form) (Some r) shows whole spells = let is : record_in form ≡ Some r = cc in record { entry = form; told = is; spells = spells; packet = inr whole }
+
+pub some_then : (entry : Option Entry) (P : Entry → Type 0) → IsSomeAnd entry P → IfSome entry P
+some_then None P h = tt
+some_then (Some form) P h = h
+
+-- what is of the packet that arrived is of the one that was heard
+brought : (of arrived whole : List ℕ) → (arrived ≡ []) ⊎ (arrived ≡ whole) → (of ≡ []) ⊎ (of ≡ arrived) → (of ≡ []) ⊎ (of ≡ whole)
+brought of arrived whole which (inl none) = inl none
+brought of arrived whole (inl none) (inr same) = inl (same ∙ none)
+brought of arrived whole (inr heard) (inr same) = inr (same ∙ heard)
+
+pub heard_as : (bytes arrived whole : List ℕ) (arrival : Option Record) → (arrived ≡ []) ⊎ (arrived ≡ whole) → IfSome arrival (IsAsHeard arrived bytes) → IfSome arrival (IsAsHeard whole bytes)
+heard_as bytes arrived whole None which is = tt
+heard_as bytes arrived whole (Some r) which is = record { entry = is.entry; told = is.told; spells = is.spells; packet = brought (bytes_of_packet is.entry) arrived whole which is.packet }
 
 -- What is asked of a plan that is followed.
 pub record CanFollow (m : ManagerState) (h : Hearing) : Type 0 where

@@ -1,7 +1,7 @@
 //! How a packet is heard: a plan is made, what arrived is written, and then the connection is as planned.
-ghost use Rattle.std.specs.Prelude.{◌≡◌, ◌<◌, All, Err, IfSome, None, OnOk, Some, false, true};
+ghost use Rattle.std.specs.Prelude.{◌≡◌, ◌≢◌, ◌<◌, All, Err, IfSome, None, OnOk, Some, false, true};
 ghost use Rattle.mqb_outside.specs.Disk.{Counted};
-ghost use Rattle.mqb_hearing.specs.Plans.{ShowsReadable, outcome_of};
+ghost use Rattle.mqb_hearing.specs.Plans.{IsAsHeard, ShowsReadable, outcome_of, whole_of};
 ghost use Rattle.mqb_manager.specs.Calls.{IsCall};
 ghost use Rattle.mqb_manager.specs.States.{IsOnDisk, IsUp, manager_of};
 ghost use Rattle.mqb_model.specs.calls.hear.Hear.{hear};
@@ -58,6 +58,8 @@ impl Manager {
         ensures memory { result ≡ Err HearFault.Memory → disk.new ≡ disk.old }
         ensures calls { OnOk result (IfSome hearing.entry.arrival.written
             (λ _. Counted 4 (D.view disk.old).calls (D.view disk.new).calls)) }
+        ensures heard { result ≢ Err HearFault.Memory → IfSome hearing.entry.arrival.written
+            (IsAsHeard hearing.entry.arrival.packet self.new.store.entry) }
     {
         let Hearing {
             answer,
@@ -112,6 +114,10 @@ impl Manager {
         ensures calls { (p : Packet) → packet_in (seen_packet packet.now) ≡ Some p →
             OnOk result (IfSome (hear (manager_of self.old) p now).entry
             (λ _. Counted 4 (D.view disk.old).calls (D.view disk.new).calls)) }
+        // Its packet is the very bytes that were heard.
+        ensures heard { (p : Packet) → packet_in (seen_packet packet.now) ≡ Some p →
+            result ≢ Err HearFault.Memory → IfSome (hear (manager_of self.old) p now).entry
+            (IsAsHeard (whole_of packet.now) self.new.store.entry) }
     {
         calls_can_be_written();
         self.is_valid();

@@ -1,4 +1,4 @@
-use Rattle.std.proofs.Common.{Bool, Err, List, Option, ap, length, subst, sym, ◌≤◌, ◌∙◌}
+use Rattle.std.proofs.Common.{Bool, Err, List, Option, ap, length, subst, sym, ◌≡◌, ◌≤◌, ◌∙◌}
 use Rattle.std.proofs.lemmas.Result.{err_from_is_err_and}
 use Rattle.std.specs.Prelude.{IfSome, Result, option_copied, option_map}
 use Rattle.mqb_base.specs.declared.heard.Heard.{Heard}
@@ -10,11 +10,12 @@ use Rattle.mqb_model.specs.declared.limits.TheConstants.{MAX_RECORD}
 use Rattle.mqb_model.specs.records.Reading.{record_in}
 use Rattle.mqb_manager.specs.Calls.{IsCall}
 use Rattle.mqb_choosing.specs.Owed.{marked}
+use Rattle.mqb_hearing.specs.Arrivals.{bytes_of_packet}
 use Rattle.mqb_hearing.specs.Plans.{outcome_of}
 use Rattle.mqb_manager.specs.Seen.{seen}
 use Rattle.mqb_manager.specs.States.{ManagerState, manager_of}
 use Rattle.mqb_manager.proofs.Calls.{unmade_call}
-use Rattle.mqb_manager.proofs.Heard.{entry_there, fault_call, fault_valid, leaves_store, may_leave, may_write, memory_call, ok_call, ok_valid}
+use Rattle.mqb_manager.proofs.Heard.{entry_there, fault_call, fault_valid, leaves_store, may_leave, may_write, memory_call, ok_call, ok_valid, some_then, spelled_as}
 use Rattle.mqb_manager.proofs.Written.{cause_rose}
 use Rattle.mqb_manager.proofs.manager.Manager.follow.Goals as goal
 
@@ -141,3 +142,20 @@ returns-clause-call g c =
 
 pub returns-in-Err-Memory-clause-memory : goal.returns-in-Err-Memory-clause-memory
 returns-in-Err-Memory-clause-memory g c = λ same. (c.write.ensures.refused (c.in-Err-Memory.is ∙ ap Err c.in-Err-Memory.field-0-is)).0
+
+pub returns-in_err-make_room-clause-heard : goal.returns-in_err-make_room-clause-heard
+returns-in_err-make_room-clause-heard g c = let told = err_from_is_err_and c.from_residual.result c.from_residual.ensures.1 in λ not. absurd (not (told.1 ∙ ap Err told.2))
+
+pub returns-in-Ok-clause-heard : goal.returns-in-Ok-clause-heard
+returns-in-Ok-clause-heard g c = λ not.
+    let shows = ap (λ (o : Option Entry). option_map record_in o) c.as_ref.ensures.value ∙ c.entry-entry.ensures.«record» in
+    spelled_as c.write.new.self.entry c.args.hearing.arrival.packet (option_copied c.as_ref.result) c.args.hearing.arrival.written shows
+    (subst (λ (o : Option Entry). IfSome o (λ e. bytes_of_packet e ≡ c.args.hearing.arrival.packet)) (sym c.as_ref.ensures.value) c.entry-entry.ensures.packet)
+    c.in-Ok.ensures.spelled
+
+pub returns-clause-heard : goal.returns-clause-heard
+returns-clause-heard g c = λ not.
+    let shows = ap (λ (o : Option Entry). option_map record_in o) c.as_ref.ensures.value ∙ c.entry-entry.ensures.«record» in
+    spelled_as c.write.new.self.entry c.args.hearing.arrival.packet (option_copied c.as_ref.result) c.args.hearing.arrival.written shows
+    (subst (λ (o : Option Entry). IfSome o (λ e. bytes_of_packet e ≡ c.args.hearing.arrival.packet)) (sym c.as_ref.ensures.value) c.entry-entry.ensures.packet)
+    (some_then (option_copied c.as_ref.result) (λ e. c.write.new.self.entry ≡ spelled e) (c.write.ensures.kept (c.in-Err-DiskFault.is ∙ ap Err c.in-Err-DiskFault.field-0-is)))
