@@ -1,10 +1,17 @@
-//! Tests alone: lists with room, and what is put into lists of messages and taken out of them by calls that no program makes.
+//! Tests alone. Of lists: lists with room, and what is put into lists of messages and taken out of them by calls that no program makes. Of devices: disks in memory and in a
+//! file, the calls of a journal, and connections over TCP.
 #![tactic(auto)]
 
 #[cfg(test)]
 mod copies;
 #[cfg(test)]
+mod disks;
+#[cfg(test)]
+mod journals;
+#[cfg(test)]
 mod lists_with_room;
+#[cfg(test)]
+mod network;
 #[cfg(test)]
 mod plain;
 #[cfg(test)]

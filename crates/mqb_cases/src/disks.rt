@@ -96,7 +96,7 @@ fn a_trace_keeps_its_calls(rt: HostRuntime) -> Result<(), Fail> {
 
 #[test]
 fn a_disk_in_a_file(rt: HostRuntime) -> Result<(), Fail> {
-    let path = "/tmp/mqb_stores_disk_in_a_file";
+    let path = "/tmp/mqb_cases_disk_in_a_file";
     let _gone = fs::remove_file(&rt, path);
     assert_eq!(rt;
         FileDisk::open(&rt, path).map(|_| ()),
