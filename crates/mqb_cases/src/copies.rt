@@ -1,23 +1,29 @@
-use crate::samples::{ALPHA, REPLIES, SAMPLE, SEQUENCE, message};
-use mqb_base::{Guid, Name, Place, QueuePlan, Stream};
+use crate::samples::{ALPHA, REPLIES, SAMPLE, SEQUENCE, message, plan};
+use mqb_base::{Guid, Name, Place, Stream};
 use mqb_orders::{InKey, InRow, Kept, OutKey, same_stream};
+use std::alloc::{AllocError, Global};
 use std::hash::{FoldHasher, Hash, Hasher};
 use std::test::Fail;
 
 /// Whether a copy is equal to what it was made of.
-fn is_copied<T: Clone + PartialEq + Drop>(value: T) -> Result<bool, Fail> {
+fn is_copied<T: Clone + PartialEq + Drop>(value: T) -> Result<bool, AllocError> {
     let copy = value.clone()?;
     Ok(copy == value)
 }
 
-fn plan(name: Name) -> QueuePlan {
-    QueuePlan {
-        name,
-        public: Some(ALPHA),
-        transactional: true,
-        quota: 2,
-        journal: true,
-    }
+fn is_plan_copied(alloc: Global) -> Result<bool, Fail> {
+    let name = Name::new(alloc, b"orders")?;
+    Ok(is_copied(plan(name))?)
+}
+
+fn is_place_copied(alloc: Global) -> Result<bool, Fail> {
+    let name = Name::new(alloc, b"orders")?;
+    Ok(is_copied(Place::JournalOf(name))?)
+}
+
+fn is_kept_copied(alloc: Global) -> Result<bool, Fail> {
+    let message = message(alloc, &SAMPLE)?;
+    Ok(is_copied(Kept { number: 7, message })?)
 }
 
 const ROW: InRow = InRow {
@@ -43,15 +49,23 @@ fn hash_of<T: Hash>(value: &T) -> u64 {
     hasher.finish()
 }
 
+/// Whether a copy of a key is hashed as it is.
+fn is_hashed_alike(key: &OutKey) -> Result<bool, AllocError> {
+    let copy = key.clone()?;
+    let is_alike = hash_of(key) == hash_of(&copy);
+    drop(copy);
+    Ok(is_alike)
+}
+
 #[test]
 fn copies_that_no_program_makes(rt: HostRuntime) -> Result<(), Fail> {
-    let alloc = rt.alloc();
-    assert!(rt; is_copied(plan(Name::new(alloc, b"orders")?))?);
-    assert!(rt; is_copied(Place::JournalOf(Name::new(alloc, b"orders")?))?);
-    assert!(rt; is_copied(ROW)? && is_copied(INCOMING)? && is_copied(OUTGOING)?);
-    let message = message(alloc, &SAMPLE)?;
-    assert!(rt; is_copied(Kept { number: 7, message })?);
-    assert!(rt; hash_of(&OUTGOING) == hash_of(&OUTGOING.clone()?));
+    assert!(rt; is_plan_copied(rt.alloc())?);
+    assert!(rt; is_place_copied(rt.alloc())?);
+    assert!(rt; is_kept_copied(rt.alloc())?);
+    assert!(rt; is_copied(ROW)?);
+    assert!(rt; is_copied(INCOMING)?);
+    assert!(rt; is_copied(OUTGOING)?);
+    assert!(rt; is_hashed_alike(&OUTGOING)?);
     Ok(())
 }
 
@@ -68,5 +82,6 @@ const OTHER: Stream = Stream {
 
 #[test]
 fn streams_are_compared_whole(rt: HostRuntime) {
-    assert!(rt; same_stream(&STREAM, &STREAM) && !same_stream(&STREAM, &OTHER));
+    assert!(rt; same_stream(&STREAM, &STREAM));
+    assert!(rt; !same_stream(&STREAM, &OTHER));
 }

@@ -1,5 +1,5 @@
-//! Tests alone. Of lists: lists with room, and what is put into lists of messages and taken out of them by calls that no program makes. Of devices: disks in memory and in a
-//! file, the calls of a journal, and connections over TCP.
+//! Tests alone. Of lists: with room, and of messages, by calls that no program makes. Of devices:
+//! disks in memory and in a file, the calls of a journal, and connections over TCP.
 #![tactic(auto)]
 
 #[cfg(test)]

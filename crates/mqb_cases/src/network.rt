@@ -1,6 +1,6 @@
 use mqb_base::Failed;
 use mqb_net::{TcpConn, TcpNet};
-use mqb_outside::{Conn, Net, Sink, Source};
+use mqb_outside::{Conn, Net, Source};
 use std::test::Fail;
 
 /// Sends back the first bytes that come, at most four.
@@ -10,33 +10,66 @@ fn echo<C: Conn>(conn: &mut C) -> Result<usize, Failed> {
     conn.send(&buf[..n])
 }
 
-/// Two ends of one connection, by way of a net's own port: the one that asked for it, and the one that was asked.
-fn joined(net: &mut TcpNet) -> Result<(TcpConn, TcpConn), Fail> {
-    let listening = net.listen().is_ok_and(|port| port > 0);
-    let near = net.connect([127, 0, 0, 1]);
-    match (listening, near) {
-        (true, Ok(near)) => match net.accept() {
-            Ok(far) => Ok((near, far)),
-            Err(_) => Err(Fail::new("nothing came")),
-        },
-        _ => Err(Fail::new("no connection")),
+/// The end that was asked for, and the one that was asked.
+fn accepted(net: &mut TcpNet, near: TcpConn) -> Result<(TcpConn, TcpConn), Failed> {
+    match net.accept() {
+        Ok(far) => Ok((near, far)),
+        Err(failed) => {
+            drop(near);
+            Err(failed)
+        }
     }
+}
+
+/// Two ends of one connection, by way of a net's own port.
+fn joined(net: &mut TcpNet) -> Result<(TcpConn, TcpConn), Failed> {
+    if net.listen()? == 0 {
+        return Err(Failed);
+    }
+    let near = net.connect([127, 0, 0, 1])?;
+    accepted(net, near)
+}
+
+/// How many bytes go at each step: five are sent, four of them come back, and one is left. And
+/// whether the four are the first ones.
+fn talked<C: Conn>(near: &mut C, far: &mut C) -> Result<([usize; 5], bool), Failed> {
+    let mut buffer = [0; 8];
+    let sent = near.send(b"hello")?;
+    let echoed = echo(far)?;
+    let read = near.read(&mut buffer)?;
+    let is_echo = buffer[..4].starts_with(b"hell");
+    let rest = far.receive(&mut buffer)?;
+    let nothing = far.write(b"")?;
+    Ok(([sent, echoed, read, rest, nothing], is_echo))
+}
+
+/// The same over a new connection, and how many bytes come at the end that is left.
+fn talked_over(net: &mut TcpNet) -> Result<([usize; 5], bool, usize), Failed> {
+    let (mut near, mut far) = joined(net)?;
+    let talked = talked(&mut near, &mut far);
+    net.finish(near);
+    let mut buffer = [0; 8];
+    let end = far.read(&mut buffer);
+    net.finish(far);
+    let (counts, is_echo) = talked?;
+    Ok((counts, is_echo, end?))
+}
+
+/// A connection of which one end is not ended.
+fn left(net: &mut TcpNet) -> Result<(), Failed> {
+    let (near, far) = joined(net)?;
+    net.finish(near);
+    drop(far);
+    Ok(())
 }
 
 #[test]
 fn a_net_over_tcp(rt: HostRuntime) -> Result<(), Fail> {
     let mut net = TcpNet::with_port(&rt, 0);
-    let (mut near, mut far) = joined(&mut net)?;
-    assert_eq!(rt; near.send(b"hello"), Ok(5));
-    assert_eq!(rt; echo(&mut far), Ok(4));
-    let mut buffer = [0; 8];
-    assert_eq!(rt; near.read(&mut buffer), Ok(4));
-    assert!(rt; buffer[..4].starts_with(b"hell"));
-    assert_eq!(rt; (far.receive(&mut buffer), far.write(b"")), (Ok(1), Ok(0)));
-    net.finish(near);
-    assert_eq!(rt; far.read(&mut buffer), Ok(0));
-    net.finish(far);
-    let (near, _far) = joined(&mut net)?;
-    net.finish(near);
+    let told = talked_over(&mut net);
+    let left = left(&mut net);
+    drop(net);
+    assert!(rt; told? == ([5, 4, 4, 1, 0], true, 0));
+    left?;
     Ok(())
 }

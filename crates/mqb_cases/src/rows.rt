@@ -45,8 +45,13 @@ fn kept_2_and_9(alloc: Global, journal: u8) -> Result<KeptList, Memory>
     ensures { IfOk result (λ list. numbers list.items ≡ 2 ∷ 9 ∷ []) }
 {
     let mut list = KeptList::new(alloc);
-    keep_2_and_9(&mut list, alloc, journal)?;
-    Ok(list)
+    match keep_2_and_9(&mut list, alloc, journal) {
+        Ok(()) => Ok(list),
+        Err(memory) => {
+            drop(list);
+            Err(memory)
+        }
+    }
 }
 
 fn number_at(list: &KeptList, at: u32) -> u32 {
@@ -73,31 +78,48 @@ fn keep_2_before_9(list: &mut KeptList, alloc: Global) -> Result<(), Memory>
     Ok(())
 }
 
+fn number_of(kept: Kept) -> u32 {
+    let number = kept.number;
+    drop(kept);
+    number
+}
+
 fn remove_first(list: &mut KeptList) -> u32 {
     if list.is_empty() {
         return 0;
     }
-    list.remove(0).number
+    number_of(list.remove(0))
 }
 
 fn pop(list: &mut KeptList) -> u32 {
     if list.is_empty() {
         return 0;
     }
-    list.pop().number
+    number_of(list.pop())
+}
+
+#[test]
+fn kept_messages_are_put_between(rt: HostRuntime) -> Result<(), Fail> {
+    let mut list = KeptList::new(rt.alloc());
+    let put = keep_2_before_9(&mut list, rt.alloc());
+    let before = numbers_of(&list);
+    let first = remove_first(&mut list);
+    let behind = numbers_of(&list);
+    drop(list);
+    put?;
+    assert!(rt; before == [2, 9]);
+    assert!(rt; first == 2 && behind == [9, 0]);
+    Ok(())
 }
 
 #[test]
 fn kept_messages_come_and_leave(rt: HostRuntime) -> Result<(), Fail> {
-    let mut list = KeptList::new(rt.alloc());
-    keep_2_before_9(&mut list, rt.alloc())?;
-    assert_eq!(rt; numbers_of(&list), [2, 9]);
-    assert_eq!(rt; remove_first(&mut list), 2);
-    assert_eq!(rt; numbers_of(&list), [9, 0]);
     let mut list = kept_2_and_9(rt.alloc(), 0)?;
     list.release(2);
-    assert_eq!(rt; pop(&mut list), 9);
-    assert!(rt; list.is_empty());
+    let last = pop(&mut list);
+    let is_empty = list.is_empty();
+    drop(list);
+    assert!(rt; last == 9 && is_empty);
     Ok(())
 }
 
@@ -118,13 +140,18 @@ fn row(peer: u32, acked: u32, kept: KeptList) -> OutRow
 
 #[test]
 fn what_is_kept_is_linked(rt: HostRuntime) -> Result<(), Fail> {
-    let row = row(0, 1, kept_2_and_9(rt.alloc(), 0)?);
-    assert_eq!(rt; [row.link_before(2), row.link_before(9)], [1, 2]);
-    assert_eq!(rt; [row.next_kept(2), row.next_kept(9)], [Some(9), None]);
+    let list = kept_2_and_9(rt.alloc(), 0)?;
+    let row = row(0, 1, list);
+    let before = [row.link_before(2), row.link_before(9)];
+    let next = [row.next_kept(2), row.next_kept(9)];
+    drop(row);
+    assert!(rt; before == [1, 2]);
+    assert!(rt; next == [Some(9), None]);
     Ok(())
 }
 
-/// Up to which number all of a row are acknowledged, whether a number waits, and the numbers that are kept.
+/// Up to which number all of a row are acknowledged, whether a number waits, and the numbers that
+/// are kept.
 type Left = (u32, bool, [u32; 2]);
 
 /// The journal bits of 2, the number that is acknowledged, where 1 was before, and what is left.
@@ -138,9 +165,12 @@ static ACKNOWLEDGED: [(u8, u32, Left); 5] = [
 
 /// What is left of a row that keeps 2 and 9.
 fn acknowledged(alloc: Global, journal: u8, number: u32) -> Result<Left, Memory> {
-    let mut row = row(0, 1, kept_2_and_9(alloc, journal)?);
+    let list = kept_2_and_9(alloc, journal)?;
+    let mut row = row(0, 1, list);
     row.acknowledge(number);
-    Ok((row.acked, row.has_unacknowledged(), numbers_of(&row.kept)))
+    let left = (row.acked, row.has_unacknowledged(), numbers_of(&row.kept));
+    drop(row);
+    Ok(left)
 }
 
 #[test]
@@ -155,20 +185,17 @@ fn rows_are_acknowledged(rt: HostRuntime) -> Result<(), Fail> {
 }
 
 /// The peers of three rows, up to which number each was acknowledged, and which rows are open.
-static OPEN: [([u32; 3], [u32; 3], [bool; 3]); 4] = [
+type Rows = ([u32; 3], [u32; 3], [bool; 3]);
+
+static OPEN: [Rows; 4] = [
     ([0, 0, 1], [1, 1, 1], [true, false, true]),
     ([0, 0, 0], [9, 1, 1], [true, true, false]),
     ([0, 0, 0], [9, 9, 9], [true, true, true]),
     ([0, 1, 0], [1, 9, 9], [true, true, false]),
 ];
 
-fn put_rows(
-    rows: &mut Vec<OutRow>,
-    alloc: Global,
-    peers: &[u32; 3],
-    acked: &[u32; 3],
-) -> Result<(), Memory> {
-    for (peer, acked) in peers.iter().zip(acked.iter()) {
+fn put_rows(rows: &mut Vec<OutRow>, alloc: Global, of: &Rows) -> Result<(), Memory> {
+    for (peer, acked) in of.0.iter().zip(of.1.iter()) {
         let kept = kept_2_and_9(alloc, 0)?;
         rows.push(row(*peer, *acked, kept))?;
     }
@@ -187,12 +214,20 @@ fn opened(rows: &[OutRow]) -> [bool; 3] {
     ]
 }
 
+/// Which of the three rows are open.
+fn opened_of(alloc: Global, of: &Rows) -> Result<[bool; 3], Memory> {
+    let mut rows = Vec::new(alloc);
+    let put = put_rows(&mut rows, alloc, of);
+    let opened = opened(rows.as_slice());
+    drop(rows);
+    put?;
+    Ok(opened)
+}
+
 #[test]
 fn rows_are_open_in_turn(rt: HostRuntime) -> Result<(), Fail> {
-    for (peers, acked, wanted) in OPEN.iter() {
-        let mut rows = Vec::new(rt.alloc());
-        put_rows(&mut rows, rt.alloc(), peers, acked)?;
-        assert!(rt; opened(rows.as_slice()) == *wanted, "{peers:?} {acked:?}");
+    for rows in OPEN.iter() {
+        assert!(rt; opened_of(rt.alloc(), rows)? == rows.2, "{rows:?}");
     }
     Ok(())
 }

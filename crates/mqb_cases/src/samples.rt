@@ -1,7 +1,7 @@
 //! Messages that differ in a few fields, and the names in them.
 use mqb_base::{
-    Bytes, Class, Delivery, Guid, Memory, Message, MessageId, QueueName, SequenceId, UNLIMITED,
-    Units,
+    Bytes, Class, Delivery, Guid, Memory, Message, MessageId, Name, QueueName, QueuePlan,
+    SequenceId, UNLIMITED, Units,
 };
 use std::alloc::Global;
 
@@ -18,8 +18,19 @@ pub(crate) const SEQUENCE: SequenceId = SequenceId {
     stamp: 1000,
 };
 
+/// A queue of two messages.
+pub(crate) fn plan(name: Name) -> QueuePlan {
+    QueuePlan {
+        name,
+        public: Some(ALPHA),
+        transactional: true,
+        quota: 2,
+        journal: true,
+    }
+}
+
 /// What samples differ in.
-#[derive(Clone, Copy, Debug)]
+#[derive(Clone, Copy)]
 pub(crate) struct Sample {
     pub(crate) number: u32,
     pub(crate) delivery: Delivery,
@@ -37,9 +48,8 @@ pub(crate) const SAMPLE: Sample = Sample {
     journal: 0,
 };
 
-/// A message of alpha, sent at 1000.
-pub(crate) fn message(alloc: Global, sample: &Sample) -> Result<Message, Memory> {
-    Ok(Message {
+fn of_parts(sample: &Sample, label: Units, extension: Bytes, body: Bytes) -> Message {
+    Message {
         id: MessageId {
             qm: ALPHA,
             number: sample.number,
@@ -61,8 +71,24 @@ pub(crate) fn message(alloc: Global, sample: &Sample) -> Result<Message, Memory>
         },
         body_type: 1,
         tag: 1,
-        label: Units::from_slice(alloc, &[])?,
-        extension: Bytes::from_slice(alloc, b"")?,
-        body: Bytes::from_slice(alloc, b"one")?,
-    })
+        label,
+        extension,
+        body,
+    }
+}
+
+/// A message of alpha, sent at 1000. What takes memory is there before the message is made, so no
+/// part of one falls where there is none.
+pub(crate) fn message(alloc: Global, sample: &Sample) -> Result<Message, Memory> {
+    let label = Units::from_slice(alloc, &[])?;
+    let extension = Bytes::from_slice(alloc, b"")?;
+    let body = Bytes::from_slice(alloc, b"one")?;
+    Ok(of_parts(sample, label, extension, body))
+}
+
+/// The number of a message that was taken out. The message falls.
+pub(crate) fn taken(message: Message) -> u32 {
+    let number = message.id.number;
+    drop(message);
+    number
 }
