@@ -1,8 +1,7 @@
 //! An order of alpha to beta: the stores of both, what comes over a connection, and what `list` says of the stores then.
-use crate::asking::probes;
 use mqb_base::{Failed, Memory};
 use mqb_disk::MemoryDisk;
-use mqb_outside::{Disk, MemorySink, MemorySource};
+use mqb_outside::Disk;
 use std::alloc::Global;
 use std::test::Fail;
 
@@ -51,7 +50,7 @@ static ORDER: [u8; 208] = *b"\x10\0\x10\0LIOR\xD0\0\0\0\xFF\xFF\xFF\xFF\
 \0\0\0\0\0\0\0\0\x01\0\0\0\x40\0\0\0";
 
 /// Writes at most a thousand bytes to an empty disk, and syncs.
-fn write<D: Disk>(disk: &mut D, bytes: &[u8]) -> Result<(), Failed> {
+pub(crate) fn write<D: Disk>(disk: &mut D, bytes: &[u8]) -> Result<(), Failed> {
     if bytes.len() > 1000 {
         return Err(Failed);
     }
@@ -62,7 +61,10 @@ fn write<D: Disk>(disk: &mut D, bytes: &[u8]) -> Result<(), Failed> {
 /// A disk that holds a store.
 pub(crate) fn disk_of(alloc: Global, store: &[u8]) -> Result<MemoryDisk, Fail> {
     let mut disk = MemoryDisk::new(alloc, ROOM)?;
-    write(&mut disk, store)?;
+    if write(&mut disk, store).is_err() {
+        drop(disk);
+        return Err(Fail::new("no store"));
+    }
     Ok(disk)
 }
 
@@ -79,14 +81,6 @@ pub(crate) fn order(alloc: Global) -> Result<Vec<u8>, Memory> {
     let mut bytes = asking(alloc)?;
     bytes.extend_from_slice(&ORDER)?;
     Ok(bytes)
-}
-
-/// What beta sends to alpha: 572, 32 and 216 bytes, of which the last are an order acknowledgement.
-pub(crate) fn answers(alloc: Global) -> Result<Vec<u8>, Fail> {
-    let mut input = MemorySource::new(alloc, &order(alloc)?, &[])?;
-    let mut out = MemorySink::new(alloc, &[])?;
-    let _end = probes(alloc, &mut input, &mut out, &mut disk_of(alloc, &BETA)?);
-    Ok(Vec::from_slice(alloc, out.as_slice())?)
 }
 
 /// What a store holds.

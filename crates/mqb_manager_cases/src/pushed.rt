@@ -1,14 +1,12 @@
 //! Connections over a net in memory, whose calls fail or which gives none, and the lines that are said of them.
 use crate::asking::{attends, serves};
-use crate::orders::{
-    ALPHA, BETA, IS_ACKNOWLEDGED, IS_OFFERED, WAITS, answers, asking, disk_of, order,
-};
+use crate::orders::{ALPHA, BETA, IS_ACKNOWLEDGED, IS_OFFERED, WAITS, asking, disk_of, order};
 use crate::pieces::Coming;
-use crate::runs::{plan_of, pushed};
+use crate::runs::{is_held, plan_of, pushed, served};
 use mqb_base::Memory;
 use mqb_commands::Status;
 use mqb_disk::MemoryDisk;
-use mqb_outside::{MemoryNet, MemorySink};
+use mqb_outside::{ConnPlan, MemoryNet, MemorySink};
 use mqb_serving::PeerFault;
 use std::alloc::Global;
 use std::test::Fail;
@@ -36,73 +34,93 @@ static FAILING: [Row; 8] = [
     (true, &[], &[], Status::Done, 604, IS_ACKNOWLEDGED),
 ];
 
-/// What is printed.
-fn line_of(end: Status) -> &'static [u8] {
-    match end {
-        Status::Done => b"connection 1: ended\n",
-        Status::NetFault => b"connection 1: netfault\n",
-        _ => b"connection 1: closed\n",
-    }
+/// What beta sends to alpha: 572, 32 and 216 bytes, of which the last are an order acknowledgement.
+fn answers(alloc: Global) -> Result<Vec<u8>, Fail> {
+    let order = order(alloc)?;
+    let mut beta = disk_of(alloc, &BETA)?;
+    let mut sent = Vec::new(alloc);
+    let end = served(alloc, &mut beta, Coming::whole(&order), &mut sent);
+    drop(beta);
+    drop(order);
+    end?;
+    Ok(sent)
 }
 
-/// The store goes on from one row to the next.
+/// Whether a push goes as its row tells.
+fn is_pushed_so(
+    alloc: Global,
+    disk: &mut MemoryDisk,
+    answers: &[u8],
+    asking: &[u8],
+    row: &Row,
+) -> Result<bool, Fail> {
+    let (is_acknowledged, failing_reads, failing_writes, end, count, text) = *row;
+    let coming = Coming {
+        failing_reads,
+        failing_writes,
+        ..Coming::whole(if is_acknowledged { answers } else { asking })
+    };
+    let went = pushed(alloc, disk, coming)?;
+    Ok(went == Some((end, count)) && is_held(alloc, disk, text))
+}
+
+/// The first of the rows that is not so. The store goes on from one row to the next.
+fn first_wrong(
+    alloc: Global,
+    disk: &mut MemoryDisk,
+    answers: &[u8],
+    asking: &[u8],
+) -> Result<Option<usize>, Fail> {
+    for (k, row) in FAILING.iter().enumerate() {
+        if !is_pushed_so(alloc, disk, answers, asking, row)? {
+            return Ok(Some(k));
+        }
+    }
+    Ok(None)
+}
+
 #[test]
 fn a_call_fails_that_pushes(rt: HostRuntime) -> Result<(), Fail> {
-    let alloc = rt.alloc();
-    let answers = answers(alloc)?;
-    let asking = asking(alloc)?;
-    let mut alpha = disk_of(alloc, &ALPHA)?;
-    for (is_acknowledged, failing_reads, failing_writes, end, sent, holds) in FAILING {
-        let bytes = if is_acknowledged { &answers } else { &asking };
+    let answers = answers(rt.alloc())?;
+    let asking = asking(rt.alloc())?;
+    let mut alpha = disk_of(rt.alloc(), &ALPHA)?;
+    let wrong = first_wrong(rt.alloc(), &mut alpha, &answers, &asking);
+    drop(alpha);
+    assert!(rt; wrong?.is_none());
+    Ok(())
+}
+
+/// The reads and the writes that fail of four connections, over each of which an order comes: two of
+/// them are lost.
+static FOUR: [(&'static [u32], &'static [u32]); 4] = [
+    (&[], &[]),
+    (&[1], &[]),
+    (&[], &[3]),
+    (&[], &[]),
+];
+
+fn put_four(plans: &mut Vec<Option<ConnPlan>>, alloc: Global, order: &[u8]) -> Result<(), Memory> {
+    for (failing_reads, failing_writes) in FOUR {
         let coming = Coming {
             failing_reads,
             failing_writes,
-            ..Coming::whole(bytes)
+            ..Coming::whole(order)
         };
-        let run = pushed(alloc, &mut alpha, coming)?;
-        let is_told = run.said.as_slice() == line_of(end);
-        assert!(rt;
-            is_told && run.is_as_told(end, sent, holds),
-            "{failing_reads:?} {failing_writes:?}"
-        );
+        let plan = plan_of(alloc, coming)?;
+        plans.push(Some(plan))?;
     }
     Ok(())
 }
 
-/// What is printed where so many connections are served, or as many as come, and the exit status.
-fn served_all(
-    alloc: Global,
-    count: Option<u32>,
-    disk: &mut MemoryDisk,
-    net: &mut MemoryNet,
-) -> Result<(Vec<u8>, u8), Memory> {
-    let mut out = MemorySink::new(alloc, &[])?;
-    let end = match count {
-        Some(count) => serves(alloc, count, &mut out, disk, net),
-        None => attends(alloc, &mut out, disk, net),
-    };
-    Ok((Vec::from_slice(alloc, out.as_slice())?, end.exit()))
-}
-
-/// Four connections over which an order comes: two of them are lost.
-fn four(alloc: Global) -> Result<MemoryNet, Memory> {
-    let order = order(alloc)?;
-    let whole = Coming::whole(&order);
+fn four(alloc: Global, order: &[u8]) -> Result<MemoryNet, Memory> {
     let mut plans = Vec::new(alloc);
-    for (failing_reads, failing_writes) in [
-        (&[] as &[u32], &[] as &[u32]),
-        (&[1], &[]),
-        (&[], &[3]),
-        (&[], &[]),
-    ] {
-        let coming = Coming {
-            failing_reads,
-            failing_writes,
-            ..whole
-        };
-        plans.push(Some(plan_of(alloc, coming)?))?;
+    match put_four(&mut plans, alloc, order) {
+        Ok(()) => MemoryNet::new(alloc, plans),
+        Err(memory) => {
+            drop(plans);
+            Err(memory)
+        }
     }
-    MemoryNet::new(alloc, plans)
 }
 
 const LINES: &str = "connection 1: ended\nconnection 2: netfault\nconnection 3: netfault
@@ -116,16 +134,46 @@ static SERVINGS: [[Serving; 2]; 2] = [
     [(None, LINES, 0), (None, "", 0)],
 ];
 
+/// Whether this is printed, and so the exit status, where so many are served, or as many as come.
+fn is_told(
+    alloc: Global,
+    disk: &mut MemoryDisk,
+    net: &mut MemoryNet,
+    serving: &Serving,
+) -> Result<bool, Memory> {
+    let (count, text, exit) = *serving;
+    let mut out = MemorySink::new(alloc, &[])?;
+    let end = match count {
+        Some(count) => serves(alloc, count, &mut out, disk, net),
+        None => attends(alloc, &mut out, disk, net),
+    };
+    let is_told = out.as_slice() == text.as_bytes();
+    drop(out);
+    Ok(is_told && end.exit() == exit && net.finished().len() == 4)
+}
+
+/// Whether both are told over a net of four connections.
+fn are_told(
+    alloc: Global,
+    disk: &mut MemoryDisk,
+    order: &[u8],
+    servings: &[Serving; 2],
+) -> Result<bool, Memory> {
+    let mut net = four(alloc, order)?;
+    let first = is_told(alloc, disk, &mut net, &servings[0]);
+    let then = is_told(alloc, disk, &mut net, &servings[1]);
+    drop(net);
+    Ok([first?, then?] == [true; 2])
+}
+
 #[test]
 fn connections_are_lost(rt: HostRuntime) -> Result<(), Fail> {
-    for servings in SERVINGS {
-        let mut disk = disk_of(rt.alloc(), &BETA)?;
-        let mut net = four(rt.alloc())?;
-        for (count, text, exit) in servings {
-            let (said, how) = served_all(rt.alloc(), count, &mut disk, &mut net)?;
-            assert!(rt; said.as_slice() == text.as_bytes());
-            assert_eq!(rt; (how, net.finished().len()), (exit, 4));
-        }
+    let order = order(rt.alloc())?;
+    for servings in SERVINGS.iter() {
+        let mut beta = disk_of(rt.alloc(), &BETA)?;
+        let are_told = are_told(rt.alloc(), &mut beta, &order, servings);
+        drop(beta);
+        assert!(rt; are_told?);
     }
     Ok(())
 }

@@ -12,7 +12,25 @@ use std::test::Fail;
 /// The room of a disk.
 const ROOM: usize = 1 << 20;
 
-/// The transcript of a script over alpha's disk and this medium.
+/// The transcript of a script over alpha's disk, beta's, and this medium.
+fn told<M: Medium>(
+    alloc: Global,
+    input: &mut MemorySource,
+    first: &mut MemoryDisk,
+    second: &mut MemoryDisk,
+    medium: &mut M,
+) -> Result<Vec<u8>, Fail>
+    requires { M.strings medium.old ≡ [] }
+{
+    let mut out = MemorySink::new(alloc, &[])?;
+    let replayed = replay(alloc, input, &mut out, first, second, medium);
+    let text = Vec::from_slice(alloc, out.as_slice());
+    drop(out);
+    replayed?;
+    Ok(text?)
+}
+
+/// The same over a new disk for beta.
 fn transcript<M: Medium>(
     alloc: Global,
     script: &[u8],
@@ -21,11 +39,12 @@ fn transcript<M: Medium>(
 ) -> Result<Vec<u8>, Fail>
     requires { M.strings medium.old ≡ [] }
 {
-    let mut input = MemorySource::new(alloc, script, &[])?;
-    let mut out = MemorySink::new(alloc, &[])?;
     let mut second = MemoryDisk::new(alloc, ROOM)?;
-    replay(alloc, &mut input, &mut out, first, &mut second, medium)?;
-    Ok(Vec::from_slice(alloc, out.as_slice())?)
+    let mut input = MemorySource::new(alloc, script, &[])?;
+    let told = told(alloc, &mut input, first, &mut second, medium);
+    drop(input);
+    drop(second);
+    told
 }
 
 /// The last line delivers a packet that was never sent.
@@ -41,18 +60,17 @@ deliver 9 1001
 /// Four times while the connection is set up, and once for each of the two deliveries of packet 5.
 #[test]
 fn replay_asks_the_medium(rt: HostRuntime) -> Result<(), Fail> {
-    let alloc = rt.alloc();
+    let mut first = MemoryDisk::new(rt.alloc(), ROOM)?;
     let mut medium = CountingMedium {
-        inner: MemoryMedium::new(alloc),
+        inner: MemoryMedium::new(rt.alloc()),
         asked: Cell::new(0),
     };
-    transcript(
-        alloc,
-        SCRIPT,
-        &mut MemoryDisk::new(alloc, ROOM)?,
-        &mut medium,
-    )?;
-    assert_eq!(rt; medium.asked.get(), 6);
+    let told = transcript(rt.alloc(), SCRIPT, &mut first, &mut medium);
+    let asked = medium.asked.get();
+    drop(medium);
+    drop(first);
+    drop(told?);
+    assert!(rt; asked == 6);
     Ok(())
 }
 
@@ -67,15 +85,12 @@ beta journal
 
 #[test]
 fn restart_calls_the_disk(rt: HostRuntime) -> Result<(), Fail> {
-    let alloc = rt.alloc();
-    let mut first = MemoryDisk::new(alloc, ROOM)?;
+    let mut first = MemoryDisk::new(rt.alloc(), ROOM)?;
     first.arm_restart();
-    let told = transcript(
-        alloc,
-        b"restart alpha old\n",
-        &mut first,
-        &mut MemoryMedium::new(alloc),
-    )?;
-    assert!(rt; told.as_slice() == NOT_STARTED);
+    let mut medium = MemoryMedium::new(rt.alloc());
+    let told = transcript(rt.alloc(), b"restart alpha old\n", &mut first, &mut medium);
+    drop(medium);
+    drop(first);
+    assert!(rt; told?.as_slice() == NOT_STARTED);
     Ok(())
 }

@@ -8,75 +8,107 @@ use mqb_outside::{ConnPlan, MemoryNet, MemorySink};
 use std::alloc::Global;
 use std::test::Fail;
 
-/// How a connection went.
-#[derive(Drop)]
-pub(crate) struct Run {
-    pub(crate) end: Status,
-    /// what was sent over it
-    pub(crate) sent: Vec<u8>,
-    /// what was printed
-    pub(crate) said: Vec<u8>,
-    /// what the store holds behind it, as `list` says it
-    pub(crate) holds: Vec<u8>,
+/// Whether a store holds exactly this, as `list` says it.
+pub(crate) fn is_held(alloc: Global, disk: &mut MemoryDisk, text: &str) -> bool {
+    let found = holds(alloc, disk);
+    let is_held = found.as_slice() == text.as_bytes();
+    drop(found);
+    is_held
 }
 
-impl Run {
-    /// Whether it ended so, behind so many bytes, and left this.
-    pub(crate) fn is_as_told(&self, end: Status, sent: usize, holds: &str) -> bool {
-        self.end == end && self.sent.len() == sent && self.holds.as_slice() == holds.as_bytes()
-    }
+/// A store serves what comes from this source. What is sent is added behind what was sent before.
+fn answered(
+    alloc: Global,
+    disk: &mut MemoryDisk,
+    input: &mut Pieces,
+    failing_writes: &[u32],
+    sent: &mut Vec<u8>,
+) -> Result<Status, Memory> {
+    let mut out = MemorySink::new(alloc, failing_writes)?;
+    let end = probes(alloc, input, &mut out, disk);
+    let kept = sent.extend_from_slice(out.as_slice());
+    drop(out);
+    kept?;
+    Ok(end)
 }
 
-/// A store serves what comes.
+/// A store serves what comes: how it ends.
 pub(crate) fn served(
     alloc: Global,
     disk: &mut MemoryDisk,
     coming: Coming<'_>,
-) -> Result<Run, Memory> {
+    sent: &mut Vec<u8>,
+) -> Result<Status, Memory> {
     let mut input = Pieces::new(alloc, coming)?;
-    let mut out = MemorySink::new(alloc, coming.failing_writes)?;
-    let end = probes(alloc, &mut input, &mut out, disk);
-    Ok(Run {
-        end,
-        sent: Vec::from_slice(alloc, out.as_slice())?,
-        said: Vec::new(alloc),
-        holds: holds(alloc, disk),
-    })
+    let end = answered(alloc, disk, &mut input, coming.failing_writes, sent);
+    drop(input);
+    end
 }
 
 /// A connection over which this comes at once.
 pub(crate) fn plan_of(alloc: Global, coming: Coming<'_>) -> Result<ConnPlan, Memory> {
+    let bytes = Bytes::from_slice(alloc, coming.bytes)?;
+    let failing_reads = Vec::from_slice(alloc, coming.failing_reads)?;
+    let failing_writes = Vec::from_slice(alloc, coming.failing_writes)?;
     Ok(ConnPlan {
-        bytes: Bytes::from_slice(alloc, coming.bytes)?,
-        failing_reads: Vec::from_slice(alloc, coming.failing_reads)?,
-        failing_writes: Vec::from_slice(alloc, coming.failing_writes)?,
+        bytes,
+        failing_reads,
+        failing_writes,
     })
 }
 
-/// What was sent over the first connection that ended.
-fn sent_first(net: &MemoryNet) -> &[u8] {
+/// A net of one connection, over which this comes at once.
+fn net_of(alloc: Global, coming: Coming<'_>) -> Result<MemoryNet, Memory> {
+    let plan = plan_of(alloc, coming)?;
+    let mut plans = Vec::new(alloc);
+    plans.push(Some(plan))?;
+    MemoryNet::new(alloc, plans)
+}
+
+/// How many bytes were sent over the first connection that ended.
+fn sent_first(net: &MemoryNet) -> usize {
     match net.finished().first() {
-        Some(conn) => conn.sent(),
-        None => &[],
+        Some(conn) => conn.sent().len(),
+        None => 0,
     }
 }
 
-/// A store pushes to beta, over a connection over which this comes at once.
+/// What is printed where a push ends so.
+fn line_of(end: Status) -> &'static [u8] {
+    match end {
+        Status::Done => b"connection 1: ended\n",
+        Status::NetFault => b"connection 1: netfault\n",
+        _ => b"connection 1: closed\n",
+    }
+}
+
+/// How a push ends, and whether the line says so that it prints.
+fn told(
+    alloc: Global,
+    host: &Name,
+    disk: &mut MemoryDisk,
+    net: &mut MemoryNet,
+) -> Result<(Status, bool), Memory> {
+    let mut out = MemorySink::new(alloc, &[])?;
+    let end = pushes(alloc, host, &mut out, disk, net);
+    let is_told = out.as_slice() == line_of(end);
+    drop(out);
+    Ok((end, is_told))
+}
+
+/// A store pushes to beta, over a connection over which this comes at once: how it ends, where its
+/// line says so, and how many bytes are sent.
 pub(crate) fn pushed(
     alloc: Global,
     disk: &mut MemoryDisk,
     coming: Coming<'_>,
-) -> Result<Run, Fail> {
-    let mut plans = Vec::new(alloc);
-    plans.push(Some(plan_of(alloc, coming)?))?;
-    let mut net = MemoryNet::new(alloc, plans)?;
+) -> Result<Option<(Status, usize)>, Fail> {
     let host = Name::new(alloc, b"beta")?;
-    let mut out = MemorySink::new(alloc, &[])?;
-    let end = pushes(alloc, &host, &mut out, disk, &mut net);
-    Ok(Run {
-        end,
-        sent: Vec::from_slice(alloc, sent_first(&net))?,
-        said: Vec::from_slice(alloc, out.as_slice())?,
-        holds: holds(alloc, disk),
-    })
+    let mut net = net_of(alloc, coming)?;
+    let told = told(alloc, &host, disk, &mut net);
+    let sent = sent_first(&net);
+    drop(net);
+    drop(host);
+    let (end, is_told) = told?;
+    Ok(is_told.then_some((end, sent)))
 }

@@ -9,18 +9,28 @@ use std::test::Fail;
 /// The script of a text, where these calls of its source fail.
 fn read(alloc: Global, text: &[u8], failing: &[u32]) -> Result<Script, ScriptFault> {
     match MemorySource::new(alloc, text, failing) {
-        Ok(mut source) => read_script(alloc, &mut source),
+        Ok(mut source) => {
+            let script = read_script(alloc, &mut source);
+            drop(source);
+            script
+        }
         Err(_) => Err(ScriptFault::Memory),
     }
+}
+
+/// Why there is no script where a call of its source fails.
+fn fault_at(alloc: Global, text: &[u8], call: u32) -> Option<ScriptFault> {
+    read(alloc, text, &[call]).err()
 }
 
 #[test]
 fn a_read_fails(rt: HostRuntime) -> Result<(), Fail> {
     let text = vec![in rt.alloc(); b'#'; 5000]?;
-    for call in 1..4 {
-        let fault = read(rt.alloc(), text.as_slice(), &[call]).err();
-        assert!(rt; fault == Some(ScriptFault::ReadFault), "{call}");
-    }
+    let first = fault_at(rt.alloc(), &text, 1);
+    let second = fault_at(rt.alloc(), &text, 2);
+    let third = fault_at(rt.alloc(), &text, 3);
+    drop(text);
+    assert!(rt; [first, second, third] == [Some(ScriptFault::ReadFault); 3]);
     Ok(())
 }
 
@@ -42,7 +52,9 @@ fn moments_are_read(rt: HostRuntime) -> Result<(), Fail> {
         b"connect alpha 1000 64 1\ndeliver 4294967295 1001\n",
         &[],
     )?;
-    assert_eq!(rt; moments(&script), Some([1000, 1001]));
+    let moments = moments(&script);
+    drop(script);
+    assert!(rt; moments == Some([1000, 1001]));
     Ok(())
 }
 
@@ -71,30 +83,44 @@ took f0010203-0405-0607-0809-a0b0c0d0e0ff.4294967295\n\
 setup\nfinal 00FF f0010203-0405-0607-0809-a0b0c0d0e0ff.4294967295\n\
 closed early\nclosed badack\nclosed refused\nclosed foreign\n";
 
-/// Adds the text of a reply, without the number of a line.
-fn put(alloc: Global, out: &mut Vec<u8>, reply: &Reply) -> Result<(), Memory> {
-    print_reply(alloc, None, reply, &[], out)
+/// Adds the text of a reply, without the number of a line. The reply falls.
+fn put(alloc: Global, out: &mut Vec<u8>, reply: Reply) -> Result<(), Memory> {
+    let put = print_reply(alloc, None, &reply, &[], out);
+    drop(reply);
+    put
 }
 
-fn printed(alloc: Global) -> Result<Vec<u8>, Memory> {
-    let mut out = Vec::new(alloc);
-    put(alloc, &mut out, &Reply::NumbersSpent)?;
-    put(alloc, &mut out, &Reply::SequenceSpent { op: 0 })?;
-    put(alloc, &mut out, &Reply::Spent)?;
+fn put_heard(alloc: Global, out: &mut Vec<u8>, heard: Heard) -> Result<(), Memory> {
     let lines = Listed::new(alloc);
-    let express = u64::MAX;
-    put(alloc, &mut out, &Reply::Ticked { express, lines })?;
+    put(alloc, out, Reply::Heard { heard, lines })
+}
+
+fn put_ticked(alloc: Global, out: &mut Vec<u8>, express: u64) -> Result<(), Memory> {
     let lines = Listed::new(alloc);
-    put(alloc, &mut out, &Reply::Took { id: UNKNOWN, lines })?;
+    put(alloc, out, Reply::Ticked { express, lines })
+}
+
+fn put_took(alloc: Global, out: &mut Vec<u8>, id: MessageId) -> Result<(), Memory> {
+    let lines = Listed::new(alloc);
+    put(alloc, out, Reply::Took { id, lines })
+}
+
+fn put_all(alloc: Global, out: &mut Vec<u8>) -> Result<(), Memory> {
+    put(alloc, out, Reply::NumbersSpent)?;
+    put(alloc, out, Reply::SequenceSpent { op: 0 })?;
+    put(alloc, out, Reply::Spent)?;
+    put_ticked(alloc, out, u64::MAX)?;
+    put_took(alloc, out, UNKNOWN)?;
     for heard in HEARD {
-        let lines = Listed::new(alloc);
-        put(alloc, &mut out, &Reply::Heard { heard, lines })?;
+        put_heard(alloc, out, heard)?;
     }
-    Ok(out)
+    Ok(())
 }
 
 #[test]
 fn replies_that_no_script_brings_about(rt: HostRuntime) -> Result<(), Fail> {
-    assert!(rt; printed(rt.alloc())?.as_slice() == PRINTED);
+    let mut out = Vec::new(rt.alloc());
+    put_all(rt.alloc(), &mut out)?;
+    assert!(rt; out.as_slice() == PRINTED);
     Ok(())
 }

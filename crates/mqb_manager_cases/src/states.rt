@@ -1,9 +1,10 @@
 //! Records on a state: how much is prepared for one, and how the state is spelled and read back.
 use crate::stores::identity;
-use mqb_base::EntryPlace;
+use mqb_base::{EntryPlace, Memory};
 use mqb_entries::{Entry, entry_view};
-use mqb_state::{ExpressWork, PrepareFault, State};
+use mqb_state::{BackFault, ExpressWork, PrepareFault, State};
 use std::alloc::Global;
+use std::mem::replace;
 use std::test::Fail;
 
 /// A queue of 2,000 messages.
@@ -29,42 +30,68 @@ fn note(number: u32) -> [u8; 149] {
     record
 }
 
-/// A state that has nothing.
-fn alpha(alloc: Global) -> Result<State, Fail> {
-    let identity = identity(alloc, b"alpha", b'A')?;
-    Ok(State::empty(alloc, &identity)?)
-}
-
 /// How many messages and lines are prepared for an entry, which is not written then.
 fn lost(state: &mut State, entry: &Entry<'_>) -> Result<(u64, usize), PrepareFault> {
     let prepared = state.prepare(entry)?;
-    Ok((prepared.messages(), prepared.lines().len()))
+    let held = (prepared.messages(), prepared.lines().len());
+    drop(prepared);
+    Ok(held)
 }
 
-/// The same for a take from a thousand messages, and how many there are before and after it.
-fn taken(state: &mut State) -> Result<((u64, usize), [Option<u32>; 2]), Fail> {
-    state.apply(&entry_view(QUEUE)?)?;
+fn applied(state: &mut State, entry: &Entry<'_>) -> Result<(), PrepareFault> {
+    drop(state.apply(entry)?);
+    Ok(())
+}
+
+fn apply(state: &mut State, record: &[u8]) -> Result<(), Fail> {
+    let entry = entry_view(record)?;
+    let applied = applied(state, &entry);
+    drop(entry);
+    Ok(applied?)
+}
+
+fn lost_of(state: &mut State, record: &[u8]) -> Result<(u64, usize), Fail> {
+    let entry = entry_view(record)?;
+    let lost = lost(state, &entry);
+    drop(entry);
+    Ok(lost?)
+}
+
+fn count(state: &State) -> Option<u32> {
+    state.queues().len_at(EntryPlace::Queue(1))
+}
+
+/// A queue of a thousand messages.
+fn fill(state: &mut State) -> Result<(), Fail> {
+    apply(state, QUEUE)?;
     for number in 1..1001 {
-        state.apply(&entry_view(&note(number))?)?;
+        apply(state, &note(number))?;
     }
-    let take = entry_view(TAKE)?;
-    let prepared = lost(state, &take)?;
-    let before = state.queues().len_at(EntryPlace::Queue(1));
-    state.apply(&take)?;
-    let after = state.queues().len_at(EntryPlace::Queue(1));
-    Ok((prepared, [before, after]))
+    Ok(())
 }
 
-fn taken_from_alpha(alloc: Global) -> Result<((u64, usize), [Option<u32>; 2]), Fail> {
-    let mut state = alpha(alloc)?;
-    taken(&mut state)
+/// How many messages and lines are prepared for a take, and how many messages there are before it and
+/// after it.
+type Taken = ((u64, usize), [Option<u32>; 2]);
+
+fn taken(state: &mut State) -> Result<Taken, Fail> {
+    fill(state)?;
+    let prepared = lost_of(state, TAKE)?;
+    let before = count(state);
+    apply(state, TAKE)?;
+    Ok((prepared, [before, count(state)]))
 }
 
 #[test]
 fn of_a_thousand_messages_few_are_prepared(rt: HostRuntime) -> Result<(), Fail> {
-    let ((messages, lines), counts) = taken_from_alpha(rt.alloc())?;
+    let own = identity(rt.alloc(), b"alpha", b'A')?;
+    let mut state = State::empty(rt.alloc(), &own)?;
+    let taken = taken(&mut state);
+    drop(state);
+    drop(own);
+    let ((messages, lines), counts) = taken?;
     assert!(rt; messages <= 3 && lines == 1);
-    assert_eq!(rt; counts, [Some(1000), Some(999)]);
+    assert!(rt; counts == [Some(1000), Some(999)]);
     Ok(())
 }
 
@@ -83,16 +110,16 @@ AAAAAAAAAAAA\xFF\xFF\xFF\xFF\xE8\x03\0\0\x01\0\0\0\x0B\0\0\0AAAAAAAAAAAAAAAA\x01
 \0\0\0\0\0\0\0\0\0\0\0\0\0\0\0\0\0\0\0\0\0",
 ];
 
-/// What a store of the state stands for, in bytes.
-fn spelled(alloc: Global, state: &State) -> Result<Vec<u8>, Fail> {
+/// Whether this is what a store of the state stands for, in bytes.
+fn is_spelled(state: &State, alloc: Global, wanted: &[u8]) -> Result<bool, Memory> {
     let mut bytes = Vec::new(alloc);
     state.spell(&mut bytes)?;
-    Ok(bytes)
+    Ok(bytes.as_slice() == wanted)
 }
 
 /// Makes what an entry does, and nothing beside it. It was prepared before, and lost.
 fn make(state: &mut State, entry: &Entry<'_>) -> Result<(), PrepareFault> {
-    state.prepare(entry)?;
+    lost(state, entry)?;
     let prepared = state.prepare(entry)?;
     state.install(prepared);
     state.is_valid();
@@ -103,37 +130,63 @@ fn make(state: &mut State, entry: &Entry<'_>) -> Result<(), PrepareFault> {
 
 /// Whether an entry is refused, by both ways.
 fn is_unfit(state: &mut State, entry: &Entry<'_>) -> bool {
-    let prepared = state.prepare(entry).err();
-    let applied = state.apply(entry).err();
-    prepared == Some(PrepareFault::Unfit) && applied == Some(PrepareFault::Unfit)
+    let prepared = lost(state, entry).err();
+    let applied = applied(state, entry).err();
+    [prepared, applied] == [Some(PrepareFault::Unfit); 2]
 }
 
-/// Makes a record. Whether it fits no more, in the state that its bytes are read back as, and leaves that as it is spelled.
-fn is_made_once(state: &mut State, alloc: Global, record: &[u8]) -> Result<bool, Fail> {
+/// Puts the state in place of another one that these bytes are read back as.
+fn read_again(state: &mut State, alloc: Global, bytes: &[u8]) -> Result<(), BackFault> {
+    let back = State::read_back(alloc, bytes)?;
+    drop(replace(state, back));
+    Ok(())
+}
+
+/// Whether an entry fits no more in the state that these bytes are read back as, and leaves that as
+/// it is spelled.
+fn is_read_back(
+    state: &mut State,
+    alloc: Global,
+    bytes: &[u8],
+    entry: &Entry<'_>,
+) -> Result<bool, Fail> {
+    read_again(state, alloc, bytes)?;
+    let is_unfit = is_unfit(state, entry);
+    Ok(is_spelled(state, alloc, bytes)? && is_unfit)
+}
+
+/// Makes an entry. Whether it is made once, and the state is read back then.
+fn is_made_once(state: &mut State, alloc: Global, entry: &Entry<'_>) -> Result<bool, Fail> {
+    make(state, entry)?;
+    let mut bytes = Vec::new(alloc);
+    state.spell(&mut bytes)?;
+    is_read_back(state, alloc, bytes.as_slice(), entry)
+}
+
+fn is_recorded_once(state: &mut State, alloc: Global, record: &[u8]) -> Result<bool, Fail> {
     let entry = entry_view(record)?;
-    make(state, &entry)?;
-    let before = spelled(alloc, state)?;
-    *state = State::read_back(alloc, before.as_slice())?;
-    Ok(is_unfit(state, &entry) && spelled(alloc, state)? == before)
+    let is_made_once = is_made_once(state, alloc, &entry);
+    drop(entry);
+    is_made_once
 }
 
 /// The first of the records that is not.
 fn first_wrong(state: &mut State, alloc: Global) -> Result<Option<usize>, Fail> {
     for (k, record) in RECORDS.iter().enumerate() {
-        if !is_made_once(state, alloc, record)? {
+        if !is_recorded_once(state, alloc, record)? {
             return Ok(Some(k));
         }
     }
     Ok(None)
 }
 
-fn first_wrong_of_alpha(alloc: Global) -> Result<Option<usize>, Fail> {
-    let mut state = alpha(alloc)?;
-    first_wrong(&mut state, alloc)
-}
-
 #[test]
 fn a_state_is_read_back_behind_each_record(rt: HostRuntime) -> Result<(), Fail> {
-    assert_eq!(rt; first_wrong_of_alpha(rt.alloc())?, None);
+    let own = identity(rt.alloc(), b"alpha", b'A')?;
+    let mut state = State::empty(rt.alloc(), &own)?;
+    let wrong = first_wrong(&mut state, rt.alloc());
+    drop(state);
+    drop(own);
+    assert!(rt; wrong?.is_none());
     Ok(())
 }

@@ -1,4 +1,5 @@
 //! A manager on a disk: what it reads of a bad store, and what is in doubt where its disk stops.
+use crate::orders::write;
 use mqb_base::{Guid, Identity, Name, NameError};
 use mqb_disk::{MemoryDisk, TraceDisk};
 use mqb_journal::OpenFault;
@@ -45,11 +46,13 @@ fn last_byte(reads: &[(u64, u64)]) -> u64 {
 #[test]
 fn records_are_read_one_at_a_time(rt: HostRuntime) -> Result<(), Fail> {
     let mut disk = TraceDisk::new(rt.alloc(), 128, 32)?;
-    disk.write_at(0, &BAD)?;
-    disk.sync()?;
-    let found = fault_on(rt.alloc(), &mut disk);
-    assert_eq!(rt; found, Some(OpenFault::BadStore { at: 24 }));
-    assert!(rt; last_byte(disk.reads()) <= 57);
+    let written = write(&mut disk, &BAD);
+    let fault = fault_on(rt.alloc(), &mut disk);
+    let last = last_byte(disk.reads());
+    drop(disk);
+    assert!(rt; written == Ok(()));
+    assert!(rt; fault == Some(OpenFault::BadStore { at: 24 }));
+    assert!(rt; last <= 57);
     Ok(())
 }
 
@@ -59,22 +62,59 @@ const PEER: &[u8] = b"\x02\x04betaBBBBBBBBBBBBBBBB\x0A\0\0B";
 /// How many calls the disk has where a store is formatted.
 const FORMATTED: u32 = 7;
 
-/// Whether the entry of a peer is in doubt where the disk stops or fails in that call of its record, and how many records a restart leaves.
-fn left(alloc: Global, mode: Mode, call: u32, pick: Pick) -> Result<(bool, u64), Fail> {
-    let own = identity(alloc, b"alpha", b'A')?;
-    let peer = identity(alloc, b"beta", b'B')?;
-    let mut disk = MemoryDisk::new(alloc, 256)?;
-    disk.arm(call.saturating_add(FORMATTED).max(1), mode);
-    let mut manager = Manager::format(alloc, &mut disk, &own)?;
-    let _index = manager.add_peer(&mut disk, &peer);
+/// Whether the entry of a peer is in doubt behind the call that records it.
+fn is_doubted<D: Disk>(
+    alloc: Global,
+    disk: &mut D,
+    own: &Identity,
+    peer: &Identity,
+) -> Result<bool, OpenFault> {
+    let mut manager = Manager::format(alloc, disk, own)?;
+    let _index = manager.add_peer(disk, peer);
     let is_doubted = manager.doubt() == Some(PEER);
     manager.close();
-    disk.restart(pick);
-    let manager = Manager::start(alloc, &mut disk)?;
+    Ok(is_doubted)
+}
+
+fn is_beta_doubted<D: Disk>(alloc: Global, disk: &mut D) -> Result<bool, Fail> {
+    let own = identity(alloc, b"alpha", b'A')?;
+    let peer = identity(alloc, b"beta", b'B')?;
+    let is_doubted = is_doubted(alloc, disk, &own, &peer);
+    drop(peer);
+    drop(own);
+    Ok(is_doubted?)
+}
+
+/// Whether nothing is in doubt behind a start, and how many records there are.
+fn started<D: Disk>(alloc: Global, disk: &mut D) -> Result<(bool, u64), OpenFault> {
+    let manager = Manager::start(alloc, disk)?;
     let count = manager.lsn();
     let is_settled = manager.doubt().is_none();
     manager.close();
-    Ok((is_doubted && is_settled, count))
+    Ok((is_settled, count))
+}
+
+/// How many records a restart leaves where the disk stops or fails in a call of the record of a peer,
+/// or none where its entry was not in doubt, or still is.
+fn left(alloc: Global, mode: Mode, call: u32, pick: Pick) -> Result<u64, Fail> {
+    let mut disk = MemoryDisk::new(alloc, 256)?;
+    disk.arm(call.saturating_add(FORMATTED).max(1), mode);
+    let is_doubted = is_beta_doubted(alloc, &mut disk);
+    disk.restart(pick);
+    let started = started(alloc, &mut disk);
+    drop(disk);
+    let is_doubted = is_doubted?;
+    let (is_settled, count) = started?;
+    Ok(if is_doubted && is_settled { count } else { 0 })
+}
+
+/// The same by each pick.
+fn left_by_each(alloc: Global, mode: Mode, call: u32) -> Result<[u64; 4], Fail> {
+    let old = left(alloc, mode, call, Pick::Old)?;
+    let new = left(alloc, mode, call, Pick::New)?;
+    let half = left(alloc, mode, call, Pick::Half)?;
+    let ones = left(alloc, mode, call, Pick::Ones)?;
+    Ok([old, new, half, ones])
 }
 
 /// A call of a record of which the disk stops or fails, and how many records are left by each pick.
@@ -88,14 +128,11 @@ static STOPS: [(Mode, u32, [u64; 4]); 5] = [
 
 #[test]
 fn what_a_stopped_call_leaves(rt: HostRuntime) -> Result<(), Fail> {
-    for (mode, call, counts) in &STOPS {
-        for (pick, count) in [Pick::Old, Pick::New, Pick::Half, Pick::Ones]
-            .iter()
-            .zip(counts)
-        {
-            let found = left(rt.alloc(), *mode, *call, *pick)?;
-            assert_eq!(rt; found, (true, *count), "{mode:?} {call} {pick:?}");
-        }
+    for (mode, call, counts) in STOPS {
+        assert!(rt;
+            left_by_each(rt.alloc(), mode, call)? == counts,
+            "{mode:?} {call}"
+        );
     }
     Ok(())
 }

@@ -20,40 +20,131 @@ fn put<E: Display>(alloc: Global, faults: &[E], out: &mut Vec<u8>) -> Result<(),
     Ok(())
 }
 
-const STORES: &[u8] = b"no entry's field stands at 7
+static ENTRY: [EntryFault; 1] = [EntryFault { at: 7 }];
+
+static PREPARE: [PrepareFault; 2] = [PrepareFault::Unfit, PrepareFault::Memory];
+
+static BACK: [BackFault; 2] = [BackFault::Bad { at: 40 }, BackFault::Memory];
+
+static WRITE: [WriteFault; 2] = [WriteFault::Memory, WriteFault::DiskFault];
+
+fn put_stores(alloc: Global, out: &mut Vec<u8>) -> Result<(), Memory> {
+    put(alloc, &ENTRY, out)?;
+    put(alloc, &PREPARE, out)?;
+    put(alloc, &BACK, out)?;
+    put(alloc, &WRITE, out)
+}
+
+static ADD_PEER: [AddPeerFault; 5] = [
+    AddPeerFault::Down,
+    AddPeerFault::PeerThere,
+    AddPeerFault::TooManyPeers,
+    AddPeerFault::Memory,
+    AddPeerFault::DiskFault,
+];
+
+static CREATE: [CreateFault; 5] = [
+    CreateFault::Down,
+    CreateFault::QueueThere,
+    CreateFault::TooManyQueues,
+    CreateFault::Memory,
+    CreateFault::DiskFault,
+];
+
+static STORE: [StoreFault; 3] = [StoreFault::Down, StoreFault::Memory, StoreFault::DiskFault];
+
+static LINK: [LinkFault; 3] = [LinkFault::Down, LinkFault::Linked, LinkFault::NoPeer];
+
+static TAKE: [TakeFault; 5] = [
+    TakeFault::Down,
+    TakeFault::NoQueue,
+    TakeFault::QueueEmpty,
+    TakeFault::Memory,
+    TakeFault::DiskFault,
+];
+
+static PURGE: [PurgeFault; 4] = [
+    PurgeFault::Down,
+    PurgeFault::NoQueue,
+    PurgeFault::Memory,
+    PurgeFault::DiskFault,
+];
+
+fn put_places(alloc: Global, out: &mut Vec<u8>) -> Result<(), Memory> {
+    put(alloc, &ADD_PEER, out)?;
+    put(alloc, &CREATE, out)?;
+    put(alloc, &STORE, out)?;
+    put(alloc, &LINK, out)?;
+    put(alloc, &TAKE, out)?;
+    put(alloc, &PURGE, out)
+}
+
+static OP: [OpFault; 6] = [
+    OpFault::NoQueue,
+    OpFault::NotTransactional,
+    OpFault::QueueEmpty,
+    OpFault::UnknownPeer,
+    OpFault::QueueFull,
+    OpFault::SequenceSpent,
+];
+
+static COMMIT: [CommitFault; 8] = [
+    CommitFault::Down,
+    CommitFault::NoOps,
+    CommitFault::TooManyOps,
+    CommitFault::AtOp {
+        index: 2,
+        fault: OpFault::QueueFull,
+    },
+    CommitFault::NumbersSpent,
+    CommitFault::TooLarge,
+    CommitFault::Memory,
+    CommitFault::DiskFault,
+];
+
+static SEND: [SendFault; 9] = [
+    SendFault::Down,
+    SendFault::UnknownPeer,
+    SendFault::NoQueue,
+    SendFault::Transactional,
+    SendFault::QueueFull,
+    SendFault::NumbersSpent,
+    SendFault::TooLarge,
+    SendFault::Memory,
+    SendFault::DiskFault,
+];
+
+static HEAR: [HearFault; 4] = [
+    HearFault::Down,
+    HearFault::NotLinked,
+    HearFault::Memory,
+    HearFault::DiskFault,
+];
+
+static PUMP: [PumpFault; 5] = [
+    PumpFault::Down,
+    PumpFault::NotLinked,
+    PumpFault::Spent,
+    PumpFault::Memory,
+    PumpFault::DiskFault,
+];
+
+fn put_messages(alloc: Global, out: &mut Vec<u8>) -> Result<(), Memory> {
+    put(alloc, &OP, out)?;
+    put(alloc, &COMMIT, out)?;
+    put(alloc, &SEND, out)?;
+    put(alloc, &HEAR, out)?;
+    put(alloc, &PUMP, out)
+}
+
+const TEXTS: &[u8] = b"no entry's field stands at 7
 a record that does not fit
 out of memory
 no state's field stands at 40
 out of memory
 out of memory
 a call of the disk failed
-";
-
-#[test]
-fn texts_of_stores(rt: HostRuntime) -> Result<(), Fail> {
-    let alloc = rt.alloc();
-    let mut out = Vec::new(alloc);
-    put(alloc, &[EntryFault { at: 7 }], &mut out)?;
-    put(
-        alloc,
-        &[PrepareFault::Unfit, PrepareFault::Memory],
-        &mut out,
-    )?;
-    put(
-        alloc,
-        &[BackFault::Bad { at: 40 }, BackFault::Memory],
-        &mut out,
-    )?;
-    put(
-        alloc,
-        &[WriteFault::Memory, WriteFault::DiskFault],
-        &mut out,
-    )?;
-    assert!(rt; out.as_slice() == STORES);
-    Ok(())
-}
-
-const PLACES: &[u8] = b"the manager is down
+the manager is down
 the host or the GUID is known already
 64 peers are known
 out of memory
@@ -78,70 +169,7 @@ the manager is down
 no such queue
 out of memory
 a call of the disk failed
-";
-
-#[test]
-fn texts_of_peers_queues_and_places(rt: HostRuntime) -> Result<(), Fail> {
-    let alloc = rt.alloc();
-    let mut out = Vec::new(alloc);
-    put(
-        alloc,
-        &[
-            AddPeerFault::Down,
-            AddPeerFault::PeerThere,
-            AddPeerFault::TooManyPeers,
-            AddPeerFault::Memory,
-            AddPeerFault::DiskFault,
-        ],
-        &mut out,
-    )?;
-    put(
-        alloc,
-        &[
-            CreateFault::Down,
-            CreateFault::QueueThere,
-            CreateFault::TooManyQueues,
-            CreateFault::Memory,
-            CreateFault::DiskFault,
-        ],
-        &mut out,
-    )?;
-    put(
-        alloc,
-        &[StoreFault::Down, StoreFault::Memory, StoreFault::DiskFault],
-        &mut out,
-    )?;
-    put(
-        alloc,
-        &[LinkFault::Down, LinkFault::Linked, LinkFault::NoPeer],
-        &mut out,
-    )?;
-    put(
-        alloc,
-        &[
-            TakeFault::Down,
-            TakeFault::NoQueue,
-            TakeFault::QueueEmpty,
-            TakeFault::Memory,
-            TakeFault::DiskFault,
-        ],
-        &mut out,
-    )?;
-    put(
-        alloc,
-        &[
-            PurgeFault::Down,
-            PurgeFault::NoQueue,
-            PurgeFault::Memory,
-            PurgeFault::DiskFault,
-        ],
-        &mut out,
-    )?;
-    assert!(rt; out.as_slice() == PLACES);
-    Ok(())
-}
-
-const MESSAGES: &[u8] = b"no such queue
+no such queue
 the queue is not transactional
 no message can be taken
 the destination leads nowhere
@@ -176,74 +204,11 @@ a call of the disk failed
 ";
 
 #[test]
-fn texts_of_messages_and_packets(rt: HostRuntime) -> Result<(), Fail> {
-    let alloc = rt.alloc();
-    let mut out = Vec::new(alloc);
-    put(
-        alloc,
-        &[
-            OpFault::NoQueue,
-            OpFault::NotTransactional,
-            OpFault::QueueEmpty,
-            OpFault::UnknownPeer,
-            OpFault::QueueFull,
-            OpFault::SequenceSpent,
-        ],
-        &mut out,
-    )?;
-    put(
-        alloc,
-        &[
-            CommitFault::Down,
-            CommitFault::NoOps,
-            CommitFault::TooManyOps,
-            CommitFault::AtOp {
-                index: 2,
-                fault: OpFault::QueueFull,
-            },
-            CommitFault::NumbersSpent,
-            CommitFault::TooLarge,
-            CommitFault::Memory,
-            CommitFault::DiskFault,
-        ],
-        &mut out,
-    )?;
-    put(
-        alloc,
-        &[
-            SendFault::Down,
-            SendFault::UnknownPeer,
-            SendFault::NoQueue,
-            SendFault::Transactional,
-            SendFault::QueueFull,
-            SendFault::NumbersSpent,
-            SendFault::TooLarge,
-            SendFault::Memory,
-            SendFault::DiskFault,
-        ],
-        &mut out,
-    )?;
-    put(
-        alloc,
-        &[
-            HearFault::Down,
-            HearFault::NotLinked,
-            HearFault::Memory,
-            HearFault::DiskFault,
-        ],
-        &mut out,
-    )?;
-    put(
-        alloc,
-        &[
-            PumpFault::Down,
-            PumpFault::NotLinked,
-            PumpFault::Spent,
-            PumpFault::Memory,
-            PumpFault::DiskFault,
-        ],
-        &mut out,
-    )?;
-    assert!(rt; out.as_slice() == MESSAGES);
+fn texts_of_faults(rt: HostRuntime) -> Result<(), Fail> {
+    let mut out = Vec::new(rt.alloc());
+    put_stores(rt.alloc(), &mut out)?;
+    put_places(rt.alloc(), &mut out)?;
+    put_messages(rt.alloc(), &mut out)?;
+    assert!(rt; out.as_slice() == TEXTS);
     Ok(())
 }
