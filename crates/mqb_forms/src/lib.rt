@@ -19,4 +19,4 @@ pub use values::{
     call_of, choice_of, guid_of, mode_of, moment_of, name_of, packet_of, pick_of, place_of,
     priority_of, quota_of, roll_of, window_of,
 };
-pub use words::{is_word, number_in, parts};
+pub use words::{FEW, few_parts, is_word, number_in, parts};

@@ -9,7 +9,7 @@ use crate::faults::{LineFault, LineKind};
 use crate::flags::flags_of;
 use crate::ops::Ops;
 use crate::values::name_of;
-use crate::words::{is_word, number_in, parts};
+use crate::words::{FEW, few_parts, is_word, number_in, parts};
 use mqb_base::{Bytes, Draft, Guid, Memory, MessageId, Op, Parts, QueueName, UNLIMITED, Units};
 use mqb_names::{NameFault, read_name};
 use std::alloc::Global;
@@ -236,14 +236,27 @@ fn send_from(alloc: Global, priority: u8, fields: &[&[u8]]) -> Result<Draft, Lin
     draft_from(alloc, priority, fields)
 }
 
+/// The message of this priority that a word of any number of fields describes.
+#[tactic(auto, unfolding(crate::specs::Sends::send_of))]
+fn long_send_of(alloc: Global, priority: u8, word: &[u8]) -> Result<Draft, LineFault>
+    requires { priority ≤ 7 }
+    ensures { Reads (send_of priority word.now) result }
+{
+    let fields = parts(alloc, word, b',')?;
+    send_from(alloc, priority, fields.as_slice())
+}
+
 /// The message of this priority that a word describes.
 #[tactic(auto, unfolding(crate::specs::Sends::send_of))]
 pub fn send_of(alloc: Global, priority: u8, word: &[u8]) -> Result<Draft, LineFault>
     requires { priority ≤ 7 }
     ensures { Reads (send_of priority word.now) result }
 {
-    let fields = parts(alloc, word, b',')?;
-    send_from(alloc, priority, fields.as_slice())
+    let mut room = [word; FEW];
+    match few_parts(word, b',', &mut room) {
+        Some(count) => send_from(alloc, priority, &room[..count]),
+        None => long_send_of(alloc, priority, word),
+    }
 }
 
 #[tactic(auto, unfolding(crate::specs::Sends::take_from))]
@@ -266,12 +279,24 @@ fn op_from(alloc: Global, fields: &[&[u8]]) -> Result<Op, LineFault>
     }
 }
 
+/// The step that a word of any number of fields is.
 #[tactic(auto, unfolding(crate::specs::Sends::op_of))]
-fn op_of(alloc: Global, word: &[u8]) -> Result<Op, LineFault>
+fn long_op_of(alloc: Global, word: &[u8]) -> Result<Op, LineFault>
     ensures { Reads (op_of word.now) result }
 {
     let fields = parts(alloc, word, b',')?;
     op_from(alloc, fields.as_slice())
+}
+
+#[tactic(auto, unfolding(crate::specs::Sends::op_of))]
+fn op_of(alloc: Global, word: &[u8]) -> Result<Op, LineFault>
+    ensures { Reads (op_of word.now) result }
+{
+    let mut room = [word; FEW];
+    match few_parts(word, b',', &mut room) {
+        Some(count) => op_from(alloc, &room[..count]),
+        None => long_op_of(alloc, word),
+    }
 }
 
 /// The steps that words are, in order.

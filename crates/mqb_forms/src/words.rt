@@ -1,4 +1,4 @@
-ghost use Rattle.std.specs.Prelude.{◌≡◌, ◌==◌, ◌≤◌, ◌^◌, min, map, IfOk};
+ghost use Rattle.std.specs.Prelude.{◌≡◌, ◌==◌, ◌≤◌, ◌^◌, min, length, map, take, IfOk, IfSome};
 ghost use Rattle.std.specs.List.{slice_split, list_all};
 ghost use Rattle.mqb_base.specs.Same.{same_bytes};
 ghost use Rattle.mqb_forms.specs.Words.{is_decimal, is_digit, value_of, number_in};
@@ -11,6 +11,26 @@ pub fn parts(alloc: Global, text: &[u8], by: u8) -> Result<Vec<&[u8]>, AllocErro
     ensures { IfOk result (λ p. map (λ w. w.now) p.items ≡ slice_split (λ b. b == by) text.now) }
 {
     text.split(|byte| *byte == by).collect(alloc)
+}
+
+/// How many parts are read in place: as many as a line has that is no commit, and as many as a send has fields.
+pub const FEW: usize = 8;
+
+/// The parts of a text between bytes, in place: how many stand at the front of the room, where they fit.
+pub fn few_parts<'t>(text: &'t [u8], by: u8, room: &mut [&'t [u8]]) -> Option<usize>
+    ensures within { IfSome result (λ count. count ≤ length room.new) }
+    ensures parts { IfSome result (λ count. map (λ w. w.now) (take count room.new) ≡
+        slice_split (λ b. b == by) text.now) }
+{
+    let mut count = 0;
+    for part in text.split(|byte| *byte == by) {
+        if count == room.len() {
+            return None;
+        }
+        room[count] = part;
+        count += 1;
+    }
+    Some(count)
 }
 
 pub fn is_word(word: &[u8], this: &[u8]) -> bool

@@ -9,8 +9,8 @@ use crate::events::Event;
 use crate::forms::{Form, form_of};
 use crate::managers::{Which, manager_of};
 use mqb_forms::{
-    LineFault, LineKind, call_of, how_of, mode_of, moment_of, ops_of, packet_of, parts, pick_of,
-    place_of, plan_of, roll_of, send_of, window_of,
+    FEW, LineFault, LineKind, call_of, few_parts, how_of, mode_of, moment_of, ops_of, packet_of,
+    parts, pick_of, place_of, plan_of, roll_of, send_of, window_of,
 };
 use std::alloc::Global;
 
@@ -301,10 +301,22 @@ fn event_of_words(alloc: Global, words: &[&[u8]]) -> Result<Event, LineFault>
     event_from(alloc, form, words)
 }
 
+/// The event of a line of any number of words.
+fn long_event_of(alloc: Global, line: &[u8]) -> Result<Event, LineFault>
+    ensures { Reads (event_of_words (words_of line.now)) result }
+{
+    let words = parts(alloc, line, b' ')?;
+    event_of_words(alloc, words.as_slice())
+}
+
 fn are_printable(line: &[u8]) -> bool
     ensures { result ≡ list_all is_printable line.now }
 {
-    line.iter().all(|byte| matches!(*byte, 0x20..=0x7E))
+    let mut all = true;
+    for byte in line {
+        all &= matches!(*byte, 0x20..=0x7E);
+    }
+    all
 }
 
 #[tactic(auto, unfolding(crate::specs::Lines::event_of))]
@@ -314,8 +326,11 @@ pub(crate) fn event_of(alloc: Global, line: &[u8]) -> Result<Event, LineFault>
     if !are_printable(line) {
         return Err(LineFault::Faulty(LineKind::Byte));
     }
-    let words = parts(alloc, line, b' ')?;
-    event_of_words(alloc, words.as_slice())
+    let mut room = [line; FEW];
+    match few_parts(line, b' ', &mut room) {
+        Some(count) => event_of_words(alloc, &room[..count]),
+        None => long_event_of(alloc, line),
+    }
 }
 
 pub(crate) fn is_skipped(line: &[u8]) -> bool
