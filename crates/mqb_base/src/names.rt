@@ -11,15 +11,16 @@ ghost use Rattle.mqb_base.specs.Same.{same_ignoring_case};
 use std::alloc::{AllocError, Global};
 use std::hash::{Hash, Hasher};
 use std::marker::Model;
+use std::rc::RcSlice;
 use thiserror::Error;
 
 /// The most bytes of a name.
 pub const MAX_NAME: usize = 64;
 
-/// The name of a host or a queue: 1 to 64 bytes from 0x21 to 0x7E without `\`, `;`, `=` and `,`. Contracts see the list of its bytes.
+/// The name of a host or a queue: 1 to 64 bytes from 0x21 to 0x7E without `\`, `;`, `=` and `,`. Contracts see the list of its bytes. A clone shares them.
 #[derive(Debug, Drop)]
 pub struct Name {
-    bytes: Vec<u8>,
+    bytes: RcSlice<u8>,
 }
 
 /// Why bytes are no name.
@@ -38,11 +39,12 @@ impl Model for Name {
 
     ghost Value = { List ℕ };
 
+    ghost use Rattle.std.specs.Rc.{rc_slice_items};
     ghost use Rattle.mqb_base.specs.Names.{name_fault};
 
-    ghost view = { λ n. n.bytes.items };
+    ghost view = { λ n. rc_slice_items n.bytes };
 
-    ghost invariant = { λ n. name_fault n.bytes.items ≡ None };
+    ghost invariant = { λ n. name_fault (rc_slice_items n.bytes) ≡ None };
 }
 
 /// Whether a byte may stand in a name.
@@ -76,7 +78,7 @@ impl Name {
         if let Some(fault) = fault_of(bytes) {
             return Err(fault);
         }
-        match Vec::from_slice(alloc, bytes) {
+        match RcSlice::from_slice(alloc, bytes) {
             Ok(bytes) => Ok(Name { bytes }),
             Err(_) => Err(NameError::Memory),
         }
