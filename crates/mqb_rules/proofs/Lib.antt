@@ -2,3 +2,4 @@ pub mod Searches
 pub mod Peers
 pub mod Following
 pub mod Loops
+pub mod Here

@@ -1,8 +1,7 @@
 ghost use Rattle.std.specs.Prelude.{◌≡◌, ◌<◌, false, length, IfSome, position};
 ghost use Rattle.std.specs.Option.{option_map_or};
 ghost use Rattle.mqb_base.specs.Same.{same_guid};
-ghost use Rattle.mqb_fate.specs.Orders.{names_order_layer};
-ghost use Rattle.mqb_model.specs.state.Resolving.{at_peer, at_queue, is_for_order_layer, is_here, is_host_of, is_own_host, is_registered, peer_at, queue_named, queue_numbered, queue_registered, resolved};
+ghost use Rattle.mqb_model.specs.state.Resolving.{at_peer, at_queue, is_for_order_layer, is_host_of, is_own_host, is_registered, peer_at, queue_named, queue_numbered, queue_registered, resolved};
 
 use mqb_base::{Guid, Host, Identity, Name, QueueName, QueuePlan};
 use mqb_contents::Contents;
@@ -118,17 +117,19 @@ pub fn resolved(contents: &Contents, name: &QueueName) -> Target
     }
 }
 
-fn is_here(target: Target) -> bool
-    ensures { result ≡ is_here target }
-{
-    matches!(target, Target::Here(_))
-}
-
-/// Whether a name is that of this manager's order layer.
+/// Whether a name is that of this manager's order layer. Its host tells: no queue is looked for.
+#[tactic(auto, using(crate::proofs::Here::here_by_host))]
 pub fn is_for_order_layer(contents: &Contents, name: &QueueName) -> bool
     ensures { result ≡ is_for_order_layer contents.now.lists name.now }
 {
-    names_order_layer(name) && is_here(resolved(contents, name))
+    match name {
+        QueueName::Direct {
+            host,
+            journal: false,
+            ..
+        } => names_order_layer(name) && is_own_host(contents.identity(), host),
+        _ => false,
+    }
 }
 
 fn is_registered(plan: &QueuePlan, guid: Guid) -> bool
