@@ -28,6 +28,19 @@ impl<'h> Model for Printer<'h> {
     ghost view = { λ p. record { hosts = p.hosts.now; text = p.text.items } };
 }
 
+/// How many bytes more a text has room for where it grows: a line has fewer, as a rule.
+const LINE: usize = 128;
+
+/// Makes room for `more` bytes, and for a line at once where there is less.
+fn make_room(text: &mut Vec<u8>, more: usize) -> Result<(), Memory>
+    ensures { text.new.items ≡ text.old.items }
+{
+    if text.capacity() - text.len() < more {
+        text.reserve(more.max(LINE))?;
+    }
+    Ok(())
+}
+
 fn hex_digit(n: u16) -> u8
     requires { n < 16 }
     ensures { result ≡ hex_digit n }
@@ -65,6 +78,7 @@ impl<'h> Printer<'h> {
     pub fn put(&mut self, text: &[u8]) -> Result<(), Memory>
         ensures { OnOk result (self.new ≡ wrote self.old text.now) }
     {
+        make_room(&mut self.text, text.len())?;
         self.text.extend_from_slice(text)?;
         Ok(())
     }
