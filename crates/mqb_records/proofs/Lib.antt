@@ -4,3 +4,4 @@ mod Stepping
 mod Reading
 mod Ordering
 mod Recording
+mod Halved

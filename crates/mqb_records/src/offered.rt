@@ -12,13 +12,22 @@ use mqb_drafts::Draft;
 use mqb_entries::{Mark, Marks};
 use mqb_orders::{KeptList, OutRow};
 
-/// Whether a list keeps a number.
+/// Whether a list keeps a number. Half of what is left is passed each time, since the numbers rise.
 fn keeps(kept: &KeptList, number: u32) -> bool
     ensures { result ≡ list_any (λ k. k.number == number) kept.now.items }
 {
-    for at in 0..kept.len() {
-        if kept.get(at).number == number {
+    let mut low = 0;
+    let mut high = kept.len();
+    while low < high {
+        let middle = low + (high - low) / 2;
+        let found = kept.get(middle).number;
+        if found == number {
             return true;
+        }
+        if found < number {
+            low = middle + 1;
+        } else {
+            high = middle;
         }
     }
     false

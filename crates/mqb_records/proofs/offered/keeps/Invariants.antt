@@ -1,6 +1,9 @@
-use Rattle.std.proofs.Common.{◌≡◌, ◌==◌, false, take}
-use Rattle.std.specs.List.{list_any}
+use Rattle.std.proofs.Common.{◌-◌}
+use Rattle.mqb_records.proofs.Halved.{IsBetween}
 use Rattle.mqb_records.proofs.offered.keeps.Given as goal
 
-abbrev pub invariant-loop-at : goal.invariant-loop-at
-invariant-loop-at l = list_any (λ k. k.number == l.number) (take l.at l.kept.items) ≡ false
+abbrev pub invariant-loop-low : goal.invariant-loop-low
+invariant-loop-low l = IsBetween l.kept.items l.number l.low l.high
+
+abbrev pub decreases-loop-low : goal.decreases-loop-low
+decreases-loop-low l = l.high - l.low
