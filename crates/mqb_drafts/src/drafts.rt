@@ -144,6 +144,14 @@ impl Draft {
         (contents, lines)
     }
 
+    /// Makes room for so many changes at once. Contracts see nothing of it: a change makes room for itself.
+    pub(crate) fn make_room(&mut self, changes: usize) -> Result<(), Memory>
+        ensures { self.new ≡ self.old }
+    {
+        self.log.make_room(changes)?;
+        self.turned.make_room(self.log.room())
+    }
+
     /// Makes a change.
     pub fn change(&mut self, change: Change) -> Result<(), Memory>
         requires { Can self.old.effect.state change }

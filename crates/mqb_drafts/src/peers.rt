@@ -51,7 +51,7 @@ impl Draft {
         self.take_numbers(1)
     }
 
-    /// So many numbers of durable messages are taken.
+    /// So many numbers of durable messages are taken. Each of these is about to make two changes, so there is room for them then.
     pub fn take_numbers(&mut self, count: u32) -> Result<(), Memory>
         requires { self.old.effect.state.next_number + count < 2 ^ 32 }
         ensures ok { OnOk result (self.new.effect ≡ without_line self.old.effect
@@ -60,6 +60,7 @@ impl Draft {
         ensures grown { IsGrown self.old.rooms self.new.rooms }
         ensures held { OnOk result (self.new.held ≤ self.old.held) }
     {
+        self.make_room(2 * count as usize + 1)?;
         let counters = self.contents.counters();
         self.change(Change::Count(Counters {
             next_number: counters.next_number + count,
