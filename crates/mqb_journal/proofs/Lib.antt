@@ -2,6 +2,7 @@ pub mod Blocks
 pub mod Outcomes
 pub mod Records
 pub mod Scans
+pub mod Fronts
 pub mod Chains
 pub mod Whole
 pub mod Lending

@@ -23,8 +23,8 @@ pub record StandsBehind (d : View) (s : ScanState) (records : List (List ℕ)) :
 -- up to where it stands
 pub goes_to : (d : View) (s : ScanState) (records : List (List ℕ)) → StandsBehind d s records → Each d.reads (GoesTo s.guid.0 records s.gate)
 goes_to d s records at c told = record {
-  front = at.lent.front;
-  is_front = at.lent.is_front;
+  first = at.lent.first;
+  front = at.lent.front c told;
   small = at.lent.small;
   place = at.lent.place;
   begins = at.lent.begins c told;

@@ -1,5 +1,5 @@
 -- How far a start has read.
-use Rattle.std.proofs.Common.{arith, inl, inr, refl, ap, length}
+use Rattle.std.proofs.Common.{arith, inl, inr, refl, length}
 use Rattle.std.specs.Prelude.{[], ◌+◌, ◌<◌, ◌≡◌, ◌≤◌, List, max, ℕ}
 use Rattle.mqb_base.specs.declared.ledger.Line.{Line}
 use Rattle.mqb_outside.specs.Disk.{OnlyReads, View}
@@ -17,7 +17,7 @@ use Rattle.mqb_store_laws.specs.Faults.{GoesWell}
 
 -- A scan that has read these entries stands behind the header.
 pub gate_of_read : {d : View} {scan : ScanState} {s : State} {lines : List Line} → IsReadUpTo d scan s lines → 24 ≤ scan.gate
-gate_of_read read = omega (arith, read.lent.place, ap length read.lent.is_front)
+gate_of_read read = omega (arith, read.lent.place, read.lent.behind)
 
 -- One step more was tried, whatever came of it.
 pub stops_behind : (d m e : View) {scan : ScanState} {s : State} {lines : List Line} (before : ℕ) → IsReadUpTo m scan s lines → OnlyReads d m

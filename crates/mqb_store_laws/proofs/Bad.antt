@@ -148,7 +148,7 @@ nothing_more a b first second = let size = ap length first.1 in let back = ap le
     at (x ∷ more) none is = absurd (let no : ⊥ = omega (arith, none) in no)
 
 place_is : (guid : List ℕ) (records : List (List ℕ)) (at : ℕ) (image : List ℕ) → GoesTo guid records at image → at ≡ 24 + length (chain records)
-place_is guid records at image goes = goes.place ∙ ap (λ (l : List ℕ). length l + length (chain records)) goes.is_front
+place_is guid records at image goes = goes.place ∙ ap (λ (n : ℕ). n + length (chain records)) goes.front.begins
 
 same_place : (guid other image : List ℕ) (r s : List (List ℕ)) (at place : ℕ) → r ≡ s → GoesTo guid r at image → GoesTo other s place image → at ≡ place
 same_place guid other image r s at place same first second =
@@ -284,9 +284,9 @@ module _ (k : Alike) where
       let no : None ≡ Some s = ap (state_in guid) is ∙ opens.state in cc
   opened_not_bad guid count at s image long opens (inr (inr (inr (inl off)))) = k.stands guid.0 image opens.entries at opens.stands (inr (record {
     guid = off.guid.0;
-    front = off.here.goes.front;
+    first = off.here.goes.first;
     records = off.entries;
-    is_front = off.here.goes.is_front;
+    front = off.here.goes.front;
     small = off.here.goes.small;
     place = off.here.goes.place;
     begins = off.here.goes.begins;

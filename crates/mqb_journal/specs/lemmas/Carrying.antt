@@ -1,5 +1,5 @@
 -- What carries a journal's condition from call to call.
-use Rattle.std.proofs.Common.{◌≡◌, ℕ, ◌+◌, ◌<◌, List, ◌∷◌, ◌++◌, length, drop, true, false, ◌∙◌, ap, arith, length-append}
+use Rattle.std.proofs.Common.{◌≡◌, ℕ, ◌+◌, ◌<◌, List, ◌∷◌, ◌++◌, length, drop, true, false, ◌∙◌, ap, arith, length-append, length-drop}
 use Rattle.mqb_outside.specs.Images.{Each}
 use Rattle.mqb_outside.specs.Disk.{View, IsSettled, Unchanged, OnlyReads}
 use Rattle.mqb_journal.specs.Store.{StandsFor, chain}
@@ -9,8 +9,8 @@ use Rattle.mqb_journal.specs.Journals.{GoesOn, Lent}
 -- over a disk of which nothing new is told
 pub goes_on_told : (d e : View) (j : JournalState) (records : List (List ℕ)) → GoesOn d j records → Each e.reads d.reads → GoesOn e j records
 goes_on_told d e j records on told = record {
-  front = on.front;
-  is_front = on.is_front;
+  first = on.first;
+  behind = on.behind;
   stands = λ c reads. on.stands c (told c reads);
   small = on.small;
   end = on.end;
@@ -33,8 +33,8 @@ goes_on_restarted d e j records on settled left = goes_on_told d e j records on 
 -- through a refusal, which may leave more room
 pub goes_on_refused : (d : View) (j : JournalState) (room : ℕ) (records : List (List ℕ)) → GoesOn d j records → GoesOn d (record j { room = room }) records
 goes_on_refused d j room records on = record {
-  front = on.front;
-  is_front = on.is_front;
+  first = on.first;
+  behind = on.behind;
   stands = on.stands;
   small = on.small;
   end = on.end;
@@ -50,24 +50,35 @@ settled_unchanged d e settled same c left = same.reads.none_lost c (settled c (s
 
 -- what a read gives stands for the records
 pub goes_on_stands : (d : View) (j : JournalState) (records : List (List ℕ)) → GoesOn d j records → Each d.reads (StandsFor j.guid.0 records)
-goes_on_stands d j records on c told = record { front = on.front; is_front = on.is_front; small = on.small; stands = on.stands c told }
+goes_on_stands d j records on c told =
+    let is = on.stands c told in
+    record { first = on.first; front = is.front; small = on.small; stands = is.stands }
 
 -- the gate behind the records is there, so that a record can be added
 pub goes_on_gate : (d : View) (j : JournalState) (records : List (List ℕ)) → GoesOn d j records → Each d.reads (λ c. j.end < length c)
 goes_on_gate d j records on c told =
-    let shut = on.stands c told in
-    omega (arith, on.end, ap length shut.is, length-append (on.front ++ chain records) (shut.gate ∷ shut.rest), length-append on.front (chain records))
+    let has = (on.stands c told).stands in
+    omega (
+      arith,
+      on.end,
+      ap length has.is,
+      length-drop on.first c,
+      length-append (chain records) (has.gate ∷ has.rest),
+    )
 
 -- a scan that has ended goes on as a journal
 pub lent_goes_on : (d : View) (s : ScanState) (room : ℕ) (records : List (List ℕ)) → Lent d s records → s.ended ≡ true → GoesOn d (finished s room) records
 lent_goes_on d s room records lent ended = record {
-  front = lent.front;
-  is_front = lent.is_front;
+  first = lent.first;
+  behind = lent.behind;
   stands = λ c told. (let shut = (lent.gate c told).when_shut (lent.shut ended) in record {
-    gate = shut.byte;
-    rest = drop (s.gate + 1) c;
-    closed = shut.closed;
-    is = lent.begins c told ∙ ap (λ (l : List ℕ). lent.front ++ chain records ++ l) shut.is;
+    front = lent.front c told;
+    stands = record {
+      gate = shut.byte;
+      rest = drop (s.gate + 1) c;
+      closed = shut.closed;
+      is = lent.begins c told ∙ ap (λ (l : List ℕ). chain records ++ l) shut.is;
+    };
   });
   small = lent.small;
   end = lent.place;
@@ -78,8 +89,9 @@ lent_goes_on d s room records lent ended = record {
 -- through calls that only read
 pub lent_read : (d e : View) (s : ScanState) (records : List (List ℕ)) → Lent d s records → OnlyReads d e → Lent e s records
 lent_read d e s records lent reads = record {
-  front = lent.front;
-  is_front = lent.is_front;
+  first = lent.first;
+  behind = lent.behind;
+  front = λ c told. lent.front c (reads.unchanged.reads.none_new c told);
   begins = λ c told. lent.begins c (reads.unchanged.reads.none_new c told);
   long = λ c told. lent.long c (reads.unchanged.reads.none_new c told);
   small = lent.small;

@@ -1,5 +1,5 @@
 -- How far a chain of records was read.
-use Rattle.std.proofs.Common.{inl, inr, ℕ, ◌+◌, ◌≤◌, max, List, ap, arith, length}
+use Rattle.std.proofs.Common.{inl, inr, ℕ, ◌+◌, ◌≤◌, max, List, arith}
 use Rattle.mqb_journal.specs.Scan.{GoesTo, ReadsOnlyAt}
 
 -- where the reads before them came to the gate at most
@@ -10,4 +10,4 @@ reads_on gate before mid now c so_far (inr (inr next)) = inr (inr (next.0, next.
 
 -- the first gate stands behind the header, and no gate before it
 pub gate_behind : (guid : List ℕ) (records : List (List ℕ)) (at : ℕ) (image : List ℕ) → GoesTo guid records at image → 24 ≤ at
-gate_behind guid records at image goes = omega (arith, goes.place, ap length goes.is_front)
+gate_behind guid records at image goes = omega (arith, goes.place, goes.front.begins)

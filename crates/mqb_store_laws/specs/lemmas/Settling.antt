@@ -42,8 +42,9 @@ settled_still d e settled settles c left = settles.reads.none_lost c (settled c 
 
 pub lent_settled : (d e : View) (s : ScanState) (records : List (List ℕ)) → Lent d s records → OnlySettles d e → Lent e s records
 lent_settled d e s records lent settles = record {
-  front = lent.front;
-  is_front = lent.is_front;
+  first = lent.first;
+  behind = lent.behind;
+  front = λ c told. lent.front c (settles.reads.none_new c told);
   begins = λ c told. lent.begins c (settles.reads.none_new c told);
   long = λ c told. lent.long c (settles.reads.none_new c told);
   small = lent.small;

@@ -7,4 +7,5 @@ returns-clause-finished g c = λ room records lent ended. lent_goes_on _ c.args.
 
 pub returns-clause-first : goal.returns-clause-first
 returns-clause-first g c = λ guid image records all lent told within stands.
-    lent_is_first c.args.scan.now.guid.0 guid lent.front records all c.args.scan.now.gate image lent.is_front lent.small within (lent.begins image told) stands
+    lent_is_first c.args.scan.now.guid.0 guid lent.first records all c.args.scan.now.gate image
+    (lent.front image told) lent.small within (lent.begins image told) stands

@@ -3,10 +3,12 @@ use Rattle.std.proofs.lemmas.Result.{err_from_is_err_and}
 use Rattle.std.specs.Prelude.{Err, List, false, ℕ}
 use Rattle.mqb_journal.specs.declared.faults.OpenFault.{OpenFault}
 use Rattle.mqb_journal.specs.declared.faults.OpenFault.TheVariants as opening
+use Rattle.mqb_journal.specs.declared.faults.ScanFault.{ScanFault}
 use Rattle.mqb_model.specs.records.Reading.{record_of}
 use Rattle.mqb_state.specs.Unfit.{is_fit}
+use Rattle.mqb_store.proofs.Faulty.{breaks_off}
 use Rattle.mqb_store.proofs.Read.{IsMade, may_go_on, read_all, read_in, read_more, stands_behind, unfit_from}
-use Rattle.mqb_store.proofs.Steps.{HasEnded, HasGoneOn, same_guid_then, same_fault, stands_at_end, stands_then, unfit_then}
+use Rattle.mqb_store.proofs.Steps.{HasEnded, HasGoneOn, bad_scan, same_guid_then, same_fault, stands_at_end, stands_then, unfit_then}
 use Rattle.mqb_journal.specs.States.{ScanState}
 use Rattle.mqb_store.proofs.replaying.step.Goals as goal
 
@@ -23,6 +25,16 @@ returns-then-not-branch-clause-read g c =
     } in
     read_all d e c.args.scan.now c.advance.new.self c.args.state.now.lists c.args.lines.now.items c.requires.read
     (ap (λ (s : ScanState). s.guid) done.next) (stands_at_end done)
+
+pub returns-in_err-advance-clause-bad : goal.returns-in_err-advance-clause-bad
+returns-in_err-advance-clause-bad g c at is =
+    let d = g.D.Disk.view c.args.disk.now in
+    let p = err_from_is_err_and c.from_residual.result c.from_residual.ensures.1 in
+    let fault = sym p.2 ∙ same_fault p.0 (opening.BadStore at) (sym p.1 ∙ is) in
+    let h = c.in_err-advance.ensures.bad at
+    (ap (λ (f : ScanFault). Err f) (bad_scan c.in_err-advance.field-0.0 at fault)) in
+    breaks_off d c.args.scan.now (read_in c.requires.read) at (stands_behind c.requires.read)
+    (may_go_on c.requires.read) h.0 h.1
 
 pub returns-in_err-apply-clause-bad : goal.returns-in_err-apply-clause-bad
 returns-in_err-apply-clause-bad g c at is =

@@ -1,11 +1,10 @@
 use Rattle.std.proofs.Common.{◌≡◌, [], ◌∷◌, ◌++◌, ℕ, ◌+◌, List, length, take, drop, sym, ◌∙◌, ap, subst, arith, length-append}
 use Rattle.std.proofs.lemmas.List.Elements.{All-push}
-use Rattle.mqb_journal.specs.Gates.{HasRecord}
 use Rattle.mqb_journal.specs.States.{JournalState}
-use Rattle.mqb_journal.specs.Store.{IsSmall, chain}
+use Rattle.mqb_journal.specs.Store.{IsSmall}
 use Rattle.mqb_journal.specs.Journals.{GoesOn}
 use Rattle.mqb_journal.proofs.Outcomes.{ok_fact}
-use Rattle.mqb_journal.proofs.Records.{block_of, length-before, length-chain-push, gate_after, run_before_or_after, quiet_moments}
+use Rattle.mqb_journal.proofs.Records.{block_of, length-chain-push, record_stands, closed_at, run_before_or_after, quiet_moments}
 use Rattle.mqb_journal.proofs.journal.Journal.append.Goals as goal
 
 pub returns-then-entry-gt-MAX_RECORD-clause-moments : goal.returns-then-entry-gt-MAX_RECORD-clause-moments
@@ -16,15 +15,19 @@ returns-in_err-frame-clause-moments g c records on settled = quiet_moments _ c.a
 
 pub returns-in_default-clause-moments : goal.returns-in_default-clause-moments
 returns-in_default-clause-moments g c records on settled =
-    let end = ap (λ (j : JournalState). j.end) c.self.view_is in
-    let run = c.write_behind.ensures.any_moment (on.front ++ chain records) (length-before on.front records ∙ sym on.end ∙ sym end) settled on.stands in
-    run_before_or_after _ _ c.args.self.now.guid.0 on.front records c.args.entry.now _ on.is_front on.small (omega arith) (c.deref.ensures.value ∙ c.in_ok-frame.ensures.framed) run
+    let at = ap (λ (j : JournalState). j.end) c.self.view_is in
+    run_before_or_after _ _ c.args.self.now records c.args.entry.now _ c.self.inside.end on
+    (omega arith) at (c.deref.ensures.value ∙ c.in_ok-frame.ensures.framed)
+    (c.write_behind.ensures.any_moment settled
+    (closed_at _ c.args.self.now records c.self.inside.end on at))
 
 pub returns-clause-moments : goal.returns-clause-moments
 returns-clause-moments g c records on settled =
-    let end = ap (λ (j : JournalState). j.end) c.self.view_is in
-    let run = c.write_behind.ensures.any_moment (on.front ++ chain records) (length-before on.front records ∙ sym on.end ∙ sym end) settled on.stands in
-    run_before_or_after _ _ c.args.self.now.guid.0 on.front records c.args.entry.now _ on.is_front on.small (omega arith) (c.deref.ensures.value ∙ c.in_ok-frame.ensures.framed) run
+    let at = ap (λ (j : JournalState). j.end) c.self.view_is in
+    run_before_or_after _ _ c.args.self.now records c.args.entry.now _ c.self.inside.end on
+    (omega arith) at (c.deref.ensures.value ∙ c.in_ok-frame.ensures.framed)
+    (c.write_behind.ensures.any_moment settled
+    (closed_at _ c.args.self.now records c.self.inside.end on at))
 
 pub returns-clause-done : goal.returns-clause-done
 returns-clause-done g c records on =
@@ -32,11 +35,13 @@ returns-clause-done g c records on =
     let block_is : c.deref.result.now ≡ block_of entry = c.deref.ensures.value ∙ c.in_ok-frame.ensures.framed in
     let fits : IsSmall entry = omega arith in
     let at : GoesOn (g.D.Disk.view c.args.disk.now) _ records = subst (λ (j : JournalState). GoesOn (g.D.Disk.view c.args.disk.now) j records) (sym c.self.view_is) on in
-    let written = ok_fact _ _ _ c.in-Ok.is (c.write_behind.ensures.written (at.front ++ chain records) (length-before at.front records ∙ sym at.end) at.stands) in
+    let written = ok_fact _ _ _ c.in-Ok.is c.write_behind.ensures.written in
     record {
-      front = at.front;
-      is_front = at.is_front;
-      stands = λ d told. gate_after at.front records entry d (subst (λ (b : List ℕ). HasRecord (at.front ++ chain records) b d) block_is (written d told));
+      first = at.first;
+      behind = at.behind;
+      stands = λ d told. (let from = written d told in
+          record_stands c.self.inside.guid.0 at.first c.self.inside.end records entry
+          c.deref.result.now from.0 d (at.stands from.0 from.1) at.end block_is from.2);
       small = All-push IsSmall records entry at.small fits;
       end = omega (arith, at.end, length-chain-push records entry, c.len.ensures, c.deref.ensures.len, ap length block_is);
       count = omega (arith, at.count, length-append records (entry ∷ []));
