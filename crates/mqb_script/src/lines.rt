@@ -2,12 +2,14 @@ ghost use Rattle.std.specs.Prelude.{◌≡◌, ◌≤◌, map, IfOk};
 ghost use Rattle.std.specs.List.{list_all};
 ghost use Rattle.mqb_forms.specs.Faults.{Reads};
 ghost use Rattle.mqb_forms.specs.Plans.{public_of, plan_of, how_of};
+ghost use Rattle.mqb_script.specs.Reading.{Adds};
 ghost use Rattle.mqb_script.specs.Lines.{words_of, is_skipped, is_printable, is_some_word, are_counted, event_of_words, event_of};
 ghost use Rattle.mqb_script.specs.Grammar.{at_of, queue_from, commit_from, sent_with, send_event, take_event, purge_from, tick_from, connect_from, disconnect_from, pump_from, deliver_from, drop_from, flow_from, resend_from, arm_from, restart_from, roll_from, event_from};
 
 use crate::events::Event;
 use crate::forms::{Form, form_of};
 use crate::managers::{Which, manager_of};
+use crate::reading::Script;
 use mqb_forms::{
     FEW, LineFault, LineKind, call_of, few_parts, how_of, mode_of, moment_of, ops_of, packet_of,
     parts, pick_of, place_of, plan_of, roll_of, send_of, window_of,
@@ -245,28 +247,38 @@ fn roll_from(words: &[&[u8]]) -> Result<Event, LineKind>
     Ok(Event::Roll { manager, count })
 }
 
+/// Adds the event of a line of this form, from the words behind the first one.
 #[tactic(auto, unfolding(crate::specs::Grammar::event_from))]
-fn event_from(alloc: Global, form: Form, words: &[&[u8]]) -> Result<Event, LineFault>
-    ensures { Reads (event_from form (map (λ word. word.now) words.now)) result }
+fn add_from(
+    script: &mut Script,
+    alloc: Global,
+    number: u32,
+    form: Form,
+    words: &[&[u8]],
+) -> Result<(), LineFault>
+    ensures { Adds number (event_from form (map (λ word. word.now) words.now))
+        script.old script.new result }
 {
-    match form {
-        Form::Queue => queue_from(alloc, words),
-        Form::Commit => commit_from(alloc, words),
-        Form::Send => send_event(alloc, words),
-        Form::Take => take_event(alloc, words),
-        Form::Purge => purge_from(alloc, words),
-        Form::Tick => Ok(tick_from(words)?),
-        Form::Connect => Ok(connect_from(words)?),
-        Form::Disconnect => Ok(disconnect_from(words)?),
-        Form::Pump => Ok(pump_from(words)?),
-        Form::Deliver => Ok(deliver_from(words)?),
-        Form::Drop => Ok(drop_from(words)?),
-        Form::Flow => Ok(flow_from(words)?),
-        Form::Resend => Ok(resend_from(words)?),
-        Form::Arm => Ok(arm_from(words)?),
-        Form::Restart => Ok(restart_from(words)?),
-        Form::Roll => Ok(roll_from(words)?),
-    }
+    let event = match form {
+        Form::Queue => queue_from(alloc, words)?,
+        Form::Commit => commit_from(alloc, words)?,
+        Form::Send => send_event(alloc, words)?,
+        Form::Take => take_event(alloc, words)?,
+        Form::Purge => purge_from(alloc, words)?,
+        Form::Tick => tick_from(words)?,
+        Form::Connect => connect_from(words)?,
+        Form::Disconnect => disconnect_from(words)?,
+        Form::Pump => pump_from(words)?,
+        Form::Deliver => deliver_from(words)?,
+        Form::Drop => drop_from(words)?,
+        Form::Flow => flow_from(words)?,
+        Form::Resend => resend_from(words)?,
+        Form::Arm => arm_from(words)?,
+        Form::Restart => restart_from(words)?,
+        Form::Roll => roll_from(words)?,
+    };
+    script.push(number, event)?;
+    Ok(())
 }
 
 fn are_some_words(words: &[&[u8]]) -> bool
@@ -288,8 +300,14 @@ fn are_counted(form: Form, words: &[&[u8]]) -> bool
 }
 
 #[tactic(auto, unfolding(crate::specs::Lines::event_of_words))]
-fn event_of_words(alloc: Global, words: &[&[u8]]) -> Result<Event, LineFault>
-    ensures { Reads (event_of_words (map (λ word. word.now) words.now)) result }
+fn add_words(
+    script: &mut Script,
+    alloc: Global,
+    number: u32,
+    words: &[&[u8]],
+) -> Result<(), LineFault>
+    ensures { Adds number (event_of_words (map (λ word. word.now) words.now))
+        script.old script.new result }
 {
     let [word, words @ ..] = words else {
         return Err(LineFault::Faulty(LineKind::Word));
@@ -298,15 +316,15 @@ fn event_of_words(alloc: Global, words: &[&[u8]]) -> Result<Event, LineFault>
     if !are_counted(form, words) {
         return Err(LineFault::Faulty(LineKind::Count));
     }
-    event_from(alloc, form, words)
+    add_from(script, alloc, number, form, words)
 }
 
-/// The event of a line of any number of words.
-fn long_event_of(alloc: Global, line: &[u8]) -> Result<Event, LineFault>
-    ensures { Reads (event_of_words (words_of line.now)) result }
+/// Adds the event of a line of any number of words.
+fn add_long(script: &mut Script, alloc: Global, number: u32, line: &[u8]) -> Result<(), LineFault>
+    ensures { Adds number (event_of_words (words_of line.now)) script.old script.new result }
 {
     let words = parts(alloc, line, b' ')?;
-    event_of_words(alloc, words.as_slice())
+    add_words(script, alloc, number, words.as_slice())
 }
 
 fn are_printable(line: &[u8]) -> bool
@@ -319,17 +337,23 @@ fn are_printable(line: &[u8]) -> bool
     all
 }
 
+/// Adds the event of the line of a number. An event is large, so it goes to the script at once, and not through the answer of each function.
 #[tactic(auto, unfolding(crate::specs::Lines::event_of))]
-pub(crate) fn event_of(alloc: Global, line: &[u8]) -> Result<Event, LineFault>
-    ensures { Reads (event_of line.now) result }
+pub(crate) fn add_event(
+    script: &mut Script,
+    alloc: Global,
+    number: u32,
+    line: &[u8],
+) -> Result<(), LineFault>
+    ensures { Adds number (event_of line.now) script.old script.new result }
 {
     if !are_printable(line) {
         return Err(LineFault::Faulty(LineKind::Byte));
     }
     let mut room = [line; FEW];
     match few_parts(line, b' ', &mut room) {
-        Some(count) => event_of_words(alloc, &room[..count]),
-        None => long_event_of(alloc, line),
+        Some(count) => add_words(script, alloc, number, &room[..count]),
+        None => add_long(script, alloc, number, line),
     }
 }
 

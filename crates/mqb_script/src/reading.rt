@@ -1,4 +1,4 @@
-ghost use Rattle.std.specs.Prelude.{◌≡◌, ◌==◌, ◌≤◌, false, length, Ok, Err, IfOk, IfErr, OnOk};
+ghost use Rattle.std.specs.Prelude.{◌≡◌, ◌==◌, ◌≤◌, ◌++◌, ◌∷◌, [], false, length, Ok, Err, IfOk, IfErr, OnOk, OnErr};
 ghost use Rattle.std.specs.List.{AllByRecursion, count_by};
 ghost use Rattle.mqb_script.specs.Lines.{is_skipped, event_of};
 ghost use Rattle.mqb_script.specs.Script.{numbered, script_of};
@@ -7,7 +7,8 @@ ghost use Rattle.mqb_script.specs.Formed.{IsFormed};
 
 use crate::events::Event;
 use crate::faults::{ScriptFault, at_line};
-use crate::lines::{event_of, is_skipped};
+use crate::lines::{add_event, is_skipped};
+use mqb_base::Memory;
 use mqb_forms::parts;
 use mqb_outside::Source;
 use std::alloc::Global;
@@ -28,14 +29,6 @@ impl Model for Script {
     ghost view = { λ s. s.events.items };
 }
 
-#[tactic(auto, using(crate::proofs::Faulty::at_line_fault))]
-fn event_at(alloc: Global, number: u32, line: &[u8]) -> Result<Event, ScriptFault>
-    ensures event { IfOk result (λ event. numbered number (event_of line.now) ≡ Ok event) }
-    ensures fault { IfErr result (IsScriptFault (numbered number (event_of line.now))) }
-{
-    event_of(alloc, line).map_err(|fault| at_line(number, fault))
-}
-
 impl Script {
     pub fn events(&self) -> &[(u32, Event)]
         ensures { result.now ≡ self.now }
@@ -43,7 +36,17 @@ impl Script {
         self.events.as_slice()
     }
 
+    /// Adds the event of the line of a number.
+    pub(crate) fn push(&mut self, number: u32, event: Event) -> Result<(), Memory>
+        ensures ok { OnOk result (self.new ≡ self.old ++ (number, event) ∷ []) }
+        ensures err { OnErr result (self.new ≡ self.old) }
+    {
+        self.events.push((number, event))?;
+        Ok(())
+    }
+
     /// Adds the event of a line, where it is not one that is skipped.
+    #[tactic(auto, using(crate::proofs::Faulty::at_line_fault))]
     fn read_line(&mut self, alloc: Global, number: u32, line: &[u8]) -> Result<(), ScriptFault>
         ensures line { OnOk result (ReadsLine number line.now self.old self.new) }
         ensures kept { IfErr result (λ _. is_skipped line.now ≡ false) }
@@ -52,10 +55,7 @@ impl Script {
         if is_skipped(line) {
             return Ok(());
         }
-        let event = event_at(alloc, number, line)?;
-        self.events
-            .push((number, event))
-            .map_err(|_| ScriptFault::Memory)
+        add_event(self, alloc, number, line).map_err(|fault| at_line(number, fault))
     }
 }
 
