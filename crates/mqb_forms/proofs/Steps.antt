@@ -5,7 +5,7 @@ use Rattle.mqb_base.specs.declared.draft.Op.{Op}
 use Rattle.mqb_fields.specs.Reading.{◌>>=◌}
 use Rattle.mqb_forms.specs.declared.faults.LineKind.{LineKind}
 use Rattle.mqb_forms.specs.declared.faults.LineFault.{LineFault}
-use Rattle.mqb_forms.specs.Faults.{IsFaultOf}
+use Rattle.mqb_forms.specs.Faults.{IsFaultOf, behind}
 use Rattle.mqb_forms.specs.Sends.{op_of, ops_of}
 
 -- steps in front of more
@@ -40,12 +40,19 @@ stopped : (before : List Op) (kind : LineKind) (word : List ℕ) (words : List (
 unfolding ops_of
 stopped before kind word words is = rw is refl
 
-pub ops_more : (whole : Result (List Op) LineKind) (place : ℕ) (words : List (Bor (List ℕ))) (before : List Op) (d : Bor (List ℕ)) (op : Op)
-    → IsReadTo whole place words before → place < length words → op_of (get_or words place d).now ≡ Ok op
-    → IsReadTo whole (place + 1) words (before ++ op ∷ [])
-ops_more whole place words before d op read within is =
-    read ∙ at_drop_more (λ rest. before_ops before (ops_of (map (λ word. word.now) rest))) words place d within
-    ∙ one_more before op _ (map (λ word. word.now) (drop (place + 1) words)) is
+added : (whole : Result (List Op) LineKind) (place : ℕ) (words : List (Bor (List ℕ))) (before after : List Op) (d : Bor (List ℕ)) (read : Result Op LineKind)
+    → IsReadTo whole place words before → place < length words → op_of (get_or words place d).now ≡ read
+    → behind before read ≡ Ok after → IsReadTo whole (place + 1) words after
+added whole place words before after d (Ok op) read within is more =
+    let same : before ++ op ∷ [] ≡ after = cc in
+    rw (← same) (read ∙ at_drop_more (λ rest. before_ops before (ops_of (map (λ word. word.now) rest))) words place d within
+    ∙ one_more before op _ (map (λ word. word.now) (drop (place + 1) words)) is)
+added whole place words before after d (Err kind) read within is more = absurd cc
+
+pub ops_more : (whole : Result (List Op) LineKind) (place : ℕ) (words : List (Bor (List ℕ))) (before after : List Op) (d : Bor (List ℕ))
+    → IsReadTo whole place words before → place < length words → behind before (op_of (get_or words place d).now) ≡ Ok after
+    → IsReadTo whole (place + 1) words after
+ops_more whole place words before after d read within more = added whole place words before after d (op_of (get_or words place d).now) read within refl more
 
 pub ops_stop : (whole : Result (List Op) LineKind) (place : ℕ) (words : List (Bor (List ℕ))) (before : List Op) (d : Bor (List ℕ)) (kind : LineKind)
     → IsReadTo whole place words before → place < length words → op_of (get_or words place d).now ≡ Err kind

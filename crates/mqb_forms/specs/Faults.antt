@@ -1,4 +1,5 @@
-use Rattle.std.specs.Prelude.{◌≡◌, Bool, Result, Ok, Err, IfOk, IfErr, if◌then◌else◌}
+use Rattle.std.specs.Prelude.{◌≡◌, Bool, List, [], ◌∷◌, ◌++◌, Result, Ok, Err, IfOk, IfErr, OnOk, if◌then◌else◌}
+use Rattle.mqb_fields.specs.Reading.{◌>>=◌}
 use Rattle.mqb_forms.specs.declared.faults.LineKind.{LineKind}
 use Rattle.mqb_forms.specs.declared.faults.LineKind.TheVariants.{Value}
 use Rattle.mqb_forms.specs.declared.faults.LineFault.{LineFault}
@@ -15,3 +16,11 @@ IsFaultOf read fault = (kind : LineKind) → fault ≡ Faulty kind → read ≡ 
 -- A call answers what the definition reads, or wants memory.
 abbrev pub Reads : {T : Type 0} → Result T LineKind → Result T LineFault → Type 0
 Reads read r = IfOk r (λ x. read ≡ Ok x) × IfErr r (IsFaultOf read)
+
+-- what was read, behind what was read before it
+abbrev pub behind : {T : Type 0} → List T → Result T LineKind → Result (List T) LineKind
+behind before read = read >>= λ x. Ok (before ++ x ∷ [])
+
+-- A call adds what the definition reads, or wants memory.
+abbrev pub Adds : {T : Type 0} → Result T LineKind → (before after : List T) → Result (Unit {0}) LineFault → Type 0
+Adds read before after r = OnOk r (behind before read ≡ Ok after) × IfErr r (IsFaultOf read)

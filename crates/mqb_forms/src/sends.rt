@@ -1,8 +1,7 @@
-ghost use Rattle.std.specs.Prelude.{◌≡◌, ◌<◌, ◌≤◌, true, None, map, IfOk};
+ghost use Rattle.std.specs.Prelude.{◌≡◌, ◌<◌, ◌≤◌, true, Ok, map, IfOk};
 ghost use Rattle.std.specs.List.{list_all};
-ghost use Rattle.mqb_base.specs.Drafts.{draft_fault};
 ghost use Rattle.mqb_base.specs.QueueNames.{names_queue, absent_or_queue};
-ghost use Rattle.mqb_forms.specs.Faults.{Reads};
+ghost use Rattle.mqb_forms.specs.Faults.{Adds, Reads};
 ghost use Rattle.mqb_forms.specs.Sends.{destination_of, optional_of, seconds_of, is_body_byte, counted_body, body_of, AreQueues, names_from, terms_from, parts_of, message_of, parts_from, send_from, send_of, take_from, op_from, op_of, ops_of};
 
 use crate::faults::{LineFault, LineKind};
@@ -10,7 +9,7 @@ use crate::flags::flags_of;
 use crate::ops::Ops;
 use crate::values::name_of;
 use crate::words::{FEW, few_parts, is_word, number_in, parts};
-use mqb_base::{Bytes, Draft, Guid, Memory, MessageId, Op, Parts, QueueName, UNLIMITED, Units};
+use mqb_base::{Bytes, Draft, Guid, MessageId, Op, Parts, QueueName, UNLIMITED, Units};
 use mqb_names::{NameFault, read_name};
 use std::alloc::Global;
 
@@ -129,18 +128,21 @@ fn terms_from(reach: &[u8], life: &[u8], flags: &[u8]) -> Result<Terms, LineKind
     Ok(Terms { reach, life, flags })
 }
 
-fn parts_of(
+fn draft_of(
     alloc: Global,
     priority: u8,
     names: Names,
     terms: Terms,
     body: Bytes,
-) -> Result<Parts, Memory>
-    ensures { IfOk result (λ parts. parts ≡ parts_of priority names terms body) }
+) -> Result<Draft, LineFault>
+    requires priority { priority ≤ 7 }
+    requires queues { AreQueues names }
+    requires few { terms.flags < 64 }
+    ensures { Reads (Ok (parts_of priority names terms body)) result }
 {
     let label = Units::from_slice(alloc, &[])?;
     let extension = Bytes::from_slice(alloc, &[])?;
-    Ok(Parts {
+    let parts = Parts {
         destination: names.destination,
         priority,
         reach: terms.reach,
@@ -158,22 +160,7 @@ fn parts_of(
         label,
         extension,
         body,
-    })
-}
-
-fn draft_of(
-    alloc: Global,
-    priority: u8,
-    names: Names,
-    terms: Terms,
-    body: Bytes,
-) -> Result<Draft, Memory>
-    requires priority { priority ≤ 7 }
-    requires queues { AreQueues names }
-    requires few { terms.flags < 64 }
-    ensures { IfOk result (λ draft. draft ≡ parts_of priority names terms body) }
-{
-    let parts = parts_of(alloc, priority, names, terms, body)?;
+    };
     Ok(Draft::build(parts).unwrap())
 }
 
@@ -198,7 +185,7 @@ fn message_of(alloc: Global, priority: u8, fields: &Fields<'_>) -> Result<Draft,
     let names = names_from(alloc, fields.destination, fields.admin, fields.response)?;
     let terms = terms_from(fields.reach, fields.life, fields.flags)?;
     let body = body_of(alloc, fields.text)?;
-    Ok(draft_of(alloc, priority, names, terms, body)?)
+    draft_of(alloc, priority, names, terms, body)
 }
 
 #[tactic(auto, unfolding(crate::specs::Sends::parts_from))]
@@ -269,33 +256,36 @@ fn take_from(alloc: Global, fields: &[&[u8]]) -> Result<Op, LineFault>
     Ok(Op::Take(name_of(alloc, name)?))
 }
 
+/// Adds the step that the fields of a word are.
 #[tactic(auto, unfolding(crate::specs::Sends::op_from))]
-fn op_from(alloc: Global, fields: &[&[u8]]) -> Result<Op, LineFault>
-    ensures { Reads (op_from (map (λ field. field.now) fields.now)) result }
+fn add_from(ops: &mut Ops, alloc: Global, fields: &[&[u8]]) -> Result<(), LineFault>
+    ensures { Adds (op_from (map (λ field. field.now) fields.now)) ops.old ops.new result }
 {
     match fields {
-        [word, rest @ ..] if is_word(word, b"take") => take_from(alloc, rest),
-        _ => Ok(Op::Send(send_from(alloc, 0, fields)?)),
+        [word, rest @ ..] if is_word(word, b"take") => ops.push(take_from(alloc, rest)?)?,
+        _ => ops.push(Op::Send(send_from(alloc, 0, fields)?))?,
     }
+    Ok(())
 }
 
-/// The step that a word of any number of fields is.
+/// Adds the step that a word of any number of fields is.
 #[tactic(auto, unfolding(crate::specs::Sends::op_of))]
-fn long_op_of(alloc: Global, word: &[u8]) -> Result<Op, LineFault>
-    ensures { Reads (op_of word.now) result }
+fn add_long(ops: &mut Ops, alloc: Global, word: &[u8]) -> Result<(), LineFault>
+    ensures { Adds (op_of word.now) ops.old ops.new result }
 {
     let fields = parts(alloc, word, b',')?;
-    op_from(alloc, fields.as_slice())
+    add_from(ops, alloc, fields.as_slice())
 }
 
+/// Adds the step that a word is.
 #[tactic(auto, unfolding(crate::specs::Sends::op_of))]
-fn op_of(alloc: Global, word: &[u8]) -> Result<Op, LineFault>
-    ensures { Reads (op_of word.now) result }
+fn add_op(ops: &mut Ops, alloc: Global, word: &[u8]) -> Result<(), LineFault>
+    ensures { Adds (op_of word.now) ops.old ops.new result }
 {
     let mut room = [word; FEW];
     match few_parts(word, b',', &mut room) {
-        Some(count) => op_from(alloc, &room[..count]),
-        None => long_op_of(alloc, word),
+        Some(count) => add_from(ops, alloc, &room[..count]),
+        None => add_long(ops, alloc, word),
     }
 }
 
@@ -305,8 +295,7 @@ pub fn ops_of(alloc: Global, words: &[&[u8]]) -> Result<Ops, LineFault>
 {
     let mut ops = Ops::new(alloc);
     for word in words {
-        let op = op_of(alloc, word)?;
-        ops.push(op)?;
+        add_op(&mut ops, alloc, word)?;
     }
     Ok(ops)
 }

@@ -6,12 +6,12 @@ pub loop-word-init : goal.loop-word-init
 loop-word-init c = rw c.new-ops.ensures (before_nothing _)
 
 pub loop-word-preserved : goal.loop-word-preserved
-loop-word-preserved c = rw c.in_ok-push.ensures.ok (ops_more _ _ _ _ _ _ c.loop-word.invariant c.loop-word-test.true c.in_ok-op.ensures.0)
+loop-word-preserved c = ops_more _ _ _ _ _ _ c.loop-word.invariant c.loop-word-test.true c.in_ok-add_op.ensures.0
 
-pub returns-in_err-op : goal.returns-in_err-op
-returns-in_err-op c =
-    let refused = ops_refused _ _ _ _ _ c.in_err-op.field-0.0 c.loop-word.invariant c.loop-word-test.true c.in_err-op.ensures.1 in
-    let is : c.from_residual.result ≡ Err c.in_err-op.field-0.0 = search rules in
+pub returns-in_err-add_op : goal.returns-in_err-add_op
+returns-in_err-add_op c =
+    let refused = ops_refused _ _ _ _ _ c.in_err-add_op.field-0.0 c.loop-word.invariant c.loop-word-test.true c.in_err-add_op.ensures.1 in
+    let is : c.from_residual.result ≡ Err c.in_err-add_op.field-0.0 = search rules in
     rw is (tt, refused)
 
 pub returns : goal.returns
