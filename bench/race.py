@@ -48,18 +48,18 @@ class Raced(Ends):
         for queue, words in (("stock", ["commit", self.store, send(".", "stock")]), ("due", ["commit", self.store, send(".", "due", life=0)]),
                              ("notes", ["send", self.store, "recoverable", "3", send(".", "notes")])):
             if not self.there[queue]:
-                self.believe(queue, asked(*words)[0])
+                self.believe((queue, asked(*words)[0]))
         self.commit("beta", 1)
 
-    def believe(self, queue, line):
-        """What a line acknowledges; a message that is put here is put into this queue."""
-        for what, of in re.findall(r"\[(\w+) ([^]]*)\]", line):
-            name = of.split()[-1]
+    def believe(self, *told):
+        """What lines acknowledge: first the messages that are put here, each into the queue that is told with its line, and then those that leave; each in the order of their numbers."""
+        said = [(what, queue, of.split()[-1]) for queue, line in told for what, of in re.findall(r"\[(\w+) ([^]]*)\]", line)]
+        for what, queue, name in sorted(said, key=lambda one: (one[0] != "local", int(one[2].split(".")[-1]))):
             if what == "local":
-                assert name not in self.there[queue], line
+                assert name not in self.there[queue], told
                 self.there[queue].append(name)
             elif what == "took":
-                assert self.there["stock"][0] == name, (line, self.there)
+                assert self.there["stock"][0] == name, (told, self.there)
                 self.there["stock"].remove(name)
             elif what in ("purged", "swept"):
                 self.there["notes" if what == "purged" else "due"].remove(name)
@@ -93,17 +93,17 @@ class Raced(Ends):
 
     def look(self, ends, before):
         """The store holds what was acknowledged."""
-        lines = self.list("alpha")
-        for word, name, status, printed in ends:
+        lines, told = self.list("alpha"), []
+        for word, name, status, printed in sorted(ends, key=lambda one: [int(number) for number in re.findall(r"alpha\.(\d+)", one[3])]):  # in the order of what was committed
             if status == IN_USE:
                 assert printed in ("", "fault: diskfault\n"), (word, printed)
             elif word == "commit":
                 assert status == 0, (word, status, printed)
-                self.believe("stock", printed)
+                told.append(("stock", printed))
                 self.bodies["beta"].append(name)
             elif word in ("take", "send", "purge", "tick"):
                 assert status == 0 or (status, printed) == (11, "queueempty\n"), (word, status, printed)
-                self.believe("notes", printed)
+                told.append(("notes", printed))
             elif word == "create":
                 assert printed == "ok\n" and f"alpha queue {name}" in lines, (word, printed)
             elif word == "list":
@@ -113,6 +113,7 @@ class Raced(Ends):
                 assert (status == 0 and printed.split()[0] in fronts) or (status == 11 and None in fronts), (printed, fronts)
             else:
                 assert status in (0, 7, 9), (word, status, printed)
+        self.believe(*told)
         ids = ids_of(lines)
         for queue, there in self.there.items():
             assert ids[queue] == there, (queue, ids[queue], there)
