@@ -7,9 +7,9 @@ brought over and taken: each message once, in the order of the commits. It print
 was not (`made`), and nothing was done (`not`); `part` is an `init` that left a file which is no store. Of connections: all that waited on both sides was acknowledged
 (`whole`), something was decided that its sender had not heard of (`ahead`), or neither (`short`).
 
-Seen, of 1,000 kills each, by the released program whose sum begins with 21bffc63, on a machine with four times as many busy programs as processors (said, made, not): peer 507, 34, 459; create 423, 47,
-530; send 411, 61, 528; commit 410, 70, 520; take 405, 103, 492; purge 476, 38, 486; tick 495, 63, 442; roll 356, 115, 529; init 748, 50, 67, and 135 part; (whole, ahead, short): serve 409, 461, 130; attend
-375, 453, 172; probe 366, 479, 155; push 375, 482, 143; fetch 407, 444, 149, and the 30,000 messages of these five came once each, in order. Seven runs side by side, on ports of their own, took ten minutes.
+Seen, of 300 kills each, by the released program whose sum begins with 91d03e07, on a machine with three times as many busy programs as processors (said, made, not): peer 128, 5, 167; create 116, 16,
+168; send 110, 17, 173; commit 115, 18, 167; take 127, 11, 162; purge 142, 18, 140; tick 109, 19, 172; roll 103, 10, 187; init 214, 18, 26, and 42 part; (whole, ahead, short): serve 21, 260, 19; attend 79,
+148, 73; probe 97, 140, 63; push 109, 115, 76; fetch 93, 134, 73, and the 9,000 messages of these five came once each, in order. Two runs side by side took 13 minutes. The program before it, 21bffc63, stood 1,000 of each.
 
 It stands outside the gate. Its port must be free: 1801, or MQB_PORT. MQB names another program than `./mqb --where` does.
 """
