@@ -3,9 +3,10 @@
 # Prints a line a load, and the greatest ratio. MQB names another program than ./mqb --where does; ONLY=WORD takes the loads whose names have that word.
 # What is wanted: 3 at most for what is put and taken, 2 at `trial`, `show` and `list`, 2.5 at the three replays of commits; 163,840 messages at most 4.6 times
 # 40,960, and 81,920 with priorities or due messages, purged, swept or expired, at most 2.4 times 40,960; an empty replay at most 20 milliseconds in all.
-# Seen on a busy machine, one round: 40,960 messages put and taken by 64 2.2 times, taken one by one 3.8; 163,840 3.2 and 5.6, which is 4.5 and 3.5 times 40,960; `trial 10000` 2.0, the replays 2.6, 5.6 and
-# 6.6, `show` 1.0, `list` 2.4, and an empty replay 1 millisecond of user time; 81,920 purged, swept and expired 1.7, 1.2 and 2.1 times 40,960. Of priorities in turn and due messages none: a list whose members leave
-# in the middle still grows with the square.
+# Seen on a busy machine, in two runs of two rounds, whose tenths of a second vary by a half: 40,960 messages put and taken by 64 1.9 and 2.5 times, taken one by one 3.4 and 4.2; 163,840 2.4 and 2.5, and 2.5
+# and 4.0, which is 3.6 and 5.2, and 4.2 and 4.9 times 40,960; `trial 10000` 4.1 and 3.4, the replays 3.0 and 4.2, 2.2 and 4.0, and 3.2 and 3.0, `show` 1.9 and 2.1, `list` 2.2 and 1.0, and an empty replay 1 millisecond.
+# By instructions, which do not vary, `trial 1500` has 288 million, and the program before it 306. With the program before, 81,920 purged, swept and expired were 1.7, 1.2 and 2.1 times 40,960. Of priorities in turn and due
+# messages none: a list whose members leave in the middle still grows with the square.
 # It stands outside the gate.
 set -e
 top=$(cd "$(dirname "$0")/.." && pwd)
