@@ -14,7 +14,7 @@ mkdir -p "$crate/src"
 for name in main hexes pictures showing twins; do
   cp "$top/bench/drawn/$name.txt" "$crate/src/$name.rt"
 done
-echo 'mqb_drawn: core indexmap mqb_base mqb_orders mqb_queue mqb_plain mqb_entries mqb_transcript mqb_state thiserror uuid' >> "$work/crates.txt"
+echo 'mqb_drawn: core indexmap mqb_base mqb_deque mqb_orders mqb_queue mqb_plain mqb_entries mqb_transcript mqb_state thiserror uuid' >> "$work/crates.txt"
 for run in ${*:-0 1 2 3 4 5 6 7 8 9 10 11}; do
   cat "$top/bench/drawn/run$run.txt"
 done > "$work/told.txt"

@@ -1,10 +1,11 @@
 //! The messages of a place, in the order in which they are taken.
-ghost use Rattle.std.specs.Prelude.{[], ◌≡◌, ◌++◌, ◌∷◌, IfOk, OnOk};
+ghost use Rattle.std.specs.Prelude.{[], ◌≡◌, ◌++◌, ◌∷◌, IfOk, OnOk, filter, fold, map, max};
 ghost use Rattle.mqb_commands.specs.Turns.{PutsFree, PutsTaken, held_at, is_free_of};
 ghost use Rattle.mqb_queue.specs.First.{is_free, top_priority};
 
 use crate::message_lines::put_message;
 use mqb_base::{EntryPlace, Lane, Memory, Message, is_due};
+use mqb_deque::SplitSlice;
 use mqb_queue::Queues;
 use mqb_transcript::Printer;
 use std::alloc::Global;
@@ -24,14 +25,24 @@ impl Taking {
         !(expires && is_due(message.sent, message.life, self.now))
     }
 
-    fn top_priority(self, messages: &[Message]) -> u8
-        ensures { result ≡ top_priority (is_free self.at self.now) messages.now }
+    /// The greatest priority of the messages that can be taken, or this one.
+    fn top_in(self, messages: &[Message], least: u8) -> u8
+        ensures { result ≡ fold max least
+            (map (λ m. m.priority) (filter (is_free self.at self.now) messages.now)) }
     {
         messages
             .iter()
             .filter(|message| self.is_free(message))
             .map(|message| message.priority)
-            .fold(0, |top, priority| top.max(priority))
+            .fold(least, |top, priority| top.max(priority))
+    }
+
+    fn top_priority(self, messages: &SplitSlice<'_, Message>) -> u8
+        ensures { result ≡ top_priority (is_free self.at self.now) messages.now }
+    {
+        let (front, back) = messages.parts();
+        let top = self.top_in(front, 0);
+        self.top_in(back, top)
     }
 
     fn is_free_of(self, priority: u16, message: &Message) -> bool
@@ -68,7 +79,7 @@ impl Taking {
         self,
         alloc: Global,
         printer: &mut Printer<'_>,
-        messages: &[Message],
+        messages: &SplitSlice<'_, Message>,
         priority: u16,
         count: u32,
     ) -> Result<u32, Memory>
@@ -76,7 +87,8 @@ impl Taking {
             printer.old printer.new) }
     {
         let mut more = count;
-        for message in messages {
+        for index in 0..messages.len() {
+            let message = messages.at(index);
             more = self.put_free(alloc, printer, message, priority, more)?;
         }
         Ok(more)
@@ -87,8 +99,8 @@ impl Taking {
         self,
         alloc: Global,
         printer: &mut Printer<'_>,
-        durable: &[Message],
-        express: &[Message],
+        durable: &SplitSlice<'_, Message>,
+        express: &SplitSlice<'_, Message>,
         priority: u16,
         count: u32,
     ) -> Result<u32, Memory>
@@ -104,8 +116,8 @@ impl Taking {
         self,
         alloc: Global,
         printer: &mut Printer<'_>,
-        durable: &[Message],
-        express: &[Message],
+        durable: &SplitSlice<'_, Message>,
+        express: &SplitSlice<'_, Message>,
         count: u32,
     ) -> Result<(), Memory>
         ensures { OnOk result (PutsTaken self.at count self.now (durable.now ++ express.now)
@@ -141,5 +153,5 @@ pub(crate) fn put_taken(
         return Ok(());
     };
     let taking = Taking { at, now };
-    taking.put_by_priority(alloc, printer, durable, express, count)
+    taking.put_by_priority(alloc, printer, &durable, &express, count)
 }

@@ -1,8 +1,12 @@
-//! A list with room that members leave at the front without a move of those behind them, and that is still lent as one slice.
+//! Lists with room that members leave without a move of the others: at the front, lent as one slice, or along the list, lent in two parts.
 #![tactic(auto)]
 
 mod deque;
+mod gap_buffer;
+mod split_slice;
 mod vacant;
 
 pub use deque::RoomedDeque;
+pub use gap_buffer::GapBuffer;
+pub use split_slice::SplitSlice;
 pub use vacant::Vacant;

@@ -8,15 +8,17 @@ ghost use Rattle.mqb_transcript.specs.Printing.{wrote};
 ghost use Rattle.mqb_transcript.specs.Texts.{spaced};
 
 use mqb_base::{EntryPlace, Lane, Memory, Message};
+use mqb_deque::SplitSlice;
 use mqb_queue::Queues;
 use mqb_transcript::Printer;
 
 #[tactic(auto, using(mqb_transcript::specs::lemmas::Wrote::writing), unfolding(crate::specs::Lines::ids_text))]
-fn put_ids(printer: &mut Printer<'_>, messages: &[Message]) -> Result<(), Memory>
+fn put_ids(printer: &mut Printer<'_>, messages: &SplitSlice<'_, Message>) -> Result<(), Memory>
     ensures { OnOk result (printer.new ≡
         wrote printer.old (ids_text printer.old.hosts messages.now)) }
 {
-    for message in messages {
+    for index in 0..messages.len() {
+        let message = messages.at(index);
         printer.about(b" ", &message.id)?;
     }
     Ok(())
@@ -35,8 +37,8 @@ pub(crate) fn begin(printer: &mut Printer<'_>, host: &[u8], word: &[u8]) -> Resu
 #[tactic(auto, using(mqb_transcript::specs::lemmas::Wrote::writing), unfolding(crate::specs::Lines::held_text))]
 fn put_held(
     printer: &mut Printer<'_>,
-    durable: &[Message],
-    express: &[Message],
+    durable: &SplitSlice<'_, Message>,
+    express: &SplitSlice<'_, Message>,
 ) -> Result<(), Memory>
     ensures { OnOk result (printer.new ≡ wrote printer.old (held_text printer.old.hosts
         (record { durable = durable.now; express = express.now }))) }
@@ -66,7 +68,7 @@ fn put_place(
     };
     begin(printer, host, word)?;
     printer.put(name)?;
-    put_held(printer, durable, express)?;
+    put_held(printer, &durable, &express)?;
     printer.put(b"\n")
 }
 

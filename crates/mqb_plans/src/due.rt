@@ -12,6 +12,7 @@ ghost use Rattle.mqb_plain.specs.Plain.{outgoing_in};
 
 use mqb_base::{EntryPlace, Lane, Message, is_due};
 use mqb_contents::Contents;
+use mqb_deque::SplitSlice;
 use mqb_orders::{Kept, OutRow};
 use mqb_plain::PlainOut;
 
@@ -109,13 +110,20 @@ fn lapsing(contents: &Contents, lane: Lane, now: u32) -> u64
 
 // Messages of queues.
 
-fn count_unreceived(messages: &[Message], now: u32) -> usize
+fn count_in(messages: &[Message], now: u32) -> usize
     ensures { result ≡ count_by (cannot_be_received now) messages.now }
 {
     messages
         .iter()
         .filter(|message| cannot_be_received(message, now))
         .count()
+}
+
+fn count_unreceived(messages: &SplitSlice<'_, Message>, now: u32) -> usize
+    ensures { result ≡ count_by (cannot_be_received now) messages.now }
+{
+    let (front, back) = messages.parts();
+    count_in(front, now) + count_in(back, now)
 }
 
 /// How many messages of a lane of the queue at an index are swept.
@@ -128,7 +136,7 @@ fn sweeping_in(contents: &Contents, lane: Lane, k: u32, now: u32) -> u32
         .queues()
         .messages_at(EntryPlace::Queue(k + 1), lane)
     {
-        Some(messages) => count_unreceived(messages, now) as u32,
+        Some(messages) => count_unreceived(&messages, now) as u32,
         None => 0,
     }
 }

@@ -10,3 +10,4 @@ pub mod Names
 pub mod Others
 pub mod Renamed
 pub mod Keys
+pub mod Passed

@@ -1,10 +1,11 @@
 -- Where the first member of a list stands that passes.
-use Rattle.std.proofs.Common.{◌≡◌, ℕ, suc, ◌+◌, Bool, true, false, cond, List, [], ◌∷◌, ◌++◌, length, take, drop, map, Option, Some, None, refl, sym, ap, ◌∙◌, arith}
-use Rattle.std.specs.List.{All, remove, position, position_from}
+use Rattle.std.proofs.Common.{◌≡◌, ℕ, zero, suc, ◌+◌, ◌≤◌, Bool, true, false, cond, List, [], ◌∷◌, ◌++◌, length, take, drop, map, Option, Some, None, refl, sym, ap, ◌∙◌, subst, arith}
+use Rattle.std.specs.List.{All, remove, position, position_from, slice_get}
 use Rattle.std.specs.Option.{option_map}
 use Rattle.std.proofs.lemmas.Iterator.Adapters.{position_from-zero}
-use Rattle.std.proofs.lemmas.List.Elements.{All-nil, All-cons, All-head, All-tail, All-append, All-take, All-drop}
-use Rattle.std.proofs.lemmas.Option.{none-some, same_Some}
+use Rattle.std.proofs.lemmas.List.{take_all, take_more}
+use Rattle.std.proofs.lemmas.List.Elements.{All-nil, All-cons, All-head, All-push, All-tail, All-append, All-take, All-drop}
+use Rattle.std.proofs.lemmas.Option.{get_or_from_slice_get, none-some, same_Some, slice_get_within}
 
 shifted : {X : Type 0} (p : X → Bool) (i : ℕ) (xs : List X) → position_from p (i + 1) xs ≡ option_map suc (position_from p i xs)
 shifted p i [] = refl
@@ -127,3 +128,24 @@ passing {X} p (x ∷ xs) k is = at (p x) refl (sym (position_step p x xs) ∙ is
 -- what holds of all holds of those that are left
 pub all_left : {X : Type 0} (P : X → Type 0) (xs : List X) (k : ℕ) → All P xs → All P (remove xs k)
 all_left P xs k all = All-append P (take k xs) (drop (suc k) xs) (All-take P k xs all) (All-drop P (suc k) xs all)
+
+-- the first one that passes is at k
+pub found_here : {X : Type 0} (p : X → Bool) (xs : List X) (k : ℕ) (x : X) → All (λ y. p y ≡ false) (take k xs) → slice_get xs k ≡ Some x → p x ≡ true
+    → position p xs ≡ Some k
+found_here p [] k x none is passes = absurd (none-some x is)
+found_here {X} p (y ∷ xs) zero x none is passes = position_step p y xs
+    ∙ ap (λ b. cond b (Some 0) (option_map suc (position p xs))) (ap p (same_Some y x is) ∙ passes)
+found_here p (y ∷ xs) (suc k) x none is passes = position_step p y xs
+    ∙ (ap (λ b. cond b (Some 0) (option_map suc (position p xs))) (All-head (λ z. p z ≡ false) y (take k xs) none)
+    ∙ ap (option_map suc) (found_here p xs k x (All-tail (λ z. p z ≡ false) y (take k xs) none) is passes))
+
+-- the one at k does not pass either
+pub none_more : {X : Type 0} (p : X → Bool) (xs : List X) (k : ℕ) (x : X) → All (λ y. p y ≡ false) (take k xs) → slice_get xs k ≡ Some x → p x ≡ false
+    → All (λ y. p y ≡ false) (take (k + 1) xs)
+none_more {X} p xs k x none is fails =
+    let more : take (k + 1) xs ≡ take k xs ++ x ∷ [] = take_more xs k x (slice_get_within xs k x is) ∙ ap (λ y. take k xs ++ y ∷ []) (get_or_from_slice_get xs k x x is) in
+    subst (λ (ys : List X). All (λ y. p y ≡ false) ys) (sym more) (All-push (λ y. p y ≡ false) (take k xs) x none fails)
+
+-- no one passes
+pub none_found : {X : Type 0} (p : X → Bool) (xs : List X) (k : ℕ) → All (λ y. p y ≡ false) (take k xs) → length xs ≤ k → position p xs ≡ None
+none_found {X} p xs k none past = passes_none p xs (subst (λ (ys : List X). All (λ y. p y ≡ false) ys) (take_all k xs past) none)

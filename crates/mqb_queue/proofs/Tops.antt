@@ -6,7 +6,7 @@ use Rattle.std.proofs.lemmas.Bool.{true≢false, leb-true, leb-false, le-leb, lt
 use Rattle.std.proofs.lemmas.List.Elements.{All-nil, All-cons, All-head, All-tail, All-append, All-weaker}
 use Rattle.mqb_base.specs.declared.message.Message.{Message}
 use Rattle.mqb_queue.specs.First.{First, IsFirst, first_index, first_of, top_priority}
-use Rattle.mqb_queue.proofs.Positions.{position_step, position_behind, none_passes, passes_none, Passing, passing}
+use Rattle.mqb_queue.proofs.Positions.{position_step, position_behind, none_passes, passes_none, passing}
 
 -- the greatest priority
 
@@ -223,27 +223,27 @@ oldest_is_first free held = at (first_index free held) refl
         subst (First free held) (sym (first_there free held k s)) (s.before, s.behind, s.whole, s.is_first)
 
 -- A search that ends at a message of at least a priority that none is above finds the first one.
-pub found_early : (free : Message → Bool) (bound : ℕ) (held : List Message) (k : ℕ) → All (λ m. m.priority ≤ bound) held
+pub found_early : (free : Message → Bool) (bound : ℕ) (held : List Message) (k : ℕ) → All (λ m. free m ≡ true → m.priority ≤ bound) held
     → position (λ m. free m && leb bound m.priority) held ≡ Some k → first_index free held ≡ Some k
 found_early free bound held k all is =
     let s = passing (λ m. free m && leb bound m.priority) held k is in
     subst (λ ms. first_index free ms ≡ Some k) (sym s.whole)
     (is_first_index free s.before s.at s.behind
-    (early s.before s.at s.behind (subst (λ ms. All (λ m. m.priority ≤ bound) ms) s.whole all) s.passes s.none_before)
+    (early s.before s.at s.behind (subst (λ ms. All (λ m. free m ≡ true → m.priority ≤ bound) ms) s.whole all) s.passes s.none_before)
     ∙ ap Some s.place)
   where
     both : (a b : Bool) → (a && b) ≡ true → (a ≡ true) × (b ≡ true)
     both true b h = (refl, h)
     both false b h = absurd (true≢false (sym h))
 
-    early : (before : List Message) (m : Message) (behind : List Message) → All (λ n. n.priority ≤ bound) (before ++ m ∷ behind)
+    early : (before : List Message) (m : Message) (behind : List Message) → All (λ n. free n ≡ true → n.priority ≤ bound) (before ++ m ∷ behind)
         → (free m && leb bound m.priority) ≡ true → All (λ n. (free n && leb bound n.priority) ≡ false) before → IsFirst free before m behind
     early before m behind most so none =
         record {
           first_is_free = (both (free m) (leb bound m.priority) so).0;
           before_lower = All-weaker (λ n. (free n && leb bound n.priority) ≡ false) (λ n. free n ≡ true → n.priority < m.priority) lower before none;
-          behind_no_higher = All-weaker (λ n. n.priority ≤ bound) (λ n. free n ≡ true → n.priority ≤ m.priority)
-              (λ n low is_free. omega (arith, low, high)) behind (behind_of before most);
+          behind_no_higher = All-weaker (λ n. free n ≡ true → n.priority ≤ bound) (λ n. free n ≡ true → n.priority ≤ m.priority)
+              (λ n low is_free. omega (arith, low is_free, high)) behind (behind_of before most);
         }
       where
         high : bound ≤ m.priority
@@ -254,6 +254,6 @@ found_early free bound held k all is =
             let below = leb-false bound n.priority (sym (ap (λ b. b && leb bound n.priority) is_free) ∙ not_so) in
             omega (arith, below, high)
 
-        behind_of : (xs : List Message) → All (λ n. n.priority ≤ bound) (xs ++ m ∷ behind) → All (λ n. n.priority ≤ bound) behind
-        behind_of [] g = All-tail (λ n. n.priority ≤ bound) m behind g
-        behind_of (x ∷ xs) g = behind_of xs (All-tail (λ n. n.priority ≤ bound) x (xs ++ m ∷ behind) g)
+        behind_of : (xs : List Message) → All (λ n. free n ≡ true → n.priority ≤ bound) (xs ++ m ∷ behind) → All (λ n. free n ≡ true → n.priority ≤ bound) behind
+        behind_of [] g = All-tail (λ n. free n ≡ true → n.priority ≤ bound) m behind g
+        behind_of (x ∷ xs) g = behind_of xs (All-tail (λ n. free n ≡ true → n.priority ≤ bound) x (xs ++ m ∷ behind) g)

@@ -7,3 +7,4 @@ pub mod Laws
 pub mod Lending
 pub mod Names
 pub mod Levels
+pub mod Passes

@@ -7,6 +7,7 @@
 
 mod arrival;
 mod choice;
+mod counts;
 mod first;
 mod laws;
 mod lists;
@@ -14,9 +15,11 @@ mod messages;
 mod name_keys;
 mod named;
 mod new_queue;
+mod passes;
 mod places;
 mod queue;
 mod queues;
+mod search;
 
 pub use arrival::{arrival_refusal, queue_refusal};
 pub use first::Position;

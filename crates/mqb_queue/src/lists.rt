@@ -1,4 +1,4 @@
-ghost use Rattle.std.specs.Prelude.{◌≡◌, ◌+◌, ◌<◌, ◌≤◌, ◌++◌, nat_lt, length, slice_get, All, Some, OnOk, OnErr, IfSome, IfErr, IsOk, IsErr, option_map, option_copied};
+ghost use Rattle.std.specs.Prelude.{◌≡◌, ◌+◌, ◌<◌, ◌≤◌, ◌++◌, nat_lt, length, slice_get, Some, OnOk, OnErr, IfSome, IfErr, IsOk, IsErr, option_map, option_copied};
 ghost use Rattle.mqb_base.specs.declared.message.Lane.TheVariants.{Durable, Express};
 ghost use Rattle.mqb_base.specs.declared.message.Message.{Message};
 ghost use Rattle.mqb_base.specs.declared.roomed.TheConstants.{MAX_MEMBERS};
@@ -9,6 +9,7 @@ use crate::choice::Choice;
 use crate::first::Position;
 use crate::messages::MessageList;
 use mqb_base::{Lane, MAX_MEMBERS, Memory, Message};
+use mqb_deque::SplitSlice;
 use std::alloc::Global;
 use std::marker::Model;
 
@@ -66,23 +67,14 @@ impl Lists {
         (self.durable.len() + self.express.len()) as u32
     }
 
-    pub(crate) fn messages(&self, lane: Lane) -> &[Message]
-        ensures messages { result.now ≡ messages_in lane self.now.lists }
+    /// The messages of a lane, in two parts.
+    pub(crate) fn messages(&self, lane: Lane) -> SplitSlice<'_, Message>
+        ensures messages { result ≡ messages_in lane self.now.lists }
         ensures within { length (messages_in lane self.now.lists) ≤ MAX_MEMBERS }
     {
         match lane {
-            Lane::Durable => self.durable.as_slice(),
-            Lane::Express => self.express.as_slice(),
-        }
-    }
-
-    /// None of the messages of a lane has a greater priority.
-    pub(crate) fn bound(&self, lane: Lane) -> u8
-        ensures { All (λ m. m.priority ≤ result) (messages_in lane self.now.lists) }
-    {
-        match lane {
-            Lane::Durable => self.durable.bound(),
-            Lane::Express => self.express.bound(),
+            Lane::Durable => self.durable.as_split(),
+            Lane::Express => self.express.as_split(),
         }
     }
 
@@ -149,7 +141,7 @@ impl Lists {
         }
     }
 
-    /// Takes out the message of a lane at a place. The later ones move down.
+    /// Takes out the message of a lane at a place.
     pub(crate) fn remove(&mut self, lane: Lane, k: usize) -> Message
         requires { k < length (messages_in lane self.old.lists) }
         ensures removed { slice_get (messages_in lane self.old.lists) k ≡ Some result }
@@ -172,7 +164,7 @@ impl Lists {
             slice_get self.now.lists.express express ≡ Some latter →
             result ≡ nat_lt former.priority latter.priority }
     {
-        self.durable.as_slice()[durable].priority < self.express.as_slice()[express].priority
+        self.durable.as_split().at(durable).priority < self.express.as_split().at(express).priority
     }
 
     /// Where the first message stands of those that are wanted, of either lane.

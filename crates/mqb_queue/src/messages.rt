@@ -1,80 +1,37 @@
-ghost use Rattle.std.specs.Prelude.{◌≡◌, ◌<◌, ◌≤◌, ◌+◌, ◌-◌, ℕ, [], ◌∷◌, ◌++◌, length, max, insert, remove, set, slice_get, slice_index, All, Some, IfSome, IsOk, OnOk, OnErr};
+ghost use Rattle.std.specs.Prelude.{◌≡◌, ◌<◌, ◌≤◌, ◌+◌, [], ◌∷◌, ◌++◌, length, max, insert, remove, slice_get, Some, IfSome, IsOk, OnOk, OnErr};
 ghost use Rattle.mqb_queue.specs.First.{first_index, is_wanted};
-ghost use Rattle.mqb_queue.specs.Levels.{level};
 
-use crate::choice::{Choice, first_index};
-use mqb_base::{MAX_PRIORITY, Memory, Message};
-use mqb_deque::RoomedDeque;
+use crate::choice::Choice;
+use crate::counts::{LEVELS, bound_of, count_less, count_more};
+use crate::passes::{NO_PASSES, Pass, go_on, shift};
+use crate::search::first_index;
+use mqb_base::{Memory, Message};
+use mqb_deque::{GapBuffer, SplitSlice};
 use std::alloc::Global;
 use std::marker::Model;
-
-/// How many levels of priorities are counted.
-const LEVELS: usize = 8;
 
 /// Messages, the oldest first. Contracts see the list, and its room.
 #[derive(Debug, Drop)]
 pub(crate) struct MessageList {
-    messages: RoomedDeque<Message>,
+    messages: GapBuffer<Message>,
     /// How many messages have each priority from 0 to 6, and how many another one.
     counts: [usize; LEVELS],
     /// None of the messages has a greater priority.
     top: u8,
+    /// How far the messages of each level have ended.
+    passes: [Pass; LEVELS],
 }
 
 impl Model for MessageList {
-    ghost use Rattle.std.specs.Prelude.{◌≤◌, All};
     ghost use Rattle.mqb_base.specs.Rooms.{Room};
     ghost use Rattle.mqb_base.specs.declared.message.Message.{Message};
-    ghost use Rattle.mqb_queue.specs.Levels.{Counted};
+    ghost use Rattle.mqb_queue.specs.Passes.{AreKnown};
 
     ghost Value = { Room Message };
 
     ghost view = { λ l. l.messages };
 
-    ghost invariant = { λ l. All (λ m. m.priority ≤ l.top) l.messages.items ×
-        Counted l.counts l.messages.items };
-}
-
-/// The level at which a priority is counted.
-fn level(priority: u8) -> usize
-    ensures level { result ≡ level priority }
-    ensures within { result < 8 }
-{
-    priority.min(MAX_PRIORITY) as usize
-}
-
-/// Counts one more message. There is room for more than are counted.
-fn count_more(counts: &mut [usize; LEVELS], priority: u8, room: usize)
-    requires { slice_index counts.old (level priority) < room }
-    ensures { counts.new ≡ set counts.old (level priority)
-        (slice_index counts.old (level priority) + 1) }
-{
-    counts[level(priority)] += 1;
-}
-
-/// Counts one message less.
-fn count_less(counts: &mut [usize; LEVELS], priority: u8)
-    requires { 0 < slice_index counts.old (level priority) }
-    ensures { counts.new ≡ set counts.old (level priority)
-        (slice_index counts.old (level priority) - 1) }
-{
-    counts[level(priority)] -= 1;
-}
-
-/// None of the messages that are counted has a greater priority, where none has a greater one than `top`.
-fn bound_of(counts: &[usize; LEVELS], top: u8) -> u8
-    ensures { (p : ℕ) → p ≤ top → 0 < slice_index counts.now (level p) → p ≤ result }
-{
-    if counts[7] > 0 {
-        return top;
-    }
-    let mut bound: u8 = 0;
-    for k in 0..7u8 {
-        if counts[k as usize] > 0 {
-            bound = k;
-        }
-    }
-    bound
+    ghost invariant = { λ l. AreKnown l.top l.counts l.passes l.messages.items };
 }
 
 impl MessageList {
@@ -82,9 +39,10 @@ impl MessageList {
         ensures { result ≡ record { items = []; room = 0 } }
     {
         MessageList {
-            messages: RoomedDeque::new(alloc),
+            messages: GapBuffer::new(alloc),
             counts: [0; LEVELS],
             top: 0,
+            passes: NO_PASSES,
         }
     }
 
@@ -101,11 +59,12 @@ impl MessageList {
         self.messages.room()
     }
 
-    pub(crate) fn as_slice(&self) -> &[Message]
-        ensures items { result.now ≡ self.now.items }
+    /// The messages, in two parts.
+    pub(crate) fn as_split(&self) -> SplitSlice<'_, Message>
+        ensures items { result ≡ self.now.items }
         ensures within { length self.now.items ≤ self.now.room }
     {
-        self.messages.as_slice()
+        self.messages.as_split()
     }
 
     /// Makes room for `more`, and for no more than that where there was less.
@@ -146,10 +105,11 @@ impl MessageList {
     {
         self.top = self.top.max(message.priority);
         count_more(&mut self.counts, message.priority, self.messages.room());
+        self.passes = NO_PASSES;
         self.messages.insert(at, message);
     }
 
-    /// Takes out the message at a place. The later ones move down, or those before it up, whichever are fewer.
+    /// Takes out the message at a place.
     pub(crate) fn remove(&mut self, at: usize) -> Message
         requires { at < length self.old.items }
         ensures removed { slice_get self.old.items at ≡ Some result }
@@ -159,14 +119,10 @@ impl MessageList {
     {
         let message = self.messages.remove(at);
         count_less(&mut self.counts, message.priority);
+        shift(&mut self.passes, at);
+        let messages = self.messages.as_split();
+        go_on(&mut self.passes, &self.counts, &messages, at, &message);
         message
-    }
-
-    /// None of the messages has a greater priority.
-    pub(crate) fn bound(&self) -> u8
-        ensures { All (λ m. m.priority ≤ result) self.now.items }
-    {
-        bound_of(&self.counts, self.top)
     }
 
     /// Where the first message stands of those that are wanted.
@@ -176,6 +132,8 @@ impl MessageList {
         ensures first { result ≡ first_index (is_wanted choice.now.at choice.now.moment
             choice.now.id) self.now.items }
     {
-        first_index(self.messages.as_slice(), choice, self.bound())
+        let bound = bound_of(&self.counts, self.top);
+        let messages = self.messages.as_split();
+        first_index(&messages, &self.counts, &self.passes, bound, choice)
     }
 }

@@ -13,6 +13,7 @@ use crate::choice::Choice;
 use crate::lists::Lists;
 use crate::queues::Queues;
 use mqb_base::{Class, EntryPlace, Lane, Memory, Message, Place};
+use mqb_deque::SplitSlice;
 
 fn length_met(recorded: bool, lists: &Lists) -> u32
     ensures { result ≡ length_met recorded lists.now.lists }
@@ -66,17 +67,17 @@ impl Queues {
         self.len_at(self.place(place)?)
     }
 
-    /// The durable messages of a place, the oldest first.
-    pub fn durable(&self, place: &Place) -> Option<&[Message]>
-        ensures { option_copied result ≡ option_map (λ l. l.durable) (lists_named self.now.lists
+    /// The durable messages of a place, the oldest first, in two parts.
+    pub fn durable(&self, place: &Place) -> Option<SplitSlice<'_, Message>>
+        ensures { result ≡ option_map (λ l. l.durable) (lists_named self.now.lists
             place.now) }
     {
         self.messages_at(self.place(place)?, Lane::Durable)
     }
 
-    /// The express messages of a place, the oldest first.
-    pub fn express(&self, place: &Place) -> Option<&[Message]>
-        ensures { option_copied result ≡ option_map (λ l. l.express) (lists_named self.now.lists
+    /// The express messages of a place, the oldest first, in two parts.
+    pub fn express(&self, place: &Place) -> Option<SplitSlice<'_, Message>>
+        ensures { result ≡ option_map (λ l. l.express) (lists_named self.now.lists
             place.now) }
     {
         self.messages_at(self.place(place)?, Lane::Express)

@@ -1,9 +1,9 @@
 //! Places as the store names them: each call and the one that takes it back.
-ghost use Rattle.std.specs.Prelude.{◌≡◌, ◌+◌, ◌<◌, ◌≤◌, length, slice_get, All, Some, None, IsSome, IfSome, IsSomeAnd, OnOk, OnErr, IfErr, IsOk, IsErr, option_copied, option_and_then};
+ghost use Rattle.std.specs.Prelude.{◌≡◌, ◌+◌, ◌<◌, ◌≤◌, length, slice_get, Some, None, IsSome, IfSome, IsSomeAnd, OnOk, OnErr, IfErr, IsOk, IsErr, option_and_then};
 ghost use Rattle.std.specs.Option.{option_map};
 ghost use Rattle.mqb_base.specs.declared.message.Lane.TheVariants.{Durable, Express};
 ghost use Rattle.mqb_base.specs.declared.roomed.TheConstants.{MAX_MEMBERS};
-ghost use Rattle.mqb_queue.specs.First.{first_position, index_named, is_wanted};
+ghost use Rattle.mqb_queue.specs.First.{first_index, first_position, index_named, is_wanted};
 ghost use Rattle.mqb_queue.specs.Lists.{count, inserted, messages_in, put, room_for, room_to_put, without};
 ghost use Rattle.mqb_queue.specs.Places.{changed_at, lists_at, spare_at, with_more_room};
 
@@ -11,6 +11,7 @@ use crate::choice::Choice;
 use crate::first::Position;
 use crate::queues::Queues;
 use mqb_base::{EntryPlace, Lane, Memory, Message, MessageId};
+use mqb_deque::SplitSlice;
 
 impl Queues {
     /// How many messages a place has.
@@ -20,24 +21,12 @@ impl Queues {
         Some(self.lists(at)?.count())
     }
 
-    /// The messages of a lane of a place, the oldest first.
-    pub fn messages_at(&self, at: EntryPlace, lane: Lane) -> Option<&[Message]>
-        ensures messages { option_copied result ≡ option_map (messages_in lane)
-            (lists_at self.now.lists at) }
-        ensures within { IfSome (option_copied result) (λ m. length m ≤ MAX_MEMBERS) }
+    /// The messages of a lane of a place, the oldest first, in two parts.
+    pub fn messages_at(&self, at: EntryPlace, lane: Lane) -> Option<SplitSlice<'_, Message>>
+        ensures messages { result ≡ option_map (messages_in lane) (lists_at self.now.lists at) }
+        ensures within { IfSome result (λ m. length m ≤ MAX_MEMBERS) }
     {
         Some(self.lists(at)?.messages(lane))
-    }
-
-    /// None of the messages of a lane of a place has a greater priority.
-    pub fn bound_at(&self, at: EntryPlace, lane: Lane) -> u8
-        ensures { IfSome (lists_at self.now.lists at)
-            (λ l. All (λ m. m.priority ≤ result) (messages_in lane l)) }
-    {
-        match self.lists(at) {
-            Some(lists) => lists.bound(lane),
-            None => 0,
-        }
     }
 
     /// Where the first message of a place stands, where the place is there and has one that can be taken.
@@ -48,6 +37,20 @@ impl Queues {
             (λ l. p.index < length (messages_in p.lane l))) }
     {
         self.lists(at)?.first_position(&Choice {
+            at,
+            moment: now,
+            id: None,
+        })
+    }
+
+    /// Where the first durable message of a place stands that can be taken.
+    pub fn first_durable(&self, at: EntryPlace, now: u32) -> Option<u32>
+        ensures index { result ≡ option_and_then (λ l.
+            first_index (is_wanted at now None) l.durable) (lists_at self.now.lists at) }
+        ensures within { IfSome result (λ k. IsSomeAnd (lists_at self.now.lists at)
+            (λ l. k < length l.durable)) }
+    {
+        self.lists(at)?.first_durable(&Choice {
             at,
             moment: now,
             id: None,

@@ -11,30 +11,9 @@ use Rattle.mqb_base.specs.declared.message.Message.{Message}
 use Rattle.mqb_base.specs.declared.queues.EntryPlace.{EntryPlace}
 use Rattle.mqb_queue.specs.Lists.{Lists, messages_in}
 use Rattle.mqb_queue.specs.Places.{lists_at}
-use Rattle.mqb_queue.proofs.Positions.{passes_none, position_behind, position_step}
+use Rattle.mqb_queue.proofs.Positions.{found_here, none_more, position_behind}
 use Rattle.mqb_model.specs.rules.Takes.{message_at}
 use Rattle.mqb_model.specs.state.State.{State}
-
--- the first one that passes is at k
-pub found_here : {X : Type 0} (p : X → Bool) (xs : List X) (k : ℕ) (x : X) → All (λ y. p y ≡ false) (take k xs) → slice_get xs k ≡ Some x → p x ≡ true
-    → position p xs ≡ Some k
-found_here p [] k x none is passes = absurd (none-some x is)
-found_here {X} p (y ∷ xs) zero x none is passes = position_step p y xs
-    ∙ ap (λ b. cond b (Some 0) (option_map suc (position p xs))) (ap p (same_Some y x is) ∙ passes)
-found_here p (y ∷ xs) (suc k) x none is passes = position_step p y xs
-    ∙ (ap (λ b. cond b (Some 0) (option_map suc (position p xs))) (All-head (λ z. p z ≡ false) y (take k xs) none)
-    ∙ ap (option_map suc) (found_here p xs k x (All-tail (λ z. p z ≡ false) y (take k xs) none) is passes))
-
--- the one at k does not pass either
-pub none_more : {X : Type 0} (p : X → Bool) (xs : List X) (k : ℕ) (x : X) → All (λ y. p y ≡ false) (take k xs) → slice_get xs k ≡ Some x → p x ≡ false
-    → All (λ y. p y ≡ false) (take (k + 1) xs)
-none_more {X} p xs k x none is fails =
-    let more : take (k + 1) xs ≡ take k xs ++ x ∷ [] = take_more xs k x (slice_get_within xs k x is) ∙ ap (λ y. take k xs ++ y ∷ []) (get_or_from_slice_get xs k x x is) in
-    subst (λ (ys : List X). All (λ y. p y ≡ false) ys) (sym more) (All-push (λ y. p y ≡ false) (take k xs) x none fails)
-
--- no one passes
-pub none_found : {X : Type 0} (p : X → Bool) (xs : List X) (k : ℕ) → All (λ y. p y ≡ false) (take k xs) → length xs ≤ k → position p xs ≡ None
-none_found {X} p xs k none past = passes_none p xs (subst (λ (ys : List X). All (λ y. p y ≡ false) ys) (take_all k xs past) none)
 
 -- a search behind members that do not pass
 pub found_behind : {X : Type 0} (p : X → Bool) (xs : List X) (n : ℕ) → All (λ y. p y ≡ false) (take n xs) → n ≤ length xs

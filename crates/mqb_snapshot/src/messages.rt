@@ -11,6 +11,7 @@ ghost use Rattle.mqb_snapshot.specs.Values.{AreHeld, IsHeld};
 use crate::tail::Tail;
 use crate::typed::message_fits;
 use mqb_base::{Bytes, Delivery, Guid, Memory, Message, QueueName, Units};
+use mqb_deque::SplitSlice;
 use mqb_heads::BaseHead;
 use mqb_packet::{Headers, message_size, plain_size};
 use std::alloc::Global;
@@ -100,7 +101,11 @@ impl Tail {
     }
 
     /// Messages behind their count.
-    pub(crate) fn messages(&mut self, alloc: Global, messages: &[Message]) -> Result<(), Memory>
+    pub(crate) fn messages(
+        &mut self,
+        alloc: Global,
+        messages: &SplitSlice<'_, Message>,
+    ) -> Result<(), Memory>
         requires few { length messages.now ≤ MAX_MEMBERS }
         requires sized { All IsSized messages.now }
         ensures added { OnOk result (self.new.text ≡
@@ -109,7 +114,8 @@ impl Tail {
         ensures typed { OnOk result (AreHeld messages.now) }
     {
         self.u32(messages.len() as u32)?;
-        for message in messages {
+        for index in 0..messages.len() {
+            let message = messages.at(index);
             self.message(alloc, message)?;
         }
         Ok(())

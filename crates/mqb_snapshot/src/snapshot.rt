@@ -14,6 +14,7 @@ ghost use Rattle.mqb_snapshot.specs.Values.{AreHeld, IsIn, IsOut, IsPlan, IsStat
 use crate::tail::Tail;
 use mqb_base::{EntryPlace, Lane, Memory};
 use mqb_contents::Contents;
+use mqb_deque::SplitSlice;
 use mqb_orders::{InRow, OutRow};
 use mqb_queue::Queues;
 use std::alloc::Global;
@@ -45,7 +46,7 @@ impl Tail {
             (λ l. AreHeld l.durable)) }
     {
         match (queues.messages_at(at, Lane::Durable), queues.len_at(at)) {
-            (Some(messages), Some(_)) => self.messages(alloc, messages),
+            (Some(messages), Some(_)) => self.messages(alloc, &messages),
             _ => unreachable!(),
         }
     }
@@ -109,7 +110,7 @@ impl Tail {
     {
         let plain = contents.plain(k);
         let _count = plain.len();
-        self.messages(alloc, plain.recoverable())
+        self.messages(alloc, &SplitSlice::new(plain.recoverable(), &[]))
     }
 
     fn waiting_for_all(&mut self, alloc: Global, contents: &Contents) -> Result<(), Memory>

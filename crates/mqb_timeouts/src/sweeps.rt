@@ -13,6 +13,7 @@ ghost use Rattle.mqb_timeouts.specs.Waiting.{NoneSwept, queued, swept_count};
 
 use mqb_base::{Class, EntryPlace, Lane, Line, Memory, Message, is_due};
 use mqb_contents::Contents;
+use mqb_deque::SplitSlice;
 use mqb_drafts::Draft;
 use mqb_rules::{copy_at, meets};
 
@@ -22,37 +23,35 @@ fn cannot_be_received(message: &Message, now: u32) -> bool
     is_due(message.sent, message.life, now)
 }
 
-fn index_due(messages: &[Message], now: u32) -> Option<usize>
-    ensures index { result ≡ position (cannot_be_received now) messages.now }
-    ensures within { IfSome result (λ k. k < length messages.now) }
-{
-    messages
-        .iter()
-        .position(|message| cannot_be_received(message, now))
-}
-
-/// The same, where none of the first ones is due.
-fn index_due_from(messages: &[Message], from: usize, now: u32) -> Option<usize>
+/// Where the first message stands that is due, where none of the first ones is.
+fn index_due_from(messages: &SplitSlice<'_, Message>, from: usize, now: u32) -> Option<usize>
     requires { All (λ m. cannot_be_received now m ≡ false) (take from messages.now) }
     ensures index { result ≡ position (cannot_be_received now) messages.now }
     ensures within { IfSome result (λ k. k < length messages.now) }
 {
-    if from >= messages.len() {
-        return None;
+    for index in from..messages.len() {
+        let message = messages.at(index);
+        if cannot_be_received(message, now) {
+            return Some(index);
+        }
     }
-    match index_due(&messages[from..], now) {
-        Some(k) => Some(from + k),
-        None => None,
-    }
+    None
 }
 
-fn count_due(messages: &[Message], now: u32) -> usize
+fn count_in(messages: &[Message], now: u32) -> usize
     ensures { result ≡ count_by (cannot_be_received now) messages.now }
 {
     messages
         .iter()
         .filter(|message| cannot_be_received(message, now))
         .count()
+}
+
+fn count_due(messages: &SplitSlice<'_, Message>, now: u32) -> usize
+    ensures { result ≡ count_by (cannot_be_received now) messages.now }
+{
+    let (front, back) = messages.parts();
+    count_in(front, now) + count_in(back, now)
 }
 
 /// The index of the next message of a lane of the queue at an index that is swept.
@@ -64,7 +63,7 @@ fn index_swept(contents: &Contents, lane: Lane, k: u32, from: u32, now: u32) -> 
     let messages = contents
         .queues()
         .messages_at(EntryPlace::Queue(k + 1), lane)?;
-    let index = index_due_from(messages, from as usize, now)?;
+    let index = index_due_from(&messages, from as usize, now)?;
     Some(index as u32)
 }
 
@@ -76,7 +75,7 @@ fn count_swept(contents: &Contents, lane: Lane, k: u32, now: u32) -> usize
         .queues()
         .messages_at(EntryPlace::Queue(k + 1), lane)
     {
-        Some(messages) => count_due(messages, now),
+        Some(messages) => count_due(&messages, now),
         None => 0,
     }
 }

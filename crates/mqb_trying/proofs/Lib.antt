@@ -13,3 +13,4 @@ pub mod Drafted
 pub mod Lookups
 pub mod Finished
 pub mod Walked
+pub mod Firsts

@@ -1,9 +1,9 @@
 -- What is read of a queue by its number.
-use Rattle.std.proofs.Common.{refl, ap, ap₂, subst, sym, ◌∙◌, arith, length, zero, suc}
+use Rattle.std.proofs.Common.{refl, ap, ap₂, sym, ◌∙◌, arith, length, zero, suc}
 use Rattle.std.proofs.lemmas.Option.{none-some, same_Some}
 use Rattle.std.proofs.lemmas.List.Elements.{All-push}
 use Rattle.std.specs.Option.{option_map_or}
-use Rattle.std.specs.Prelude.{[], ◌++◌, ◌<◌, ◌∷◌, ◌≡◌, ◌≤◌, All, Err, IfSome, List, None, Option, Some, is_some, option_and_then, option_map, slice_get, true, ℕ}
+use Rattle.std.specs.Prelude.{[], ◌++◌, ◌<◌, ◌∷◌, ◌≡◌, All, Err, List, None, Option, Some, is_some, option_and_then, option_map, slice_get, true, ℕ}
 use Rattle.mqb_base.specs.declared.message.Lane.TheVariants as lane
 use Rattle.mqb_base.specs.declared.message.Message.{Message}
 use Rattle.mqb_base.specs.declared.queues.QueuePlan.{QueuePlan}
@@ -42,17 +42,6 @@ message_there k ms (Some q) a lt = ap (λ ms. is_some (slice_get ms k)) (sym (sa
 pub durable_is : (o : Option Queue) → option_map (messages_in lane.Durable) (option_map (λ q. q.lists) o) ≡ option_map durable o
 durable_is None = refl
 durable_is (Some q) = refl
-
-pub bound_is : (bound : ℕ) (o : Option Queue) → IfSome (option_map (λ q. q.lists) o) (λ l. All (λ m. m.priority ≤ bound) (messages_in lane.Durable l))
-    → IfSome (option_map durable o) (λ ms. All (λ m. m.priority ≤ bound) ms)
-bound_is bound None h = h
-bound_is bound (Some q) h = h
-
--- the bound of the messages that are there
-pub bounded : (bound : ℕ) (ms : List Message) (o : Option Queue) → Some ms ≡ option_map durable o
-    → IfSome (option_map durable o) (λ ms. All (λ m. m.priority ≤ bound) ms) → All (λ m. m.priority ≤ bound) ms
-bounded bound ms None a h = absurd (none-some ms (sym a))
-bounded bound ms (Some q) a h = subst (λ (ns : List Message). All (λ m. m.priority ≤ bound) ns) (sym (same_Some ms (durable q) a)) h
 
 pub written : (ops : List PlannedOp) (op : PlannedOp) → All IsWritable ops → IsWritable op → All IsWritable (ops ++ op ∷ [])
 written ops op h one = All-push IsWritable ops op h one

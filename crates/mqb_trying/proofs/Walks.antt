@@ -3,11 +3,10 @@ use Rattle.std.proofs.Common.{refl, ap, sym, ◌∙◌, arith, drop, drop-cons, 
 use Rattle.std.proofs.lemmas.Bool.{leb-true}
 use Rattle.std.proofs.lemmas.Bool.Decides.{nat_tests}
 use Rattle.std.proofs.lemmas.List.{drop_all}
-use Rattle.std.proofs.lemmas.List.Elements.{All-head, All-tail}
 use Rattle.std.proofs.lemmas.List.Sums.{sum_by-cons}
 use Rattle.std.proofs.lemmas.Option.{none-some}
 use Rattle.std.specs.List.{list_any}
-use Rattle.std.specs.Prelude.{[], ◌&&◌, ◌+◌, ◌<◌, ◌||◌, ◌∷◌, ◌≡◌, ◌≤◌, All, Bool, IfSome, List, None, Option, Some, cond, false, map, max, nat_le, not, suc, sum_by, true, zero, ℕ}
+use Rattle.std.specs.Prelude.{[], ◌&&◌, ◌+◌, ◌<◌, ◌||◌, ◌∷◌, ◌≡◌, ◌≤◌, Bool, IfSome, List, None, Option, Some, cond, false, map, max, nat_le, not, suc, sum_by, true, zero, ℕ}
 use Rattle.mqb_base.specs.Times.{is_due}
 use Rattle.mqb_base.specs.declared.message.Message.{Message}
 use Rattle.mqb_model.specs.records.Counting.{commit_size, op_size}
@@ -86,11 +85,6 @@ pub each : (P : ℕ → Message → Type 0) → ((j : ℕ) (m : Message) → P j
 each P always i [] = tt
 each P always i (m ∷ ms) = (always i m, each P always (i + 1) ms)
 
-each_bounded : (may : ℕ → Message → Bool) (bound i : ℕ) (ms : List Message) → All (λ m. m.priority ≤ bound) ms → Each (λ j m. may j m ≡ true → m.priority ≤ bound) i ms
-each_bounded may bound i [] all = tt
-each_bounded may bound i (m ∷ ms) all =
-    (λ e. All-head (λ n. n.priority ≤ bound) m ms all, each_bounded may bound (i + 1) ms (All-tail (λ n. n.priority ≤ bound) m ms all))
-
 -- Where none that may be taken has a priority above a bound, one that has it ends the search.
 
 top_within : (may : ℕ → Message → Bool) (i top bound : ℕ) (ms : List Message) → top ≤ bound → Each (λ j m. may j m ≡ true → m.priority ≤ bound) i ms → top_from may i top ms ≤ bound
@@ -131,11 +125,6 @@ found_early : (may : ℕ → Message → Bool) (bound k : ℕ) (ms : List Messag
 found_early may bound k ms all found =
     let top : top_from may 0 0 ms ≡ bound = omega (arith, top_within may 0 0 bound ms (omega arith) all, top_reached may 0 0 bound k ms found) in
     ap (λ (least : ℕ). index_from may least 0 ms) top ∙ found
-
-pub found_bounded : (may : ℕ → Message → Bool) (bound : ℕ) (ms : List Message) (o : Option ℕ) → All (λ m. m.priority ≤ bound) ms → o ≡ index_from may bound 0 ms
-    → IfSome o (λ k. next_of may ms ≡ Some k)
-found_bounded may bound ms None all is = tt
-found_bounded may bound ms (Some k) all is = found_early may bound k ms (each_bounded may bound 0 ms all) (sym is)
 
 -- Where each of the first ones fails, they need not be looked at.
 

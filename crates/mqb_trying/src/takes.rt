@@ -1,4 +1,4 @@
-ghost use Rattle.std.specs.Prelude.{◌≡◌, ◌<◌, ◌≤◌, ◌+◌, All, IfErr, IfOk, IfSome, IsSome, Ok, OnOk, Some, drop, length, option_copied, option_map};
+ghost use Rattle.std.specs.Prelude.{◌≡◌, ◌<◌, ◌≤◌, ◌+◌, IfErr, IfOk, IfSome, IsSome, None, Ok, OnOk, Some, drop, length, option_copied, option_map};
 ghost use Rattle.mqb_base.specs.declared.roomed.TheConstants.{MAX_MEMBERS};
 ghost use Rattle.mqb_model.specs.state.Resolving.{queue_named};
 ghost use Rattle.mqb_queue.specs.Places.{numbered};
@@ -8,6 +8,7 @@ ghost use Rattle.mqb_trying.specs.Trying.{IsRefusedBy, at_op};
 use crate::notes::{Notes, PlannedOp, Take, push_op};
 use mqb_base::{EntryPlace, Lane, Memory, Message, Name, is_due};
 use mqb_contents::Contents;
+use mqb_deque::SplitSlice;
 use mqb_model::{CommitFault, Done, OpFault};
 
 /// Where a message stands that was taken, and its priority.
@@ -30,7 +31,7 @@ fn last_index(takes: &[Take], queue: u32) -> Option<u32>
 }
 
 /// The mark of the last take of a queue of these messages.
-fn mark_of(takes: &[Take], queue: u32, messages: &[Message]) -> Option<Mark>
+fn mark_of(takes: &[Take], queue: u32, messages: &SplitSlice<'_, Message>) -> Option<Mark>
     ensures { result ≡ mark_of takes.now queue messages.now }
 {
     let index = last_index(takes, queue)?;
@@ -60,12 +61,12 @@ fn may_take(mark: Option<Mark>, now: u32, index: usize, message: &Message) -> bo
 }
 
 /// The greatest priority of the messages of a queue that may be taken, or 0.
-fn top_priority(mark: Option<Mark>, now: u32, messages: &[Message]) -> u8
+fn top_priority(mark: Option<Mark>, now: u32, messages: &SplitSlice<'_, Message>) -> u8
     ensures { result ≡ top_from (may_take mark now) 0 0 messages.now }
 {
     let mut top: u8 = 0;
     for index in 0..messages.len() {
-        let message = &messages[index];
+        let message = messages.at(index);
         if may_take(mark, now, index, message) {
             top = top.max(message.priority);
         }
@@ -79,13 +80,13 @@ fn index_at_least(
     now: u32,
     from: usize,
     least: u8,
-    messages: &[Message],
+    messages: &SplitSlice<'_, Message>,
 ) -> Option<usize>
     ensures index { result ≡ index_from (may_take mark now) least from (drop from messages.now) }
     ensures within { IfSome result (λ k. k < length messages.now) }
 {
     for index in from..messages.len() {
-        let message = &messages[index];
+        let message = messages.at(index);
         if may_take(mark, now, index, message) && message.priority >= least {
             return Some(index);
         }
@@ -93,42 +94,72 @@ fn index_at_least(
     None
 }
 
-/// Where the next one stands, if it has the priority of the last one that was taken, or else the bound: then no other one is looked at.
-fn near_index(mark: Option<Mark>, now: u32, messages: &[Message], bound: u8) -> Option<usize>
-    requires { All (λ m. m.priority ≤ bound) messages.now }
-    ensures index { IfSome result (λ k. next_index mark now messages.now ≡ Some k) }
+/// Where the next one stands behind the last one that was taken: of the same priority, or else of the greatest one that is left.
+fn index_behind(last: Mark, now: u32, messages: &SplitSlice<'_, Message>) -> Option<usize>
+    ensures index { result ≡ next_index (Some last) now messages.now }
     ensures within { IfSome result (λ k. k < length messages.now) }
 {
-    match mark {
-        Some(last) => index_at_least(mark, now, last.index as usize + 1, last.priority, messages),
-        None => index_at_least(mark, now, 0, bound, messages),
-    }
-}
-
-/// Where the next one of a queue stands, in which none has a priority above `bound`.
-fn next_index(mark: Option<Mark>, now: u32, messages: &[Message], bound: u8) -> Option<usize>
-    requires { All (λ m. m.priority ≤ bound) messages.now }
-    ensures index { result ≡ next_index mark now messages.now }
-    ensures within { IfSome result (λ k. k < length messages.now) }
-{
-    if let Some(index) = near_index(mark, now, messages, bound) {
+    let mark = Some(last);
+    let from = last.index as usize + 1;
+    if let Some(index) = index_at_least(mark, now, from, last.priority, messages) {
         return Some(index);
     }
     let top = top_priority(mark, now, messages);
     index_at_least(mark, now, 0, top, messages)
 }
 
+/// Where the first one of the queue of a number stands, of these messages.
+fn first_index(
+    contents: &Contents,
+    queue: u32,
+    now: u32,
+    messages: &SplitSlice<'_, Message>,
+) -> Option<usize>
+    requires { Some messages.now ≡ option_map durable
+        (numbered contents.now.lists.places.queues queue) }
+    ensures index { result ≡ next_index None now messages.now }
+    ensures within { IfSome result (λ k. k < length messages.now) }
+{
+    match contents
+        .queues()
+        .first_durable(EntryPlace::Queue(queue), now)
+    {
+        Some(index) => Some(index as usize),
+        None => None,
+    }
+}
+
+/// Where the next one of the queue of a number stands, of these messages.
+fn next_index(
+    contents: &Contents,
+    queue: u32,
+    mark: Option<Mark>,
+    now: u32,
+    messages: &SplitSlice<'_, Message>,
+) -> Option<usize>
+    requires { Some messages.now ≡ option_map durable
+        (numbered contents.now.lists.places.queues queue) }
+    ensures index { result ≡ next_index mark now messages.now }
+    ensures within { IfSome result (λ k. k < length messages.now) }
+{
+    match mark {
+        Some(last) => index_behind(last, now, messages),
+        None => first_index(contents, queue, now, messages),
+    }
+}
+
 /// The next take of a queue of these messages, where it is transactional.
 fn take_by(
+    contents: &Contents,
     takes: &[Take],
     now: u32,
     queue: u32,
     transactional: bool,
-    messages: &[Message],
-    bound: u8,
+    messages: &SplitSlice<'_, Message>,
 ) -> Result<Take, OpFault>
     requires few { length messages.now ≤ MAX_MEMBERS }
-    requires bound { All (λ m. m.priority ≤ bound) messages.now }
+    requires messages { Some messages.now ≡ option_map durable
+        (numbered contents.now.lists.places.queues queue) }
     ensures take { result ≡ take_by takes.now now queue transactional messages.now }
     ensures within { IfOk result (λ take. take.index < length messages.now) }
     ensures queue { IfOk result (λ take. take.queue ≡ queue) }
@@ -137,7 +168,7 @@ fn take_by(
         return Err(OpFault::NotTransactional);
     }
     let mark = mark_of(takes, queue, messages);
-    match next_index(mark, now, messages, bound) {
+    match next_index(contents, queue, mark, now, messages) {
         Some(index) => Ok(Take {
             queue,
             index: index as u32,
@@ -148,29 +179,18 @@ fn take_by(
 
 /// The durable messages of the queue of a number, the oldest first.
 #[tactic(auto, using(crate::proofs::Lookups::durable_is))]
-fn messages_of(contents: &Contents, queue: u32) -> Option<&[Message]>
-    ensures messages { option_copied result ≡ option_map durable
+fn messages_of(contents: &Contents, queue: u32) -> Option<SplitSlice<'_, Message>>
+    ensures messages { result ≡ option_map durable
         (numbered contents.now.lists.places.queues queue) }
-    ensures few { IfSome (option_copied result) (λ ms. length ms ≤ MAX_MEMBERS) }
+    ensures few { IfSome result (λ ms. length ms ≤ MAX_MEMBERS) }
 {
     contents
         .queues()
         .messages_at(EntryPlace::Queue(queue), Lane::Durable)
 }
 
-/// None of these messages has a greater priority.
-#[tactic(auto, using(crate::proofs::Lookups::bound_is))]
-fn bound_of(contents: &Contents, queue: u32) -> u8
-    ensures { IfSome (option_map durable (numbered contents.now.lists.places.queues queue))
-        (λ ms. All (λ m. m.priority ≤ result) ms) }
-{
-    contents
-        .queues()
-        .bound_at(EntryPlace::Queue(queue), Lane::Durable)
-}
-
 /// The next take of the queue of a number.
-#[tactic(auto, using(crate::proofs::Lookups::none_is, crate::proofs::Lookups::take_is, crate::proofs::Lookups::message_there, crate::proofs::Lookups::bounded))]
+#[tactic(auto, using(crate::proofs::Lookups::none_is, crate::proofs::Lookups::take_is, crate::proofs::Lookups::message_there))]
 fn take_of(contents: &Contents, takes: &[Take], now: u32, queue: u32) -> Result<Take, OpFault>
     ensures take { result ≡ take_of contents.now.lists takes.now now queue }
     ensures there { IfOk result (λ take. IsSome (message_of_take contents.now.lists take)) }
@@ -181,8 +201,7 @@ fn take_of(contents: &Contents, takes: &[Take], now: u32, queue: u32) -> Result<
     let Some(messages) = messages_of(contents, queue) else {
         return Err(OpFault::NoQueue);
     };
-    let bound = bound_of(contents, queue);
-    take_by(takes, now, queue, plan.transactional, messages, bound)
+    take_by(contents, takes, now, queue, plan.transactional, &messages)
 }
 
 fn queue_named(contents: &Contents, name: &Name) -> Option<u32>

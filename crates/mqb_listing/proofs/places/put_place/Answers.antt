@@ -16,7 +16,7 @@ returns-in_default c =
 pub returns : goal.returns
 returns c =
     let page = c.args.printer.now in let host = c.args.host.now in let word = c.args.word.now in let name = c.args.name.now in
-    let durable = c.in-Some.durable.now in let express = c.in-Some-messages_at.express.now in
+    let durable = c.in-Some.durable in let express = c.in-Some-messages_at.express in
     let named = then_wrote _ _ _ _ _ c.in_ok-begin.ensures c.in_ok-put.ensures in
     let told = then_told (λ hosts. held_text hosts (record { durable = durable; express = express })) _ _ _ _ named c.in_ok-put_held.ensures in
     last_part _ _ _ _ _ _ _ told c.put-2.ensures

@@ -2,7 +2,8 @@ use Rattle.std.proofs.Common.{sym, ◌∙◌, arith, false}
 use Rattle.std.specs.Option.{option_map_or}
 use Rattle.mqb_base.specs.Same.{same_guid}
 use Rattle.mqb_model.specs.state.Resolving.{is_registered}
-use Rattle.mqb_rules.proofs.Searches.{found_seen, more_seen, none_found}
+use Rattle.mqb_queue.proofs.Positions.{none_found}
+use Rattle.mqb_rules.proofs.Searches.{found_seen, more_seen}
 use Rattle.mqb_rules.proofs.resolving.index_registered.Goals as goal
 
 pub returns-then-is_registered-clause-index : goal.returns-then-is_registered-clause-index

@@ -1,7 +1,7 @@
 use Rattle.std.proofs.Common.{sym, ◌∙◌, arith}
 use Rattle.mqb_model.specs.rules.Timeouts.{expires}
 use Rattle.mqb_orders.specs.Rows.{row_of}
-use Rattle.mqb_rules.proofs.Searches.{found_here, none_found, none_more}
+use Rattle.mqb_queue.proofs.Positions.{found_here, none_found, none_more}
 use Rattle.mqb_timeouts.proofs.expiries.index_in.Goals as goal
 
 pub returns-then-expires-clause-index : goal.returns-then-expires-clause-index

@@ -1,7 +1,8 @@
 use Rattle.std.proofs.Common.{◌+◌, sym, ap, ◌∙◌, arith}
 use Rattle.std.specs.Option.{option_map}
 use Rattle.mqb_model.specs.rules.Timeouts.{cannot_reach}
-use Rattle.mqb_rules.proofs.Searches.{found_behind, none_found}
+use Rattle.mqb_queue.proofs.Positions.{none_found}
+use Rattle.mqb_rules.proofs.Searches.{found_behind}
 use Rattle.mqb_timeouts.proofs.lapses.index_due_from.Goals as goal
 
 pub returns-then-from-messages-clause-index : goal.returns-then-from-messages-clause-index

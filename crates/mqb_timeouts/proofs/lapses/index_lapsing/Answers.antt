@@ -2,7 +2,7 @@ use Rattle.std.proofs.Common.{sym, ◌∙◌, arith}
 use Rattle.mqb_model.specs.rules.Timeouts.{lapses}
 use Rattle.mqb_timeouts.specs.Waiting.{waiting}
 use Rattle.mqb_timeouts.proofs.Lapsed.{count_waiting, lapsing_none, lapsing_seen}
-use Rattle.mqb_rules.proofs.Searches.{none_found}
+use Rattle.mqb_queue.proofs.Positions.{none_found}
 use Rattle.mqb_timeouts.proofs.lapses.index_lapsing.Goals as goal
 
 pub returns-then-from-plain_count : goal.returns-then-from-plain_count

@@ -1,16 +1,18 @@
-use Rattle.std.proofs.Common.{◌+◌, sym, ap, ◌∙◌, arith}
-use Rattle.std.specs.Option.{option_map}
+use Rattle.std.proofs.Common.{sym, ◌∙◌, arith}
 use Rattle.mqb_model.specs.rules.Timeouts.{cannot_be_received}
-use Rattle.mqb_rules.proofs.Searches.{found_behind, none_found}
+use Rattle.mqb_queue.proofs.Positions.{found_here, none_found, none_more}
 use Rattle.mqb_timeouts.proofs.sweeps.index_due_from.Goals as goal
 
-pub returns-then-from-messages-clause-index : goal.returns-then-from-messages-clause-index
-returns-then-from-messages-clause-index c = sym (none_found (cannot_be_received c.args.now) c.args.messages.now c.args.from c.requires (omega arith))
+pub returns-then-cannot_be_received-clause-index : goal.returns-then-cannot_be_received-clause-index
+returns-then-cannot_be_received-clause-index c = sym (found_here (cannot_be_received c.args.now) c.args.messages.now c.loop-index.index c.at-message.result.now
+    c.loop-index.invariant.none c.at-message.ensures (sym c.cannot_be_received.ensures ∙ c.if-cannot_be_received.true))
 
-pub returns-in-Some-clause-index : goal.returns-in-Some-clause-index
-returns-in-Some-clause-index c = sym (found_behind (cannot_be_received c.args.now) c.args.messages.now c.args.from c.requires (omega arith)
-    ∙ ap (option_map (λ k. c.args.from + k)) (sym c.in-Some.ensures.index))
+pub loop-index-preserved : goal.loop-index-preserved
+loop-index-preserved c = record {
+  none = none_more (cannot_be_received c.args.now) c.args.messages.now c.loop-index.index c.at-message.result.now c.loop-index.invariant.none c.at-message.ensures
+      (sym c.cannot_be_received.ensures ∙ c.if-cannot_be_received.false);
+}
 
-pub returns-in-None-clause-index : goal.returns-in-None-clause-index
-returns-in-None-clause-index c = sym (found_behind (cannot_be_received c.args.now) c.args.messages.now c.args.from c.requires (omega arith)
-    ∙ ap (option_map (λ k. c.args.from + k)) (sym c.in-None.ensures.index))
+pub returns-clause-index : goal.returns-clause-index
+returns-clause-index c = sym (none_found (cannot_be_received c.args.now) c.args.messages.now c.loop-index.index c.loop-index.invariant.none
+    (omega (arith, c.loop-index-test.false)))

@@ -1,11 +1,13 @@
+use Rattle.std.proofs.Common.{sym, arith}
+use Rattle.std.proofs.lemmas.Option.{get_or_from_slice_get}
 use Rattle.mqb_commands.proofs.Putting.{none_put, puts_more}
 use Rattle.mqb_commands.proofs.turns.Taking.put_each.Goals as goal
 
-pub loop-message-init : goal.loop-message-init
-loop-message-init c = none_put c.args.self.at c.args.self.now c.args.priority c.args.count c.args.printer.now
+pub loop-index-init : goal.loop-index-init
+loop-index-init c = none_put c.args.self.at c.args.self.now c.args.priority c.args.count c.args.printer.now
 
-pub loop-message-preserved : goal.loop-message-preserved
-loop-message-preserved c =
-    puts_more c.args.self.at c.args.self.now c.args.priority c.args.count c.loop-message.more c.in_ok-more.more c.args.messages.now c.loop-message.message-index
-    c.message-item.result c.args.printer.now c.loop-message.printer c.put_free.new.printer c.loop-message-test.true c.message-item.is
-    c.loop-message.invariant c.in_ok-more.ensures
+pub loop-index-preserved : goal.loop-index-preserved
+loop-index-preserved c =
+    puts_more c.args.self.at c.args.self.now c.args.priority c.args.count c.loop-index.more c.in_ok-more.more c.args.messages.now c.loop-index.index
+    c.at-message.result.now c.args.printer.now c.loop-index.printer c.put_free.new.printer (omega (arith, c.loop-index-test.true, c.len-index-end.ensures)) (sym (get_or_from_slice_get c.args.messages.now c.loop-index.index c.at-message.result.now c.at-message.result.now c.at-message.ensures))
+    c.loop-index.invariant c.in_ok-more.ensures

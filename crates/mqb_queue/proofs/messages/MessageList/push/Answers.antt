@@ -1,9 +1,11 @@
-use Rattle.std.proofs.Common.{◌≡◌, ◌<◌, ◌≤◌, ◌+◌, ◌++◌, ◌∷◌, [], ℕ, List, length, max, sym, ap, subst, arith}
+use Rattle.std.proofs.Common.{◌≡◌, ◌<◌, ◌≤◌, ◌++◌, ◌∷◌, [], ℕ, List, length, max, sym, ap, subst, arith}
 use Rattle.std.specs.List.{All}
 use Rattle.mqb_base.specs.Rooms.{Room}
 use Rattle.mqb_base.specs.declared.message.Message.{Message}
 use Rattle.mqb_queue.specs.Levels.{level, Counted}
 use Rattle.mqb_queue.proofs.Levels.{at_level_most, at_level_pushed, counted_more, all_pushed}
+use Rattle.mqb_queue.specs.Passes.{ArePassed}
+use Rattle.mqb_queue.proofs.Passed.{passes_pushed}
 use Rattle.mqb_queue.proofs.messages.MessageList.push.Goals as goal
 
 pub count_more-requires : goal.count_more-requires
@@ -12,17 +14,20 @@ count_more-requires c =
     let within : k < 8 = omega arith in
     let there : length c.self.inside.messages.items < c.self.inside.messages.room =
     subst (λ (r : Room Message). length r.items < r.room) (sym c.self.view_is) c.requires in
-    omega (arith, c.self.invariant.1.counted k within, at_level_most k c.self.inside.messages.items, c.room.ensures.room, there)
+    omega (arith, c.self.invariant.counted.counted k within, at_level_most k c.self.inside.messages.items, c.room.ensures.room, there)
 
 pub invariant_of-self : goal.invariant_of-self
 invariant_of-self c =
     let old = c.self.inside.messages.items in
     let m = c.args.message in
     let items : c.push.new.self.items ≡ old ++ m ∷ [] = ap (λ (r : Room Message). r.items) c.push.ensures in
-    let top : c.max-self-inside.result ≡ max c.self.inside.top m.priority = c.max-self-inside.ensures in (
-      subst (λ (ms : List Message). All (λ n. n.priority ≤ c.max-self-inside.result) ms) (sym items)
-          (all_pushed c.self.inside.top c.max-self-inside.result m old (omega (arith, top)) (omega (arith, top)) c.self.invariant.0),
-      subst (λ (ms : List Message). Counted c.count_more.new.counts ms) (sym items)
+    let top : c.max-self-inside.result ≡ max c.self.inside.top m.priority = c.max-self-inside.ensures in
+    record {
+      bounded = subst (λ (ms : List Message). All (λ n. n.priority ≤ c.max-self-inside.result) ms) (sym items)
+          (all_pushed c.self.inside.top c.max-self-inside.result m old (omega (arith, top)) (omega (arith, top)) c.self.invariant.bounded);
+      counted = subst (λ (ms : List Message). Counted c.count_more.new.counts ms) (sym items)
           (subst (λ (ns : List ℕ). Counted ns (old ++ m ∷ [])) (sym c.count_more.ensures)
-          (counted_more c.self.inside.counts old (old ++ m ∷ []) (level m.priority) c.self.invariant.1 (λ k. at_level_pushed k m old))),
-    )
+          (counted_more c.self.inside.counts old (old ++ m ∷ []) (level m.priority) c.self.invariant.counted (λ k. at_level_pushed k m old)));
+      passed = subst (λ (ms : List Message). ArePassed c.self.inside.passes ms) (sym items)
+          (passes_pushed c.self.inside.passes m old c.self.invariant.passed);
+    }

@@ -5,9 +5,9 @@ use Rattle.mqb_snapshot.proofs.SoFar.{SoFar}
 use Rattle.mqb_snapshot.proofs.Walks.{PutSoFar}
 use Rattle.mqb_snapshot.proofs.tail.Tail.messages.Given as goal
 
-abbrev pub invariant-loop-message : goal.invariant-loop-message
-invariant-loop-message l = record {
-  put : PutSoFar spelled_message l.messages l.message-index l.initial.self.text l.self.text;
+abbrev pub invariant-loop-index : goal.invariant-loop-index
+invariant-loop-index l = record {
+  put : PutSoFar spelled_message l.messages l.index l.initial.self.text l.self.text;
   front : l.self.front ≡ l.fn.self.front;
-  typed : SoFar IsHeld l.messages l.message-index;
+  typed : SoFar IsHeld l.messages l.index;
 }
