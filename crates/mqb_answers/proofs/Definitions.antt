@@ -187,4 +187,4 @@ outcomes_are_told (call.Commit ops) m now =
 outcomes_are_told (call.Take place) m now = take_is_told m now (lines_after m (take_message m place now)) (is_down m) (place_named m.state.places.queues place)
 outcomes_are_told (call.Purge place) m now = purge_is_told m now (lines_after m (purge m place now)) (is_down m) (place_named m.state.places.queues place)
 outcomes_are_told call.Tick m now = tick_is_told m now (lines_after m (tick m now)) (is_down m)
-outcomes_are_told (call.SetRoll count) m now = roll_is_told m (entry.Roll count) (is_down m)
+outcomes_are_told (call.SetRoll count) m now = roll_is_told m (entry.Set (entry.Roll count)) (is_down m)

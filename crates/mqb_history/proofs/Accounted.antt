@@ -161,17 +161,7 @@ given_numbers all mine s went new base next h same low more high = (
 send_below : (own : Guid) (low : ℕ) (mine : List Line) (x : Line) (id : MessageId) → NamesOwn own low mine x → IsSendOf id x → id.number < low
 send_below own low mine (line.Committed stream number other) id g e = subst (λ (i : MessageId). i.number < low) e g.1
 send_below own low mine (line.Local other) id g e = subst (λ (i : MessageId). i.number < low) e g.1
-send_below own low mine (line.Put stream number other) id g e = absurd e
-send_below own low mine (line.Refused stream number class other) id g e = absurd e
-send_below own low mine (line.Expired stream number other moment) id g e = absurd e
-send_below own low mine (line.Stored other) id g e = absurd e
-send_below own low mine (line.Bounced class other) id g e = absurd e
-send_below own low mine (line.Released other) id g e = absurd e
-send_below own low mine (line.Took other) id g e = absurd e
-send_below own low mine (line.Purged other) id g e = absurd e
-send_below own low mine (line.Swept other) id g e = absurd e
-send_below own low mine (line.Lapsed other) id g e = absurd e
-send_below own low mine (line.Emptied other) id g e = absurd e
+send_below own low mine x id g e = absurd e
 
 -- lines of sends between two numbers leave the others apart
 more_apart : (own : Guid) (mine more : List Line) (low base next : ℕ) (id : MessageId) → AllByRecursion (NamesOwn own low mine) mine
@@ -195,33 +185,14 @@ more_apart own mine more low base next id names sends known le l inside says = a
 sends_given : (f : Frame) (next : ℕ) (id : MessageId) (l : Line) → IsRightLine f next l → IsSendOf id l → (f.low ≤ id.number) × (id.number < f.base)
 sends_given f next id (line.Committed stream number other) g e = subst (λ (i : MessageId). (f.low ≤ i.number) × (i.number < f.base)) e (g.low, g.below)
 sends_given f next id (line.Local other) g e = subst (λ (i : MessageId). (f.low ≤ i.number) × (i.number < f.base)) e (g.low, g.below)
-sends_given f next id (line.Put stream number other) g e = absurd e
-sends_given f next id (line.Refused stream number class other) g e = absurd e
-sends_given f next id (line.Expired stream number other moment) g e = absurd e
-sends_given f next id (line.Stored other) g e = absurd e
-sends_given f next id (line.Bounced class other) g e = absurd e
-sends_given f next id (line.Released other) g e = absurd e
-sends_given f next id (line.Took other) g e = absurd e
-sends_given f next id (line.Purged other) g e = absurd e
-sends_given f next id (line.Swept other) g e = absurd e
-sends_given f next id (line.Lapsed other) g e = absurd e
-sends_given f next id (line.Emptied other) g e = absurd e
+sends_given f next id l g e = absurd e
 
 -- what is known of lines, where more lines join
 names_more : (own : Guid) (a b : ℕ) (ls more : List Line) → a ≤ b → ((id : MessageId) → id.number < a → IsApart ls id → IsApart more id) → (l : Line) → NamesOwn own a ls l → NamesOwn own b more l
 names_more own a b ls more le apart (line.Committed stream number id) h = (h.0, let lt = h.1 in omega (arith, lt, le))
 names_more own a b ls more le apart (line.Local id) h = (h.0, let lt = h.1 in omega (arith, lt, le))
 names_more own a b ls more le apart (line.Lapsed id) h = record { source = h.source; below = let lt = h.below in omega (arith, lt, le); apart = apart id h.below h.apart }
-names_more own a b ls more le apart (line.Put stream number id) h = tt
-names_more own a b ls more le apart (line.Refused stream number class id) h = tt
-names_more own a b ls more le apart (line.Expired stream number id moment) h = tt
-names_more own a b ls more le apart (line.Stored id) h = tt
-names_more own a b ls more le apart (line.Bounced class id) h = tt
-names_more own a b ls more le apart (line.Released id) h = tt
-names_more own a b ls more le apart (line.Took id) h = tt
-names_more own a b ls more le apart (line.Purged id) h = tt
-names_more own a b ls more le apart (line.Swept id) h = tt
-names_more own a b ls more le apart (line.Emptied id) h = tt
+names_more own a b ls more le apart x h = tt
 
 -- a record's lines name own messages
 right_names : (f : Frame) (next : ℕ) (more : List Line) → f.base ≤ next → ((id : MessageId) → ((id.number < f.low) × f.Old id) ⊎ (f.base ≤ id.number) → IsApart more id)
@@ -229,16 +200,7 @@ right_names : (f : Frame) (next : ℕ) (more : List Line) → f.base ≤ next �
 right_names f next more le apart (line.Committed stream number id) h = (h.source, let lt = h.below in omega (arith, lt, le))
 right_names f next more le apart (line.Local id) h = (h.source, let lt = h.below in omega (arith, lt, le))
 right_names f next more le apart (line.Lapsed id) h = record { source = h.source; below = h.below; apart = apart id h.known }
-right_names f next more le apart (line.Put stream number id) h = tt
-right_names f next more le apart (line.Refused stream number class id) h = tt
-right_names f next more le apart (line.Expired stream number id moment) h = tt
-right_names f next more le apart (line.Stored id) h = tt
-right_names f next more le apart (line.Bounced class id) h = tt
-right_names f next more le apart (line.Released id) h = tt
-right_names f next more le apart (line.Took id) h = tt
-right_names f next more le apart (line.Purged id) h = tt
-right_names f next more le apart (line.Swept id) h = tt
-right_names f next more le apart (line.Emptied id) h = tt
+right_names f next more le apart x h = tt
 
 -- Where a record was walked through, the manager stands behind it.
 pub walked_stands : (noted : Bool) (all mine : List Line) (past : List State) (sent : List Packet) (s : State) (new : ℕ → ℕ) (base : ℕ) (e : Effect) (old : Stands all mine past sent s)

@@ -7,7 +7,6 @@ use Rattle.std.specs.Prelude.{[], ◌+◌, ◌++◌, ◌==◌, ◌∷◌, ◌≡
 use Rattle.mqb_base.specs.declared.draft.Op.{Op}
 use Rattle.mqb_base.specs.declared.ids.Guid.{Guid}
 use Rattle.mqb_base.specs.declared.ids.Identity.{Identity}
-use Rattle.mqb_base.specs.declared.ids.MessageId.{MessageId}
 use Rattle.mqb_base.specs.declared.ledger.Line.{Line}
 use Rattle.mqb_base.specs.declared.message.Message.{Message}
 use Rattle.mqb_exactly_once.specs.Words.{In}
@@ -31,7 +30,7 @@ use Rattle.mqb_network.specs.Network.{Network, manager_at, nobody, with_manager}
 use Rattle.mqb_packet.specs.declared.packet.Packet.{Packet}
 use Rattle.mqb_packet.specs.declared.packet.Packet.TheVariants as packet
 use Rattle.mqb_packet.specs.declared.packet.UserPacket.{UserPacket}
-use Rattle.mqb_history.specs.Calls.{Call, Commit, CreateQueue, Hear, Pump, Purge, Resend, Send, SetRoll, Take, Tick, outcome_of}
+use Rattle.mqb_model.specs.calls.Call.{Answer, Call, Hear, outcome_of}
 use Rattle.mqb_history.specs.Decided.{written_of}
 use Rattle.mqb_history.specs.Made.{AreNumbered, IsMade}
 use Rattle.mqb_history.proofs.Accounted.{MayApply, Stands}
@@ -45,7 +44,7 @@ use Rattle.mqb_history.proofs.Fated.{IsSent, PartFair, sent_fair}
 use Rattle.mqb_history.proofs.Besides.{BesideFair}
 use Rattle.mqb_history.proofs.Fates.{IsFair, fair_more}
 use Rattle.mqb_history.proofs.Lists.{all_weaker, append_nothing, apart_numbers, clash, equal_numbers, get_within, set_there}
-use Rattle.mqb_history.proofs.Recorded.{BesideOf, IsPlainOf, IsPlainPacket, PartOf, RecordOf, calls_are_of}
+use Rattle.mqb_history.proofs.Recorded.{BesideOf, IsPlainPacket, PartOf, RecordOf, calls_are_of}
 use Rattle.mqb_history.proofs.Written.{other_more, own_more}
 
 -- Lines of records.
@@ -144,67 +143,28 @@ abbrev pub AllFair : List Line → List Packet → Type 0
 AllFair ls sent = (p : UserPacket) → In (packet.User p) sent → IsFair (λ l. In l ls) p.message
 
 part_may : (ls : List Line) (sent : List Packet) (own : Guid) (part : Part) → AllFair ls sent → PartFrom sent own part → PartFair (λ l. In l ls) part
-part_may ls sent own entry.Nothing fair h = tt
 part_may ls sent own (entry.Decided p) fair h = fair p h.0
 part_may ls sent own (entry.Stored p) fair h = fair p h.0
-part_may ls sent own (entry.OrderAcknowledged ordinal number) fair h = tt
-part_may ls sent own (entry.Final p) fair h = tt
+part_may ls sent own part fair h = tt
 
 -- it may be applied
 pub may_apply : (ls : List Line) (sent : List Packet) (s : State) (r : Record) → AllFair ls sent → MayStill s.identity.guid s.next_number r → HeardBy sent s.identity.guid r → MayApply (λ l. In l ls) s r
-may_apply ls sent s (entry.Identity identity) fair may heard = tt
 may_apply ls sent s (entry.Peer peer) fair may heard = may
-may_apply ls sent s (entry.CreateQueue number plan) fair may heard = tt
 may_apply ls sent s (entry.Commit now ops) fair may heard = record { numbered = may.numbered; sent = may.sent; high = may.high }
 may_apply ls sent s (entry.Plain now p) fair may heard = may
-may_apply ls sent s (entry.Offered marks) fair may heard = tt
 may_apply ls sent s (entry.Arrived now numbers part) fair may heard = part_may ls sent s.identity.guid part fair heard
-may_apply ls sent s (entry.Taken now at id) fair may heard = tt
-may_apply ls sent s (entry.Purged now at) fair may heard = tt
-may_apply ls sent s (entry.Ticked now) fair may heard = tt
-may_apply ls sent s (entry.Roll count) fair may heard = tt
+may_apply ls sent s r fair may heard = tt
 
 -- Calls.
 
 asked_sent : (now : ℕ) (ops : List Op) (m : Message) → IsOfOps now ops m → IsSent m
 asked_sent now ops m h = (ap (λ (x : Message). x.class) h.message, ap (λ (x : Message). is_express x.delivery) h.message)
 
-commit_may : (s : State) (call : Call) (now : ℕ) (ops : List _) → RecordOf s call (entry.Commit now ops) → AreNumbered s.identity.guid s.next_number (sends_of ops) → IsCommitBy s.identity.guid s.next_number (sends_of ops)
-commit_may s (Commit at asked) now ops h numbered = record { numbered = numbered; sent = all_weaker (IsOfOps at asked) IsSent (asked_sent at asked) (sends_of ops) h.asked; high = h.high }
-commit_may s (CreateQueue plan) now ops h numbered = absurd h
-commit_may s (SetRoll count) now ops h numbered = absurd h
-commit_may s (Send at recoverable parts) now ops h numbered = absurd h
-commit_may s (Take at place) now ops h numbered = absurd h
-commit_may s (Purge at place) now ops h numbered = absurd h
-commit_may s (Tick at) now ops h numbered = absurd h
-commit_may s Resend now ops h numbered = absurd h
-commit_may s (Pump at) now ops h numbered = absurd h
-commit_may s (Hear at p) now ops h numbered = absurd h
-
-plain_may : (s : State) (call : Call) (now : ℕ) (p : UserPacket) → RecordOf s call (entry.Plain now p) → IsPlainOf s p.message
-plain_may s (Send at recoverable parts) now p h = h
-plain_may s (Commit at asked) now p h = absurd h
-plain_may s (CreateQueue plan) now p h = absurd h
-plain_may s (SetRoll count) now p h = absurd h
-plain_may s (Take at place) now p h = absurd h
-plain_may s (Purge at place) now p h = absurd h
-plain_may s (Tick at) now p h = absurd h
-plain_may s Resend now p h = absurd h
-plain_may s (Pump at) now p h = absurd h
-plain_may s (Hear at q) now p h = absurd h
-
 record_may : (s : State) (call : Call) (r : Record) → RecordOf s call r → IsMade s r → MayStill s.identity.guid s.next_number r
-record_may s call (entry.Identity identity) h made = tt
 record_may s call (entry.Peer peer) h made = made
-record_may s call (entry.CreateQueue number plan) h made = tt
-record_may s call (entry.Commit now ops) h made = commit_may s call now ops h made.numbered
-record_may s call (entry.Plain now p) h made = let g = plain_may s call now p h in ((g.class, g.durable), g.id, g.high)
-record_may s call (entry.Offered marks) h made = tt
-record_may s call (entry.Arrived now numbers part) h made = tt
-record_may s call (entry.Taken now at id) h made = tt
-record_may s call (entry.Purged now at) h made = tt
-record_may s call (entry.Ticked now) h made = tt
-record_may s call (entry.Roll count) h made = tt
+record_may s call (entry.Commit now ops) h made = record { numbered = made.numbered; sent = all_weaker (IsOfOps h.now h.ops) IsSent (asked_sent h.now h.ops) (sends_of ops) h.asked; high = h.high }
+record_may s call (entry.Plain now p) h made = ((ap (λ (x : Message). x.class) h.message, ap (λ (x : Message). is_express x.delivery) h.message), ap (λ (x : Message). x.id) h.message, h.high)
+record_may s call r h made = tt
 
 -- the packet of a call that hears one was sent
 abbrev pub CallSent : List Packet → Call → Type 0
@@ -218,30 +178,9 @@ part_from sent own x (entry.Stored p) i h = (subst (λ y. In y sent) h.0 i, h.1,
 part_from sent own x (entry.OrderAcknowledged ordinal number) i h = tt
 part_from sent own x (entry.Final p) i h = (subst (λ y. In y sent) h.0 i, h.1, h.2, h.3)
 
-arrived_heard : (sent : List Packet) (s : State) (call : Call) (now : ℕ) (numbers : List ℕ) (part : Part) → CallSent sent call → RecordOf s call (entry.Arrived now numbers part) → PartFrom sent s.identity.guid part
-arrived_heard sent s (Hear at x) now numbers part i h = part_from sent s.identity.guid x part i h
-arrived_heard sent s (Send at recoverable parts) now numbers part i h = absurd h
-arrived_heard sent s (Commit at asked) now numbers part i h = absurd h
-arrived_heard sent s (CreateQueue plan) now numbers part i h = absurd h
-arrived_heard sent s (SetRoll count) now numbers part i h = absurd h
-arrived_heard sent s (Take at place) now numbers part i h = absurd h
-arrived_heard sent s (Purge at place) now numbers part i h = absurd h
-arrived_heard sent s (Tick at) now numbers part i h = absurd h
-arrived_heard sent s Resend now numbers part i h = absurd h
-arrived_heard sent s (Pump at) now numbers part i h = absurd h
-
 record_heard : (sent : List Packet) (s : State) (call : Call) (r : Record) → CallSent sent call → RecordOf s call r → HeardBy sent s.identity.guid r
-record_heard sent s call (entry.Identity identity) i h = tt
-record_heard sent s call (entry.Peer peer) i h = tt
-record_heard sent s call (entry.CreateQueue number plan) i h = tt
-record_heard sent s call (entry.Commit now ops) i h = tt
-record_heard sent s call (entry.Plain now p) i h = tt
-record_heard sent s call (entry.Offered marks) i h = tt
-record_heard sent s call (entry.Arrived now numbers part) i h = arrived_heard sent s call now numbers part i h
-record_heard sent s call (entry.Taken now at id) i h = tt
-record_heard sent s call (entry.Purged now at) i h = tt
-record_heard sent s call (entry.Ticked now) i h = tt
-record_heard sent s call (entry.Roll count) i h = tt
+record_heard sent s call (entry.Arrived now numbers part) i h = part_from sent s.identity.guid h.heard part (subst (CallSent sent) h.call_is i) h.part_is
+record_heard sent s call r i h = tt
 
 -- what a call may write
 pub record MayWrite (sent : List Packet) (m : Manager) (call : Call) (o : Option Record) : Type 0 where
@@ -264,36 +203,16 @@ recorded_stands all mine past sent s (Some r) fair made may heard h = record_sta
 
 -- what is sent or heard beside it is fair
 beside_fair : (all : List Line) (sent : List Packet) (s : State) (call : Call) (b : Beside) → AllFair all sent → CallSent sent call → FIRST_EXPRESS ≤ s.next_express → BesideOf s call b → BesideFair (λ l. In l all) b
-beside_fair all sent s call beside.Nothing fair i high h = tt
-beside_fair all sent s (Send now recoverable parts) (beside.SendsExpress at m) fair i high h = (sent_fair (λ l. In l all) m h.1 (λ e. let n = ap (λ (x : MessageId). x.number) h.0 in omega (arith, n, high)) (λ e. absurd (clash (sym h.2 ∙ e))), h.2)
-beside_fair all sent s (Commit now ops) (beside.SendsExpress at m) fair i high h = absurd h
-beside_fair all sent s (CreateQueue plan) (beside.SendsExpress at m) fair i high h = absurd h
-beside_fair all sent s (SetRoll count) (beside.SendsExpress at m) fair i high h = absurd h
-beside_fair all sent s (Take now p) (beside.SendsExpress at m) fair i high h = absurd h
-beside_fair all sent s (Purge now p) (beside.SendsExpress at m) fair i high h = absurd h
-beside_fair all sent s (Tick now) (beside.SendsExpress at m) fair i high h = absurd h
-beside_fair all sent s Resend (beside.SendsExpress at m) fair i high h = absurd h
-beside_fair all sent s (Pump now) (beside.SendsExpress at m) fair i high h = absurd h
-beside_fair all sent s (Hear now x) (beside.SendsExpress at m) fair i high h = absurd h
-beside_fair all sent s call (beside.TakesExpress now at index) fair i high h = tt
-beside_fair all sent s call (beside.PurgesExpress now at) fair i high h = tt
-beside_fair all sent s call (beside.TicksExpress now) fair i high h = tt
-beside_fair all sent s call beside.Unmarks fair i high h = tt
-beside_fair all sent s call (beside.DropsExpress peer number) fair i high h = tt
-beside_fair all sent s (Hear now x) (beside.HearsExpress peer number at m refusal) fair i high h = (
-  subst (IsFair (λ l. In l all)) h.2 (fair h.0 (subst (λ y. In y sent) h.1 i)),
-  h.3,
+beside_fair all sent s call (beside.SendsExpress at m) fair i high h = (
+  sent_fair (λ l. In l all) m (ap (λ (x : Message). x.class) h.message) (λ e. let n = ap (λ (x : Message). x.id.number) h.message in omega (arith, e, n, high))
+      (λ e. absurd (clash (sym (ap (λ (x : Message). is_express x.delivery) h.message) ∙ e))),
+  ap (λ (x : Message). is_express x.delivery) h.message,
 )
-beside_fair all sent s (Send now recoverable parts) (beside.HearsExpress peer number at m refusal) fair i high h = absurd h
-beside_fair all sent s (Commit now ops) (beside.HearsExpress peer number at m refusal) fair i high h = absurd h
-beside_fair all sent s (CreateQueue plan) (beside.HearsExpress peer number at m refusal) fair i high h = absurd h
-beside_fair all sent s (SetRoll count) (beside.HearsExpress peer number at m refusal) fair i high h = absurd h
-beside_fair all sent s (Take now p) (beside.HearsExpress peer number at m refusal) fair i high h = absurd h
-beside_fair all sent s (Purge now p) (beside.HearsExpress peer number at m refusal) fair i high h = absurd h
-beside_fair all sent s (Tick now) (beside.HearsExpress peer number at m refusal) fair i high h = absurd h
-beside_fair all sent s Resend (beside.HearsExpress peer number at m refusal) fair i high h = absurd h
-beside_fair all sent s (Pump now) (beside.HearsExpress peer number at m refusal) fair i high h = absurd h
-beside_fair all sent s call (beside.NotesSent peer noted) fair i high h = tt
+beside_fair all sent s call (beside.HearsExpress peer number at m refusal) fair i high h = (
+  subst (IsFair (λ l. In l all)) h.message (fair h.given (subst (CallSent sent) h.call_is i)),
+  h.express,
+)
+beside_fair all sent s call b fair i high h = tt
 
 pub all_fair_more : (ls more : List Line) (sent : List Packet) → AllFair ls sent → AllFair (ls ++ more) sent
 all_fair_more ls more sent fair p i = fair_more (λ l. In l ls) (λ l. In l (ls ++ more)) (λ l j. in_append ls more l j) p.message (fair p i)
@@ -304,7 +223,7 @@ pub call_stands : (all mine : List Line) (past : List State) (sent : List Packet
 call_stands all mine past sent m call fair i h = beside_stands (all ++ more) (mine ++ more) (past_if past m.state outcome.entry) sent (recorded m.state outcome.entry) (recorded_stands all mine past sent m.state outcome.entry fair may.made may.may may.heard h)
     outcome.beside (beside_fair_more)
   where
-    outcome : Outcome (Unit {0})
+    outcome : Outcome Answer
     outcome = outcome_of m call
 
     more : List Line

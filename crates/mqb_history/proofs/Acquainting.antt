@@ -128,9 +128,7 @@ module _ (i j : ℕ) (cs : List Commitment) where
     where
       one : (y : Packet) → In f (fates_in note y) → IsAt (note ∷ notes) (y ∷ xs) (CarriesFinal i j cs (told_now n f))
       one (packet.User p) g = record { index = zero; note = note; user = p; noted = refl; there = refl; is = carried n note p f g }
-      one (packet.Establish e) g = absurd g
-      one (packet.Parameters q) g = absurd g
-      one (packet.Ack h) g = absurd g
+      one y g = absurd g
 
       at : In f (fates_in note x) ⊎ In f (finals_in notes xs) → (In f (finals_in notes xs) → IsAt notes xs (CarriesFinal i j cs (told_now n f))) → IsAt (note ∷ notes) (x ∷ xs) (CarriesFinal i j cs (told_now n f))
       at (inl g) rest = one x g

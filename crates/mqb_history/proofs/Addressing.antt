@@ -34,7 +34,7 @@ use Rattle.mqb_session.specs.State as one_end
 use Rattle.mqb_session.specs.declared.heads.Kind.TheVariants as kind
 use Rattle.mqb_setup.specs.declared.internal.Internal.{Internal}
 use Rattle.mqb_setup.specs.declared.internal.Internal.TheVariants as internal
-use Rattle.mqb_history.specs.Calls.{Pump, outcome_of}
+use Rattle.mqb_model.specs.calls.Call.{Pump, outcome_of}
 use Rattle.mqb_history.proofs.Later.{LeadsFrom}
 use Rattle.mqb_history.proofs.Lists.{all_append, equal_numbers, none_some, split_and}
 use Rattle.mqb_history.proofs.Opening.{chosen_all}

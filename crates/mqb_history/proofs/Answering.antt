@@ -32,7 +32,7 @@ use Rattle.mqb_packet.specs.declared.packet.UserPacket.{UserPacket}
 use Rattle.mqb_plain.specs.Lists.{unsent}
 use Rattle.mqb_queue.specs.Places.{numbered}
 use Rattle.mqb_history.specs.Acked.{SpellsDecided}
-use Rattle.mqb_history.specs.Calls.{Call, Hear, Pump, outcome_of}
+use Rattle.mqb_model.specs.calls.Call.{Call, Hear, Pump, outcome_of}
 use Rattle.mqb_history.specs.Changes.{Change, Calls, Drops, Ends, Fails, Finds, Hears, Links, Pumps, Restarts, calling, changed, given_out, hearing, is_of_packets, may_change}
 use Rattle.mqb_history.specs.Decided.{decisions, written_of}
 use Rattle.mqb_history.specs.Made.{IsMade}

@@ -118,9 +118,7 @@ module _ (all mine : List Line) (past : List State) (sent : List Packet) (s : St
           same_peer i g = cc
 
   pub record_stands : (r : Record) → MayApply Told s r → IsSameManager s (apply s r) → Stands (all ++ lines_of s r) (mine ++ lines_of s r) (past ++ s ∷ []) sent (apply s r)
-  record_stands (entry.Identity identity) may manager = quiet_stands (entry.Identity identity) tt manager refl (λ goes. tt)
   record_stands (entry.Peer peer) may manager = absurd may
-  record_stands (entry.CreateQueue number plan) may manager = quiet_stands (entry.CreateQueue number plan) tt manager refl (λ goes. tt)
   record_stands (entry.Commit now ops) may manager = let k = begins old.went base base (λ n lt. refl) (omega arith) (omega arith) may.high in
       walked_stands true all mine past sent s old.went base (effect_of s (entry.Commit now ops)) old (λ n lt. refl) manager (record_apart s (entry.Commit now ops) may.numbered)
       (record_walks (frame_for s old.went mine base) all s (entry.Commit now ops) k.0
@@ -129,12 +127,8 @@ module _ (all mine : List Line) (past : List State) (sent : List Packet) (s : St
       base : ℕ
       base = s.next_number + length (sends_of ops)
   record_stands (entry.Plain now p) may manager = plain_stands now p manager may (resolved s p.message.destination) refl
-  record_stands (entry.Offered marks) may manager = quiet_stands (entry.Offered marks) tt manager refl (λ goes. tt)
   record_stands (entry.Arrived now numbers part) may manager = quiet_stands (entry.Arrived now numbers part) tt manager refl (λ goes. may)
-  record_stands (entry.Taken now at id) may manager = quiet_stands (entry.Taken now at id) tt manager refl (λ goes. tt)
-  record_stands (entry.Purged now at) may manager = quiet_stands (entry.Purged now at) tt manager refl (λ goes. tt)
-  record_stands (entry.Ticked now) may manager = quiet_stands (entry.Ticked now) tt manager refl (λ goes. tt)
-  record_stands (entry.Roll count) may manager = quiet_stands (entry.Roll count) tt manager refl (λ goes. tt)
+  record_stands r may manager = quiet_stands r tt manager refl (λ goes. tt)
 
   -- without a record
   silent_stands : (t : State) → IsSameManager s t → ((f : Frame) → Keeps f Told s → Keeps f Told t) → Stands all mine past sent t

@@ -183,17 +183,8 @@ IsOfNoPeer (entry.Peer peer) = ⊥
 IsOfNoPeer _ = Unit {0}
 
 pub made_of_no_peer : (s : State) (r : Record) → IsMade s r → IsOfNoPeer r
-made_of_no_peer s (entry.Identity identity) h = tt
 made_of_no_peer s (entry.Peer peer) h = h
-made_of_no_peer s (entry.CreateQueue number plan) h = tt
-made_of_no_peer s (entry.Commit now ops) h = tt
-made_of_no_peer s (entry.Plain now p) h = tt
-made_of_no_peer s (entry.Offered marks) h = tt
-made_of_no_peer s (entry.Arrived now numbers part) h = tt
-made_of_no_peer s (entry.Taken now at id) h = tt
-made_of_no_peer s (entry.Purged now at) h = tt
-made_of_no_peer s (entry.Ticked now) h = tt
-made_of_no_peer s (entry.Roll count) h = tt
+made_of_no_peer s r h = tt
 
 pub applied_manager : (s : State) (r : Record) → IsOfNoPeer r → IsSameManager s (apply s r)
 applied_manager s (entry.Identity identity) h = same_manager s
@@ -210,7 +201,7 @@ applied_manager s (entry.Taken now at id) h = (taken_rows at id now (begun s)).m
 applied_manager s (entry.Purged now at) h = (purged_rows lane.Durable at now (begun s)).manager
 applied_manager s (entry.Ticked now) h = manager_then s (rows_expired now (begun s)).state (apply s (entry.Ticked now)) (expiring_manager now (begun s))
     (ticked_rows lane.Durable now (rows_expired now (begun s))).manager
-applied_manager s (entry.Roll count) h = record { identity = refl; peers = refl }
+applied_manager s (entry.Set setting) h = record { identity = refl; peers = refl }
 
 -- a call's record, where there is one, and what it does beside it
 pub recorded_manager : (s : State) (o : Option Record) → IfSome o (IsMade s) → IsSameManager s (recorded s o)

@@ -69,17 +69,7 @@ arrives_once x l = at l
     at : (l : Line) → arrives x l ≤ 1
     at (line.Put stream number id) = one (same_id x id)
     at (line.Stored id) = one (same_id x id)
-    at (line.Committed stream number id) = omega arith
-    at (line.Refused stream number class id) = omega arith
-    at (line.Expired stream number id moment) = omega arith
-    at (line.Local id) = omega arith
-    at (line.Bounced class id) = omega arith
-    at (line.Released id) = omega arith
-    at (line.Took id) = omega arith
-    at (line.Purged id) = omega arith
-    at (line.Swept id) = omega arith
-    at (line.Lapsed id) = omega arith
-    at (line.Emptied id) = omega arith
+    at l = omega arith
 
 module _ (known : List Identity) (apart : AreApart known) (c : Course) (o : IsOrderly known c) (h : Agrees known c) (counted : (i : ℕ) → AreCounted (manager_at c.network i).state (written_of i c.written)) (truly : AreDecidedTruly c) where
   abbrev mine : ℕ → List Line
@@ -104,17 +94,7 @@ module _ (known : List Identity) (apart : AreApart known) (c : Course) (o : IsOr
         decided = put_at known apart c o h counted truly w stream number id met (subst (λ y. In (line.Put stream number y) (lines_of w.before w.entry)) same k);
       })
       by (line.Stored other) k e = inr (subst (StoredBy w.entry) (sym (weight_is id other e)) (all_in (Says (sayings w.entry)) (lines_of w.before w.entry) (line.Stored other) (says_truly w.before w.entry) k))
-      by (line.Committed stream number other) k e = absurd (omega (arith, e))
-      by (line.Refused stream number class other) k e = absurd (omega (arith, e))
-      by (line.Expired stream number other moment) k e = absurd (omega (arith, e))
-      by (line.Local other) k e = absurd (omega (arith, e))
-      by (line.Bounced class other) k e = absurd (omega (arith, e))
-      by (line.Released other) k e = absurd (omega (arith, e))
-      by (line.Took other) k e = absurd (omega (arith, e))
-      by (line.Purged other) k e = absurd (omega (arith, e))
-      by (line.Swept other) k e = absurd (omega (arith, e))
-      by (line.Lapsed other) k e = absurd (omega (arith, e))
-      by (line.Emptied other) k e = absurd (omega (arith, e))
+      by x k e = absurd (omega (arith, e))
 
   -- of the packet that is stored
   pub stored_from : (id : MessageId) (w : Written) → In w c.written → StoredBy w.entry id → (own : Identity) × IsStoring c.sent own.guid id

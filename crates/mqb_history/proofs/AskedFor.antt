@@ -24,15 +24,15 @@ use Rattle.mqb_network.specs.Network.{manager_at}
 use Rattle.mqb_network.specs.Doubts.{settled}
 use Rattle.mqb_network.specs.Runs.{Move, after_run}
 use Rattle.mqb_history.specs.Asked.{CommittedIsAsked, IsAskedFor}
-use Rattle.mqb_history.specs.Calls.{Call, Commit, CreateQueue, Hear, Pump, Purge, Resend, Send, SetRoll, Take, Tick, outcome_of}
-use Rattle.mqb_history.specs.Changes.{Calls, Change, Drops, Ends, Fails, Finds, Hears, Links, Pumps, Restarts}
+use Rattle.mqb_model.specs.calls.Call.{Asks, Call, Commit, Hear, Pump, outcome_of}
+use Rattle.mqb_history.specs.Changes.{Calls, Change, Hears, Pumps}
 use Rattle.mqb_history.specs.Committed.{commitment_at, commitments, commitments_in, commitments_of}
 use Rattle.mqb_history.specs.Decided.{written_of}
 use Rattle.mqb_history.specs.Orderly.{IsOrderly}
 use Rattle.mqb_history.proofs.Asking.{IsOfOps}
 use Rattle.mqb_history.proofs.Between.{in_either}
 use Rattle.mqb_history.proofs.Each.{EachRecord, OfChange, each_begins, each_change}
-use Rattle.mqb_history.proofs.Keeping.{IsClosedUnder, IsGiven, SendsNone}
+use Rattle.mqb_history.proofs.Keeping.{IsClosedUnder, IsGiven, AsksNone}
 use Rattle.mqb_history.proofs.Lists.{all_weaker, equal_numbers}
 use Rattle.mqb_history.proofs.Orderly.{begins_orderly, change_orderly}
 use Rattle.mqb_history.proofs.Recorded.{RecordOf, calls_are_of}
@@ -43,77 +43,31 @@ abbrev AsksFor : List Move → ℕ → Record → Type 0
 AsksFor ms i (entry.Commit now ops) = AllByRecursion (IsAskedFor ms i) (sends_of ops)
 AsksFor ms i _ = Unit {0}
 
--- a commit, or a send, is one of these moves
+-- what a manager is asked for is one of these moves
 abbrev pub IsMoveOf : List Move → Change → Type 0
-IsMoveOf ms (Calls i (Commit now ops) failure) = (m : Move) × In m ms × (m.event ≡ event.Commit i now ops)
-IsMoveOf ms (Calls i (Send now recoverable parts) failure) = (m : Move) × In m ms × (m.event ≡ event.Send i now recoverable parts)
+IsMoveOf ms (Calls i (Asks request) failure) = (m : Move) × In m ms × (m.event ≡ event.Asks i request)
 IsMoveOf ms _ = Unit {0}
 
 pub moves_given : (ms : List Move) (m : Move) → In m ms → (e : Event) → m.event ≡ e → IsGiven (IsMoveOf ms) e
-moves_given ms m there (event.Queue i plan) same = tt
-moves_given ms m there (event.Roll i count) same = tt
-moves_given ms m there (event.Commit i now ops) same = λ failure. (m, there, same)
-moves_given ms m there (event.Send i now recoverable parts) same = λ failure. (m, there, same)
-moves_given ms m there (event.Take i now place) same = tt
-moves_given ms m there (event.Purge i now place) same = tt
-moves_given ms m there (event.Tick i now) same = tt
-moves_given ms m there (event.Connect a b now window_a window_b) same = tt
-moves_given ms m there (event.Disconnect i) same = tt
-moves_given ms m there (event.Resend i) same = tt
-moves_given ms m there (event.Pump i now) same = tt
-moves_given ms m there (event.Deliver number now) same = tt
-moves_given ms m there (event.Drop number) same = tt
-moves_given ms m there (event.Flow i now) same = tt
-moves_given ms m there (event.Arm i) same = tt
-moves_given ms m there (event.Restart i) same = tt
+moves_given ms m there (event.Asks i request) same = λ failure. (m, there, same)
+moves_given ms m there e same = tt
 
-pub none_moves : (ms : List Move) (x : Change) → SendsNone x → IsMoveOf ms x
-none_moves ms (Calls i (Commit now ops) failure) h = absurd h
-none_moves ms (Calls i (CreateQueue plan) failure) h = tt
-none_moves ms (Calls i (SetRoll count) failure) h = tt
-none_moves ms (Calls i (Send now recoverable parts) failure) h = absurd h
-none_moves ms (Calls i (Take now place) failure) h = tt
-none_moves ms (Calls i (Purge now place) failure) h = tt
-none_moves ms (Calls i (Tick now) failure) h = tt
-none_moves ms (Calls i Resend failure) h = tt
-none_moves ms (Calls i (Pump now) failure) h = tt
-none_moves ms (Calls i (Hear now p) failure) h = tt
-none_moves ms (Pumps i now failure) h = tt
-none_moves ms (Hears k now failure) h = tt
-none_moves ms (Links a b window_a window_b) h = tt
-none_moves ms (Ends i) h = tt
-none_moves ms (Drops k) h = tt
-none_moves ms (Restarts i) h = tt
-none_moves ms (Finds i) h = tt
-none_moves ms (Fails i) h = tt
+pub none_moves : (ms : List Move) (x : Change) → AsksNone x → IsMoveOf ms x
+none_moves ms (Calls i (Asks request) failure) h = absurd h
+none_moves ms x h = tt
 
 -- the record of a call that is one of the moves, or commits nothing
 pub commit_asks : (ms : List Move) (i : ℕ) (s : State) (call : Call) (failure : Option Failure) (ops : List _) → IsMoveOf ms (Calls i call failure) → (now : ℕ)
     → RecordOf s call (entry.Commit now ops) → AllByRecursion (IsAskedFor ms i) (sends_of ops)
-commit_asks ms i s (Commit at asked) failure ops move now h = all_weaker (IsOfOps at asked) (IsAskedFor ms i)
-    (λ m g. record { move = move.0; now = at; ops = asked; parts = g.parts; there = move.1; asks = move.2; send = g.send; message = g.message }) (sends_of ops) h.asked
-commit_asks ms i s (CreateQueue plan) failure ops move now h = absurd h
-commit_asks ms i s (SetRoll count) failure ops move now h = absurd h
-commit_asks ms i s (Send at recoverable parts) failure ops move now h = absurd h
-commit_asks ms i s (Take at place) failure ops move now h = absurd h
-commit_asks ms i s (Purge at place) failure ops move now h = absurd h
-commit_asks ms i s (Tick at) failure ops move now h = absurd h
-commit_asks ms i s Resend failure ops move now h = absurd h
-commit_asks ms i s (Pump at) failure ops move now h = absurd h
-commit_asks ms i s (Hear at p) failure ops move now h = absurd h
+commit_asks ms i s call failure ops move now h = all_weaker (IsOfOps h.now h.ops) (IsAskedFor ms i)
+    (λ m g. record { move = given.0; now = h.now; ops = h.ops; parts = g.parts; there = given.1; asks = given.2; send = g.send; message = g.message }) (sends_of ops) h.asked
+  where
+    given : (m : Move) × In m ms × (m.event ≡ event.Asks i (Commit h.now h.ops))
+    given = subst (λ x. IsMoveOf ms (Calls i x failure)) h.call_is move
 
 record_asks : (ms : List Move) (i : ℕ) (s : State) (call : Call) (failure : Option Failure) (r : Record) → IsMoveOf ms (Calls i call failure) → RecordOf s call r → AsksFor ms i r
-record_asks ms i s call failure (entry.Identity identity) move h = tt
-record_asks ms i s call failure (entry.Peer peer) move h = tt
-record_asks ms i s call failure (entry.CreateQueue number plan) move h = tt
 record_asks ms i s call failure (entry.Commit now ops) move h = commit_asks ms i s call failure ops move now h
-record_asks ms i s call failure (entry.Plain now p) move h = tt
-record_asks ms i s call failure (entry.Offered marks) move h = tt
-record_asks ms i s call failure (entry.Arrived now numbers part) move h = tt
-record_asks ms i s call failure (entry.Taken now place id) move h = tt
-record_asks ms i s call failure (entry.Purged now place) move h = tt
-record_asks ms i s call failure (entry.Ticked now) move h = tt
-record_asks ms i s call failure (entry.Roll count) move h = tt
+record_asks ms i s call failure r move h = tt
 
 call_asks : (ms : List Move) (c : Course) (i : ℕ) (call : Call) (failure : Option Failure) → IsMoveOf ms (Calls i call failure) → IfSome (outcome_of (manager_at c.network i) call).entry (AsksFor ms i)
 call_asks ms c i call failure move = at (outcome_of (manager_at c.network i) call).entry (calls_are_of (manager_at c.network i) call).entry
@@ -126,12 +80,7 @@ change_asks : (ms : List Move) (c : Course) (x : Change) → IsMoveOf ms x → O
 change_asks ms c (Calls i call failure) move = call_asks ms c i call failure move
 change_asks ms c (Pumps i now failure) move = call_asks ms c i (Pump now) failure tt
 change_asks ms c (Hears k now failure) move = λ note p e f. call_asks ms c note.receiver (Hear now p) failure tt
-change_asks ms c (Links a b window_a window_b) move = tt
-change_asks ms c (Ends i) move = tt
-change_asks ms c (Drops k) move = tt
-change_asks ms c (Restarts i) move = tt
-change_asks ms c (Finds i) move = tt
-change_asks ms c (Fails i) move = tt
+change_asks ms c x move = tt
 
 asks_closed : (known : List Identity) (ms : List Move) → AreApart known → IsClosedUnder (IsMoveOf ms) known (λ c. IsOrderly known c × EachRecord (AsksFor ms) c)
 asks_closed known ms apart = record {
@@ -154,17 +103,8 @@ commits_asked ms i now e (m ∷ xs) x h inside = at (resolved e.state m.destinat
     at Nowhere g rest = rest g
 
 record_asked : (ms : List Move) (i : ℕ) (s : State) (r : Record) (x : Commitment) → AsksFor ms i r → In x (commitments_in s r) → IsAskedFor ms i x.message
-record_asked ms i s (entry.Identity identity) x h inside = absurd inside
-record_asked ms i s (entry.Peer peer) x h inside = absurd inside
-record_asked ms i s (entry.CreateQueue number plan) x h inside = absurd inside
 record_asked ms i s (entry.Commit now ops) x h inside = commits_asked ms i now (takes_made s now ops) (sends_of ops) x h inside
-record_asked ms i s (entry.Plain now p) x h inside = absurd inside
-record_asked ms i s (entry.Offered marks) x h inside = absurd inside
-record_asked ms i s (entry.Arrived now numbers part) x h inside = absurd inside
-record_asked ms i s (entry.Taken now place id) x h inside = absurd inside
-record_asked ms i s (entry.Purged now place) x h inside = absurd inside
-record_asked ms i s (entry.Ticked now) x h inside = absurd inside
-record_asked ms i s (entry.Roll count) x h inside = absurd inside
+record_asked ms i s r x h inside = absurd inside
 
 all_asked : (ms : List Move) (i : ℕ) (ws : List Written) (x : Commitment) → AllByRecursion (λ w. AsksFor ms w.by w.entry) ws → In x (commitments (written_of i ws)) → IsAskedFor ms i x.message
 all_asked ms i [] x h inside = absurd inside

@@ -15,7 +15,7 @@ use Rattle.mqb_network.specs.Courses.{Course}
 use Rattle.mqb_network.specs.Network.{Network, manager_at, with_manager}
 use Rattle.mqb_orders.specs.Rows.{Row}
 use Rattle.mqb_packet.specs.declared.packet.Packet.{Packet}
-use Rattle.mqb_history.specs.Calls.{Call, Commit, CreateQueue, Hear, Pump, Purge, Resend, Send, SetRoll, Take, Tick, outcome_of}
+use Rattle.mqb_model.specs.calls.Call.{Call, Hear, outcome_of}
 use Rattle.mqb_history.specs.Changes.{calling}
 use Rattle.mqb_history.proofs.Ending.{parted_at, parted_condition, parted_rows}
 use Rattle.mqb_history.proofs.Finishing.{MayAck}
@@ -30,21 +30,8 @@ use Rattle.mqb_history.proofs.Storing.{up_doubt}
 
 -- more acknowledgements are there
 record_more : (d : QueueName) (olds news : List OrderAck) (number : ℕ) (outs : List Row) → ((a : OrderAck) → In a olds → In a news) → (r : Record) → Awaits d olds number outs r → Awaits d news number outs r
-record_more d olds news number outs more (entry.Identity identity) h = tt
-record_more d olds news number outs more (entry.Peer peer) h = tt
-record_more d olds news number outs more (entry.CreateQueue queue plan) h = tt
-record_more d olds news number outs more (entry.Commit now ops) h = tt
-record_more d olds news number outs more (entry.Plain now p) h = tt
-record_more d olds news number outs more (entry.Offered marks) h = tt
-record_more d olds news number outs more (entry.Arrived now numbers entry.Nothing) h = tt
-record_more d olds news number outs more (entry.Arrived now numbers (entry.Decided p)) h = tt
-record_more d olds news number outs more (entry.Arrived now numbers (entry.Stored p)) h = tt
 record_more d olds news number outs more (entry.Arrived now numbers (entry.OrderAcknowledged ordinal n)) h = λ row inside same to. let g = h row inside same to in (g.0, more g.0 g.1, g.2, g.3)
-record_more d olds news number outs more (entry.Arrived now numbers (entry.Final p)) h = tt
-record_more d olds news number outs more (entry.Taken now place id) h = tt
-record_more d olds news number outs more (entry.Purged now place) h = tt
-record_more d olds news number outs more (entry.Ticked now) h = tt
-record_more d olds news number outs more (entry.Roll count) h = tt
+record_more d olds news number outs more r h = tt
 
 pub awaits_more : (d : QueueName) (olds news : List OrderAck) (number : ℕ) (m : Manager) → ((a : OrderAck) → In a olds → In a news) → AwaitsIn d olds number m → AwaitsIn d news number m
 awaits_more d olds news number m more h = at (doubt_of m.condition) h
@@ -59,35 +46,13 @@ HeardAcks s call d acks connection = (now : ℕ) (x : Packet) → call ≡ Hear 
 
 acked_by_call : (s : State) (call : Call) (d : QueueName) (acks : List OrderAck) (connection now : ℕ) (numbers : List ℕ) (part : Part) → RecordOf s call (entry.Arrived now numbers part)
     → HeardAcks s call d acks connection → Awaits d acks connection s.outs (entry.Arrived now numbers part)
-acked_by_call s (Hear at x) d acks connection now numbers entry.Nothing h heard = tt
-acked_by_call s (Hear at x) d acks connection now numbers (entry.Decided p) h heard = tt
-acked_by_call s (Hear at x) d acks connection now numbers (entry.Stored p) h heard = tt
-acked_by_call s (Hear at x) d acks connection now numbers (entry.OrderAcknowledged ordinal number) h heard = heard at x refl ordinal number h
-acked_by_call s (Hear at x) d acks connection now numbers (entry.Final p) h heard = tt
-acked_by_call s (Send at recoverable parts) d acks connection now numbers part h heard = absurd h
-acked_by_call s (Commit at asked) d acks connection now numbers part h heard = absurd h
-acked_by_call s (CreateQueue plan) d acks connection now numbers part h heard = absurd h
-acked_by_call s (SetRoll count) d acks connection now numbers part h heard = absurd h
-acked_by_call s (Take at place) d acks connection now numbers part h heard = absurd h
-acked_by_call s (Purge at place) d acks connection now numbers part h heard = absurd h
-acked_by_call s (Tick at) d acks connection now numbers part h heard = absurd h
-acked_by_call s Resend d acks connection now numbers part h heard = absurd h
-acked_by_call s (Pump at) d acks connection now numbers part h heard = absurd h
+acked_by_call s call d acks connection now numbers (entry.OrderAcknowledged ordinal number) h heard = heard h.now h.heard h.call_is ordinal number h.part_is
+acked_by_call s call d acks connection now numbers part h heard = tt
 
 pub call_awaits : (s : State) (call : Call) (d : QueueName) (acks : List OrderAck) (connection : ℕ) (o : Option Record) → IfSome o (RecordOf s call) → HeardAcks s call d acks connection
     → IfSome o (Awaits d acks connection s.outs)
-call_awaits s call d acks connection None h heard = tt
-call_awaits s call d acks connection (Some (entry.Identity identity)) h heard = tt
-call_awaits s call d acks connection (Some (entry.Peer peer)) h heard = tt
-call_awaits s call d acks connection (Some (entry.CreateQueue queue plan)) h heard = tt
-call_awaits s call d acks connection (Some (entry.Commit now ops)) h heard = tt
-call_awaits s call d acks connection (Some (entry.Plain now p)) h heard = tt
-call_awaits s call d acks connection (Some (entry.Offered marks)) h heard = tt
 call_awaits s call d acks connection (Some (entry.Arrived now numbers part)) h heard = acked_by_call s call d acks connection now numbers part h heard
-call_awaits s call d acks connection (Some (entry.Taken now place id)) h heard = tt
-call_awaits s call d acks connection (Some (entry.Purged now place)) h heard = tt
-call_awaits s call d acks connection (Some (entry.Ticked now)) h heard = tt
-call_awaits s call d acks connection (Some (entry.Roll count)) h heard = tt
+call_awaits s call d acks connection o h heard = tt
 
 -- Changes.
 

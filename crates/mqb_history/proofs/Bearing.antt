@@ -158,49 +158,22 @@ module _ (known : List Identity) (c : Course) where
 
   behind_own : (s : State) (r : Record) → (next_behind s r).qm ≡ s.identity.guid
   behind_own s (entry.Identity identity) = refl
-  behind_own s (entry.Peer peer) = refl
-  behind_own s (entry.CreateQueue number plan) = refl
-  behind_own s (entry.Commit now ops) = refl
-  behind_own s (entry.Plain now p) = refl
-  behind_own s (entry.Offered marks) = refl
-  behind_own s (entry.Arrived now numbers part) = refl
-  behind_own s (entry.Taken now at id) = refl
-  behind_own s (entry.Purged now at) = refl
-  behind_own s (entry.Ticked now) = refl
-  behind_own s (entry.Roll count) = refl
+  behind_own s r = refl
 
   behind_up : (s : State) (r : Record) → s.next_number + sent_by r ≤ (next_behind s r).number
   behind_up s (entry.Identity identity) = omega arith
-  behind_up s (entry.Peer peer) = omega arith
-  behind_up s (entry.CreateQueue number plan) = omega arith
-  behind_up s (entry.Commit now ops) = omega arith
-  behind_up s (entry.Plain now p) = omega arith
-  behind_up s (entry.Offered marks) = omega arith
-  behind_up s (entry.Arrived now numbers part) = omega arith
-  behind_up s (entry.Taken now at id) = omega arith
-  behind_up s (entry.Purged now at) = omega arith
-  behind_up s (entry.Ticked now) = omega arith
-  behind_up s (entry.Roll count) = omega arith
+  behind_up s r = omega arith
 
   part_on : (s : State) (ws : List Written) (part : Part) → PartFine (Bears known c) part → PartFine (On s ws s.next_number (next_id s)) part
-  part_on s ws entry.Nothing g = tt
   part_on s ws (entry.Decided p) g = heard_on s ws s.next_number (next_id s) (omega arith) p.message g
   part_on s ws (entry.Stored p) g = heard_on s ws s.next_number (next_id s) (omega arith) p.message g
-  part_on s ws (entry.OrderAcknowledged ordinal number) g = tt
-  part_on s ws (entry.Final p) g = tt
+  part_on s ws part g = tt
 
   fine_on : (s : State) (ws : List Written) (r : Record) → IsMade s r → IsRight r → IsFine (On s ws (next_behind s r).number (next_behind s r)) r
-  fine_on s ws (entry.Identity identity) made right = tt
-  fine_on s ws (entry.Peer peer) made right = tt
-  fine_on s ws (entry.CreateQueue number plan) made right = tt
   fine_on s ws (entry.Commit now ops) made right = sends_on s ws (s.next_number + length (sends_of ops)) s.next_number (sends_of ops) made.numbered (omega arith) right.1
   fine_on s ws (entry.Plain now p) made right = (sends_on s ws (s.next_number + 1) s.next_number (p.message ∷ []) (made.id, tt) (omega arith) right.1).0
-  fine_on s ws (entry.Offered marks) made right = tt
   fine_on s ws (entry.Arrived now numbers part) made right = part_on s ws part right.0
-  fine_on s ws (entry.Taken now at id) made right = tt
-  fine_on s ws (entry.Purged now at) made right = tt
-  fine_on s ws (entry.Ticked now) made right = tt
-  fine_on s ws (entry.Roll count) made right = tt
+  fine_on s ws r made right = tt
 
   -- What holds of a manager, as long as its records are right.
 

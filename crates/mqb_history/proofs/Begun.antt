@@ -354,18 +354,10 @@ record_begun : (s : State) (r : Record) (ws : List Written) → IsMade s r → A
 record_begun s r ws made h = at r made
   where
     at : (x : Record) → IsMade s x → AreBegun (apply s x).outs
-    at (entry.Identity identity) made = quiet_begun s (entry.Identity identity) (λ x. x) made h.counted.rise h.begun
     at (entry.Peer peer) made = absurd made
-    at (entry.CreateQueue number plan) made = quiet_begun s (entry.CreateQueue number plan) (λ x. x) made h.counted.rise h.begun
     at (entry.Commit now ops) made = (sends_roll now (takes_made s now ops) (sends_of ops)
         (same_rolls s (takes_made s now ops).state (takes_made_rows s now ops) (record { rise = h.counted.rise; below = h.counted.below; begun = h.begun }))).begun
-    at (entry.Plain now p) made = quiet_begun s (entry.Plain now p) (λ x. x) made h.counted.rise h.begun
-    at (entry.Offered marks) made = quiet_begun s (entry.Offered marks) (λ x. x) made h.counted.rise h.begun
-    at (entry.Arrived now numbers part) made = quiet_begun s (entry.Arrived now numbers part) (λ x. x) made h.counted.rise h.begun
-    at (entry.Taken now place id) made = quiet_begun s (entry.Taken now place id) (λ x. x) made h.counted.rise h.begun
-    at (entry.Purged now place) made = quiet_begun s (entry.Purged now place) (λ x. x) made h.counted.rise h.begun
-    at (entry.Ticked now) made = quiet_begun s (entry.Ticked now) (λ x. x) made h.counted.rise h.begun
-    at (entry.Roll count) made = quiet_begun s (entry.Roll count) (λ x. x) made h.counted.rise h.begun
+    at r made = quiet_begun s r (λ x. x) made h.counted.rise h.begun
 
 record_led : (s : State) (r : Record) → IsMade s r → AllByRecursion (λ row. resolved s row.destination ≡ AtPeer row.peer) s.outs
     → AllByRecursion (λ row. resolved (apply s r) row.destination ≡ AtPeer row.peer) (apply s r).outs

@@ -76,12 +76,9 @@ resolved_there s d k e = at d e
 
     at : (d : QueueName) → resolved s d ≡ AtPeer k → (peer : Identity) × (slice_get s.peers k ≡ Some peer)
     at (name.Public guid false) f = absurd (no_queue (queue_registered s guid) f)
-    at (name.Public guid true) f = absurd (let none : ⊥ = cc in none)
     at (name.Private qm number false) f = private qm number (same_guid qm s.identity.guid) f
-    at (name.Private qm number true) f = absurd (let none : ⊥ = cc in none)
     at (name.Direct host queue false) f = direct host queue (is_own_host s.identity host) f
-    at (name.Direct host queue true) f = absurd (let none : ⊥ = cc in none)
-    at (name.Machine qm kind) f = absurd (let none : ⊥ = cc in none)
+    at d f = absurd (let none : ⊥ = cc in none)
 
 -- a record that decides a message is among decisions
 pub decides_in : (ws : List Written) (w : Written) (now : ℕ) (numbers : List ℕ) (p : UserPacket) (tx : TxHead) → In w ws → w.entry ≡ entry.Arrived now numbers (entry.Decided p) → p.tx ≡ Some tx

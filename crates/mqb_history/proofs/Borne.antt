@@ -25,8 +25,8 @@ use Rattle.mqb_network.specs.Runs.{IsRun, Move, after_run, beginning}
 use Rattle.mqb_packet.specs.declared.packet.Packet.TheVariants as packet
 use Rattle.mqb_packet.specs.declared.packet.UserPacket.{UserPacket}
 use Rattle.mqb_queue.specs.Places.{numbered}
-use Rattle.mqb_history.specs.Calls.{Call, Hear, Pump, outcome_of}
-use Rattle.mqb_history.specs.Changes.{Calls, Change, Drops, Ends, Fails, Finds, Hears, Links, Pumps, Restarts, changed, given_out, is_of_packets, may_change}
+use Rattle.mqb_model.specs.calls.Call.{Call, Hear, Pump, outcome_of}
+use Rattle.mqb_history.specs.Changes.{Calls, Change, Hears, Pumps, changed, given_out, is_of_packets, may_change}
 use Rattle.mqb_history.specs.Decided.{written_of}
 use Rattle.mqb_history.specs.Numbers.{HasNumber}
 use Rattle.mqb_history.specs.Orderly.{IsOrderly}
@@ -74,17 +74,9 @@ pub record AreBorne (known : List Identity) (c : Course) : Type 0 where
 
 -- what a record in doubt, or one that a call makes, may still do, sends such messages
 sent_ordinary : (own : Guid) (next : ℕ) (r : Record) → MayStill own next r → SendsOrdinary r
-sent_ordinary own next (entry.Identity identity) may = tt
-sent_ordinary own next (entry.Peer peer) may = tt
-sent_ordinary own next (entry.CreateQueue number plan) may = tt
 sent_ordinary own next (entry.Commit now ops) may = all_weaker IsSent (λ m. is_ordinary m ≡ true) (λ m g. ap (λ (k : Class). k.0 == NORMAL.0) g.0) (sends_of ops) may.sent
 sent_ordinary own next (entry.Plain now p) may = (ap (λ (k : Class). k.0 == NORMAL.0) may.0.0, tt)
-sent_ordinary own next (entry.Offered marks) may = tt
-sent_ordinary own next (entry.Arrived now numbers part) may = tt
-sent_ordinary own next (entry.Taken now at id) may = tt
-sent_ordinary own next (entry.Purged now at) may = tt
-sent_ordinary own next (entry.Ticked now) may = tt
-sent_ordinary own next (entry.Roll count) may = tt
+sent_ordinary own next r may = tt
 
 call_ordinary : (c : Course) (i : ℕ) (call : Call) → CallSent c.sent call → IfSome (outcome_of (manager_at c.network i) call).entry SendsOrdinary
 call_ordinary c i call sends = at (outcome_of (manager_at c.network i) call).entry (call_may c.sent (manager_at c.network i) call sends).may
@@ -97,12 +89,7 @@ change_ordinary : (c : Course) (x : Change) → may_change c x ≡ true → OfCh
 change_ordinary c (Calls i call failure) may = call_ordinary c i call (none_heard c.sent call (not_true (is_of_packets call) (split_and (not (is_of_packets call)) _ may).0))
 change_ordinary c (Pumps i now failure) may = call_ordinary c i (Pump now) tt
 change_ordinary c (Hears k now failure) may = λ note p e f. call_ordinary c note.receiver (Hear now p) (numbered_in c.sent k p f)
-change_ordinary c (Links a b window_a window_b) may = tt
-change_ordinary c (Ends i) may = tt
-change_ordinary c (Drops k) may = tt
-change_ordinary c (Restarts i) may = tt
-change_ordinary c (Finds i) may = tt
-change_ordinary c (Fails i) may = tt
+change_ordinary c x may = tt
 
 module _ (known : List Identity) (apart : AreApart known) (c : Course) (t : AreBorne known c) (x : Change) (may : may_change c x ≡ true) where
   abbrev d : Course
@@ -155,12 +142,7 @@ module _ (known : List Identity) (apart : AreApart known) (c : Course) (t : AreB
       by (Pumps i now failure) e p inside = let out = given_out (outcome_of (manager_at c.network i) (Pump now)) failure in
           either i now failure p (in_either c.sent out (packet.User p) (subst (λ xs. In (packet.User p) (xs ++ out)) (calling_sent i (Pump now) failure c) inside))
       by (Hears k now failure) e p inside = t.packets p (subst (In (packet.User p)) (hearing_sent (numbered c.network.notes k) (numbered c.sent k) now failure c) inside)
-      by (Links a b window_a window_b) e p inside = t.packets p inside
-      by (Ends i) e p inside = t.packets p inside
-      by (Drops k) e p inside = t.packets p inside
-      by (Restarts i) e p inside = t.packets p inside
-      by (Finds i) e p inside = t.packets p inside
-      by (Fails i) e p inside = t.packets p inside
+      by y e p inside = t.packets p inside
 
   -- Records.
 
@@ -168,24 +150,13 @@ module _ (known : List Identity) (apart : AreApart known) (c : Course) (t : AreB
   ordinary_now = each_change (λ i. SendsOrdinary) c x (change_ordinary c x may) t.ordinary
 
   part_right : (own : Guid) (part : Part) → PartFrom d.sent own part → PartFine (Bears known c) part
-  part_right own entry.Nothing h = tt
   part_right own (entry.Decided p) h = packets_before p h.0
   part_right own (entry.Stored p) h = packets_before p h.0
-  part_right own (entry.OrderAcknowledged ordinal number) h = tt
-  part_right own (entry.Final p) h = tt
+  part_right own part h = tt
 
   arrives : (own : Guid) (r : Record) → HeardBy d.sent own r → Arrives known c r
-  arrives own (entry.Identity identity) h = tt
-  arrives own (entry.Peer peer) h = tt
-  arrives own (entry.CreateQueue number plan) h = tt
-  arrives own (entry.Commit now ops) h = tt
-  arrives own (entry.Plain now p) h = tt
-  arrives own (entry.Offered marks) h = tt
   arrives own (entry.Arrived now numbers part) h = part_right own part h
-  arrives own (entry.Taken now at id) h = tt
-  arrives own (entry.Purged now at) h = tt
-  arrives own (entry.Ticked now) h = tt
-  arrives own (entry.Roll count) h = tt
+  arrives own r h = tt
 
   right_now : (w : Written) → In w d.written → IsRight known c w.entry
   right_now w i = let heard = all_in (λ (v : Written). HeardIn known d.sent v.by v.entry) d.written w agreed_now.1.heard.written i in (

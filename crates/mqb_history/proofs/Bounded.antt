@@ -139,17 +139,9 @@ record_small s r ws made h = at r made
         })
 
     at : (x : Record) → IsMade s x → AreSmall (apply s x).next_number (apply s x).outs (commitments ws ++ commitments_in s x)
-    at (entry.Identity identity) made = quiet (entry.Identity identity) made tt refl
     at (entry.Peer peer) made = absurd made
-    at (entry.CreateQueue number plan) made = quiet (entry.CreateQueue number plan) made tt refl
     at (entry.Commit now ops) made = commit_small s now ops ws made h.1
-    at (entry.Plain now p) made = quiet (entry.Plain now p) made tt refl
-    at (entry.Offered marks) made = quiet (entry.Offered marks) made tt refl
-    at (entry.Arrived now numbers part) made = quiet (entry.Arrived now numbers part) made tt refl
-    at (entry.Taken now place id) made = quiet (entry.Taken now place id) made tt refl
-    at (entry.Purged now place) made = quiet (entry.Purged now place) made tt refl
-    at (entry.Ticked now) made = quiet (entry.Ticked now) made tt refl
-    at (entry.Roll count) made = quiet (entry.Roll count) made tt refl
+    at x made = quiet x made tt refl
 
 joined_number : (s : State) (peers : List Identity) → (fold apply s (map (λ peer. entry.Peer peer) peers)).next_number ≡ s.next_number
 joined_number s [] = refl

@@ -35,7 +35,7 @@ use Rattle.mqb_session.specs.State as one_end
 use Rattle.mqb_session.specs.declared.heads.Kind.TheVariants as kind
 use Rattle.mqb_setup.specs.declared.internal.Internal.{Internal}
 use Rattle.mqb_setup.specs.declared.internal.Internal.TheVariants as internal
-use Rattle.mqb_history.specs.Calls.{Pump, outcome_of}
+use Rattle.mqb_model.specs.calls.Call.{Pump, outcome_of}
 use Rattle.mqb_history.proofs.Contents.{Holds, PlainHolds, RowHolds, Waits}
 use Rattle.mqb_history.proofs.Departing.{user_is}
 use Rattle.mqb_history.proofs.Having.{get_holds}

@@ -4,6 +4,7 @@ use Rattle.std.proofs.lemmas.Bool.Decides.{nat_tests}
 use Rattle.std.specs.Prelude.{◌+◌, ◌≤◌, nat_lt}
 use Rattle.mqb_base.specs.declared.draft.Parts.{Parts}
 use Rattle.mqb_packet.specs.declared.packet.Headers.TheVariants as headers
+use Rattle.mqb_model.specs.calls.Call as calls
 use Rattle.mqb_model.specs.declared.faults.CommitFault.TheVariants as commit_fault
 use Rattle.mqb_model.specs.declared.faults.SendFault.{SendFault}
 use Rattle.mqb_model.specs.declared.faults.SendFault.TheVariants as send_fault
@@ -80,7 +81,7 @@ use Rattle.mqb_model.specs.records.Record.{Record}
 use Rattle.mqb_model.specs.rules.Timeouts.{durable_due}
 use Rattle.mqb_queue.specs.Lists.{Lists}
 use Rattle.std.proofs.Common.{sym, ap, ◌∙◌}
-use Rattle.mqb_history.specs.Calls.{Call, answerless, CreateQueue, SetRoll, Commit, Send, Take, Purge, Tick, Resend, Pump, Hear, outcome_of}
+use Rattle.mqb_model.specs.calls.Call.{Answer, Asks, Call, Commit, CreateQueue, Hear, Pump, Purge, Resend, Send, Set, Take, Tick, answered, outcome_of}
 use Rattle.mqb_history.specs.Made.{IsFrom, IsMade, IsOfRows}
 use Rattle.mqb_history.proofs.Opening.{AreOfRows, candidates_open, chosen_all}
 use Rattle.mqb_history.proofs.Trying.{IfTried, ops_tried}
@@ -268,9 +269,7 @@ behind_modest m now p head.AckOnly session = user_modest (listening m session no
 
 acknowledgement_modest : (a : Option Packet) (m : Manager) (now : ℕ) (given : HeadHeard) (session : one_end.State) → IsModestLinked a m.state (hear_acknowledgement m now given session)
 acknowledgement_modest a m now (head.Closed why) session = record { session = refl; entry = tt }
-acknowledgement_modest a m now head.InOrder session = heard_modest a (listening m session now) heard.Session
-acknowledgement_modest a m now head.OutOfOrder session = heard_modest a (listening m session now) heard.Session
-acknowledgement_modest a m now head.AckOnly session = heard_modest a (listening m session now) heard.Session
+acknowledgement_modest a m now given session = heard_modest a (listening m session now) heard.Session
 
 linked_modest : (m : Manager) (now : ℕ) (p : Packet) (session : one_end.State) → IsModestLinked (Some p) m.state (hear_linked m now p session)
 linked_modest m now (packet.Establish e) session = record { session = refl; entry = tt }
@@ -331,8 +330,8 @@ session_modest m now session linked = owed_modest m now session (owed_by session
 -- Each call.
 
 -- its answer left aside
-without_answer : {A : Type 0} (a : Option Packet) (m : Manager) (outcome : Outcome A) → IsModest a m outcome → IsModest a m (answerless outcome)
-without_answer a m outcome h = record { session = h.session; entry = h.entry }
+without_answer : {A : Type 0} (says : A → Answer) (a : Option Packet) (m : Manager) (outcome : Outcome A) → IsModest a m outcome → IsModest a m (answered says outcome)
+without_answer says a m outcome h = record { session = h.session; entry = h.entry }
 
 -- the packet that a call hears
 abbrev pub packet_heard : Call → Option Packet
@@ -340,26 +339,26 @@ packet_heard (Hear now p) = Some p
 packet_heard _ = None
 
 pub calls_are_modest : (m : Manager) (call : Call) → IsModest (packet_heard call) m (outcome_of m call)
-calls_are_modest m (CreateQueue plan) = without_answer None m _ (unless_modest m (create_refusal m plan)
+calls_are_modest m (Asks (CreateQueue plan)) = without_answer calls.Created None m _ (unless_modest m (create_refusal m plan)
     (recording m (entry.CreateQueue (next_queue m.state) plan) (Ok (next_queue m.state))) (record { session = refl; entry = (tt, tt) }))
-calls_are_modest m (SetRoll count) = without_answer None m _ (unless_modest m (store_refusal m) (recording m (entry.Roll count) (Ok tt)) (record { session = refl; entry = (tt, tt) }))
-calls_are_modest m (Commit now ops) = without_answer None m _ (unless_modest m (ops_refusal m ops) (commit_tried m now (try_ops now 0 (trial_of m.state) ops))
+calls_are_modest m (Asks (Set setting)) = without_answer calls.WasSet None m _ (unless_modest m (store_refusal m) (recording m (entry.Set setting) (Ok tt)) (record { session = refl; entry = (tt, tt) }))
+calls_are_modest m (Asks (Commit now ops)) = without_answer calls.Committed None m _ (unless_modest m (ops_refusal m ops) (commit_tried m now (try_ops now 0 (trial_of m.state) ops))
     (commit_modest m now (try_ops now 0 (trial_of m.state) ops) (ops_tried m.state ops now)))
-calls_are_modest m (Send now recoverable p) = let message = plain_message m.state recoverable now p in
-    without_answer None m _ (unless_when m (send_refusal m recoverable message) (sending m recoverable message now) (sending_modest m recoverable now p))
-calls_are_modest m (Take now p) = without_answer None m _ (unless_modest m (take_refusal m)
+calls_are_modest m (Asks (Send now recoverable p)) = let message = plain_message m.state recoverable now p in
+    without_answer calls.Sent None m _ (unless_when m (send_refusal m recoverable message) (sending m recoverable message now) (sending_modest m recoverable now p))
+calls_are_modest m (Asks (Take now p)) = without_answer calls.Took None m _ (unless_modest m (take_refusal m)
     (option_map_or (take_at m now) (place_named m.state.places.queues p) (answering m (Err take_fault.NoQueue)))
     (or_modest m (take_at m now) (place_named m.state.places.queues p) (answering m (Err take_fault.NoQueue)) (take_modest m now) (refusing m take_fault.NoQueue)))
-calls_are_modest m (Purge now p) = without_answer None m _ (unless_modest m (purge_refusal m)
+calls_are_modest m (Asks (Purge now p)) = without_answer calls.Purged None m _ (unless_modest m (purge_refusal m)
     (option_map_or (purge_at m now) (place_named m.state.places.queues p) (answering m (Err purge_fault.NoQueue)))
     (or_modest m (purge_at m now) (place_named m.state.places.queues p) (answering m (Err purge_fault.NoQueue)) (purge_modest m now) (refusing m purge_fault.NoQueue)))
-calls_are_modest m (Tick now) = without_answer None m _ (unless_modest m (store_refusal m) (ticking m now)
+calls_are_modest m (Asks (Tick now)) = without_answer calls.Ticked None m _ (unless_modest m (store_refusal m) (ticking m now)
     (record { session = refl; entry = none_or None m.state (durable_due m.state now == 0) (entry.Ticked now) tt tt }))
 calls_are_modest m Resend = resend_modest m
-calls_are_modest m (Pump now) = without_answer None m _ (unless_modest m (pump_refusal m)
+calls_are_modest m (Pump now) = without_answer calls.Pumped None m _ (unless_modest m (pump_refusal m)
     (option_map_or (pump_linked m now) m.rest.session (answering m (Err pump_fault.NotLinked)))
     (linked_or m (pump_linked m now) pump_fault.NotLinked (λ session e. session_modest m now session (ap is_some e))))
-calls_are_modest m (Hear now p) = without_answer (Some p) m _ (unless_modest m (hear_refusal m)
+calls_are_modest m (Hear now p) = without_answer calls.Heard (Some p) m _ (unless_modest m (hear_refusal m)
     (option_map_or (hear_linked m now p) m.rest.session (answering m (Err hear_fault.NotLinked)))
     (linked_or m (hear_linked m now p) hear_fault.NotLinked (λ session e. linked_modest m now p session)))
 

@@ -23,7 +23,7 @@ use Rattle.mqb_packet.specs.declared.packet.Packet.{Packet}
 use Rattle.mqb_packet.specs.declared.packet.Packet.TheVariants as packet
 use Rattle.mqb_packet.specs.declared.packet.UserPacket.{UserPacket}
 use Rattle.mqb_queue.specs.Places.{numbered, with_numbered}
-use Rattle.mqb_history.specs.Calls.{Call, Commit, CreateQueue, Hear, Pump, Purge, Resend, Send, SetRoll, Take, Tick, outcome_of}
+use Rattle.mqb_model.specs.calls.Call.{Answer, Call, Hear, Pump, outcome_of}
 use Rattle.mqb_history.specs.Carried.{AreCarriedTruly, AreDecidedTruly, IsCommittedBy}
 use Rattle.mqb_history.specs.Changes.{Change, Calls, Drops, Ends, Fails, Finds, Hears, Links, Pumps, Restarts, calling, changed, given_out, hearing, is_of_packets, may_change}
 use Rattle.mqb_history.specs.Committed.{commitments, commitments_in}
@@ -88,21 +88,8 @@ DecidesTruly ws (entry.Arrived now numbers (entry.Decided p)) = (tx : TxHead) �
 DecidesTruly ws _ = Unit {0}
 
 true_grown : (ws more : List Written) (r : Record) → DecidesTruly ws r → DecidesTruly (ws ++ more) r
-true_grown ws more (entry.Identity identity) h = tt
-true_grown ws more (entry.Peer peer) h = tt
-true_grown ws more (entry.CreateQueue number plan) h = tt
-true_grown ws more (entry.Commit now ops) h = tt
-true_grown ws more (entry.Plain now p) h = tt
-true_grown ws more (entry.Offered marks) h = tt
-true_grown ws more (entry.Arrived now numbers entry.Nothing) h = tt
 true_grown ws more (entry.Arrived now numbers (entry.Decided p)) h = λ tx e. let g = h tx e in (g.0, g.1, grown g.0 ws more g.1 p tx g.2)
-true_grown ws more (entry.Arrived now numbers (entry.Stored p)) h = tt
-true_grown ws more (entry.Arrived now numbers (entry.OrderAcknowledged ordinal number)) h = tt
-true_grown ws more (entry.Arrived now numbers (entry.Final p)) h = tt
-true_grown ws more (entry.Taken now place id) h = tt
-true_grown ws more (entry.Purged now place) h = tt
-true_grown ws more (entry.Ticked now) h = tt
-true_grown ws more (entry.Roll count) h = tt
+true_grown ws more r h = tt
 
 some_true_grown : (ws more : List Written) (o : Option Record) → IfSome o (DecidesTruly ws) → IfSome o (DecidesTruly (ws ++ more))
 some_true_grown ws more None h = tt
@@ -154,7 +141,7 @@ calling_true i call None c new h = record {
     m : Manager
     m = manager_at c.network i
 
-    outcome : Outcome (Unit {0})
+    outcome : Outcome Answer
     outcome = outcome_of m call
 
     more : List Written
@@ -170,59 +157,23 @@ calling_true i call (Some how) c new h = record {
     m : Manager
     m = manager_at c.network i
 
-    outcome : Outcome (Unit {0})
+    outcome : Outcome Answer
     outcome = outcome_of m call
 
 -- a call that hears no packet decides nothing
 from_none : (ws : List Written) (o : Option Record) → IfSome o (IsFrom None) → IfSome o (DecidesTruly ws)
-from_none ws None h = tt
-from_none ws (Some (entry.Identity identity)) h = tt
-from_none ws (Some (entry.Peer peer)) h = tt
-from_none ws (Some (entry.CreateQueue number plan)) h = tt
-from_none ws (Some (entry.Commit now ops)) h = tt
-from_none ws (Some (entry.Plain now p)) h = tt
-from_none ws (Some (entry.Offered marks)) h = tt
-from_none ws (Some (entry.Arrived now numbers entry.Nothing)) h = tt
 from_none ws (Some (entry.Arrived now numbers (entry.Decided p))) h = absurd (none_some h)
-from_none ws (Some (entry.Arrived now numbers (entry.Stored p))) h = tt
-from_none ws (Some (entry.Arrived now numbers (entry.OrderAcknowledged ordinal number))) h = tt
-from_none ws (Some (entry.Arrived now numbers (entry.Final p))) h = tt
-from_none ws (Some (entry.Taken now place id)) h = tt
-from_none ws (Some (entry.Purged now place)) h = tt
-from_none ws (Some (entry.Ticked now)) h = tt
-from_none ws (Some (entry.Roll count)) h = tt
+from_none ws o h = tt
 
 -- one that hears a packet which carries what was committed decides that
 from_packet : (ws : List Written) (i moment : ℕ) (x : Packet) (o : Option Record) → IfSome o (IsFrom (Some x))
     → ((p : UserPacket) (tx : TxHead) → x ≡ packet.User p → p.tx ≡ Some tx → IsCommittedBy i ws moment p tx) → IfSome o (DecidesTruly ws)
-from_packet ws i moment x None h g = tt
-from_packet ws i moment x (Some (entry.Identity identity)) h g = tt
-from_packet ws i moment x (Some (entry.Peer peer)) h g = tt
-from_packet ws i moment x (Some (entry.CreateQueue number plan)) h g = tt
-from_packet ws i moment x (Some (entry.Commit now ops)) h g = tt
-from_packet ws i moment x (Some (entry.Plain now p)) h g = tt
-from_packet ws i moment x (Some (entry.Offered marks)) h g = tt
-from_packet ws i moment x (Some (entry.Arrived now numbers entry.Nothing)) h g = tt
 from_packet ws i moment x (Some (entry.Arrived now numbers (entry.Decided p))) h g = λ tx e. (i, moment, g p tx (some_is x (packet.User p) h) e)
-from_packet ws i moment x (Some (entry.Arrived now numbers (entry.Stored p))) h g = tt
-from_packet ws i moment x (Some (entry.Arrived now numbers (entry.OrderAcknowledged ordinal number))) h g = tt
-from_packet ws i moment x (Some (entry.Arrived now numbers (entry.Final p))) h g = tt
-from_packet ws i moment x (Some (entry.Taken now place id)) h g = tt
-from_packet ws i moment x (Some (entry.Purged now place)) h g = tt
-from_packet ws i moment x (Some (entry.Ticked now)) h g = tt
-from_packet ws i moment x (Some (entry.Roll count)) h g = tt
+from_packet ws i moment x o h g = tt
 
 pub none_heard : (call : Call) → is_of_packets call ≡ false → packet_heard call ≡ None
-none_heard (CreateQueue plan) e = refl
-none_heard (SetRoll count) e = refl
-none_heard (Commit now ops) e = refl
-none_heard (Send now recoverable parts) e = refl
-none_heard (Take now place) e = refl
-none_heard (Purge now place) e = refl
-none_heard (Tick now) e = refl
-none_heard Resend e = refl
-none_heard (Pump now) e = refl
 none_heard (Hear now p) e = absurd (clash e)
+none_heard call e = refl
 
 -- Pumps.
 

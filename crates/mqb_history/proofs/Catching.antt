@@ -37,22 +37,8 @@ use Rattle.mqb_history.proofs.Undecided.{IsKnown, committed_one, one_manager}
 
 pub heard_may : (ch : Channel) (ts : List Transfer) (number : ℕ) (heard : Option Packet) (o : Option Record) → IfSome o (IsFrom heard)
     → ((p : UserPacket) (tx : TxHead) → heard ≡ Some (packet.User p) → p.tx ≡ Some tx → is_in_channel ch p.message ≡ true → HasTransfer ts number p tx) → IfSome o (MayRule ch ts number)
-heard_may ch ts number heard None h g = tt
-heard_may ch ts number heard (Some (entry.Identity identity)) h g = tt
-heard_may ch ts number heard (Some (entry.Peer peer)) h g = tt
-heard_may ch ts number heard (Some (entry.CreateQueue queue plan)) h g = tt
-heard_may ch ts number heard (Some (entry.Commit now ops)) h g = tt
-heard_may ch ts number heard (Some (entry.Plain now p)) h g = tt
-heard_may ch ts number heard (Some (entry.Offered marks)) h g = tt
-heard_may ch ts number heard (Some (entry.Arrived now numbers entry.Nothing)) h g = tt
 heard_may ch ts number heard (Some (entry.Arrived now numbers (entry.Decided p))) h g = λ tx e inside. g p tx h e inside
-heard_may ch ts number heard (Some (entry.Arrived now numbers (entry.Stored p))) h g = tt
-heard_may ch ts number heard (Some (entry.Arrived now numbers (entry.OrderAcknowledged ordinal n))) h g = tt
-heard_may ch ts number heard (Some (entry.Arrived now numbers (entry.Final p))) h g = tt
-heard_may ch ts number heard (Some (entry.Taken now place id)) h g = tt
-heard_may ch ts number heard (Some (entry.Purged now place)) h g = tt
-heard_may ch ts number heard (Some (entry.Ticked now)) h g = tt
-heard_may ch ts number heard (Some (entry.Roll count)) h g = tt
+heard_may ch ts number heard o h g = tt
 
 -- no time is left in a packet exactly where its message has none
 late_too : (ws : List Written) (i moment : ℕ) (p : UserPacket) (tx : TxHead) → IsCommittedBy i ws moment p tx → (p.message.reach == 0) ≡ (p.remaining == 0)

@@ -36,7 +36,7 @@ use Rattle.mqb_packet.specs.declared.packet.Packet.TheVariants as packet
 use Rattle.mqb_packet.specs.declared.packet.UserPacket.{UserPacket}
 use Rattle.mqb_queue.specs.Places.{numbered, place_named}
 use Rattle.mqb_queue.specs.declared.first.Position.{Position}
-use Rattle.mqb_history.specs.Calls.{Call, Hear, Pump, outcome_of}
+use Rattle.mqb_model.specs.calls.Call.{Call, Hear, Pump, outcome_of}
 use Rattle.mqb_history.specs.Changes.{Calls, Change, Drops, Ends, Fails, Finds, Hears, Links, Pumps, Restarts, calling, changed, given_out, hearing, is_of_packets, may_change}
 use Rattle.mqb_history.specs.Traced.{TakenIsAsked}
 use Rattle.mqb_history.specs.Truths.{held, message_in, noticed}
@@ -174,23 +174,13 @@ module _ (known : List Identity) (ms : List Move) where
     packets_now (Pumps i now failure) p inside = let out = given_out (outcome_of (manager_at c.network i) (Pump now)) failure in
         either i now failure p (in_either c.sent out (packet.User p) (subst (λ xs. In (packet.User p) (xs ++ out)) (calling_sent i (Pump now) failure c) inside))
     packets_now (Hears k now failure) p inside = t.packets p (subst (In (packet.User p)) (hearing_sent (numbered c.network.notes k) (numbered c.sent k) now failure c) inside)
-    packets_now (Links a b window_a window_b) p inside = t.packets p inside
-    packets_now (Ends i) p inside = t.packets p inside
-    packets_now (Drops k) p inside = t.packets p inside
-    packets_now (Restarts i) p inside = t.packets p inside
-    packets_now (Finds i) p inside = t.packets p inside
-    packets_now (Fails i) p inside = t.packets p inside
+    packets_now x p inside = t.packets p inside
 
     change_fine : (x : Change) → may_change c x ≡ true → IsMoveOf ms x → OfChange (λ i. IsFine P) c x
     change_fine (Calls i call failure) may move = fine i call failure move (none_heard c.sent call (not_true (is_of_packets call) (split_and (not (is_of_packets call)) _ may).0))
     change_fine (Pumps i now failure) may move = fine i (Pump now) failure tt tt
     change_fine (Hears k now failure) may move = λ note p e f. fine note.receiver (Hear now p) failure tt (numbered_in c.sent k p f)
-    change_fine (Links a b window_a window_b) may move = tt
-    change_fine (Ends i) may move = tt
-    change_fine (Drops k) may move = tt
-    change_fine (Restarts i) may move = tt
-    change_fine (Finds i) may move = tt
-    change_fine (Fails i) may move = tt
+    change_fine x may move = tt
 
   caused_closed : AreApart known → IsClosedUnder (IsMoveOf ms) known AreCaused
   caused_closed apart = record {

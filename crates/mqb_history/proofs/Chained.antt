@@ -32,7 +32,7 @@ use Rattle.mqb_packet.specs.declared.packet.Packet.{Packet}
 use Rattle.mqb_packet.specs.declared.packet.Packet.TheVariants as packet
 use Rattle.mqb_packet.specs.declared.packet.UserPacket.{UserPacket}
 use Rattle.mqb_queue.specs.Places.{numbered}
-use Rattle.mqb_history.specs.Calls.{Call, Hear, Pump, outcome_of}
+use Rattle.mqb_model.specs.calls.Call.{Call, Hear, Pump, outcome_of}
 use Rattle.mqb_history.specs.Changes.{Calls, Change, Drops, Ends, Fails, Finds, Hears, Links, Pumps, Restarts, calling, changed, given_out, hearing, is_of_packets, may_change, may_fail, may_hear}
 use Rattle.mqb_history.specs.Decided.{written_of}
 use Rattle.mqb_history.specs.Made.{IsFrom}
@@ -174,21 +174,8 @@ module _ (known : List Identity) (apart : AreApart known) (i j : ℕ) (d : Queue
           (sym (ap (λ (y : Identity). y.guid) (who_is known c x.note.sender own.0 (known_of known c o) own.1)) ∙ sym note.source ∙ sym (same_guid_is peer.0.guid p.message.id.qm peer.2) ∙ other)
 
   comes_back : (q : Record) → IsFinalReceived c.network.notes c.sent i q → ComesBack r.peer (manager_at c.network i).state.peers c.network.notes c.sent i j q
-  comes_back (entry.Identity identity) x = tt
-  comes_back (entry.Peer peer) x = tt
-  comes_back (entry.CreateQueue number plan) x = tt
-  comes_back (entry.Commit now ops) x = tt
-  comes_back (entry.Plain now p) x = tt
-  comes_back (entry.Offered marks) x = tt
-  comes_back (entry.Arrived now numbers entry.Nothing) x = tt
-  comes_back (entry.Arrived now numbers (entry.Decided p)) x = tt
-  comes_back (entry.Arrived now numbers (entry.Stored p)) x = tt
-  comes_back (entry.Arrived now numbers (entry.OrderAcknowledged ordinal number)) x = tt
   comes_back (entry.Arrived now numbers (entry.Final p)) x = came_back p x
-  comes_back (entry.Taken now place id) x = tt
-  comes_back (entry.Purged now place) x = tt
-  comes_back (entry.Ticked now) x = tt
-  comes_back (entry.Roll count) x = tt
+  comes_back q x = tt
 
   -- where a record of a manager does, at the source
   abbrev Comes : ℕ → Option Record → Type 0

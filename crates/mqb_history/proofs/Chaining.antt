@@ -13,7 +13,7 @@ use Rattle.mqb_network.specs.Choices.{Failure}
 use Rattle.mqb_network.specs.Courses.{Course}
 use Rattle.mqb_network.specs.Network.{Connection, Network, Note, connection_of, manager_at, nobody, with_manager}
 use Rattle.mqb_queue.specs.Places.{numbered, with_numbered}
-use Rattle.mqb_history.specs.Calls.{Call, outcome_of}
+use Rattle.mqb_model.specs.calls.Call.{Call, outcome_of}
 use Rattle.mqb_history.specs.Changes.{Drops, Ends, Fails, Finds, Restarts, calling, changed}
 use Rattle.mqb_history.proofs.Applying.{beside_rows}
 use Rattle.mqb_history.proofs.Between.{elsewhere}

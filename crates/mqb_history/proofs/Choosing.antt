@@ -17,7 +17,7 @@ use Rattle.mqb_model.specs.managers.Outcomes.{Outcome}
 use Rattle.mqb_model.specs.records.Record.{Record}
 use Rattle.mqb_network.specs.Answers.{lines_at, reply_to}
 use Rattle.mqb_network.specs.Changes.{ended}
-use Rattle.mqb_network.specs.Choices.{Choice, Failure, Fails, Kept, Lost, Unread, Well, choice_behind, failure_in}
+use Rattle.mqb_network.specs.Choices.{Choice, Failure, Fails, Well, choice_behind, failure_in}
 use Rattle.mqb_network.specs.Courses.{Course, called, called_unless, course_from, moved, posted, written_by}
 use Rattle.mqb_network.specs.Delivering.{Delivered, closes, delivery_reply, heard_by, heard_with, passed, unheard}
 use Rattle.mqb_network.specs.Network.{Network, Note, is_underway, manager_at}
@@ -54,9 +54,7 @@ below_none k e = grind (arith, nat_tests)
 pub only_well : (records : ℕ) → records ≡ 0 → (a : Choice) → may_fail records a ≡ true → a ≡ Well
 only_well records e Well m = refl
 only_well records e (Fails k how) m = absurd (below_none k (subst (λ n. nat_lt k n ≡ true) e m))
-only_well records e Kept m = absurd (clash (sym m))
-only_well records e Lost m = absurd (clash (sym m))
-only_well records e Unread m = absurd (clash (sym m))
+only_well records e x m = absurd (clash (sym m))
 
 -- the choice at a call, by the one behind it
 abbrev next : Choice → Choice
@@ -95,9 +93,7 @@ then_shown outcome records read touched fails goes (Fails k how) m = at outcome.
     at true t false z = goes (Fails (k - 1) how) (more t z) ∙ ap (λ b. before_call b (Fails (k - 1) how)) t ∙ ap (λ n. Fails n how) (again z)
     at false t true z = goes (Fails k how) (as_many t) ∙ ap (λ b. before_call b (Fails k how)) t
     at false t false z = goes (Fails k how) (as_many t) ∙ ap (λ b. before_call b (Fails k how)) t
-then_shown outcome records read touched fails goes Kept m = absurd (clash (sym m))
-then_shown outcome records read touched fails goes Lost m = absurd (clash (sym m))
-then_shown outcome records read touched fails goes Unread m = absurd (clash (sym m))
+then_shown outcome records read touched fails goes x m = absurd (clash (sym m))
 
 -- it is where nothing comes behind it
 once_shown : {A : Type 0} (outcome : Outcome A) (read : Option Failure → Choice) → outcome.touches ≡ is_some outcome.entry
@@ -129,29 +125,7 @@ first_of _ = Quiet
 -- there is one
 pub first_is : (r : Reply) → (rest : List Sign) × (signs_of r ≡ first_of r ∷ rest)
 first_is (reply.DiskFailed how) = (_, refl)
-first_is (reply.Created answer) = (_, refl)
-first_is (reply.Rolled answer) = (_, refl)
-first_is (reply.Committed answer lines) = (_, refl)
-first_is (reply.Sent answer lines) = (_, refl)
-first_is (reply.Took answer lines) = (_, refl)
-first_is (reply.Purged answer lines) = (_, refl)
-first_is (reply.Ticked answer lines) = (_, refl)
-first_is reply.NotUp = (_, refl)
-first_is reply.Linked = (_, refl)
-first_is (reply.Connected packets) = (_, refl)
-first_is reply.Unlinked = (_, refl)
-first_is reply.Disconnected = (_, refl)
-first_is reply.Resent = (_, refl)
-first_is (reply.Pumped packets) = (_, refl)
-first_is (reply.NotPumped fault) = (_, refl)
-first_is (reply.Flowed arrivals) = (_, refl)
-first_is reply.NoPacket = (_, refl)
-first_is (reply.Delivered delivery) = (_, refl)
-first_is reply.Dropped = (_, refl)
-first_is reply.Armed = (_, refl)
-first_is reply.Opened = (_, refl)
-first_is (reply.OpenedKept lines) = (_, refl)
-first_is reply.OpenedLost = (_, refl)
+first_is r = (_, refl)
 
 -- what is read of it alone is read whatever follows
 pub by_first : (read : List Sign → Choice) → ((s : Sign) (x y : List Sign) → read (s ∷ x) ≡ read (s ∷ y)) → (r : Reply) (x : List Sign) → read (signs_of r ++ x) ≡ read (signs_of r)
@@ -163,9 +137,7 @@ first_shown r x = by_first once alone r x
   where
     alone : (s : Sign) (x y : List Sign) → once (s ∷ x) ≡ once (s ∷ y)
     alone (Broke how) x y = refl
-    alone Found x y = refl
-    alone Missed x y = refl
-    alone Quiet x y = refl
+    alone s x y = refl
 
 pub call_shown : {A : Type 0} (n : Network) (i : ℕ) (outcome : Outcome A) (says : A → List Line → Reply) → outcome.touches ≡ is_some outcome.entry
     → ((answer : A) (lines : List Line) → shown_once (says answer lines) ≡ Well)

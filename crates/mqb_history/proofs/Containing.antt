@@ -77,14 +77,12 @@ queue_class q messages t = at (t && not q.plan.transactional) (not t && q.plan.t
     at false false false = tt
 
 target_class : (s : State) (t : Target) (x : Delivery) → IfSome (target_refusal s t x) IsOfNotices
-target_class s (Here None) x = refl
-target_class s (AtPeer k) x = refl
-target_class s Nowhere x = refl
 target_class s (Here (Some n)) x = at (numbered s.places.queues n)
   where
     at : (o : Option Queue) → IfSome (option_map_or (refusal_by x) o (Some BAD_DESTINATION)) IsOfNotices
     at None = refl
     at (Some q) = queue_class q (length_met (is_recorded x) q.lists) (is_transactional x)
+target_class s t x = refl
 
 pub refusal_class : (s : State) (p : UserPacket) → IfSome (refusal_of s p) IsOfNotices
 refusal_class s p = at (p.remaining == 0)
@@ -314,11 +312,9 @@ module _ (P : MessageId → Message → Type 0) (c : IsCarried P) where
       (λ peer. now_or P c e.state (finished_at e.state p.message) (index_finished e.state peer p.message) h (λ index. finished_now e.state p.message index h))
 
   part_still : (s t : State) → IsSameManager s t → s.next_number ≤ t.next_number → (part : Part) → PartFine (P (next_id s)) part → PartFine (P (next_id t)) part
-  part_still s t same le entry.Nothing g = tt
   part_still s t same le (entry.Decided p) g = still P c s t same le p.message g
   part_still s t same le (entry.Stored p) g = still P c s t same le p.message g
-  part_still s t same le (entry.OrderAcknowledged ordinal number) g = tt
-  part_still s t same le (entry.Final p) g = tt
+  part_still s t same le r g = tt
 
   -- Records.
 
@@ -350,7 +346,7 @@ module _ (P : MessageId → Message → Type 0) (c : IsCarried P) where
   record_holds s (entry.Taken now at id) g h = taken_now P c at id now (begun s) h
   record_holds s (entry.Purged now at) g h = purged_now P c lane.Durable at now (begun s) h
   record_holds s (entry.Ticked now) g h = ticked_now P c lane.Durable now (rows_expired now (begun s)) (expiring_now now (begun s) h)
-  record_holds s (entry.Roll count) g h = record { places = h.places; plain = h.plain; outs = h.outs }
+  record_holds s (entry.Set setting) g h = record { places = h.places; plain = h.plain; outs = h.outs }
 
   -- Beside them.
 

@@ -357,10 +357,7 @@ module _ (P : MessageId → Message → Type 0) (c : IsCarried P) where
 
   after_take_now : (s : State) (at : EntryPlace) (m : Message) (now : ℕ) → NowOf s m → Now (after_take s at m now)
   after_take_now s (place.Queue n) m now h = meets_now (copied s n m) m RECEIVED now refl (copied_now s n m h)
-  after_take_now s (place.JournalOf n) m now h = h.0
-  after_take_now s place.Dead m now h = h.0
-  after_take_now s place.DeadXact m now h = h.0
-  after_take_now s place.Journal m now h = h.0
+  after_take_now s at m now h = h.0
 
   pub taken_at_now : (kind : Lane) (at : EntryPlace) (k now : ℕ) (e : Effect) → Now e.state → Now (taken_at kind at k now e).state
   taken_at_now kind at k now e h = by (message_at kind e.state at k) (message_holds (P (next_id e.state)) kind e.state at k h)

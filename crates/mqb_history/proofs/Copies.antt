@@ -44,17 +44,7 @@ use Rattle.mqb_history.proofs.Telling.{always_told_commitments}
 pub is_send : (id : MessageId) (l : Line) → sent_in l ≡ Some id → IsSendOf id l
 is_send id (line.Committed stream number other) e = some_is other id e
 is_send id (line.Local other) e = some_is other id e
-is_send id (line.Put stream number other) e = absurd (none_some e)
-is_send id (line.Refused stream number class other) e = absurd (none_some e)
-is_send id (line.Expired stream number other moment) e = absurd (none_some e)
-is_send id (line.Stored other) e = absurd (none_some e)
-is_send id (line.Bounced class other) e = absurd (none_some e)
-is_send id (line.Released other) e = absurd (none_some e)
-is_send id (line.Took other) e = absurd (none_some e)
-is_send id (line.Purged other) e = absurd (none_some e)
-is_send id (line.Swept other) e = absurd (none_some e)
-is_send id (line.Lapsed other) e = absurd (none_some e)
-is_send id (line.Emptied other) e = absurd (none_some e)
+is_send id l e = absurd (none_some e)
 
 -- a line that a word finds counts
 found : (kind : Line → Option MessageId) (id : MessageId) (ls : List Line) → In id (filter_map kind ls) → 1 ≤ tally (word kind id) ls
@@ -153,18 +143,7 @@ module _ (known : List Identity) (apart : AreApart known) (c : Course) (t : IsAc
           where
             by : (x : Line) → Told c x → committed_in x ≡ Some id → In id (told_by sent_in c)
             by (line.Committed stream number other) j e = told_in sent_in all (line.Committed stream number other) id j e
-            by (line.Put stream number other) j e = absurd (none_some e)
-            by (line.Refused stream number class other) j e = absurd (none_some e)
-            by (line.Expired stream number other moment) j e = absurd (none_some e)
-            by (line.Local other) j e = absurd (none_some e)
-            by (line.Stored other) j e = absurd (none_some e)
-            by (line.Bounced class other) j e = absurd (none_some e)
-            by (line.Released other) j e = absurd (none_some e)
-            by (line.Took other) j e = absurd (none_some e)
-            by (line.Purged other) j e = absurd (none_some e)
-            by (line.Swept other) j e = absurd (none_some e)
-            by (line.Lapsed other) j e = absurd (none_some e)
-            by (line.Emptied other) j e = absurd (none_some e)
+            by x j e = absurd (none_some e)
 
         at : (n : ℕ) → tally (arrives id) all ≡ n → IsSentBy known c id → standing id c + times left_in id all ≡ 0
         at zero e s = let le = balance known apart c t id s.number in let committed = found committed_in id all i in let a = times_is left_in id all in

@@ -12,65 +12,21 @@ use Rattle.mqb_history.proofs.Tallies.{arrives, begins, left, tally}
 -- what left a queue, or joined a stream
 pub left_word : (id : MessageId) (l : Line) → left id l ≡ word left_in id l + word committed_in id l
 left_word id (line.Committed stream number other) = omega arith
-left_word id (line.Put stream number other) = omega arith
-left_word id (line.Refused stream number class other) = omega arith
-left_word id (line.Expired stream number other moment) = omega arith
-left_word id (line.Local other) = omega arith
-left_word id (line.Stored other) = omega arith
-left_word id (line.Bounced class other) = omega arith
-left_word id (line.Released other) = omega arith
-left_word id (line.Took other) = omega arith
-left_word id (line.Purged other) = omega arith
-left_word id (line.Swept other) = omega arith
-left_word id (line.Lapsed other) = omega arith
-left_word id (line.Emptied other) = omega arith
+left_word id l = omega arith
 
 -- what arrived, or was put where it was sent
 pub came_word : (id : MessageId) (l : Line) → word came_in id l ≡ arrives id l + word local_in id l
 came_word id (line.Committed stream number other) = omega arith
-came_word id (line.Put stream number other) = omega arith
-came_word id (line.Refused stream number class other) = omega arith
-came_word id (line.Expired stream number other moment) = omega arith
-came_word id (line.Local other) = omega arith
-came_word id (line.Stored other) = omega arith
-came_word id (line.Bounced class other) = omega arith
-came_word id (line.Released other) = omega arith
-came_word id (line.Took other) = omega arith
-came_word id (line.Purged other) = omega arith
-came_word id (line.Swept other) = omega arith
-came_word id (line.Lapsed other) = omega arith
-came_word id (line.Emptied other) = omega arith
+came_word id l = omega arith
 
 -- what was sent
 pub begins_word : (id : MessageId) (l : Line) → begins id l ≡ word committed_in id l + word local_in id l
 begins_word id (line.Committed stream number other) = omega arith
-begins_word id (line.Put stream number other) = omega arith
-begins_word id (line.Refused stream number class other) = omega arith
-begins_word id (line.Expired stream number other moment) = omega arith
-begins_word id (line.Local other) = omega arith
-begins_word id (line.Stored other) = omega arith
-begins_word id (line.Bounced class other) = omega arith
-begins_word id (line.Released other) = omega arith
-begins_word id (line.Took other) = omega arith
-begins_word id (line.Purged other) = omega arith
-begins_word id (line.Swept other) = omega arith
-begins_word id (line.Lapsed other) = omega arith
-begins_word id (line.Emptied other) = omega arith
+begins_word id l = omega arith
 
 sent_line : (id : MessageId) (l : Line) → begins id l ≡ word sent_in id l
 sent_line id (line.Committed stream number other) = omega arith
-sent_line id (line.Put stream number other) = omega arith
-sent_line id (line.Refused stream number class other) = omega arith
-sent_line id (line.Expired stream number other moment) = omega arith
-sent_line id (line.Local other) = omega arith
-sent_line id (line.Stored other) = omega arith
-sent_line id (line.Bounced class other) = omega arith
-sent_line id (line.Released other) = omega arith
-sent_line id (line.Took other) = omega arith
-sent_line id (line.Purged other) = omega arith
-sent_line id (line.Swept other) = omega arith
-sent_line id (line.Lapsed other) = omega arith
-sent_line id (line.Emptied other) = omega arith
+sent_line id l = omega arith
 
 pub sent_word : (id : MessageId) (ls : List Line) → tally (word sent_in id) ls ≡ tally (begins id) ls
 sent_word id [] = omega arith

@@ -56,16 +56,7 @@ grows_tallied i s r ws made h = record {
 
     same_here : (x : MessageId) (r : Record) → copies x (numbered_for s r) + in_plain x (numbered_for s r) ≡ copies x s + in_plain x s
     same_here x (entry.Commit now ops) = refl
-    same_here x (entry.Plain now p) = refl
-    same_here x (entry.Identity identity) = refl
-    same_here x (entry.Peer peer) = refl
-    same_here x (entry.CreateQueue number plan) = refl
-    same_here x (entry.Offered marks) = refl
-    same_here x (entry.Arrived now numbers part) = refl
-    same_here x (entry.Taken now at id) = refl
-    same_here x (entry.Purged now at) = refl
-    same_here x (entry.Ticked now) = refl
-    same_here x (entry.Roll count) = refl
+    same_here x r = refl
 
 begins_tallied : (own : Identity) (peers : List Identity) → IsTallied (formatted own peers).state []
 begins_tallied own peers = record {

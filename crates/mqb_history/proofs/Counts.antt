@@ -45,15 +45,11 @@ users_same (packet.Ack h ∷ xs) = users_same xs
 
 said_same : (x : Packet) → says_stored x ≡ stored_told x
 said_same (packet.User p) = refl
-said_same (packet.Establish e) = refl
-said_same (packet.Parameters q) = refl
-said_same (packet.Ack h) = refl
+said_same x = refl
 
 got_same : (x : Packet) → says_got x ≡ got_told x
 got_same (packet.User p) = refl
-got_same (packet.Establish e) = refl
-got_same (packet.Parameters q) = refl
-got_same (packet.Ack h) = refl
+got_same x = refl
 
 -- Lists.
 

@@ -25,7 +25,7 @@ use Rattle.mqb_packet.specs.declared.packet.Packet.{Packet}
 use Rattle.mqb_packet.specs.declared.packet.Packet.TheVariants as packet
 use Rattle.mqb_packet.specs.declared.packet.UserPacket.{UserPacket}
 use Rattle.mqb_queue.specs.Places.{numbered}
-use Rattle.mqb_history.specs.Calls.{Call, Commit, CreateQueue, Hear, Pump, Purge, Resend, Send, SetRoll, Take, Tick, outcome_of}
+use Rattle.mqb_model.specs.calls.Call.{Answer, Call, Hear, Pump, outcome_of}
 use Rattle.mqb_history.specs.Changes.{Calls, Change, Drops, Ends, Fails, Finds, Hears, Links, Pumps, Restarts, calling, changed, hearing, is_of_packets, may_change}
 use Rattle.mqb_history.specs.Decided.{written_of}
 use Rattle.mqb_history.specs.Orderly.{AreThemselves, IsItself, IsOrderly}
@@ -123,7 +123,7 @@ module _ (known : List Identity) (c : Course) (o : AreKnown known c.network) (h 
   abbrev m : Manager
   m = manager_at c.network i
 
-  abbrev outcome : Outcome (Unit {0})
+  abbrev outcome : Outcome Answer
   outcome = outcome_of m call
 
   writes : MayWrite c.sent m call outcome.entry
@@ -188,16 +188,8 @@ module _ (known : List Identity) (c : Course) (o : AreKnown known c.network) (h 
 
 -- a call that has nothing to do with packets hears none
 pub none_heard : (sent : List Packet) (call : Call) → is_of_packets call ≡ false → CallSent sent call
-none_heard sent (CreateQueue plan) e = tt
-none_heard sent (SetRoll count) e = tt
-none_heard sent (Commit now ops) e = tt
-none_heard sent (Send now recoverable parts) e = tt
-none_heard sent (Take now place) e = tt
-none_heard sent (Purge now place) e = tt
-none_heard sent (Tick now) e = tt
-none_heard sent Resend e = tt
-none_heard sent (Pump now) e = tt
 none_heard sent (Hear now p) e = absurd (clash e)
+none_heard sent call e = tt
 
 -- Packets join.
 
@@ -214,17 +206,8 @@ part_more sent more own (entry.OrderAcknowledged ordinal number) h = tt
 part_more sent more own (entry.Final p) h = (behind_in sent more (packet.User p) h.0, h.1, h.2, h.3)
 
 heard_more : (sent more : List Packet) (own : Guid) (r : Record) → HeardBy sent own r → HeardBy (sent ++ more) own r
-heard_more sent more own (entry.Identity identity) h = tt
-heard_more sent more own (entry.Peer peer) h = tt
-heard_more sent more own (entry.CreateQueue number plan) h = tt
-heard_more sent more own (entry.Commit now ops) h = tt
-heard_more sent more own (entry.Plain now p) h = tt
-heard_more sent more own (entry.Offered marks) h = tt
 heard_more sent more own (entry.Arrived now numbers part) h = part_more sent more own part h
-heard_more sent more own (entry.Taken now at id) h = tt
-heard_more sent more own (entry.Purged now at) h = tt
-heard_more sent more own (entry.Ticked now) h = tt
-heard_more sent more own (entry.Roll count) h = tt
+heard_more sent more own r h = tt
 
 -- no two managers have one GUID
 pub one_guid : (known : List Identity) (i j : ℕ) (a b : Identity) → AreApart known → slice_get known i ≡ Some a → slice_get known j ≡ Some b → a.guid ≡ b.guid → i ≡ j

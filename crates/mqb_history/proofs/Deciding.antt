@@ -240,22 +240,9 @@ quiet_keeps s r channel ps nothing none h = subst (λ o. IsInOrder channel (appl
 
 record_keeps : (s : State) (r : Record) (channel : Channel) (ps : List Position) → IsMade s r → IsInOrder channel s.ins ps
     → IsInOrder channel (apply s r).ins (ps ++ cons_option (decided_in channel r) [])
-record_keeps s (entry.Identity identity) channel ps made h = quiet_keeps s (entry.Identity identity) channel ps tt refl h
 record_keeps s (entry.Peer peer) channel ps made h = absurd made
-record_keeps s (entry.CreateQueue number plan) channel ps made h = quiet_keeps s (entry.CreateQueue number plan) channel ps tt refl h
-record_keeps s (entry.Commit now ops) channel ps made h = quiet_keeps s (entry.Commit now ops) channel ps tt refl h
-record_keeps s (entry.Plain now p) channel ps made h = quiet_keeps s (entry.Plain now p) channel ps tt refl h
-record_keeps s (entry.Offered marks) channel ps made h = quiet_keeps s (entry.Offered marks) channel ps tt refl h
-record_keeps s (entry.Arrived now numbers entry.Nothing) channel ps made h = quiet_keeps s (entry.Arrived now numbers entry.Nothing) channel ps tt refl h
 record_keeps s (entry.Arrived now numbers (entry.Decided p)) channel ps made h = decided_keeps s now numbers p channel ps made h
-record_keeps s (entry.Arrived now numbers (entry.Stored p)) channel ps made h = quiet_keeps s (entry.Arrived now numbers (entry.Stored p)) channel ps tt refl h
-record_keeps s (entry.Arrived now numbers (entry.OrderAcknowledged ordinal number)) channel ps made h =
-    quiet_keeps s (entry.Arrived now numbers (entry.OrderAcknowledged ordinal number)) channel ps tt refl h
-record_keeps s (entry.Arrived now numbers (entry.Final p)) channel ps made h = quiet_keeps s (entry.Arrived now numbers (entry.Final p)) channel ps tt refl h
-record_keeps s (entry.Taken now at id) channel ps made h = quiet_keeps s (entry.Taken now at id) channel ps tt refl h
-record_keeps s (entry.Purged now at) channel ps made h = quiet_keeps s (entry.Purged now at) channel ps tt refl h
-record_keeps s (entry.Ticked now) channel ps made h = quiet_keeps s (entry.Ticked now) channel ps tt refl h
-record_keeps s (entry.Roll count) channel ps made h = quiet_keeps s (entry.Roll count) channel ps tt refl h
+record_keeps s r channel ps made h = quiet_keeps s r channel ps tt refl h
 
 -- The law.
 

@@ -14,7 +14,7 @@ use Rattle.mqb_model.specs.calls.pump.Choosing.{chosen, head_for, session_after,
 use Rattle.mqb_model.specs.calls.pump.Pump.{PumpOutcome, carriage_for, greatest_sent, marks_for, offered_entry, packet_for, pump_at, pump_linked, pump_owed, pump_refusal, pump_to, pump_with, sending_chosen, sending_one, set_up_packet}
 use Rattle.mqb_model.specs.declared.faults.PumpFault.{PumpFault}
 use Rattle.mqb_model.specs.declared.faults.PumpFault.TheVariants as fault
-use Rattle.mqb_model.specs.managers.Beside.{OfExpress, OfRecoverable, OfRow, Origin, Owed}
+use Rattle.mqb_model.specs.managers.Beside.{OfRow, Origin}
 use Rattle.mqb_model.specs.managers.Manager.{Manager, linked_peer}
 use Rattle.mqb_model.specs.managers.Outcomes.{answering, unless}
 use Rattle.mqb_model.specs.records.Record.{Record}
@@ -33,7 +33,7 @@ use Rattle.mqb_session.specs.State as one_end
 use Rattle.mqb_session.specs.declared.heads.Kind.TheVariants as kind
 use Rattle.mqb_setup.specs.declared.internal.Internal.{Internal}
 use Rattle.mqb_setup.specs.declared.internal.Internal.TheVariants as internal
-use Rattle.mqb_history.specs.Calls.{Pump, outcome_of}
+use Rattle.mqb_model.specs.calls.Call.{Pump, outcome_of}
 use Rattle.mqb_history.specs.Made.{IsOfRows}
 use Rattle.mqb_history.proofs.Committing.{all_in}
 use Rattle.mqb_history.proofs.Lists.{none_some, other_numbers, some_is}
@@ -81,9 +81,6 @@ some_entry s cs mark i = at (marks_for s cs) i
 
 -- what a candidate of a row carries
 candidate_goes : (s : State) (cs : List Candidate) (c : Candidate) (o : Origin) (tx : TxHead) → In c cs → c.origin ≡ o → IsOfRows s.outs c o → c.tx ≡ Some tx → IsSentFrom s (offered_entry s cs) tx
-candidate_goes s cs c (Owed row) tx i same g e = absurd (none_some (sym g ∙ e))
-candidate_goes s cs c OfRecoverable tx i same g e = absurd (none_some (sym g ∙ e))
-candidate_goes s cs c OfExpress tx i same g e = absurd (none_some (sym g ∙ e))
 candidate_goes s cs c (OfRow index number) tx i same g e = record {
   index = index;
   row = g.row;
@@ -119,6 +116,7 @@ candidate_goes s cs c (OfRow index number) tx i same g e = record {
         there = subst (λ k. In (record { ordinal = g.row.sequence.ordinal; number = greatest_sent cs k }) (marks_for s cs)) zero_more
             (mark_in cs 0 s.outs index g.row g.there (subst (λ k. nat_lt g.row.offered (greatest_sent cs k) ≡ true) (sym zero_more) f))
     at false f = inl (let le = under f in omega (arith, low, le))
+candidate_goes s cs c o tx i same g e = absurd (none_some (sym g ∙ e))
 
 all_go : (s : State) (cs : List Candidate) (to : Guid) (now : ℕ) (session : one_end.State) (xs : List Candidate) → AreOfRows s.outs cs → ((c : Candidate) → In c xs → In c cs)
     → AllByRecursion (GoesFrom s (offered_entry s cs)) (map (packet_for to now) (with_heads session xs))

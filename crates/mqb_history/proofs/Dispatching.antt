@@ -362,9 +362,7 @@ module _ (d : QueueName) (c : Channel) (now : ℕ) where
 
       at : (y : Packet) → x ≡ y → AreSentOn d c v now (x ∷ zs)
       at (packet.User p) e = of_user p e p.tx refl (same_name p.message.destination d) refl
-      at (packet.Establish y) e = no_user (λ p f. let g = sym e ∙ f in let none : ⊥ = cc in none)
-      at (packet.Parameters y) e = no_user (λ p f. let g = sym e ∙ f in let none : ⊥ = cc in none)
-      at (packet.Ack y) e = no_user (λ p f. let g = sym e ∙ f in let none : ⊥ = cc in none)
+      at y e = no_user (λ p f. let g = sym e ∙ f in let none : ⊥ = cc in none)
 
   pub send_on : (v : StreamWorld) (zs : List Packet) → Reached c v → ((p : UserPacket) (tx : TxHead) → IsOfChannel d zs p tx → CanSend v now p tx) → AreSentOn d c v now zs
   send_on v [] r can = record {

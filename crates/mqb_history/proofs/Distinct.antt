@@ -88,19 +88,7 @@ quiet_distinct s r nothing h = subst AreDistinct (sym (applied_ins s r nothing))
 record_distinct : (s : State) (r : Record) → IsMade s r → AreDistinct s.ins → AreDistinct (apply s r).ins
 record_distinct s (entry.Peer peer) made h = absurd made
 record_distinct s (entry.Arrived now numbers (entry.Decided p)) made h = decided_distinct s now numbers p made h
-record_distinct s (entry.Identity identity) made h = quiet_distinct s (entry.Identity identity) tt h
-record_distinct s (entry.CreateQueue number plan) made h = quiet_distinct s (entry.CreateQueue number plan) tt h
-record_distinct s (entry.Commit now ops) made h = quiet_distinct s (entry.Commit now ops) tt h
-record_distinct s (entry.Plain now p) made h = quiet_distinct s (entry.Plain now p) tt h
-record_distinct s (entry.Offered marks) made h = quiet_distinct s (entry.Offered marks) tt h
-record_distinct s (entry.Arrived now numbers entry.Nothing) made h = quiet_distinct s (entry.Arrived now numbers entry.Nothing) tt h
-record_distinct s (entry.Arrived now numbers (entry.Stored p)) made h = quiet_distinct s (entry.Arrived now numbers (entry.Stored p)) tt h
-record_distinct s (entry.Arrived now numbers (entry.OrderAcknowledged ordinal number)) made h = quiet_distinct s (entry.Arrived now numbers (entry.OrderAcknowledged ordinal number)) tt h
-record_distinct s (entry.Arrived now numbers (entry.Final p)) made h = quiet_distinct s (entry.Arrived now numbers (entry.Final p)) tt h
-record_distinct s (entry.Taken now place id) made h = quiet_distinct s (entry.Taken now place id) tt h
-record_distinct s (entry.Purged now place) made h = quiet_distinct s (entry.Purged now place) tt h
-record_distinct s (entry.Ticked now) made h = quiet_distinct s (entry.Ticked now) tt h
-record_distinct s (entry.Roll count) made h = quiet_distinct s (entry.Roll count) tt h
+record_distinct s r made h = quiet_distinct s r tt h
 
 pub distinct_by_records : IsByRecords AreDistinctIn
 distinct_by_records = record {

@@ -39,24 +39,13 @@ IsDue own cs (line.Expired stream number id moment) = WasDue own cs stream numbe
 IsDue own cs _ = Unit {0}
 
 due_more : (own : Guid) (cs more : List Commitment) (l : Line) → IsDue own cs l → IsDue own (cs ++ more) l
-due_more own cs more (line.Committed stream number id) h = tt
 due_more own cs more (line.Expired stream number id moment) h = record {
   commitment = h.commitment;
   there = in_append cs more h.commitment h.there;
   joined = h.joined;
   due = h.due;
 }
-due_more own cs more (line.Put stream number id) h = tt
-due_more own cs more (line.Refused stream number class id) h = tt
-due_more own cs more (line.Local id) h = tt
-due_more own cs more (line.Stored id) h = tt
-due_more own cs more (line.Bounced class id) h = tt
-due_more own cs more (line.Released id) h = tt
-due_more own cs more (line.Took id) h = tt
-due_more own cs more (line.Purged id) h = tt
-due_more own cs more (line.Swept id) h = tt
-due_more own cs more (line.Lapsed id) h = tt
-due_more own cs more (line.Emptied id) h = tt
+due_more own cs more l h = tt
 
 -- rows of one ordinal are one
 pub one_row : (rows : List Row) (a b : Row) → OrdinalsRise rows → In a rows → In b rows → a.sequence.ordinal ≡ b.sequence.ordinal → a ≡ b
@@ -95,19 +84,8 @@ was_due s ws stream number id moment rowed h = record {
     same = one_row s.outs place.0 h.row rowed.0.0.rise place.1 h.there (ap (λ (q : SequenceId). q.ordinal) place.2)
 
 line_due : (s : State) (ws : List Written) → AreRowed s ws → (l : Line) → IsReasoned s l → IsDue s.identity.guid (commitments ws) l
-line_due s ws rowed (line.Committed stream number id) h = tt
 line_due s ws rowed (line.Expired stream number id moment) h = was_due s ws stream number id moment rowed h
-line_due s ws rowed (line.Put stream number id) h = tt
-line_due s ws rowed (line.Refused stream number class id) h = tt
-line_due s ws rowed (line.Local id) h = tt
-line_due s ws rowed (line.Stored id) h = tt
-line_due s ws rowed (line.Bounced class id) h = tt
-line_due s ws rowed (line.Released id) h = tt
-line_due s ws rowed (line.Took id) h = tt
-line_due s ws rowed (line.Purged id) h = tt
-line_due s ws rowed (line.Swept id) h = tt
-line_due s ws rowed (line.Lapsed id) h = tt
-line_due s ws rowed (line.Emptied id) h = tt
+line_due s ws rowed x h = tt
 
 abbrev pub AreDue : State → List Written → Type 0
 AreDue s ws = AreRowed s ws × AllByRecursion (IsDue s.identity.guid (commitments ws)) (lines_written ws)

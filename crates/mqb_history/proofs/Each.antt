@@ -16,7 +16,7 @@ use Rattle.mqb_network.specs.Network.{Network, Note, formatted, manager_at, nobo
 use Rattle.mqb_network.specs.Runs.{beginning}
 use Rattle.mqb_packet.specs.declared.packet.Packet.{Packet}
 use Rattle.mqb_queue.specs.Places.{numbered}
-use Rattle.mqb_history.specs.Calls.{Call, Hear, Pump, outcome_of}
+use Rattle.mqb_model.specs.calls.Call.{Call, Hear, Pump, outcome_of}
 use Rattle.mqb_history.specs.Changes.{Calls, Change, Drops, Ends, Fails, Finds, Hears, Links, Pumps, Restarts, calling, changed, given_out, hearing}
 use Rattle.mqb_history.proofs.Beginning.{linked_condition}
 use Rattle.mqb_history.proofs.Ending.{parted_at, parted_condition}

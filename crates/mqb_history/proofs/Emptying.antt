@@ -108,23 +108,15 @@ module _ (P : Message → Type 0) where
 
   part_empties : (now : ℕ) (numbers : List ℕ) (part : Part) → RecordSays empties_none (entry.Arrived now numbers part)
   part_empties now numbers entry.Nothing = tt
-  part_empties now numbers (entry.Decided p) = tt
-  part_empties now numbers (entry.Stored p) = tt
-  part_empties now numbers (entry.OrderAcknowledged ordinal number) = tt
-  part_empties now numbers (entry.Final p) = tt
+  part_empties now numbers part = tt
 
   none_emptied : (s : State) (r : Record) (id : MessageId) → RecordSays empties_none r → In (line.Emptied id) (lines_of s r) → IsOfOne id
   none_emptied s r id says i = absurd (all_in (Says empties_none) (lines_of s r) (line.Emptied id) (record_says empties_none s r says) i)
 
   pub emptied_of : (s : State) (r : Record) (id : MessageId) → Holds P s → In (line.Emptied id) (lines_of s r) → IsOfOne id
-  emptied_of s (entry.Identity identity) id h i = none_emptied s (entry.Identity identity) id tt i
-  emptied_of s (entry.Peer peer) id h i = none_emptied s (entry.Peer peer) id tt i
-  emptied_of s (entry.CreateQueue number plan) id h i = none_emptied s (entry.CreateQueue number plan) id tt i
   emptied_of s (entry.Commit now ops) id h i = none_emptied s (entry.Commit now ops) id (nothing_sent (sends_of ops)) i
-  emptied_of s (entry.Plain now p) id h i = none_emptied s (entry.Plain now p) id tt i
-  emptied_of s (entry.Offered marks) id h i = none_emptied s (entry.Offered marks) id tt i
   emptied_of s (entry.Arrived now numbers part) id h i = none_emptied s (entry.Arrived now numbers part) id (part_empties now numbers part) i
   emptied_of s (entry.Taken now at name) id h i = all_in IsTold (lines_of s (entry.Taken now at name)) (line.Emptied id) (taken_told at name now s h) i
   emptied_of s (entry.Purged now at) id h i = all_in IsTold (lines_of s (entry.Purged now at)) (line.Emptied id) (purged_told at now s h) i
   emptied_of s (entry.Ticked now) id h i = none_emptied s (entry.Ticked now) id (λ other. tt) i
-  emptied_of s (entry.Roll count) id h i = none_emptied s (entry.Roll count) id tt i
+  emptied_of s r id h i = none_emptied s r id tt i

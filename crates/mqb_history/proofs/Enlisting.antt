@@ -8,7 +8,7 @@ use Rattle.mqb_base.specs.declared.ids.Identity.{Identity}
 use Rattle.mqb_base.specs.declared.ledger.Line.{Line}
 use Rattle.mqb_base.specs.declared.message.Message.{Message}
 use Rattle.mqb_base.specs.declared.queue_names.QueueName.{QueueName}
-use Rattle.mqb_base.specs.declared.queue_names.QueueName.TheVariants.{Direct, Machine, Private, Public}
+use Rattle.mqb_base.specs.declared.queue_names.QueueName.TheVariants.{Direct, Private, Public}
 use Rattle.mqb_exactly_once.specs.World.{Channel, Commitment, StreamWorld}
 use Rattle.mqb_exactly_once.specs.Words.{In}
 use Rattle.mqb_model.specs.declared.target.Target.{Target}
@@ -45,16 +45,13 @@ here_or false false q r x y k e f g = f g
 
 pub leads_same : (a b : State) (d : QueueName) (k : ℕ) → IsSameManager a b → resolved a d ≡ AtPeer k → resolved b d ≡ AtPeer k
 leads_same a b (Public guid false) k same e = absurd (no_peer_queue (queue_registered a guid) k e)
-leads_same a b (Public guid true) k same e = absurd (let none : ⊥ = cc in none)
 leads_same a b (Private qm number false) k same e = here_or (same_guid qm a.identity.guid) (same_guid qm b.identity.guid) (queue_numbered a number) (queue_numbered b number)
     (at_peer (peer_known a qm)) (at_peer (peer_known b qm)) k (ap (λ (i : Identity). same_guid qm i.guid) same.identity)
     (λ f. ap (λ (ps : List Identity). at_peer (position (λ p. same_guid p.guid qm) ps)) same.peers ∙ f) e
-leads_same a b (Private qm number true) k same e = absurd (let none : ⊥ = cc in none)
 leads_same a b (Direct host queue false) k same e = here_or (is_own_host a.identity host) (is_own_host b.identity host) (queue_named a queue) (queue_named b queue)
     (at_peer (peer_at a host)) (at_peer (peer_at b host)) k (ap (λ i. is_own_host i host) same.identity)
     (λ f. ap (λ (ps : List Identity). at_peer (position (is_host_of host) ps)) same.peers ∙ f) e
-leads_same a b (Direct host queue true) k same e = absurd (let none : ⊥ = cc in none)
-leads_same a b (Machine guid kind) k same e = absurd (let none : ⊥ = cc in none)
+leads_same a b d k same e = absurd (let none : ⊥ = cc in none)
 
 one_target : (a b : ℕ) → AtPeer a ≡ AtPeer b → a ≡ b
 one_target a b e = cc

@@ -79,18 +79,7 @@ number_of s j = cond (same_stream s j.stream) (Some j.number) None
 -- a line that commits tells it
 by_joined : (s : Stream) (l : Line) → number_committed s l ≡ option_and_then (number_of s) (commitment_told l)
 by_joined s (line.Committed stream number other) = refl
-by_joined s (line.Put stream number other) = refl
-by_joined s (line.Refused stream number class other) = refl
-by_joined s (line.Expired stream number other moment) = refl
-by_joined s (line.Local other) = refl
-by_joined s (line.Stored other) = refl
-by_joined s (line.Bounced class other) = refl
-by_joined s (line.Released other) = refl
-by_joined s (line.Took other) = refl
-by_joined s (line.Purged other) = refl
-by_joined s (line.Swept other) = refl
-by_joined s (line.Lapsed other) = refl
-by_joined s (line.Emptied other) = refl
+by_joined s l = refl
 
 through : (s : Stream) (ls : List Line) → filter_map (number_committed s) ls ≡ filter_map (number_of s) (filter_map commitment_told ls)
 through s [] = refl

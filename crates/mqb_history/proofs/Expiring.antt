@@ -14,7 +14,7 @@ use Rattle.mqb_base.specs.declared.message.Message.{Message}
 use Rattle.mqb_exactly_once.specs.Words.{In}
 use Rattle.mqb_model.specs.Loops.{for_each_below, repeated}
 use Rattle.mqb_model.specs.declared.target.Target.{Target}
-use Rattle.mqb_model.specs.declared.target.Target.TheVariants.{AtPeer, Here, Nowhere}
+use Rattle.mqb_model.specs.declared.target.Target.TheVariants.{AtPeer}
 use Rattle.mqb_model.specs.records.Applying.{effect_of, lines_of}
 use Rattle.mqb_model.specs.records.Commit.{send_made, sends_numbered, sends_of, takes_made}
 use Rattle.mqb_model.specs.records.Decisions.{decided_line, message_decided, message_stored, stored_line}
@@ -47,19 +47,8 @@ IsReasoned s (line.Expired stream number id moment) = MayExpire s stream number 
 IsReasoned s _ = Unit {0}
 
 other_reasoned : (s : State) (l : Line) → IsOther l → IsReasoned s l
-other_reasoned s (line.Committed stream number id) h = tt
 other_reasoned s (line.Expired stream number id moment) h = absurd h
-other_reasoned s (line.Put stream number id) h = tt
-other_reasoned s (line.Refused stream number class id) h = tt
-other_reasoned s (line.Local id) h = tt
-other_reasoned s (line.Stored id) h = tt
-other_reasoned s (line.Bounced class id) h = tt
-other_reasoned s (line.Released id) h = tt
-other_reasoned s (line.Took id) h = tt
-other_reasoned s (line.Purged id) h = tt
-other_reasoned s (line.Swept id) h = tt
-other_reasoned s (line.Lapsed id) h = tt
-other_reasoned s (line.Emptied id) h = tt
+other_reasoned s l h = tt
 
 abbrev AreReasoned : State → Effect → Type 0
 AreReasoned s e = AllByRecursion (IsReasoned s) e.lines
@@ -150,8 +139,7 @@ rows_expiring s now (suc n) e h = let f = for_each_below n (row_expired now) e i
 
 to_reasoned : (s : State) (now : ℕ) (t : State) (target : Target) (m : Message) → AreReasoned s (committed_to now t target m)
 to_reasoned s now t (AtPeer k) m = (tt, tt)
-to_reasoned s now t (Here queue) m = (tt, tt)
-to_reasoned s now t Nowhere m = (tt, tt)
+to_reasoned s now t target m = (tt, tt)
 
 sends_reasoned : (s : State) (now : ℕ) (e : Effect) (ms : List Message) → AreReasoned s e → AreReasoned s (fold (send_made now) e ms)
 sends_reasoned s now e [] h = h
@@ -175,9 +163,6 @@ released_reasoned : (s : State) (numbers : List ℕ) → AreReasoned s (releases
 released_reasoned s numbers = adds_reasoned s (begun s) (releases_made s numbers) (releases_add (begun s) numbers) tt
 
 pub record_reasoned : (s : State) (r : Record) → AllByRecursion (IsReasoned s) (lines_of s r)
-record_reasoned s (entry.Identity identity) = tt
-record_reasoned s (entry.Peer peer) = tt
-record_reasoned s (entry.CreateQueue number plan) = tt
 record_reasoned s (entry.Commit now ops) = sends_reasoned s now (takes_made s now ops) (sends_of ops)
     (adds_reasoned s (sends_numbered s ops) (takes_made s now ops) (ops_add now (sends_numbered s ops) ops) tt)
 record_reasoned s (entry.Plain now p) = at (is_here (resolved s p.message.destination))
@@ -185,7 +170,6 @@ record_reasoned s (entry.Plain now p) = at (is_here (resolved s p.message.destin
     at : (b : Bool) → AllByRecursion (IsReasoned s) (cond b (line.Local p.message.id ∷ []) [])
     at true = (tt, tt)
     at false = tt
-record_reasoned s (entry.Offered marks) = tt
 record_reasoned s (entry.Arrived now numbers entry.Nothing) = released_reasoned s numbers
 record_reasoned s (entry.Arrived now numbers (entry.Decided p)) = decided_reasoned s now (releases_made s numbers) p p.tx (released_reasoned s numbers)
 record_reasoned s (entry.Arrived now numbers (entry.Stored p)) = let e = releases_made s numbers in
@@ -197,7 +181,7 @@ record_reasoned s (entry.Taken now place id) = adds_reasoned s (begun s) (effect
 record_reasoned s (entry.Purged now place) = adds_reasoned s (begun s) (effect_of s (entry.Purged now place)) (purged_adds lane.Durable place now (begun s)) tt
 record_reasoned s (entry.Ticked now) = let e = rows_expired now (begun s) in adds_reasoned s e (effect_of s (entry.Ticked now)) (ticked_adds lane.Durable now e)
     (rows_expiring s now (length s.outs) (begun s) (record { rows = nothing_more s; identity = refl; lines = tt })).lines
-record_reasoned s (entry.Roll count) = tt
+record_reasoned s r = tt
 
 pub expiries_have_reasons : ExpiriesHaveReasons
 expiries_have_reasons s r stream number id moment i = all_in (IsReasoned s) (lines_of s r) (line.Expired stream number id moment) (record_reasoned s r) i

@@ -231,14 +231,12 @@ queue_refuses q messages t = at (t && not q.plan.transactional) (not t && q.plan
     at false false false = tt
 
 target_refuses : (s : State) (t : Target) (x : Delivery) → IfSome (target_refusal s t x) IsRefusal
-target_refuses s (AtPeer k) x = refl
-target_refuses s Nowhere x = refl
-target_refuses s (Here None) x = refl
 target_refuses s (Here (Some n)) x = at (numbered s.places.queues n)
   where
     at : (o : Option Queue) → IfSome (option_map_or (refusal_by x) o (Some BAD_DESTINATION)) IsRefusal
     at None = refl
     at (Some q) = queue_refuses q (length_met (is_recorded x) q.lists) (is_transactional x)
+target_refuses s t x = refl
 
 pub arrival_refuses : (s : State) (p : UserPacket) → IfSome (refusal_of s p) IsRefusal
 arrival_refuses s p = at (p.remaining == 0)
@@ -474,4 +472,4 @@ record_walks f ls s (entry.Arrived now numbers part) h fair = part_walks f ls no
 record_walks f ls s (entry.Taken now at id) h fair = taken_walks f ls at id now (begun s) (begins_walk f ls s h)
 record_walks f ls s (entry.Purged now at) h fair = purged_walks lane.Durable f ls at now (begun s) (begins_walk f ls s h)
 record_walks f ls s (entry.Ticked now) h fair = ticked_walks lane.Durable f ls now (rows_expired now (begun s)) (expiring_walks f ls now (begun s) (begins_walk f ls s h))
-record_walks f ls s (entry.Roll count) h fair = begins_walk f ls _ (record { own = h.own; order = h.order; low = h.low; high = h.high; express = h.express; places = h.places; goes = h.goes; same = h.same; plain = h.plain; outs = h.outs })
+record_walks f ls s (entry.Set setting) h fair = begins_walk f ls _ (record { own = h.own; order = h.order; low = h.low; high = h.high; express = h.express; places = h.places; goes = h.goes; same = h.same; plain = h.plain; outs = h.outs })

@@ -18,7 +18,7 @@ use Rattle.mqb_exactly_once.specs.World.{Channel, Commitment, Decision, Position
 use Rattle.mqb_fate.specs.Asking.{is_transactional}
 use Rattle.mqb_fate.specs.Orders.{is_final_class}
 use Rattle.mqb_model.specs.declared.target.Target.{Target}
-use Rattle.mqb_model.specs.declared.target.Target.TheVariants.{AtPeer, Here, Nowhere}
+use Rattle.mqb_model.specs.declared.target.Target.TheVariants.{Here}
 use Rattle.mqb_model.specs.records.Applying.{lines_of}
 use Rattle.mqb_model.specs.records.Decisions.{decided_line, stream_heard}
 use Rattle.mqb_model.specs.rules.Arrivals.{is_recorded, refusal_by, refusal_of, target_refusal}
@@ -102,9 +102,7 @@ target_reason s (Here (Some number)) delivery = at (numbered s.places.queues num
     at None = refl
     at (Some q) = queue_reason (is_transactional delivery && not q.plan.transactional) (not (is_transactional delivery) && q.plan.transactional)
         (nat_le q.plan.quota (length_met (is_recorded delivery) q.lists))
-target_reason s (Here None) delivery = refl
-target_reason s (AtPeer k) delivery = refl
-target_reason s Nowhere delivery = refl
+target_reason s t delivery = refl
 
 arrival_reason : (s : State) (p : UserPacket) → TellsReason (refusal_of s p)
 arrival_reason s p = at (p.remaining == 0)
@@ -134,12 +132,7 @@ meets_as class id (line.Refused stream number met other) h = inr (inl (stream, n
 meets_as class id (line.Expired stream number other moment) h = inr (inr (inl (stream, number, moment, ap (λ x. line.Expired stream number x moment) h)))
 meets_as class id (line.Bounced met other) h = inr (inr (inr (inl (met, ap (λ x. line.Bounced met x) h))))
 meets_as class id (line.Lapsed other) h = inr (inr (inr (inr (ap (λ x. line.Lapsed x) h))))
-meets_as class id (line.Committed stream number other) h = absurd h
-meets_as class id (line.Put stream number other) h = absurd h
-meets_as class id (line.Local other) h = absurd h
-meets_as class id (line.Stored other) h = absurd h
-meets_as class id (line.Released other) h = absurd h
-meets_as class id (line.Emptied other) h = absurd h
+meets_as class id l h = absurd h
 
 pub failing : (class : Class) (id : MessageId) (l : Line) → Fails class id l → IsFailureOf id l
 failing class id l (inl (stream, number, e)) = subst (IsFailureOf id) (sym e) refl
@@ -159,18 +152,7 @@ in_map f (y ∷ xs) x (inr i) = inr (in_map f xs x i)
 
 joined_line : (joined : Joined) (l : Line) → commitment_told l ≡ Some joined → l ≡ line.Committed joined.stream joined.number joined.id
 joined_line joined (line.Committed stream number id) e = ap (λ (j : Joined). line.Committed j.stream j.number j.id) (some_is (record { stream = stream; number = number; id = id }) joined e)
-joined_line joined (line.Local id) e = absurd (none_some e)
-joined_line joined (line.Put stream number id) e = absurd (none_some e)
-joined_line joined (line.Refused stream number class id) e = absurd (none_some e)
-joined_line joined (line.Expired stream number id moment) e = absurd (none_some e)
-joined_line joined (line.Stored id) e = absurd (none_some e)
-joined_line joined (line.Bounced class id) e = absurd (none_some e)
-joined_line joined (line.Released id) e = absurd (none_some e)
-joined_line joined (line.Took id) e = absurd (none_some e)
-joined_line joined (line.Purged id) e = absurd (none_some e)
-joined_line joined (line.Swept id) e = absurd (none_some e)
-joined_line joined (line.Lapsed id) e = absurd (none_some e)
-joined_line joined (line.Emptied id) e = absurd (none_some e)
+joined_line joined l e = absurd (none_some e)
 
 module _ (known : List Identity) (apart : AreApart known) (c : Course) (o : IsOrderly known c) (h : Agrees known c) (told : AreCommitmentsTold c) where
   abbrev told_by_one : ℕ → List Line
@@ -198,13 +180,11 @@ module _ (known : List Identity) (apart : AreApart known) (c : Course) (o : IsOr
 
 departure_counts : (departure : Departure) (id : MessageId) → left id (departure_line departure id) ≡ 1
 departure_counts Received id = weight_own id
-departure_counts Queue_purged id = weight_own id
-departure_counts Receive_timeout id = weight_own id
+departure_counts departure id = weight_own id
 
 departure_apart : (departure : Departure) (stream : Stream) (number : ℕ) (id : MessageId) → departure_line departure id ≡ line.Committed stream number id → ⊥
 departure_apart Received stream number id e = cc
-departure_apart Queue_purged stream number id e = cc
-departure_apart Receive_timeout stream number id e = cc
+departure_apart departure stream number id e = cc
 
 module _ (known : List Identity) (apart : AreApart known) (c : Course) (accounts : IsAccounted known c) (told : AreCommitmentsTold c) (truly : AreDecidedTruly c) (rise : IsDecidedInOrder c) where
   abbrev o : IsOrderly known c

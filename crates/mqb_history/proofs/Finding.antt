@@ -81,18 +81,7 @@ not_before s n m le e = clash (sym e ∙ by (nat_lt s.ordinal s.ordinal) (nat_lt
 
 pub joined_line : (l : Line) (j : Joined) → commitment_told l ≡ Some j → l ≡ line.Committed j.stream j.number j.id
 joined_line (line.Committed stream number other) j e = ap (λ (x : Joined). line.Committed x.stream x.number x.id) (some_is _ j e)
-joined_line (line.Put stream number other) j e = absurd (none_some e)
-joined_line (line.Refused stream number class other) j e = absurd (none_some e)
-joined_line (line.Expired stream number other moment) j e = absurd (none_some e)
-joined_line (line.Local other) j e = absurd (none_some e)
-joined_line (line.Stored other) j e = absurd (none_some e)
-joined_line (line.Bounced class other) j e = absurd (none_some e)
-joined_line (line.Released other) j e = absurd (none_some e)
-joined_line (line.Took other) j e = absurd (none_some e)
-joined_line (line.Purged other) j e = absurd (none_some e)
-joined_line (line.Swept other) j e = absurd (none_some e)
-joined_line (line.Lapsed other) j e = absurd (none_some e)
-joined_line (line.Emptied other) j e = absurd (none_some e)
+joined_line l j e = absurd (none_some e)
 
 -- the stream of a channel at a position
 abbrev pub stream_at : Channel → Position → Stream
@@ -114,30 +103,9 @@ pub decision_is : (channel : Channel) (l : Line) (p : Position) → decision_tol
 decision_is channel (line.Put stream number id) p e = let g = placed channel stream number p e in (id, inl (ap (λ s. line.Put s number id) g.0 ∙ ap (λ n. line.Put (stream_at channel p) n id) g.1))
 decision_is channel (line.Refused stream number class id) p e = let g = placed channel stream number p e in
     (id, inr (class, ap (λ s. line.Refused s number class id) g.0 ∙ ap (λ n. line.Refused (stream_at channel p) n class id) g.1))
-decision_is channel (line.Committed stream number other) p e = absurd (none_some e)
-decision_is channel (line.Expired stream number other moment) p e = absurd (none_some e)
-decision_is channel (line.Local other) p e = absurd (none_some e)
-decision_is channel (line.Stored other) p e = absurd (none_some e)
-decision_is channel (line.Bounced class other) p e = absurd (none_some e)
-decision_is channel (line.Released other) p e = absurd (none_some e)
-decision_is channel (line.Took other) p e = absurd (none_some e)
-decision_is channel (line.Purged other) p e = absurd (none_some e)
-decision_is channel (line.Swept other) p e = absurd (none_some e)
-decision_is channel (line.Lapsed other) p e = absurd (none_some e)
-decision_is channel (line.Emptied other) p e = absurd (none_some e)
+decision_is channel l p e = absurd (none_some e)
 
 pub expiry_is : (l : Line) (p : Position) → expiry_told l ≡ Some p → (stream : Stream) × (id : MessageId) × (moment : ℕ) × (l ≡ line.Expired stream p.number id moment) × (stream.sequence ≡ p.sequence)
 expiry_is (line.Expired stream number id moment) p e = let same = some_is _ p e in
     (stream, id, moment, ap (λ (q : Position). line.Expired stream q.number id moment) same, ap (λ (q : Position). q.sequence) same)
-expiry_is (line.Committed stream number other) p e = absurd (none_some e)
-expiry_is (line.Put stream number other) p e = absurd (none_some e)
-expiry_is (line.Refused stream number class other) p e = absurd (none_some e)
-expiry_is (line.Local other) p e = absurd (none_some e)
-expiry_is (line.Stored other) p e = absurd (none_some e)
-expiry_is (line.Bounced class other) p e = absurd (none_some e)
-expiry_is (line.Released other) p e = absurd (none_some e)
-expiry_is (line.Took other) p e = absurd (none_some e)
-expiry_is (line.Purged other) p e = absurd (none_some e)
-expiry_is (line.Swept other) p e = absurd (none_some e)
-expiry_is (line.Lapsed other) p e = absurd (none_some e)
-expiry_is (line.Emptied other) p e = absurd (none_some e)
+expiry_is l p e = absurd (none_some e)

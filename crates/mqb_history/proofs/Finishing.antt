@@ -16,7 +16,7 @@ use Rattle.mqb_exactly_once.proofs.Decisions.{decided_within}
 use Rattle.mqb_exactly_once.proofs.Positions.{same_sequence_is}
 use Rattle.mqb_exactly_once.specs.Outcomes.{Outcome, Put, Refusal, Refused, Was_refused}
 use Rattle.mqb_exactly_once.specs.Runs.{after}
-use Rattle.mqb_exactly_once.specs.Steps.{Acknowledge, Acknowledged, Arrive, Commit, Connect, End, Expire, Fate, Offer, Send, StreamStep, Tell, Told, decided_after, decision, fates_after, happens, marked, raised, verdict}
+use Rattle.mqb_exactly_once.specs.Steps.{Acknowledged, Arrive, Fate, StreamStep, Told, decided_after, decision, fates_after, happens, marked, raised, verdict}
 use Rattle.mqb_exactly_once.specs.Words.{In, count, is_decided, is_expired}
 use Rattle.mqb_exactly_once.specs.World.{Channel, Commitment, Decision, FinalAck, KnownFate, OrderAck, Position, StreamWorld}
 use Rattle.mqb_orders.specs.declared.judging.Verdict.{Verdict}
@@ -61,18 +61,9 @@ arrival_known verdicts.Gap new ds fs h d reason i e = h d reason i e
 arrival_known verdicts.Stale new ds fs h d reason i e = h d reason i e
 
 step_known : (w : StreamWorld) (x : StreamStep) → AreRefusalsKnown w → AreRefusalsKnown (happens w x)
-step_known w (Commit s m) h = h
-step_known w (Expire c moment) h = h
-step_known w (Offer p) h = h
-step_known w (Send c moment) h = h
 step_known w (Arrive p outcome) h = arrival_known (verdict w p) (decision p outcome) w.decided w.fates h
 step_known w (Fate p departure) h = λ d reason i e. inr (h d reason i e)
-step_known w (Acknowledge p) h = h
-step_known w (Acknowledged a) h = h
-step_known w (Tell f) h = h
-step_known w (Told a) h = h
-step_known w Connect h = h
-step_known w End h = h
+step_known w x h = h
 
 run_known : (c : Channel) (xs : List StreamStep) → AreRefusalsKnown (after c xs)
 run_known c [] = λ d reason i e. absurd i

@@ -76,17 +76,8 @@ sent_by _ = 0
 
 pub commits_within : (s : State) (r : Record) (m : Commitment) → IsMade s r → In m (commitments_in s r)
     → (s.next_number ≤ m.message.id.number) × (m.message.id.number < s.next_number + sent_by r)
-commits_within s (entry.Identity identity) m made i = absurd i
-commits_within s (entry.Peer peer) m made i = absurd i
-commits_within s (entry.CreateQueue number plan) m made i = absurd i
 commits_within s (entry.Commit now ops) m made i = numbered_within s.identity.guid s.next_number (sends_of ops) m.message made.numbered (commits_sent now (takes_made s now ops) (sends_of ops) m i)
-commits_within s (entry.Plain now p) m made i = absurd i
-commits_within s (entry.Offered marks) m made i = absurd i
-commits_within s (entry.Arrived now numbers part) m made i = absurd i
-commits_within s (entry.Taken now place id) m made i = absurd i
-commits_within s (entry.Purged now place) m made i = absurd i
-commits_within s (entry.Ticked now) m made i = absurd i
-commits_within s (entry.Roll count) m made i = absurd i
+commits_within s r m made i = absurd i
 
 -- Numbers rise, and ordinals do not rise more.
 
@@ -122,9 +113,7 @@ sends_ordinals now e (m ∷ ms) = let rest = sends_ordinals now (send_made now e
     let same = (journalled_rows e.state m).next_ordinal in omega (arith, rest, one, same)
 
 pub record_rises : (s : State) (r : Record) → IsMade s r → Rises s (apply s r)
-record_rises s (entry.Identity identity) made = from_no_more s _ (applied_no_more s (entry.Identity identity) tt tt)
 record_rises s (entry.Peer peer) made = absurd made
-record_rises s (entry.CreateQueue number plan) made = from_no_more s _ (applied_no_more s (entry.CreateQueue number plan) tt tt)
 record_rises s (entry.Commit now ops) made = record {
   numbers = omega (arith, a, b);
   ordinals = λ few. let high = sends_ordinals now taken (sends_of ops) in let same = (takes_made_rows s now ops).next_ordinal in omega (arith, few, a, b, high, same);
@@ -138,14 +127,9 @@ record_rises s (entry.Commit now ops) made = record {
 
     b : taken.state.next_number ≤ (apply s (entry.Commit now ops)).next_number
     b = sends_numbers now taken (sends_of ops)
-record_rises s (entry.Plain now p) made = from_no_more s _ (applied_no_more s (entry.Plain now p) tt tt)
 record_rises s (entry.Offered marks) made = let same = marks_same s marks in let number = same.0 in let ordinal = same.1 in
     record { numbers = omega (arith, number); ordinals = λ few. omega (arith, few, number, ordinal) }
-record_rises s (entry.Arrived now numbers part) made = from_no_more s _ (applied_no_more s (entry.Arrived now numbers part) tt tt)
-record_rises s (entry.Taken now place id) made = from_no_more s _ (applied_no_more s (entry.Taken now place id) tt tt)
-record_rises s (entry.Purged now place) made = from_no_more s _ (applied_no_more s (entry.Purged now place) tt tt)
-record_rises s (entry.Ticked now) made = from_no_more s _ (applied_no_more s (entry.Ticked now) tt tt)
-record_rises s (entry.Roll count) made = from_no_more s _ (applied_no_more s (entry.Roll count) tt tt)
+record_rises s r made = from_no_more s _ (applied_no_more s r tt tt)
 
 -- What a manager's incoming rows tell was decided.
 
@@ -203,21 +187,8 @@ quiet_told i s r ws nothing h = subst (AllByRecursion (IsToldTruly (ws ++ record
 
 record_told : (i : ℕ) (s : State) (r : Record) (ws : List Written) → IsMade s r → AllByRecursion (IsToldTruly ws) s.ins
     → AllByRecursion (IsToldTruly (ws ++ record { by = i; before = s; entry = r } ∷ [])) (apply s r).ins
-record_told i s (entry.Identity identity) ws made h = quiet_told i s (entry.Identity identity) ws tt h
-record_told i s (entry.Peer peer) ws made h = quiet_told i s (entry.Peer peer) ws tt h
-record_told i s (entry.CreateQueue number plan) ws made h = quiet_told i s (entry.CreateQueue number plan) ws tt h
-record_told i s (entry.Commit now ops) ws made h = quiet_told i s (entry.Commit now ops) ws tt h
-record_told i s (entry.Plain now p) ws made h = quiet_told i s (entry.Plain now p) ws tt h
-record_told i s (entry.Offered marks) ws made h = quiet_told i s (entry.Offered marks) ws tt h
-record_told i s (entry.Arrived now numbers entry.Nothing) ws made h = quiet_told i s (entry.Arrived now numbers entry.Nothing) ws tt h
 record_told i s (entry.Arrived now numbers (entry.Decided p)) ws made h = decided_told i s now numbers p ws made h
-record_told i s (entry.Arrived now numbers (entry.Stored p)) ws made h = quiet_told i s (entry.Arrived now numbers (entry.Stored p)) ws tt h
-record_told i s (entry.Arrived now numbers (entry.OrderAcknowledged ordinal number)) ws made h = quiet_told i s (entry.Arrived now numbers (entry.OrderAcknowledged ordinal number)) ws tt h
-record_told i s (entry.Arrived now numbers (entry.Final p)) ws made h = quiet_told i s (entry.Arrived now numbers (entry.Final p)) ws tt h
-record_told i s (entry.Taken now place id) ws made h = quiet_told i s (entry.Taken now place id) ws tt h
-record_told i s (entry.Purged now place) ws made h = quiet_told i s (entry.Purged now place) ws tt h
-record_told i s (entry.Ticked now) ws made h = quiet_told i s (entry.Ticked now) ws tt h
-record_told i s (entry.Roll count) ws made h = quiet_told i s (entry.Roll count) ws tt h
+record_told i s r ws made h = quiet_told i s r ws tt h
 
 pub told_by_records : IsByRecords AreTold
 told_by_records = record {

@@ -33,17 +33,7 @@ module _ (x : MessageId) where
       at : (k : Line) → Says silent k → begins x k ≡ 0
       at (line.Committed stream number id) g = absurd g
       at (line.Local id) g = absurd g
-      at (line.Put stream number id) g = omega arith
-      at (line.Refused stream number class id) g = omega arith
-      at (line.Expired stream number id moment) g = omega arith
-      at (line.Stored id) g = omega arith
-      at (line.Bounced class id) g = omega arith
-      at (line.Released id) g = omega arith
-      at (line.Took id) g = omega arith
-      at (line.Purged id) g = omega arith
-      at (line.Swept id) g = omega arith
-      at (line.Lapsed id) g = omega arith
-      at (line.Emptied id) g = omega arith
+      at k g = omega arith
 
   abbrev weights : List Message → ℕ
   weights ms = tally (λ (m : Message). weight x m.id) ms
@@ -65,18 +55,14 @@ module _ (x : MessageId) where
 
   -- the numbers of what a record sends were not given before
   pub record_gives : (s : State) (r : Record) → IsMade s r → given x s + sends x s r ≤ given x (numbered_for s r)
-  record_gives s (entry.Identity identity) made = quiet_gives s (entry.Identity identity) tt
-  record_gives s (entry.Peer peer) made = quiet_gives s (entry.Peer peer) tt
-  record_gives s (entry.CreateQueue number plan) made = quiet_gives s (entry.CreateQueue number plan) tt
   record_gives s (entry.Commit now ops) made = let none = none_begin (takes_made s now ops).lines (takes_say silent s now ops) in let all = sends_begin now (takes_made s now ops) (sends_of ops) in
       let more = numbers_given x s.identity.guid s.next_number (sends_of ops) made.numbered in omega (arith, none, all, more)
   record_gives s (entry.Plain now p) made = let same = ap (weight x) made.id in let one = given_next x s.identity.guid s.next_number in omega (arith, same, one)
-  record_gives s (entry.Offered marks) made = quiet_gives s (entry.Offered marks) tt
   record_gives s (entry.Arrived now numbers part) made = quiet_gives s (entry.Arrived now numbers part) (part_silent now numbers part)
   record_gives s (entry.Taken now at id) made = quiet_gives s (entry.Taken now at id) (λ none other. tt)
   record_gives s (entry.Purged now at) made = quiet_gives s (entry.Purged now at) (λ none other. tt)
   record_gives s (entry.Ticked now) made = quiet_gives s (entry.Ticked now) (λ id. tt)
-  record_gives s (entry.Roll count) made = quiet_gives s (entry.Roll count) tt
+  record_gives s r made = quiet_gives s r tt
 
   -- a line of each
   pub record_begins : (s : State) (r : Record) → beginnings x (lines_of s r) ≤ sends x s r
@@ -85,13 +71,4 @@ module _ (x : MessageId) where
       at : (b : Bool) → beginnings x (cond b (line.Local p.message.id ∷ []) []) ≤ weight x p.message.id
       at true = omega arith
       at false = omega arith
-  record_begins s (entry.Identity identity) = omega arith
-  record_begins s (entry.Peer peer) = omega arith
-  record_begins s (entry.CreateQueue number plan) = omega arith
-  record_begins s (entry.Commit now ops) = omega arith
-  record_begins s (entry.Offered marks) = omega arith
-  record_begins s (entry.Arrived now numbers part) = omega arith
-  record_begins s (entry.Taken now at id) = omega arith
-  record_begins s (entry.Purged now at) = omega arith
-  record_begins s (entry.Ticked now) = omega arith
-  record_begins s (entry.Roll count) = omega arith
+  record_begins s r = omega arith

@@ -20,8 +20,8 @@ use Rattle.mqb_packet.specs.declared.packet.Packet.{Packet}
 use Rattle.mqb_packet.specs.declared.packet.Packet.TheVariants as packet
 use Rattle.mqb_packet.specs.declared.packet.UserPacket.{UserPacket}
 use Rattle.mqb_queue.specs.Places.{numbered}
-use Rattle.mqb_history.specs.Calls.{Call, Hear, Pump, outcome_of}
-use Rattle.mqb_history.specs.Changes.{Calls, Change, Drops, Ends, Fails, Finds, Hears, Links, Pumps, Restarts, calling, changed, given_out, hearing, may_change}
+use Rattle.mqb_model.specs.calls.Call.{Answer, Call, Hear, Pump, outcome_of}
+use Rattle.mqb_history.specs.Changes.{Calls, Change, Hears, Pumps, calling, changed, given_out, hearing, may_change}
 use Rattle.mqb_history.specs.Decided.{written_of}
 use Rattle.mqb_history.specs.Made.{IsMade}
 use Rattle.mqb_history.specs.Orderly.{IsOrderly}
@@ -65,16 +65,7 @@ grows_gone x i s r ws made h = let up = (record_moves x s r).up in let gives = r
   where
     same_here : (r : Record) → copies x (numbered_for s r) ≡ copies x s
     same_here (entry.Commit now ops) = refl
-    same_here (entry.Plain now p) = refl
-    same_here (entry.Identity identity) = refl
-    same_here (entry.Peer peer) = refl
-    same_here (entry.CreateQueue number plan) = refl
-    same_here (entry.Offered marks) = refl
-    same_here (entry.Arrived now numbers part) = refl
-    same_here (entry.Taken now at id) = refl
-    same_here (entry.Purged now at) = refl
-    same_here (entry.Ticked now) = refl
-    same_here (entry.Roll count) = refl
+    same_here r = refl
 
 -- so is what a manager sent in plain packets
 abbrev pub AreGone : List Identity → List Packet → ℕ → State → List Written → Type 0
@@ -143,7 +134,7 @@ module _ (known : List Identity) (apart : AreApart known) (c : Course) (t : IsAc
       (sym (calling_sent i (Pump now) failure c)) (posted_steady Q (gone_steady known sent) i now (given_out outcome failure) (calling i (Pump now) failure c)
       (calling_steady Q (gone_steady known sent) i (Pump now) failure c (λ k own there p inside plain source. by k own there p plain source failure (in_either c.sent (given_out outcome failure) (packet.User p) inside))) j)
     where
-      outcome : Outcome (Unit {0})
+      outcome : Outcome Answer
       outcome = outcome_of (manager_at c.network i) (Pump now)
 
       sent : List Packet
@@ -166,12 +157,7 @@ module _ (known : List Identity) (apart : AreApart known) (c : Course) (t : IsAc
   change_gone (Calls i call failure) may = stays_gone (Calls i call failure) may (calling_sent i call failure c)
   change_gone (Pumps i now failure) may = pump_gone i now failure
   change_gone (Hears k now failure) may = stays_gone (Hears k now failure) may (hearing_sent (numbered c.network.notes k) (numbered c.sent k) now failure c)
-  change_gone (Links a b window_a window_b) may = stays_gone (Links a b window_a window_b) may refl
-  change_gone (Ends i) may = stays_gone (Ends i) may refl
-  change_gone (Drops k) may = stays_gone (Drops k) may refl
-  change_gone (Restarts i) may = stays_gone (Restarts i) may refl
-  change_gone (Finds i) may = stays_gone (Finds i) may refl
-  change_gone (Fails i) may = stays_gone (Fails i) may refl
+  change_gone x may = stays_gone x may refl
 
   change_accounted : (x : Change) → may_change c x ≡ true → IsAccounted known (changed x c)
   change_accounted x may = record {

@@ -308,12 +308,7 @@ user_hears own m now p before = by (is_ready before.phase && is_foreign m.state 
     in_phase : (f : Phase) → Hears own m.state before (packet.User p) (hear_behind m now p (head_in f h before).0 (head_in f h before).1)
     in_phase (phase.Closed why) = closed_hears own m now p why before before refl refl refl refl refl refl
     in_phase phase.Ready = bad (is_bad_ack h before)
-    in_phase phase.Start = early
-    in_phase phase.WaitEstablish = early
-    in_phase phase.OweEstablish = early
-    in_phase phase.OweRefusal = early
-    in_phase phase.OweParameters = early
-    in_phase phase.WaitParameters = early
+    in_phase f = early
 
     by : (b : Bool) → let given = cond b (closing cause.Foreign before) (head_in before.phase h before) in
         Hears own m.state before (packet.User p) (hear_behind m now p given.0 given.1)
@@ -359,12 +354,7 @@ ack_hears own m now given before = in_phase before.phase
     in_phase : (f : Phase) → Hears own m.state before (packet.Ack given) (hear_acknowledgement m now (head_in f h before).0 (head_in f h before).1)
     in_phase (phase.Closed why) = closed why before refl refl refl refl refl refl
     in_phase phase.Ready = bad (is_bad_ack h before)
-    in_phase phase.Start = early
-    in_phase phase.WaitEstablish = early
-    in_phase phase.OweEstablish = early
-    in_phase phase.OweRefusal = early
-    in_phase phase.OweParameters = early
-    in_phase phase.WaitParameters = early
+    in_phase f = early
 
 pub linked_hears : (own : Guid) (m : Manager) (now : ℕ) (x : Packet) (before : one_end.State) → Hears own m.state before x (hear_linked m now x before)
 linked_hears own m now (packet.Establish e) before = record {

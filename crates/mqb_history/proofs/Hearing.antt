@@ -30,7 +30,7 @@ use Rattle.mqb_model.specs.state.State.{State}
 use Rattle.mqb_network.specs.Choices.{Failure}
 use Rattle.mqb_network.specs.Courses.{Course, Written, written_by}
 use Rattle.mqb_network.specs.Network.{Connection, Network, Note, is_connected, is_end, is_underway, manager_at, with_manager}
-use Rattle.mqb_history.specs.Calls.{Hear, outcome_of}
+use Rattle.mqb_model.specs.calls.Call.{Answer, Hear, outcome_of}
 use Rattle.mqb_history.specs.Changes.{calling, hearing, may_hear}
 use Rattle.mqb_history.specs.Orderly.{AreAllDisjoint, IsOrderly}
 use Rattle.mqb_history.specs.Stored.{IsStorageOf, IsStoredIn, TellStorage, WaitsIn}
@@ -108,7 +108,7 @@ module _ (c : Course) (k : KeepsStorage c) (x sender now : ℕ) (p : Packet) (d 
   abbrev m : Manager
   m = manager_at c.network x
 
-  abbrev outcome : Outcome (Unit {0})
+  abbrev outcome : Outcome Answer
   outcome = outcome_of m (Hear now p)
 
   abbrev next : Manager
@@ -138,17 +138,8 @@ module _ (c : Course) (k : KeepsStorage c) (x sender now : ℕ) (p : Packet) (d 
       )
 
       of : (r : Record) → IsSound h.own m.state (hears h.own).after.recoverable_acked r → ReleasesStored c.written m.state r
-      of (entry.Identity identity) s = tt
-      of (entry.Peer peer) s = tt
-      of (entry.CreateQueue number plan) s = tt
-      of (entry.Commit now ops) s = tt
-      of (entry.Plain now p) s = tt
-      of (entry.Offered marks) s = tt
       of (entry.Arrived now numbers part) s = each (hears h.own).after.recoverable_acked numbers (acked_stored h.own) s.0
-      of (entry.Taken now place id) s = tt
-      of (entry.Purged now place) s = tt
-      of (entry.Ticked now) s = tt
-      of (entry.Roll count) s = tt
+      of r s = tt
 
   abbrev more : List Written
   more = c.written ++ written_by x m outcome.entry

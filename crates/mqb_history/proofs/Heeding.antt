@@ -48,7 +48,7 @@ use Rattle.mqb_model.specs.state.Rows.{in_row}
 use Rattle.mqb_model.specs.state.State.{State}
 use Rattle.mqb_network.specs.Courses.{Course}
 use Rattle.mqb_history.specs.Acked.{IsDecidedThere}
-use Rattle.mqb_history.specs.Calls.{Hear, outcome_of}
+use Rattle.mqb_model.specs.calls.Call.{Hear, outcome_of}
 use Rattle.mqb_history.proofs.Acting.{IsTrueRecord}
 use Rattle.mqb_history.proofs.Between.{any_in}
 use Rattle.mqb_history.proofs.Later.{CameRightly, Unused}
@@ -217,12 +217,7 @@ module _ (known : List Identity) (c : Course) (i : ℕ) where
         not_false : (b : Bool) → not b ≡ false → b ≡ true
         not_false true f = refl
         not_false false f = absurd (clash f)
-    in_phase phase.Start e = closed cause.Early (closing cause.Early before).1
-    in_phase phase.WaitEstablish e = closed cause.Early (closing cause.Early before).1
-    in_phase phase.OweEstablish e = closed cause.Early (closing cause.Early before).1
-    in_phase phase.OweRefusal e = closed cause.Early (closing cause.Early before).1
-    in_phase phase.OweParameters e = closed cause.Early (closing cause.Early before).1
-    in_phase phase.WaitParameters e = closed cause.Early (closing cause.Early before).1
+    in_phase f e = closed cause.Early (closing cause.Early before).1
 
     user_heard_honest : IsHonest m.state (hear_behind m now p (user_heard m.state before p).0 (user_heard m.state before p).1)
     user_heard_honest = by (is_ready before.phase && is_foreign m.state before p) refl
@@ -234,9 +229,7 @@ module _ (known : List Identity) (c : Course) (i : ℕ) where
 
   acknowledgement_honest : (m : Manager) (now : ℕ) (given : HeadHeard) (session : one_end.State) → IsHonest m.state (hear_acknowledgement m now given session)
   acknowledgement_honest m now (head.Closed why) session = record { entry = tt; beside = tt }
-  acknowledgement_honest m now head.InOrder session = quiet (listening m session now) heard.Session
-  acknowledgement_honest m now head.OutOfOrder session = quiet (listening m session now) heard.Session
-  acknowledgement_honest m now head.AckOnly session = quiet (listening m session now) heard.Session
+  acknowledgement_honest m now given session = quiet (listening m session now) heard.Session
 
   -- what is known of a packet that a linked manager hears
   abbrev pub AreFacts : Manager → Packet → one_end.State → Type 0

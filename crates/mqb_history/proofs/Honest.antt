@@ -20,7 +20,7 @@ use Rattle.mqb_orders.specs.Rows.{Row}
 use Rattle.mqb_packet.specs.declared.packet.Packet.TheVariants as packet
 use Rattle.mqb_packet.specs.declared.packet.UserPacket.{UserPacket}
 use Rattle.mqb_queue.specs.Places.{numbered}
-use Rattle.mqb_history.specs.Calls.{Call, outcome_of}
+use Rattle.mqb_model.specs.calls.Call.{Call, outcome_of}
 use Rattle.mqb_history.specs.Changes.{calling}
 use Rattle.mqb_history.specs.Decided.{written_of}
 use Rattle.mqb_history.specs.Made.{IsMade}

@@ -97,9 +97,6 @@ DecidesNothing (entry.Arrived now numbers (entry.Decided p)) = ⊥
 DecidesNothing _ = Unit {0}
 
 pub applied_ins : (s : State) (r : Record) → DecidesNothing r → SameIns s (apply s r)
-applied_ins s (entry.Identity identity) h = refl
-applied_ins s (entry.Peer peer) h = refl
-applied_ins s (entry.CreateQueue number plan) h = refl
 applied_ins s (entry.Commit now ops) h = sends_ins now (takes_made s now ops) (sends_of ops) ∙ (takes_made_rows s now ops).ins
 applied_ins s (entry.Plain now p) h = (plain_sent_rows (numbers_taken s 1) p.message now).ins
 applied_ins s (entry.Offered marks) h = marks_ins s marks
@@ -112,7 +109,7 @@ applied_ins s (entry.Arrived now numbers (entry.Final p)) h = final_ins (release
 applied_ins s (entry.Taken now at id) h = (taken_rows at id now (begun s)).ins
 applied_ins s (entry.Purged now at) h = (purged_rows lane.Durable at now (begun s)).ins
 applied_ins s (entry.Ticked now) h = (ticked_rows lane.Durable now (rows_expired now (begun s))).ins ∙ expiring_ins now (begun s)
-applied_ins s (entry.Roll count) h = refl
+applied_ins s r h = refl
 
 -- and one that decides a message with this header: its row is another one now
 pub decided_ins : (s : State) (now : ℕ) (numbers : List ℕ) (p : UserPacket) (tx : TxHead) → p.tx ≡ Some tx

@@ -5,14 +5,7 @@ use Rattle.std.specs.List.{AllByRecursion, enumerate_from}
 use Rattle.std.specs.Option.{option_map_or}
 use Rattle.std.specs.Prelude.{[], ◌&&◌, ◌+◌, ◌++◌, ◌==◌, ◌||◌, ◌∷◌, ◌≡◌, Bool, Err, List, None, Ok, Option, Result, Some, cond, false, fold, is_none, is_some, length, not, slice_get, true, ℕ}
 use Rattle.mqb_base.specs.declared.ids.Identity.{Identity}
-use Rattle.mqb_model.specs.calls.Commit.{commit}
-use Rattle.mqb_model.specs.calls.CreateQueue.{create_queue}
 use Rattle.mqb_model.specs.calls.Link.{resend}
-use Rattle.mqb_model.specs.calls.Purge.{purge}
-use Rattle.mqb_model.specs.calls.Send.{send}
-use Rattle.mqb_model.specs.calls.SetRoll.{set_roll}
-use Rattle.mqb_model.specs.calls.Take.{take_message}
-use Rattle.mqb_model.specs.calls.Tick.{tick}
 use Rattle.mqb_model.specs.calls.hear.Hear.{hear}
 use Rattle.mqb_model.specs.calls.hear.Session.{HeardOutcome}
 use Rattle.mqb_model.specs.calls.pump.Pump.{PumpOutcome, pump}
@@ -21,7 +14,7 @@ use Rattle.mqb_model.specs.managers.Manager.{doubt_of}
 use Rattle.mqb_model.specs.managers.Outcomes.{Outcome}
 use Rattle.mqb_network.specs.Answers.{Answer, only}
 use Rattle.mqb_network.specs.Changes.{dropped, ended, succeeded_at}
-use Rattle.mqb_network.specs.Choices.{Choice, Failure, Fails, Kept, Lost, Unread, Well, choice_behind, failure_in}
+use Rattle.mqb_network.specs.Choices.{Choice, Failure, Fails, Kept, Unread, Well, choice_behind, failure_in}
 use Rattle.mqb_network.specs.Connecting.{any_connected, any_down, both_linked, connect, connected, disconnect, exchanged, resend_by, set_up}
 use Rattle.mqb_network.specs.Courses.{Course, Written, called, called_unless, moved, posted}
 use Rattle.mqb_network.specs.Delivering.{closes, deliver_packet, drop_packet, heard_by, passed, unheard}
@@ -35,7 +28,8 @@ use Rattle.mqb_network.specs.Sending.{Passing, flow, flow_by, flowed, packets_un
 use Rattle.mqb_network.specs.Step.{answer_to}
 use Rattle.mqb_packet.specs.declared.packet.Packet.{Packet}
 use Rattle.mqb_queue.specs.Places.{numbered}
-use Rattle.mqb_history.specs.Calls.{Call, Commit, CreateQueue, Purge, Resend, Send, SetRoll, Take, Tick, answerless, outcome_of}
+use Rattle.mqb_model.specs.calls.Call.{Asks, Call, Resend, answered, outcome_of, requested}
+use Rattle.mqb_model.specs.calls.Call as calls
 use Rattle.mqb_history.specs.Changes.{Change, changed, given_out, hearing, is_of_packets, may_change, may_hear}
 use Rattle.mqb_history.specs.Changes as change
 use Rattle.mqb_history.specs.Orderly.{IsOrderly}
@@ -48,23 +42,21 @@ pub record IsClosed (known : List Identity) (P : Course → Type 0) : Type 0 whe
   pub orderly : (c : Course) → P c → IsOrderly known c
   pub keeps : (c : Course) (x : Change) → may_change c x ≡ true → P c → P (changed x c)
 
--- a change sends nothing
-abbrev pub SendsNone : Change → Type 0
-SendsNone (change.Calls i (Commit now ops) failure) = ⊥
-SendsNone (change.Calls i (Send now recoverable parts) failure) = ⊥
-SendsNone _ = Unit {0}
+-- a change asks a manager for nothing
+abbrev pub AsksNone : Change → Type 0
+AsksNone (change.Calls i (Asks request) failure) = ⊥
+AsksNone _ = Unit {0}
 
--- the same where changes are given, of which each that sends nothing is one
+-- the same where changes are given, of which each that asks for nothing is one
 pub record IsClosedUnder (A : Change → Type 0) (known : List Identity) (P : Course → Type 0) : Type 0 where
   pub orderly : (c : Course) → P c → IsOrderly known c
-  pub others : (x : Change) → SendsNone x → A x
+  pub others : (x : Change) → AsksNone x → A x
   pub keeps : (c : Course) (x : Change) → A x → may_change c x ≡ true → P c → P (changed x c)
 
 -- Calls.
 
 -- a disk fails only in a call that touches it
 rightly : {A : Type 0} (choice : Choice) (outcome : Outcome A) → (is_none (failure_in choice outcome) || outcome.touches) ≡ true
-rightly Well outcome = refl
 rightly (Fails before how) outcome = at (before == 0) outcome.touches
   where
     at : (first touches : Bool) → (is_none (cond (first && touches) (Some how) None) || touches) ≡ true
@@ -72,27 +64,23 @@ rightly (Fails before how) outcome = at (before == 0) outcome.touches
     at true false = refl
     at false true = refl
     at false false = refl
-rightly Kept outcome = refl
-rightly Lost outcome = refl
-rightly Unread outcome = refl
+rightly choice outcome = refl
 
 -- the answer of a call changes nothing
-without_answer : {A : Type 0} (i : ℕ) (outcome : Outcome A) (failure : Option Failure) (c : Course) → called_unless i (answerless outcome) failure c ≡ called_unless i outcome failure c
-without_answer i outcome None c = refl
-without_answer i outcome (Some how) c = refl
+without_answer : {A : Type 0} (says : A → calls.Answer) (i : ℕ) (outcome : Outcome A) (failure : Option Failure) (c : Course) → called_unless i (answered says outcome) failure c ≡ called_unless i outcome failure c
+without_answer says i outcome None c = refl
+without_answer says i outcome (Some how) c = refl
 
-call_keeps : {R : Type 0} (A : Change → Type 0) (known : List Identity) (P : Course → Type 0) → IsClosedUnder A known P → (i : ℕ) (call : Call) (outcome : Outcome R) (choice : Choice) (c : Course)
-    → answerless outcome ≡ outcome_of (manager_at c.network i) call → is_of_packets call ≡ false → A (change.Calls i call (failure_in choice outcome)) → P c → P (called i outcome choice c)
-call_keeps A known P k i call outcome choice c same apart given h = subst P (without_answer i outcome (failure_in choice outcome) c)
-    (subst (λ o. P (called_unless i o (failure_in choice outcome) c)) (sym same)
-    (k.keeps c (change.Calls i call (failure_in choice outcome)) given
-    (join_and (not (is_of_packets call)) (is_none (failure_in choice outcome) || (outcome_of (manager_at c.network i) call).touches)
-    (ap not apart) (subst (λ (o : Outcome (Unit {0})). (is_none (failure_in choice outcome) || o.touches) ≡ true) same (rightly choice outcome))) h))
+call_keeps : (A : Change → Type 0) (known : List Identity) (P : Course → Type 0) → IsClosedUnder A known P → (i : ℕ) (call : Call) (choice : Choice) (c : Course) → is_of_packets call ≡ false
+    → A (change.Calls i call (failure_in choice (outcome_of (manager_at c.network i) call))) → P c → P (called i (outcome_of (manager_at c.network i) call) choice c)
+call_keeps A known P k i call choice c apart given h = let outcome = outcome_of (manager_at c.network i) call in
+    k.keeps c (change.Calls i call (failure_in choice outcome)) given
+    (join_and (not (is_of_packets call)) (is_none (failure_in choice outcome) || outcome.touches) (ap not apart) (rightly choice outcome)) h
 
 -- Pumps.
 
 pumped_same : (i now : ℕ) (outcome : PumpOutcome) (failure : Option Failure) (c : Course)
-    → posted i now (given_out (answerless outcome) failure) (called_unless i (answerless outcome) failure c) ≡ posted i now (packets_unless outcome failure) (called_unless i outcome failure c)
+    → posted i now (given_out (answered calls.Pumped outcome) failure) (called_unless i (answered calls.Pumped outcome) failure c) ≡ posted i now (packets_unless outcome failure) (called_unless i outcome failure c)
 pumped_same i now outcome None c = refl
 pumped_same i now outcome (Some how) c = refl
 
@@ -112,7 +100,7 @@ heard_keeps : (A : Change → Type 0) (known : List Identity) (P : Course → Ty
     → numbered c.network.notes number ≡ Some note → numbered c.sent number ≡ Some p → is_underway c.network note ≡ true → P c
     → P (heard_by note.receiver (hear (manager_at c.network note.receiver) p now) choice c).after
 heard_keeps A known P k number note p now choice c noted sent underway h = closed_keeps A known P k (closes outcome.answer) note.receiver (called note.receiver outcome choice c)
-    (subst P (without_answer note.receiver outcome failure c)
+    (subst P (without_answer calls.Heard note.receiver outcome failure c)
     (subst (λ q. P (hearing (Some note) q now failure c)) sent
     (subst (λ n. P (hearing n (numbered c.sent number) now failure c)) noted
     (k.keeps c (change.Hears number now failure) (k.others (change.Hears number now failure) tt) may_be h))))
@@ -285,12 +273,10 @@ resend_keeps A known P k i c h = at (is_connected c.network i)
 
 reopen_keeps : (A : Change → Type 0) (known : List Identity) (P : Course → Type 0) → IsClosedUnder A known P → (i : ℕ) (choice : Choice) (c : Course) → is_connected c.network i ≡ false
     → (choice ≡ Kept → is_some (doubt_of (manager_at c.network i).condition) ≡ true) → P c → P (reopen i choice c).after
-reopen_keeps A known P k i Well c free doubt h = k.keeps c (change.Restarts i) (k.others (change.Restarts i) tt) (ap not free) h
-reopen_keeps A known P k i (Fails before how) c free doubt h = k.keeps c (change.Restarts i) (k.others (change.Restarts i) tt) (ap not free) h
-reopen_keeps A known P k i Lost c free doubt h = k.keeps c (change.Restarts i) (k.others (change.Restarts i) tt) (ap not free) h
 reopen_keeps A known P k i Kept c free doubt h = k.keeps c (change.Finds i) (k.others (change.Finds i) tt)
     (join_and (not (is_connected c.network i)) (is_some (doubt_of (manager_at c.network i).condition)) (ap not free) (doubt refl)) h
 reopen_keeps A known P k i Unread c free doubt h = k.keeps c (change.Fails i) (k.others (change.Fails i) tt) (ap not free) h
+reopen_keeps A known P k i x c free doubt h = k.keeps c (change.Restarts i) (k.others (change.Restarts i) tt) (ap not free) h
 
 restart_keeps : (A : Change → Type 0) (known : List Identity) (P : Course → Type 0) → IsClosedUnder A known P → (i : ℕ) (choice : Choice) (c : Course)
     → (choice ≡ Kept → is_some (doubt_of (manager_at c.network i).condition) ≡ true) → P c → P (reopen i choice (moved (ended i) c)).after
@@ -300,22 +286,15 @@ restart_keeps A known P k i choice c doubt h = reopen_keeps A known P k i choice
 
 -- Every event.
 
--- what an event sends is given
+-- what an event asks for is given
 abbrev pub IsGiven : (Change → Type 0) → Event → Type 0
-IsGiven A (event.Commit i now ops) = (failure : Option Failure) → A (change.Calls i (Commit now ops) failure)
-IsGiven A (event.Send i now recoverable parts) = (failure : Option Failure) → A (change.Calls i (Send now recoverable parts) failure)
+IsGiven A (event.Asks i request) = (failure : Option Failure) → A (change.Calls i (Asks request) failure)
 IsGiven A _ = Unit {0}
 
 pub event_keeps_under : (A : Change → Type 0) (known : List Identity) (P : Course → Type 0) → IsClosedUnder A known P → (c : Course) (e : Event) (choice : Choice)
     → IsGiven A e → may c e choice ≡ true → P c
     → P (answer_to e (packet_of c.sent e) choice c).after
-event_keeps_under A known P k c (event.Queue i plan) choice given m h = call_keeps A known P k i (CreateQueue plan) (create_queue (manager_at c.network i) plan) choice c refl refl (k.others (change.Calls i (CreateQueue plan) (failure_in choice (create_queue (manager_at c.network i) plan))) tt) h
-event_keeps_under A known P k c (event.Roll i count) choice given m h = call_keeps A known P k i (SetRoll count) (set_roll (manager_at c.network i) count) choice c refl refl (k.others (change.Calls i (SetRoll count) (failure_in choice (set_roll (manager_at c.network i) count))) tt) h
-event_keeps_under A known P k c (event.Commit i now ops) choice given m h = call_keeps A known P k i (Commit now ops) (commit (manager_at c.network i) ops now) choice c refl refl (given (failure_in choice (commit (manager_at c.network i) ops now))) h
-event_keeps_under A known P k c (event.Send i now recoverable parts) choice given m h = call_keeps A known P k i (Send now recoverable parts) (send (manager_at c.network i) parts recoverable now) choice c refl refl (given (failure_in choice (send (manager_at c.network i) parts recoverable now))) h
-event_keeps_under A known P k c (event.Take i now place) choice given m h = call_keeps A known P k i (Take now place) (take_message (manager_at c.network i) place now) choice c refl refl (k.others (change.Calls i (Take now place) (failure_in choice (take_message (manager_at c.network i) place now))) tt) h
-event_keeps_under A known P k c (event.Purge i now place) choice given m h = call_keeps A known P k i (Purge now place) (purge (manager_at c.network i) place now) choice c refl refl (k.others (change.Calls i (Purge now place) (failure_in choice (purge (manager_at c.network i) place now))) tt) h
-event_keeps_under A known P k c (event.Tick i now) choice given m h = call_keeps A known P k i (Tick now) (tick (manager_at c.network i) now) choice c refl refl (k.others (change.Calls i (Tick now) (failure_in choice (tick (manager_at c.network i) now))) tt) h
+event_keeps_under A known P k c (event.Asks i request) choice given m h = call_keeps A known P k i (Asks request) choice c refl (given (failure_in choice (requested (manager_at c.network i) request))) h
 event_keeps_under A known P k c (event.Connect a b now window_a window_b) choice given m h = connect_keeps A known P k a b now window_a window_b c h
 event_keeps_under A known P k c (event.Disconnect i) choice given m h = disconnect_keeps A known P k i c h
 event_keeps_under A known P k c (event.Resend i) choice given m h = resend_keeps A known P k i c h
@@ -328,29 +307,12 @@ event_keeps_under A known P k c (event.Restart i) choice given m h = restart_kee
   where
     doubt : (choice : Choice) → may c (event.Restart i) choice ≡ true → choice ≡ Kept → is_some (doubt_of (manager_at c.network i).condition) ≡ true
     doubt Kept m e = m
-    doubt Well m e = absurd (let none : ⊥ = cc in none)
-    doubt (Fails before how) m e = absurd (let none : ⊥ = cc in none)
-    doubt Lost m e = absurd (let none : ⊥ = cc in none)
-    doubt Unread m e = absurd (let none : ⊥ = cc in none)
+    doubt choice m e = absurd (let none : ⊥ = cc in none)
 
 -- where all is given, it is
 all_given : (e : Event) → IsGiven (λ x. Unit {0}) e
-all_given (event.Queue i plan) = tt
-all_given (event.Roll i count) = tt
-all_given (event.Commit i now ops) = λ failure. tt
-all_given (event.Send i now recoverable parts) = λ failure. tt
-all_given (event.Take i now place) = tt
-all_given (event.Purge i now place) = tt
-all_given (event.Tick i now) = tt
-all_given (event.Connect a b now window_a window_b) = tt
-all_given (event.Disconnect i) = tt
-all_given (event.Resend i) = tt
-all_given (event.Pump i now) = tt
-all_given (event.Deliver number now) = tt
-all_given (event.Drop number) = tt
-all_given (event.Flow i now) = tt
-all_given (event.Arm i) = tt
-all_given (event.Restart i) = tt
+all_given (event.Asks i request) = λ failure. tt
+all_given e = tt
 
 pub event_keeps : (known : List Identity) (P : Course → Type 0) → IsClosed known P → (c : Course) (e : Event) (choice : Choice) → may c e choice ≡ true → P c
     → P (answer_to e (packet_of c.sent e) choice c).after

@@ -62,18 +62,7 @@ lasting_none ls h q n i = let l = told_from expiry_told ls (record { sequence = 
   where
     at : (x : Line) → Says lasting x → expiry_told x ≡ Some (record { sequence = q; number = n }) → ⊥
     at (line.Expired stream number id moment) g e = g
-    at (line.Committed stream number id) g e = none_some e
-    at (line.Put stream number id) g e = none_some e
-    at (line.Refused stream number class id) g e = none_some e
-    at (line.Local id) g e = none_some e
-    at (line.Stored id) g e = none_some e
-    at (line.Bounced class id) g e = none_some e
-    at (line.Released id) g e = none_some e
-    at (line.Took id) g e = none_some e
-    at (line.Purged id) g e = none_some e
-    at (line.Swept id) g e = none_some e
-    at (line.Lapsed id) g e = none_some e
-    at (line.Emptied id) g e = none_some e
+    at x g e = none_some e
 
 all_units : (ms : List Message) → AllByRecursion (λ m. Unit {0}) ms
 all_units [] = tt
@@ -81,10 +70,7 @@ all_units (m ∷ ms) = (tt, all_units ms)
 
 part_lasts : (now : ℕ) (numbers : List ℕ) (part : Part) → RecordSays lasting (entry.Arrived now numbers part)
 part_lasts now numbers entry.Nothing = tt
-part_lasts now numbers (entry.Decided p) = tt
-part_lasts now numbers (entry.Stored p) = tt
-part_lasts now numbers (entry.OrderAcknowledged ordinal number) = tt
-part_lasts now numbers (entry.Final p) = tt
+part_lasts now numbers part = tt
 
 none_by : (s : State) (r : Record) → RecordSays lasting r → NoneExpires (lines_of s r)
 none_by s r says = lasting_none (lines_of s r) (record_says lasting s r says)
@@ -197,18 +183,7 @@ expired_of s ws h q n i = let l = told_from expiry_told (lines_written ws) (reco
 
     at : (x : Line) → IsDue s.identity.guid (commitments ws) x → expiry_told x ≡ Some (record { sequence = q; number = n }) → In n (numbers_in q (commitments ws))
     at (line.Expired stream number id moment) g e = of stream number id moment g (some_is _ _ e)
-    at (line.Committed stream number id) g e = absurd (none_some e)
-    at (line.Put stream number id) g e = absurd (none_some e)
-    at (line.Refused stream number class id) g e = absurd (none_some e)
-    at (line.Local id) g e = absurd (none_some e)
-    at (line.Stored id) g e = absurd (none_some e)
-    at (line.Bounced class id) g e = absurd (none_some e)
-    at (line.Released id) g e = absurd (none_some e)
-    at (line.Took id) g e = absurd (none_some e)
-    at (line.Purged id) g e = absurd (none_some e)
-    at (line.Swept id) g e = absurd (none_some e)
-    at (line.Lapsed id) g e = absurd (none_some e)
-    at (line.Emptied id) g e = absurd (none_some e)
+    at x g e = absurd (none_some e)
 
 record_clean : (s : State) (r : Record) (ws : List Written) → IsMade s r → KeepsLeft s ws → RowsClean (lines_written ws ++ lines_of s r) (apply s r)
 record_clean s r ws made h = at r made
@@ -230,17 +205,13 @@ record_clean s r ws made h = at r made
         (rows_no_more (IsClean ls) no_more_clean s.outs (apply s x).outs (applied_no_more s x nothing (made_offers s x counted.rise made)).outs h.1)
 
     at : (x : Record) → IsMade s x → RowsClean (ls ++ lines_of s x) (apply s x)
-    at (entry.Identity identity) made = quiet (entry.Identity identity) made tt tt
     at (entry.Peer peer) made = absurd made
-    at (entry.CreateQueue number plan) made = quiet (entry.CreateQueue number plan) made tt tt
     at (entry.Commit now ops) made = behind (entry.Commit now ops) (all_units (sends_of ops))
         (sends_clean ls now s.next_number (takes_made s now ops) (sends_of ops) (commitments ws)
         (own_numbered s.identity.guid (takes_made s now ops).state.identity.guid s.next_number (sends_of ops) (ap (λ (i : Identity). i.guid) (sym (takes_made_rows s now ops).manager.identity)) made.numbered)
         (same_commits s (takes_made s now ops).state s.next_number (commitments ws) (takes_made_rows s now ops) counted)
         (expired_of s ws h.0)
         (same_clean ls s (takes_made s now ops).state (takes_made_rows s now ops) h.1))
-    at (entry.Plain now p) made = quiet (entry.Plain now p) made tt tt
-    at (entry.Offered marks) made = quiet (entry.Offered marks) made tt tt
     at (entry.Arrived now numbers part) made = quiet (entry.Arrived now numbers part) made tt (part_lasts now numbers part)
     at (entry.Taken now place id) made = quiet (entry.Taken now place id) made tt (λ none other. tt)
     at (entry.Purged now place) made = quiet (entry.Purged now place) made tt (λ none other. tt)
@@ -254,7 +225,7 @@ record_clean s r ws made h = at r made
 
         adds : Adds e (effect_of s (entry.Ticked now))
         adds = ticked_adds lane.Durable now e
-    at (entry.Roll count) made = quiet (entry.Roll count) made tt tt
+    at x made = quiet x made tt tt
 
 pub left_by_records : IsByRecords KeepsLeft
 left_by_records = record {

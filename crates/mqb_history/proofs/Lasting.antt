@@ -165,7 +165,7 @@ module _ (own : Guid) (Bears : Lane → ℕ → MessageId → Type 0) where
   applied_waits s (entry.Purged now at) o h = purged_waits own Bears lane.Durable at now (begun s) h
   applied_waits s (entry.Ticked now) o h = ticked_waits own Bears lane.Durable now
       (rows_expired now (begun s)) (expiring_waits now (begun s) h)
-  applied_waits s (entry.Roll count) o h = record { identity = h.identity; plain = h.plain }
+  applied_waits s (entry.Set setting) o h = record { identity = h.identity; plain = h.plain }
 
   -- Beside them.
 

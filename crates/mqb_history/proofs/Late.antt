@@ -15,7 +15,7 @@ use Rattle.mqb_exactly_once.specs.Words.{In}
 use Rattle.mqb_exactly_once.specs.World.{Position}
 use Rattle.mqb_fate.specs.Asking.{is_transactional}
 use Rattle.mqb_model.specs.declared.target.Target.{Target}
-use Rattle.mqb_model.specs.declared.target.Target.TheVariants.{AtPeer, Here, Nowhere}
+use Rattle.mqb_model.specs.declared.target.Target.TheVariants.{Here}
 use Rattle.mqb_model.specs.records.Applying.{lines_of}
 use Rattle.mqb_model.specs.records.Decisions.{decided_line}
 use Rattle.mqb_model.specs.records.Record as entry
@@ -62,14 +62,12 @@ not_by_queue false false true e = other_class QUOTA_EXCEEDED (λ f. omega (arith
 not_by_queue false false false e = let none : ⊥ = cc in none
 
 not_by_target : (s : State) (t : Target) (d : Delivery) → target_refusal s t d ≡ Some REACH_TIMEOUT → ⊥
-not_by_target s (AtPeer k) d e = other_class BAD_DESTINATION (λ f. omega (arith, f)) e
-not_by_target s Nowhere d e = other_class BAD_DESTINATION (λ f. omega (arith, f)) e
-not_by_target s (Here None) d e = other_class BAD_DESTINATION (λ f. omega (arith, f)) e
 not_by_target s (Here (Some k)) d e = at (numbered s.places.queues k) e
   where
     at : (o : Option Queue) → option_map_or (refusal_by d) o (Some BAD_DESTINATION) ≡ Some REACH_TIMEOUT → ⊥
     at None f = other_class BAD_DESTINATION (λ g. omega (arith, g)) f
     at (Some q) f = not_by_queue (is_transactional d) q.plan.transactional (nat_le q.plan.quota (length_met (is_recorded d) q.lists)) f
+not_by_target s t d e = other_class BAD_DESTINATION (λ f. omega (arith, f)) e
 
 late : (s : State) (p : UserPacket) → refusal_of s p ≡ Some REACH_TIMEOUT → (p.remaining == 0) ≡ true
 late s p e = at (p.remaining == 0) e

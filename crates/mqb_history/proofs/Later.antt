@@ -27,8 +27,8 @@ use Rattle.mqb_packet.specs.declared.packet.Packet.{Packet}
 use Rattle.mqb_packet.specs.declared.packet.UserPacket.{UserPacket}
 use Rattle.mqb_queue.specs.Places.{numbered}
 use Rattle.mqb_history.specs.Acked.{IsDecidedThere, SpellsDecided, is_order_ack}
-use Rattle.mqb_history.specs.Calls.{Call, Hear, Pump, outcome_of}
-use Rattle.mqb_history.specs.Changes.{Change, Calls, Drops, Ends, Fails, Finds, Hears, Links, Pumps, Restarts, calling, changed, hearing, may_change}
+use Rattle.mqb_model.specs.calls.Call.{Call, Hear, Pump, outcome_of}
+use Rattle.mqb_history.specs.Changes.{Change, Calls, Finds, Hears, Pumps, calling, changed, hearing, may_change}
 use Rattle.mqb_history.specs.Committed.{commitments, commitments_in}
 use Rattle.mqb_history.specs.Decided.{decisions, written_of}
 use Rattle.mqb_history.specs.Made.{IsMade}
@@ -95,12 +95,8 @@ pub change_written : (c : Course) (x : Change) → (more : List Written) × ((ch
 change_written c (Calls i call failure) = calling_written i call failure c
 change_written c (Pumps i now failure) = calling_written i (Pump now) failure c
 change_written c (Hears k now failure) = hearing_written (numbered c.network.notes k) (numbered c.sent k) now failure c
-change_written c (Links a b window_a window_b) = ([], sym (append_nothing c.written))
-change_written c (Ends i) = ([], sym (append_nothing c.written))
-change_written c (Drops k) = ([], sym (append_nothing c.written))
-change_written c (Restarts i) = ([], sym (append_nothing c.written))
 change_written c (Finds i) = (written_by i (manager_at c.network i) (doubt_of (manager_at c.network i).condition), refl)
-change_written c (Fails i) = ([], sym (append_nothing c.written))
+change_written c x = ([], sym (append_nothing c.written))
 
 -- what is unused stays so
 pub unused_grows : (i : ℕ) (s : State) (r : Record) (ws : List Written) (n : ℕ) → IsMade s r → IsUnused s ws n → IsUnused (apply s r) (ws ++ record { by = i; before = s; entry = r } ∷ []) n

@@ -10,7 +10,7 @@ use Rattle.mqb_base.specs.declared.ledger.Line.{Line}
 use Rattle.mqb_base.specs.declared.ledger.Line.TheVariants as line
 use Rattle.mqb_base.specs.declared.message.Message.{Message}
 use Rattle.mqb_base.specs.declared.queue_names.QueueName.{QueueName}
-use Rattle.mqb_base.specs.declared.queue_names.QueueName.TheVariants.{Direct, Machine, Private, Public}
+use Rattle.mqb_base.specs.declared.queue_names.QueueName.TheVariants.{Direct, Private, Public}
 use Rattle.mqb_exactly_once.specs.Words.{In}
 use Rattle.mqb_exactly_once.specs.World.{Commitment}
 use Rattle.mqb_model.specs.declared.target.Target.{Target}
@@ -96,32 +96,23 @@ peer_back false here (Some j) k e = ap (λ n. AtPeer n) (some_is j k e)
 
 is_led : (s : State) (d : QueueName) (k : ℕ) → resolved s d ≡ AtPeer k → led s.identity s.peers d ≡ Some k
 is_led s (Public guid false) k e = absurd (no_queue_at_peer (queue_registered s guid) k e)
-is_led s (Public guid true) k e = absurd (nowhere_at_peer k e)
 is_led s (Private qm number false) k e = peer_only (same_guid qm s.identity.guid) (queue_numbered s number) (peer_known s qm) k e
-is_led s (Private qm number true) k e = absurd (nowhere_at_peer k e)
 is_led s (Direct host queue false) k e = peer_only (is_own_host s.identity host) (queue_named s queue) (peer_at s host) k e
-is_led s (Direct host queue true) k e = absurd (nowhere_at_peer k e)
-is_led s (Machine qm kind) k e = absurd (nowhere_at_peer k e)
+is_led s d k e = absurd (nowhere_at_peer k e)
 
 leads : (s : State) (d : QueueName) (k : ℕ) → led s.identity s.peers d ≡ Some k → resolved s d ≡ AtPeer k
-leads s (Public guid journal) k e = absurd (none_some e)
 leads s (Private qm number false) k e = peer_back (same_guid qm s.identity.guid) (queue_numbered s number) (peer_known s qm) k e
-leads s (Private qm number true) k e = absurd (none_some e)
 leads s (Direct host queue false) k e = peer_back (is_own_host s.identity host) (queue_named s queue) (peer_at s host) k e
-leads s (Direct host queue true) k e = absurd (none_some e)
-leads s (Machine qm kind) k e = absurd (none_some e)
+leads s d k e = absurd (none_some e)
 
 peer_or : {X : Type 0} (p : X → Bool) (b : Bool) (xs : List X) (k : ℕ) → cond b None (position p xs) ≡ Some k → (x : X) × (slice_get xs k ≡ Some x)
 peer_or p true xs k e = absurd (none_some e)
 peer_or p false xs k e = position_there p xs k e
 
 led_there : (own : Identity) (peers : List Identity) (d : QueueName) (k : ℕ) → led own peers d ≡ Some k → (x : Identity) × (slice_get peers k ≡ Some x)
-led_there own peers (Public guid journal) k e = absurd (none_some e)
 led_there own peers (Private qm number false) k e = peer_or (λ p. same_guid p.guid qm) (same_guid qm own.guid) peers k e
-led_there own peers (Private qm number true) k e = absurd (none_some e)
 led_there own peers (Direct host queue false) k e = peer_or (is_host_of host) (is_own_host own host) peers k e
-led_there own peers (Direct host queue true) k e = absurd (none_some e)
-led_there own peers (Machine qm kind) k e = absurd (none_some e)
+led_there own peers d k e = absurd (none_some e)
 
 led_same : (a b : State) (d : QueueName) (k : ℕ) → IsSameManager a b → led b.identity b.peers d ≡ Some k → led a.identity a.peers d ≡ Some k
 led_same a b d k same e = subst (λ own. led own a.peers d ≡ Some k) same.identity (subst (λ ps. led b.identity ps d ≡ Some k) same.peers e)
@@ -161,16 +152,7 @@ sends_led s now e (m ∷ ms) same c i = in_option (IsLedFrom s) c (commitment_at
 
 record_led : (s : State) (r : Record) (c : Commitment) → In c (commitments_in s r) → IsLedFrom s c
 record_led s (entry.Commit now ops) c i = sends_led s now (takes_made s now ops) (sends_of ops) (takes_made_rows s now ops).manager c i
-record_led s (entry.Identity identity) c i = absurd i
-record_led s (entry.Peer peer) c i = absurd i
-record_led s (entry.CreateQueue number plan) c i = absurd i
-record_led s (entry.Plain now p) c i = absurd i
-record_led s (entry.Offered marks) c i = absurd i
-record_led s (entry.Arrived now numbers part) c i = absurd i
-record_led s (entry.Taken now place id) c i = absurd i
-record_led s (entry.Purged now place) c i = absurd i
-record_led s (entry.Ticked now) c i = absurd i
-record_led s (entry.Roll count) c i = absurd i
+record_led s r c i = absurd i
 
 -- Managers stay who they are.
 

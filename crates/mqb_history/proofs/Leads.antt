@@ -8,7 +8,7 @@ use Rattle.mqb_base.specs.declared.ids.Identity.{Identity}
 use Rattle.mqb_base.specs.declared.ids.MessageId.{MessageId}
 use Rattle.mqb_base.specs.declared.message.Message.{Message}
 use Rattle.mqb_base.specs.declared.queue_names.QueueName.{QueueName}
-use Rattle.mqb_base.specs.declared.queue_names.QueueName.TheVariants.{Direct, Machine, Private, Public}
+use Rattle.mqb_base.specs.declared.queue_names.QueueName.TheVariants.{Direct, Private, Public}
 use Rattle.mqb_exactly_once.specs.Words.{In}
 use Rattle.mqb_model.specs.declared.target.Target.{Target}
 use Rattle.mqb_model.specs.declared.target.Target.TheVariants.{AtPeer, Here, Nowhere}
@@ -58,20 +58,17 @@ not_nowhere k e = let none : ⊥ = cc in none
 
 pub leads_there : (s : State) (d : QueueName) (k : ℕ) → resolved s d ≡ AtPeer k → led s.identity s.peers d ≡ Some k
 leads_there s (Public guid false) k e = absurd (no_queue (queue_registered s guid) k e)
-leads_there s (Public guid true) k e = absurd (not_nowhere k e)
 leads_there s (Private qm number false) k e = at (same_guid qm s.identity.guid) e
   where
     at : (b : Bool) → cond b (Here (queue_numbered s number)) (at_peer (peer_known s qm)) ≡ AtPeer k → cond b None (peer_known s qm) ≡ Some k
     at true f = absurd (not_here (queue_numbered s number) k f)
     at false f = found_there (peer_known s qm) k f
-leads_there s (Private qm number true) k e = absurd (not_nowhere k e)
 leads_there s (Direct host queue false) k e = at (is_own_host s.identity host) e
   where
     at : (b : Bool) → cond b (Here (queue_named s queue)) (at_peer (peer_at s host)) ≡ AtPeer k → cond b None (peer_at s host) ≡ Some k
     at true f = absurd (not_here (queue_named s queue) k f)
     at false f = found_there (peer_at s host) k f
-leads_there s (Direct host queue true) k e = absurd (not_nowhere k e)
-leads_there s (Machine qm which) k e = absurd (not_nowhere k e)
+leads_there s d k e = absurd (not_nowhere k e)
 
 -- a message is a manager's own, and leads to a peer
 abbrev pub GoesAs : Identity → List Identity → ℕ → Message → Type 0
@@ -194,20 +191,12 @@ record_leads s r ws made h = at r made
         (rows_no_more (RowLeads s.identity s.peers) (no_more_leads s.identity s.peers) s.outs (apply s x).outs (applied_no_more s x nothing (made_offers s x h.0.rise made)).outs h.1)
 
     at : (x : Record) → IsMade s x → RowsLead (apply s x)
-    at (entry.Identity identity) made = quiet (entry.Identity identity) made tt
     at (entry.Peer peer) made = absurd made
-    at (entry.CreateQueue number plan) made = quiet (entry.CreateQueue number plan) made tt
     at (entry.Commit now ops) made = sends_lead now s.next_number (takes_made s now ops) (sends_of ops) (commitments ws)
         (own_numbered s.identity.guid (takes_made s now ops).state.identity.guid s.next_number (sends_of ops) (ap (λ (i : Identity). i.guid) (sym (takes_made_rows s now ops).manager.identity)) made.numbered)
         (same_commits s (takes_made s now ops).state s.next_number (commitments ws) (takes_made_rows s now ops) h.0)
         (same_leads s (takes_made s now ops).state (takes_made_rows s now ops) h.1)
-    at (entry.Plain now p) made = quiet (entry.Plain now p) made tt
-    at (entry.Offered marks) made = quiet (entry.Offered marks) made tt
-    at (entry.Arrived now numbers part) made = quiet (entry.Arrived now numbers part) made tt
-    at (entry.Taken now place id) made = quiet (entry.Taken now place id) made tt
-    at (entry.Purged now place) made = quiet (entry.Purged now place) made tt
-    at (entry.Ticked now) made = quiet (entry.Ticked now) made tt
-    at (entry.Roll count) made = quiet (entry.Roll count) made tt
+    at x made = quiet x made tt
 
 pub led_by_records : IsByRecords AreLed
 led_by_records = record {

@@ -139,30 +139,14 @@ other_undecided channel (line.Committed stream number id) h = absurd h
 other_undecided channel (line.Put stream number id) h = absurd h
 other_undecided channel (line.Refused stream number class id) h = absurd h
 other_undecided channel (line.Expired stream number id moment) h = absurd h
-other_undecided channel (line.Local id) h = refl
-other_undecided channel (line.Stored id) h = refl
-other_undecided channel (line.Bounced class id) h = refl
-other_undecided channel (line.Released id) h = refl
-other_undecided channel (line.Took id) h = refl
-other_undecided channel (line.Purged id) h = refl
-other_undecided channel (line.Swept id) h = refl
-other_undecided channel (line.Lapsed id) h = refl
-other_undecided channel (line.Emptied id) h = refl
+other_undecided channel l h = refl
 
 pub other_uncommitted : (l : Line) → IsOther l → commitment_told l ≡ None
 other_uncommitted (line.Committed stream number id) h = absurd h
 other_uncommitted (line.Put stream number id) h = absurd h
 other_uncommitted (line.Refused stream number class id) h = absurd h
 other_uncommitted (line.Expired stream number id moment) h = absurd h
-other_uncommitted (line.Local id) h = refl
-other_uncommitted (line.Stored id) h = refl
-other_uncommitted (line.Bounced class id) h = refl
-other_uncommitted (line.Released id) h = refl
-other_uncommitted (line.Took id) h = refl
-other_uncommitted (line.Purged id) h = refl
-other_uncommitted (line.Swept id) h = refl
-other_uncommitted (line.Lapsed id) h = refl
-other_uncommitted (line.Emptied id) h = refl
+other_uncommitted l h = refl
 
 -- lines that tell nothing by a word
 pub told_nothing : {X : Type 0} (tells : Line → Option X) → ((l : Line) → IsOther l → tells l ≡ None) → (ls : List Line) → AllByRecursion IsOther ls → filter_map tells ls ≡ []

@@ -252,22 +252,8 @@ module _ (i j : ℕ) (ch : Channel) (d : QueueName) (peer : ℕ) (c z : Course) 
             (note.sender ∙ x.sender) (note.receiver ∙ x.receiver) ((h.rows.rows row at_i to).kept k kept).0 (same_id_is k.message.id p.message.correlation named)
 
     finishes : (x : Option Record) → IfSome x (ComesBack peer (manager_at c.network a).state.peers c.network.notes c.sent i j) → IfSome x (Finishes d v (manager_at c.network a).state)
-    finishes None e = tt
-    finishes (Some (entry.Identity identity)) e = tt
-    finishes (Some (entry.Peer other)) e = tt
-    finishes (Some (entry.CreateQueue number plan)) e = tt
-    finishes (Some (entry.Commit now ops)) e = tt
-    finishes (Some (entry.Plain now p)) e = tt
-    finishes (Some (entry.Offered marks)) e = tt
-    finishes (Some (entry.Arrived now numbers entry.Nothing)) e = tt
-    finishes (Some (entry.Arrived now numbers (entry.Decided p))) e = tt
-    finishes (Some (entry.Arrived now numbers (entry.Stored p))) e = tt
-    finishes (Some (entry.Arrived now numbers (entry.OrderAcknowledged ordinal number))) e = tt
     finishes (Some (entry.Arrived now numbers (entry.Final p))) e = finish_told p e
-    finishes (Some (entry.Taken now at id)) e = tt
-    finishes (Some (entry.Purged now at)) e = tt
-    finishes (Some (entry.Ticked now)) e = tt
-    finishes (Some (entry.Roll count)) e = tt
+    finishes x e = tt
 
     -- each final acknowledgement of a world that goes on was sent
     finals_now : (u : StreamWorld) → u.final_acks ≡ v.final_acks → u.committed ≡ reverse (commitments_to d (commitments (written_of i z.written)))

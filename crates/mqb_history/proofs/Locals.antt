@@ -58,17 +58,7 @@ no_sends ls h l id inside says = at l (all_in (Says silent) ls l h inside) says
     at : (x : Line) → Says silent x → IsSendOf id x → ⊥
     at (line.Committed stream number other) g e = g
     at (line.Local other) g e = g
-    at (line.Put stream number other) g e = e
-    at (line.Refused stream number class other) g e = e
-    at (line.Expired stream number other moment) g e = e
-    at (line.Stored other) g e = e
-    at (line.Bounced class other) g e = e
-    at (line.Released other) g e = e
-    at (line.Took other) g e = e
-    at (line.Purged other) g e = e
-    at (line.Swept other) g e = e
-    at (line.Lapsed other) g e = e
-    at (line.Emptied other) g e = e
+    at x g e = e
 
 quiet_apart : (s : State) (r : Record) → RecordSays silent r → LocalsApart (lines_of s r)
 quiet_apart s r says id stream number a b = no_sends (lines_of s r) (record_says silent s r says) (line.Local id) id a refl
@@ -110,10 +100,7 @@ sends_apart now own n e (m ∷ ms) h below old = rest (at (resolved e.state m.de
 
 pub part_silent : (now : ℕ) (numbers : List ℕ) (part : Part) → RecordSays silent (entry.Arrived now numbers part)
 part_silent now numbers entry.Nothing = tt
-part_silent now numbers (entry.Decided p) = tt
-part_silent now numbers (entry.Stored p) = tt
-part_silent now numbers (entry.OrderAcknowledged ordinal number) = tt
-part_silent now numbers (entry.Final p) = tt
+part_silent now numbers part = tt
 
 -- the sends of a record bear the next numbers
 abbrev pub SendsNumbered : State → Record → Type 0
@@ -121,9 +108,6 @@ SendsNumbered s (entry.Commit now ops) = AreNumbered s.identity.guid s.next_numb
 SendsNumbered s _ = Unit {0}
 
 pub record_apart : (s : State) (r : Record) → SendsNumbered s r → LocalsApart (lines_of s r)
-record_apart s (entry.Identity identity) h = quiet_apart s (entry.Identity identity) tt
-record_apart s (entry.Peer peer) h = quiet_apart s (entry.Peer peer) tt
-record_apart s (entry.CreateQueue number plan) h = quiet_apart s (entry.CreateQueue number plan) tt
 record_apart s (entry.Commit now ops) h = sends_apart now s.identity.guid s.next_number (takes_made s now ops) (sends_of ops) h
     (λ l id i e. absurd (no_sends (takes_made s now ops).lines (takes_say silent s now ops) l id i e))
     (λ id stream number a b. no_sends (takes_made s now ops).lines (takes_say silent s now ops) (line.Local id) id a refl)
@@ -132,9 +116,8 @@ record_apart s (entry.Plain now p) h = at (is_here (resolved s p.message.destina
     at : (b : Bool) → LocalsApart (cond b (line.Local p.message.id ∷ []) [])
     at true = one_apart (line.Local p.message.id)
     at false = λ id stream number a b. a
-record_apart s (entry.Offered marks) h = quiet_apart s (entry.Offered marks) tt
 record_apart s (entry.Arrived now numbers part) h = quiet_apart s (entry.Arrived now numbers part) (part_silent now numbers part)
 record_apart s (entry.Taken now at id) h = quiet_apart s (entry.Taken now at id) (λ none other. tt)
 record_apart s (entry.Purged now at) h = quiet_apart s (entry.Purged now at) (λ none other. tt)
 record_apart s (entry.Ticked now) h = quiet_apart s (entry.Ticked now) (λ id. tt)
-record_apart s (entry.Roll count) h = quiet_apart s (entry.Roll count) tt
+record_apart s r h = quiet_apart s r tt

@@ -12,7 +12,7 @@ use Rattle.mqb_exactly_once.specs.World.{Position}
 use Rattle.mqb_model.specs.Lists.{without_first}
 use Rattle.mqb_model.specs.calls.pump.Candidates.{Candidate}
 use Rattle.mqb_model.specs.calls.pump.Pump.{greatest_sent, mark_for, number_of_row}
-use Rattle.mqb_model.specs.managers.Beside.{OfExpress, OfRecoverable, OfRow, Origin, Owed}
+use Rattle.mqb_model.specs.managers.Beside.{OfRow, Origin}
 use Rattle.mqb_model.specs.records.Applying.{apply}
 use Rattle.mqb_model.specs.records.Finals.{is_offered_as}
 use Rattle.mqb_model.specs.records.Record.{Record}
@@ -91,15 +91,13 @@ greatest_kept : (outs : List Row) (cs : List Candidate) (index : ℕ) → AreOfR
 greatest_kept outs cs index h some = at (fold_member 0 (filter_map (λ (c : Candidate). number_of_row index c.origin) cs))
   where
     of_candidate : (n : ℕ) (c : Candidate) (o : Origin) → IsOfRows outs c o → number_of_row index o ≡ Some n → HasGreatest outs index n
-    of_candidate n c (Owed row) g e = absurd (none_some e)
-    of_candidate n c OfRecoverable g e = absurd (none_some e)
-    of_candidate n c OfExpress g e = absurd (none_some e)
     of_candidate n c (OfRow row number) g e = by (row == index) refl e
       where
         by : (b : Bool) → (row == index) ≡ b → cond b (Some number) None ≡ Some n → HasGreatest outs index n
         by true f e = subst (HasGreatest outs index) (some_is number n e) (subst (λ k. HasGreatest outs k number) (equal_numbers row index f)
             (record { row = g.row; there = g.there; kept = g.kept; inside = g.inside; numbered = g.numbered; open_ = g.open_ }))
         by false f e = absurd (none_some e)
+    of_candidate n c o g e = absurd (none_some e)
 
     among : (n : ℕ) (xs : List Candidate) → AreOfRows outs xs → In n (filter_map (λ (c : Candidate). number_of_row index c.origin) xs) → HasGreatest outs index n
     among n [] g i = absurd i
@@ -224,17 +222,8 @@ less_marked ws r row acked kept fewer h = record { marked = record { offered = h
 
 -- the record that raises a mark
 raised_by : (r : Record) (mark : Mark) → Raises r mark → (marks : List Mark) × (r ≡ entry.Offered marks) × In mark marks
-raised_by (entry.Identity identity) mark h = absurd h
-raised_by (entry.Peer peer) mark h = absurd h
-raised_by (entry.CreateQueue number plan) mark h = absurd h
-raised_by (entry.Commit now ops) mark h = absurd h
-raised_by (entry.Plain now p) mark h = absurd h
 raised_by (entry.Offered marks) mark h = (marks, refl, h)
-raised_by (entry.Arrived now numbers part) mark h = absurd h
-raised_by (entry.Taken now place id) mark h = absurd h
-raised_by (entry.Purged now place) mark h = absurd h
-raised_by (entry.Ticked now) mark h = absurd h
-raised_by (entry.Roll count) mark h = absurd h
+raised_by r mark h = absurd h
 
 module _ (i : ℕ) (s : State) (r : Record) (ws : List Written) where
   abbrev w : Written
@@ -312,17 +301,8 @@ module _ (i : ℕ) (s : State) (r : Record) (ws : List Written) where
 
 -- the marks of a record that was made are of its rows
 pub made_marks : (s : State) (r : Record) → IsMade s r → (mark : Mark) → Raises r mark → IsMarkOf s.outs mark
-made_marks s (entry.Identity identity) made mark h = absurd h
-made_marks s (entry.Peer peer) made mark h = absurd h
-made_marks s (entry.CreateQueue number plan) made mark h = absurd h
-made_marks s (entry.Commit now ops) made mark h = absurd h
-made_marks s (entry.Plain now p) made mark h = absurd h
 made_marks s (entry.Offered marks) made mark h = all_in (IsMarkOf s.outs) marks mark (subst (AllByRecursion (IsMarkOf s.outs)) (sym made.1) (marks_of_rows s.outs made.0 made.2)) h
-made_marks s (entry.Arrived now numbers part) made mark h = absurd h
-made_marks s (entry.Taken now place id) made mark h = absurd h
-made_marks s (entry.Purged now place) made mark h = absurd h
-made_marks s (entry.Ticked now) made mark h = absurd h
-made_marks s (entry.Roll count) made mark h = absurd h
+made_marks s r made mark h = absurd h
 
 -- what holds of a manager's rows and its records
 abbrev pub AreMarked : State → List Written → Type 0

@@ -61,10 +61,7 @@ module _ (own : Guid) (K : MessageId → Type 0) (V : ℕ → Type 0) (mine : (i
       by : (o : Option Queue) → Knows own K V (option_map_or (λ q. cond q.plan.journal (put_at s (place.JournalOf number) m) s) o s)
       by None = h
       by (Some q) = journal q.plan.journal
-  after_take_knows s (place.JournalOf number) m now met h = h
-  after_take_knows s place.Dead m now met h = h
-  after_take_knows s place.DeadXact m now met h = h
-  after_take_knows s place.Journal m now met h = h
+  after_take_knows s at m now met h = h
 
   pub taken_at_knows : (kind : Lane) (at : EntryPlace) (k now : ℕ) (e : Effect) → Knows own K V e.state → Knows own K V (taken_at kind at k now e).state
   taken_at_knows kind at k now e h = by (message_at kind e.state at k) (placed_met K kind e.state at k h.places)

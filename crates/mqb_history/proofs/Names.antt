@@ -58,8 +58,7 @@ same_kind_is Journal DeadXact h = absurd (true≢false (sym h))
 
 same_kind_refl : (a : MachineQueue) → same_kind a a ≡ true
 same_kind_refl DeadLetter = refl
-same_kind_refl DeadXact = refl
-same_kind_refl Journal = refl
+same_kind_refl a = refl
 
 pub same_name_is : (a b : QueueName) → same_name a b ≡ true → a ≡ b
 same_name_is (Public g i) (Public h j) e = let p = and_parts _ _ e in ap₂ (λ x y. Public x y) (same_guid_is g h p.0) (same_flag_is i j p.1)

@@ -101,9 +101,7 @@ told_from {X} {Y} word (x ∷ xs) y i = at (word x) refl i (told_from word xs y)
 
 pub message_is : (x : Packet) (m : Message) → message_in x ≡ Some m → (p : UserPacket) × (x ≡ packet.User p) × (p.message ≡ m)
 message_is (packet.User p) m e = (p, refl, some_is p.message m e)
-message_is (packet.Establish e) m f = absurd (none_some f)
-message_is (packet.Parameters p) m f = absurd (none_some f)
-message_is (packet.Ack h) m f = absurd (none_some f)
+message_is x m f = absurd (none_some f)
 
 -- the lines that are told of a course
 abbrev pub Told : Course → Line → Type 0
@@ -182,23 +180,17 @@ says_truly s r = record_says (sayings r) s r (at r)
   where
     part : (now : ℕ) (numbers : List ℕ) (p : Part) → RecordSays (sayings (entry.Arrived now numbers p)) (entry.Arrived now numbers p)
     part now numbers entry.Nothing = tt
-    part now numbers (entry.Decided p) = refl
-    part now numbers (entry.Stored p) = refl
     part now numbers (entry.OrderAcknowledged ordinal number) = tt
-    part now numbers (entry.Final p) = refl
+    part now numbers p = refl
 
     at : (x : Record) → RecordSays (sayings x) x
-    at (entry.Identity identity) = tt
-    at (entry.Peer peer) = tt
-    at (entry.CreateQueue number plan) = tt
     at (entry.Commit now ops) = all_members (λ m. SentBy (entry.Commit now ops) m.id) (sends_of ops) (λ m i. (m, i, refl))
     at (entry.Plain now p) = refl
-    at (entry.Offered marks) = tt
     at (entry.Arrived now numbers p) = part now numbers p
     at (entry.Taken now from id) = λ none other. tt
     at (entry.Purged now from) = λ none other. tt
     at (entry.Ticked now) = λ id. tt
-    at (entry.Roll count) = tt
+    at x = tt
 
 -- the packet that a record stored
 pub record IsStoring (sent : List Packet) (own : Guid) (id : MessageId) : Type 0 where
@@ -211,19 +203,7 @@ pub record IsStoring (sent : List Packet) (own : Guid) (id : MessageId) : Type 0
 pub stored_packet : (known : List Identity) (sent : List Packet) (i : ℕ) (r : Record) (id : MessageId) (h : HeardIn known sent i r) → StoredBy r id → IsStoring sent h.0.guid id
 stored_packet known sent i (entry.Arrived now numbers (entry.Stored p)) id h e = record { heard = p; sent_it = h.2.0; plain = h.2.2; names = e; to = h.2.1 }
 stored_packet known sent i (entry.Arrived now numbers (entry.Final p)) id h e = record { heard = p; sent_it = h.2.0; plain = h.2.2; names = e; to = h.2.1 }
-stored_packet known sent i (entry.Arrived now numbers entry.Nothing) id h e = absurd e
-stored_packet known sent i (entry.Arrived now numbers (entry.Decided p)) id h e = absurd e
-stored_packet known sent i (entry.Arrived now numbers (entry.OrderAcknowledged ordinal number)) id h e = absurd e
-stored_packet known sent i (entry.Identity identity) id h e = absurd e
-stored_packet known sent i (entry.Peer peer) id h e = absurd e
-stored_packet known sent i (entry.CreateQueue number plan) id h e = absurd e
-stored_packet known sent i (entry.Commit now ops) id h e = absurd e
-stored_packet known sent i (entry.Plain now p) id h e = absurd e
-stored_packet known sent i (entry.Offered marks) id h e = absurd e
-stored_packet known sent i (entry.Taken now at from) id h e = absurd e
-stored_packet known sent i (entry.Purged now at) id h e = absurd e
-stored_packet known sent i (entry.Ticked now) id h e = absurd e
-stored_packet known sent i (entry.Roll count) id h e = absurd e
+stored_packet known sent i r id h e = absurd e
 
 -- A message that a line says was sent, and the manager that sent it.
 pub record IsSentBy (known : List Identity) (c : Course) (id : MessageId) : Type 0 where
@@ -284,17 +264,7 @@ module _ (known : List Identity) (apart : AreApart known) (c : Course) (o : IsOr
       by : (x : Line) → IsSendOf id x → NamesOwn (manager_at c.network w.0.by).state.identity.guid (manager_at c.network w.0.by).state.next_number (mine w.0.by) x → IsSentBy known c id
       by (line.Committed stream number other) e n = own other e n
       by (line.Local other) e n = own other e n
-      by (line.Put stream number other) e n = absurd e
-      by (line.Refused stream number class other) e n = absurd e
-      by (line.Expired stream number other moment) e n = absurd e
-      by (line.Stored other) e n = absurd e
-      by (line.Bounced class other) e n = absurd e
-      by (line.Released other) e n = absurd e
-      by (line.Took other) e n = absurd e
-      by (line.Purged other) e n = absurd e
-      by (line.Swept other) e n = absurd e
-      by (line.Lapsed other) e n = absurd e
-      by (line.Emptied other) e n = absurd e
+      by x e n = absurd e
 
   -- what was sent bears no number of a plain message
   pub not_plain : (id : MessageId) (s : IsSentBy known c id) (i : ℕ) (own : Identity) → slice_get known i ≡ Some own → IsPlainId (manager_at c.network i).state.identity.guid (manager_at c.network i).state.next_number (mine i) id → ⊥
@@ -321,33 +291,14 @@ module _ (known : List Identity) (apart : AreApart known) (c : Course) (o : IsOr
           (all_in (Says (sayings w.0.entry)) (lines_of w.0.before w.0.entry) (line.Bounced class other) (says_truly w.0.before w.0.entry) w.2)))
       by (line.Lapsed other) e i w = let g = heard_in w.0 w.1 in absurd (not_plain id s w.0.by g.0 g.1 (subst (IsPlainId (manager_at c.network w.0.by).state.identity.guid (manager_at c.network w.0.by).state.next_number (mine w.0.by)) e
           (names_in w.0.by g.0 g.1 (line.Lapsed other) (own_line w.0 (line.Lapsed other) w.1 w.2))))
-      by (line.Committed stream number other) e i w = absurd e
-      by (line.Put stream number other) e i w = absurd e
-      by (line.Local other) e i w = absurd e
-      by (line.Stored other) e i w = absurd e
-      by (line.Released other) e i w = absurd e
-      by (line.Took other) e i w = absurd e
-      by (line.Purged other) e i w = absurd e
-      by (line.Swept other) e i w = absurd e
-      by (line.Emptied other) e i w = absurd e
+      by x e i w = absurd e
 
   pub committed_by : (id : MessageId) → In id (told_by committed_in c) → IsSentBy known c id
   committed_by id i = let l = told_from committed_in (lines_written c.written) id i in sent_by l.0 id l.1 (sends l.0 l.2)
     where
       sends : (x : Line) → committed_in x ≡ Some id → IsSendOf id x
       sends (line.Committed stream number other) e = some_is other id e
-      sends (line.Put stream number other) e = absurd (none_some e)
-      sends (line.Refused stream number class other) e = absurd (none_some e)
-      sends (line.Expired stream number other moment) e = absurd (none_some e)
-      sends (line.Local other) e = absurd (none_some e)
-      sends (line.Stored other) e = absurd (none_some e)
-      sends (line.Bounced class other) e = absurd (none_some e)
-      sends (line.Released other) e = absurd (none_some e)
-      sends (line.Took other) e = absurd (none_some e)
-      sends (line.Purged other) e = absurd (none_some e)
-      sends (line.Swept other) e = absurd (none_some e)
-      sends (line.Lapsed other) e = absurd (none_some e)
-      sends (line.Emptied other) e = absurd (none_some e)
+      sends x e = absurd (none_some e)
 
   pub refusals_true : AreRefusalsTrue c
   refusals_true m id inside refuses committed = failure_of id (committed_by id committed) (subst (IsTold (Told c) IsFailureOf) refuses.0 ((noticed_fair known c o h m inside).fate.fails refuses.1))

@@ -4,14 +4,8 @@ use Rattle.std.specs.List.{enumerate_from, range_with_len}
 use Rattle.std.specs.Option.{option_map_or}
 use Rattle.std.specs.Prelude.{[], ◌+◌, ◌++◌, ◌-◌, ◌∷◌, ◌≡◌, ◌⊎◌, Bool, Err, List, None, Ok, Option, Result, Some, cond, fold, is_none, is_some, length, replicate, slice_get, slice_set, suc, zero, ℕ, true, false}
 use Rattle.mqb_exactly_once.specs.Words.{In}
-use Rattle.mqb_model.specs.calls.Commit.{commit}
-use Rattle.mqb_model.specs.calls.CreateQueue.{create_queue}
+use Rattle.mqb_model.specs.calls.Call.{requested}
 use Rattle.mqb_model.specs.calls.Link.{resend}
-use Rattle.mqb_model.specs.calls.Purge.{purge}
-use Rattle.mqb_model.specs.calls.Send.{send}
-use Rattle.mqb_model.specs.calls.SetRoll.{set_roll}
-use Rattle.mqb_model.specs.calls.Take.{take_message}
-use Rattle.mqb_model.specs.calls.Tick.{tick}
 use Rattle.mqb_model.specs.calls.hear.Hear.{hear}
 use Rattle.mqb_model.specs.calls.hear.Session.{HeardOutcome}
 use Rattle.mqb_model.specs.calls.pump.Pump.{PumpOutcome, pump}
@@ -20,7 +14,7 @@ use Rattle.mqb_model.specs.managers.Manager.{doubt_of}
 use Rattle.mqb_model.specs.managers.Outcomes.{Outcome, failed}
 use Rattle.mqb_network.specs.Answers.{only}
 use Rattle.mqb_network.specs.Changes.{as_dropped, dropped, ended, note_by, succeeded_at}
-use Rattle.mqb_network.specs.Choices.{Choice, Failure, Fails, Kept, Lost, Unread, Well, choice_behind, failure_in}
+use Rattle.mqb_network.specs.Choices.{Choice, Failure, Unread, Well, choice_behind, failure_in}
 use Rattle.mqb_network.specs.Connecting.{any_connected, any_down, both_linked, connect, connecting, disconnect, exchanged, resend_by, set_up}
 use Rattle.mqb_network.specs.Courses.{Course, called, called_unless, found_kept, moved, posted}
 use Rattle.mqb_network.specs.Delivering.{closes, deliver_packet, drop_packet, heard_by, passed, unheard}
@@ -201,20 +195,11 @@ module _ (P : ℕ → ℕ → Type 0) where
 
   reopened_notes : (i : ℕ) (choice : Choice) (c : Course) → (reopen i choice c).after.network.notes ≡ c.network.notes
   reopened_notes i Unread c = refl
-  reopened_notes i Kept c = refl
-  reopened_notes i Well c = refl
-  reopened_notes i Lost c = refl
-  reopened_notes i (Fails before how) c = refl
+  reopened_notes i choice c = refl
 
 -- One event.
 event_notes : (P : ℕ → ℕ → Type 0) (e : Event) → ((i moment : ℕ) → PumpsAt i moment e → P i moment) → (x : Option Packet) (choice : Choice) (c : Course) → Notes P c (answer_to e x choice c).after
-event_notes P (event.Queue i plan) pumps x choice c = same_notes P c (answer_to (event.Queue i plan) x choice c).after (called_notes P i (create_queue (manager_at c.network i) plan) choice c)
-event_notes P (event.Roll i count) pumps x choice c = same_notes P c (answer_to (event.Roll i count) x choice c).after (called_notes P i (set_roll (manager_at c.network i) count) choice c)
-event_notes P (event.Commit i now ops) pumps x choice c = same_notes P c (answer_to (event.Commit i now ops) x choice c).after (called_notes P i (commit (manager_at c.network i) ops now) choice c)
-event_notes P (event.Send i now recoverable parts) pumps x choice c = same_notes P c (answer_to (event.Send i now recoverable parts) x choice c).after (called_notes P i (send (manager_at c.network i) parts recoverable now) choice c)
-event_notes P (event.Take i now place) pumps x choice c = same_notes P c (answer_to (event.Take i now place) x choice c).after (called_notes P i (take_message (manager_at c.network i) place now) choice c)
-event_notes P (event.Purge i now place) pumps x choice c = same_notes P c (answer_to (event.Purge i now place) x choice c).after (called_notes P i (purge (manager_at c.network i) place now) choice c)
-event_notes P (event.Tick i now) pumps x choice c = same_notes P c (answer_to (event.Tick i now) x choice c).after (called_notes P i (tick (manager_at c.network i) now) choice c)
+event_notes P (event.Asks i request) pumps x choice c = same_notes P c (answer_to (event.Asks i request) x choice c).after (called_notes P i (requested (manager_at c.network i) request) choice c)
 event_notes P (event.Connect a b now window_a window_b) pumps x choice c = connect_notes P a b now window_a window_b c (pumps a now (inl refl, refl)) (pumps b now (inr refl, refl))
 event_notes P (event.Disconnect i) pumps x choice c = same_notes P c (disconnect i c).after (disconnected_notes P i c)
 event_notes P (event.Resend i) pumps x choice c = same_notes P c (resend_by i c).after (resent_notes P i c)

@@ -227,18 +227,7 @@ module _ (known : List Identity) (apart : AreApart known) (c : Course) (t : IsAc
       by (line.Committed stream number other) e j = of (record { stream = stream; number = number; id = other }) (subst (In {A = Joined} (record { stream = stream; number = number; id = other })) (told k)
           (told_in commitment_told (mine k) (line.Committed stream number other) (record { stream = stream; number = number; id = other })
           (own_line known apart c o h w.0 (line.Committed stream number other) w.1 j) refl)) (some_is other id e)
-      by (line.Put stream number other) e j = absurd (none_some e)
-      by (line.Refused stream number class other) e j = absurd (none_some e)
-      by (line.Expired stream number other moment) e j = absurd (none_some e)
-      by (line.Local other) e j = absurd (none_some e)
-      by (line.Stored other) e j = absurd (none_some e)
-      by (line.Bounced class other) e j = absurd (none_some e)
-      by (line.Released other) e j = absurd (none_some e)
-      by (line.Took other) e j = absurd (none_some e)
-      by (line.Purged other) e j = absurd (none_some e)
-      by (line.Swept other) e j = absurd (none_some e)
-      by (line.Lapsed other) e j = absurd (none_some e)
-      by (line.Emptied other) e j = absurd (none_some e)
+      by x e j = absurd (none_some e)
 
   pub notices_apart : AreNoticesApart c
   notices_apart m i notice committed = at (is_express m.delivery) refl

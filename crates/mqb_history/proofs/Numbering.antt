@@ -323,17 +323,8 @@ AreCounted s ws = CommitsIn s s.next_number (commitments ws)
 
 -- the marks of a record that was made rise
 pub made_offers : (s : State) (r : Record) → OrdinalsRise s.outs → IsMade s r → Offers s.outs r
-made_offers s (entry.Identity identity) rise h = tt
-made_offers s (entry.Peer peer) rise h = tt
-made_offers s (entry.CreateQueue number plan) rise h = tt
-made_offers s (entry.Commit now ops) rise h = tt
-made_offers s (entry.Plain now p) rise h = tt
 made_offers s (entry.Offered marks) rise h = subst (Raise s.outs) (sym h.1) (marks_raise h.0 0 s.outs rise)
-made_offers s (entry.Arrived now numbers part) rise h = tt
-made_offers s (entry.Taken now place id) rise h = tt
-made_offers s (entry.Purged now place) rise h = tt
-made_offers s (entry.Ticked now) rise h = tt
-made_offers s (entry.Roll count) rise h = tt
+made_offers s r rise h = tt
 
 quiet_commits : (s : State) (r : Record) (cs : List Commitment) → CommitsNothing r → IsMade s r → (apply s r).identity ≡ s.identity → CommitsIn s s.next_number cs
     → CommitsIn (apply s r) (apply s r).next_number cs
@@ -371,17 +362,9 @@ record_commits s r cs made h = at r made (applied_manager s r (made_of_no_peer s
         (subst (CommitsIn (apply s x) (apply s x).next_number) (sym (append_nothing cs)) (quiet_commits s x cs quiet made same h))
 
     at : (x : Record) → IsMade s x → (apply s x).identity ≡ s.identity → CommitsIn (apply s x) (apply s x).next_number (cs ++ commitments_in s x)
-    at (entry.Identity identity) made same = nothing (entry.Identity identity) tt made refl same
     at (entry.Peer peer) made same = absurd made
-    at (entry.CreateQueue number plan) made same = nothing (entry.CreateQueue number plan) tt made refl same
     at (entry.Commit now ops) made same = commit_commits s now ops cs made.numbered h
-    at (entry.Plain now p) made same = nothing (entry.Plain now p) tt made refl same
-    at (entry.Offered marks) made same = nothing (entry.Offered marks) tt made refl same
-    at (entry.Arrived now numbers part) made same = nothing (entry.Arrived now numbers part) tt made refl same
-    at (entry.Taken now place id) made same = nothing (entry.Taken now place id) tt made refl same
-    at (entry.Purged now place) made same = nothing (entry.Purged now place) tt made refl same
-    at (entry.Ticked now) made same = nothing (entry.Ticked now) tt made refl same
-    at (entry.Roll count) made same = nothing (entry.Roll count) tt made refl same
+    at x made same = nothing x tt made refl same
 
 -- The law.
 

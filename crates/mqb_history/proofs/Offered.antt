@@ -38,7 +38,7 @@ use Rattle.mqb_session.specs.declared.heads.Kind.TheVariants as kind
 use Rattle.mqb_setup.specs.declared.internal.Internal.{Internal}
 use Rattle.mqb_setup.specs.declared.internal.Internal.TheVariants as internal
 use Rattle.mqb_network.specs.Courses.{Written}
-use Rattle.mqb_history.specs.Calls.{Pump, outcome_of}
+use Rattle.mqb_model.specs.calls.Call.{Pump, outcome_of}
 use Rattle.mqb_history.specs.Made.{IsMade}
 use Rattle.mqb_history.proofs.Between.{all_in}
 use Rattle.mqb_history.proofs.Due.{one_row}

@@ -111,17 +111,9 @@ record_stands s r rise made mark h = at r made
     }
 
     at : (x : Record) → IsMade s x → StandsIn (apply s x) mark
-    at (entry.Identity identity) made = quiet (entry.Identity identity) made tt
     at (entry.Peer peer) made = absurd made
-    at (entry.CreateQueue number plan) made = quiet (entry.CreateQueue number plan) made tt
     at (entry.Commit now ops) made = sends_stand now (takes_made s now ops) (sends_of ops) mark (same_stands s (takes_made s now ops).state mark (takes_made_rows s now ops) h)
-    at (entry.Plain now p) made = quiet (entry.Plain now p) made tt
-    at (entry.Offered marks) made = quiet (entry.Offered marks) made tt
-    at (entry.Arrived now numbers part) made = quiet (entry.Arrived now numbers part) made tt
-    at (entry.Taken now place id) made = quiet (entry.Taken now place id) made tt
-    at (entry.Purged now place) made = quiet (entry.Purged now place) made tt
-    at (entry.Ticked now) made = quiet (entry.Ticked now) made tt
-    at (entry.Roll count) made = quiet (entry.Roll count) made tt
+    at x made = quiet x made tt
 
 -- the marks of a record
 abbrev pub marks_in : Record → List Mark
@@ -178,18 +170,9 @@ marks_given next cs n (row ∷ rows) h = at (nat_lt row.offered (greatest_sent c
 
 pub new_stand : (s : State) (r : Record) → OrdinalsRise s.outs → AllByRecursion (λ row. row.sequence.ordinal < s.next_ordinal) s.outs → IsMade s r
     → AllByRecursion (StandsIn (apply s r)) (marks_in r)
-new_stand s (entry.Identity identity) rise below made = tt
-new_stand s (entry.Peer peer) rise below made = tt
-new_stand s (entry.CreateQueue number plan) rise below made = tt
-new_stand s (entry.Commit now ops) rise below made = tt
-new_stand s (entry.Plain now p) rise below made = tt
 new_stand s (entry.Offered marks) rise below made = raised_stand s marks rise (made_offers s (entry.Offered marks) rise made)
     (subst (AllByRecursion (λ (mark : Mark). mark.ordinal < s.next_ordinal)) (sym made.1) (marks_given s.next_ordinal made.0 0 s.outs below))
-new_stand s (entry.Arrived now numbers part) rise below made = tt
-new_stand s (entry.Taken now place id) rise below made = tt
-new_stand s (entry.Purged now place) rise below made = tt
-new_stand s (entry.Ticked now) rise below made = tt
-new_stand s (entry.Roll count) rise below made = tt
+new_stand s r rise below made = tt
 
 -- What expires.
 
@@ -203,19 +186,8 @@ expiry_above s mark stream number id moment offered h same = let le = (all_in (W
     let low = h.unoffered in let e = h.of_kept in omega (arith, le, low, e)
 
 pub line_above : (s : State) (mark : Mark) → AllByRecursion (WasOffered mark) s.outs → (l : Line) → IsReasoned s l → IsAbove mark l
-line_above s mark offered (line.Committed stream number id) h = tt
 line_above s mark offered (line.Expired stream number id moment) h = expiry_above s mark stream number id moment offered h
-line_above s mark offered (line.Put stream number id) h = tt
-line_above s mark offered (line.Refused stream number class id) h = tt
-line_above s mark offered (line.Local id) h = tt
-line_above s mark offered (line.Stored id) h = tt
-line_above s mark offered (line.Bounced class id) h = tt
-line_above s mark offered (line.Released id) h = tt
-line_above s mark offered (line.Took id) h = tt
-line_above s mark offered (line.Purged id) h = tt
-line_above s mark offered (line.Swept id) h = tt
-line_above s mark offered (line.Lapsed id) h = tt
-line_above s mark offered (line.Emptied id) h = tt
+line_above s mark offered x h = tt
 
 -- what lines say of expiries stands above marks
 abbrev AreAbove : List Mark → List Line → Type 0

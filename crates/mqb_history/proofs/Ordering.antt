@@ -11,7 +11,7 @@ use Rattle.mqb_network.specs.Changes.{ended, ended_by, failed_at, noted, succeed
 use Rattle.mqb_network.specs.Choices.{Failure}
 use Rattle.mqb_network.specs.Courses.{Course}
 use Rattle.mqb_network.specs.Network.{Connection, Network, Note, connection_of, is_connected, manager_at, nobody, with_manager}
-use Rattle.mqb_history.specs.Calls.{Call, outcome_of}
+use Rattle.mqb_model.specs.calls.Call.{Call, outcome_of}
 use Rattle.mqb_history.specs.Changes.{calling}
 use Rattle.mqb_history.specs.Orderly.{AreAllDisjoint, AreThemselves, IsItself, IsLinkedRightly, IsOrderly}
 use Rattle.mqb_history.specs.Made.{IsMade}

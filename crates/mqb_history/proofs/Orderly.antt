@@ -24,7 +24,7 @@ use Rattle.mqb_network.specs.Runs.{beginning}
 use Rattle.mqb_packet.specs.declared.packet.Packet.{Packet}
 use Rattle.mqb_queue.specs.Places.{numbered, with_numbered}
 use Rattle.mqb_session.specs.State as one_end
-use Rattle.mqb_history.specs.Calls.{Hear, Pump, outcome_of}
+use Rattle.mqb_model.specs.calls.Call.{Hear, Pump, outcome_of}
 use Rattle.mqb_history.specs.Changes.{Change, Calls, Drops, Ends, Fails, Finds, Hears, Links, Pumps, Restarts, calling, changed, hearing, may_change, pumping}
 use Rattle.mqb_history.specs.Histories.{IsHistory}
 use Rattle.mqb_history.specs.Histories as histories

@@ -26,8 +26,8 @@ use Rattle.mqb_packet.specs.declared.packet.UserPacket.{UserPacket}
 use Rattle.mqb_plain.specs.Plain.{PlainLists}
 use Rattle.mqb_queue.specs.Lists.{Lists}
 use Rattle.mqb_queue.specs.Places.{Places, Queue, numbered}
-use Rattle.mqb_history.specs.Calls.{Pump, outcome_of}
-use Rattle.mqb_history.specs.Changes.{Calls, Change, Drops, Ends, Fails, Finds, Hears, Links, Pumps, Restarts, changed, given_out, may_change}
+use Rattle.mqb_model.specs.calls.Call.{Pump, outcome_of}
+use Rattle.mqb_history.specs.Changes.{Calls, Change, Hears, Pumps, changed, given_out, may_change}
 use Rattle.mqb_history.specs.Sent.{AreAsSent, IsOneOf, all_sends, sends_in}
 use Rattle.mqb_history.specs.Truths.{all_of, for_peer, held, in_places, in_queue, in_row, message_in}
 use Rattle.mqb_history.proofs.Accounts.{HeardBy, PartFrom}
@@ -159,33 +159,19 @@ module _ (known : List Identity) (apart : AreApart known) (c : Course) (t : AreS
       by (Pumps i now failure) e p inside = let out = given_out (outcome_of (manager_at c.network i) (Pump now)) failure in
           more p.message (either i now failure p (in_either c.sent out (packet.User p) (subst (λ xs. In (packet.User p) (xs ++ out)) (calling_sent i (Pump now) failure c) inside)))
       by (Hears k now failure) e p inside = more p.message (t.packets p (subst (In (packet.User p)) (hearing_sent (numbered c.network.notes k) (numbered c.sent k) now failure c) inside))
-      by (Links a b window_a window_b) e p inside = more p.message (t.packets p inside)
-      by (Ends i) e p inside = more p.message (t.packets p inside)
-      by (Drops k) e p inside = more p.message (t.packets p inside)
-      by (Restarts i) e p inside = more p.message (t.packets p inside)
-      by (Finds i) e p inside = more p.message (t.packets p inside)
-      by (Fails i) e p inside = more p.message (t.packets p inside)
+      by y e p inside = more p.message (t.packets p inside)
 
   -- each record is fine
   part_fine : (own : Guid) (part : Part) → PartFrom d.sent own part → PartFine P part
-  part_fine own entry.Nothing h = tt
   part_fine own (entry.Decided p) h = packets_now p h.0
   part_fine own (entry.Stored p) h = packets_now p h.0
-  part_fine own (entry.OrderAcknowledged ordinal number) h = tt
-  part_fine own (entry.Final p) h = tt
+  part_fine own part h = tt
 
   record_fine : (own : Guid) (r : Record) → HeardBy d.sent own r → ((m : Message) → In m (sends_in r) → P m) → IsFine P r
-  record_fine own (entry.Identity identity) h sends = tt
-  record_fine own (entry.Peer peer) h sends = tt
-  record_fine own (entry.CreateQueue number plan) h sends = tt
   record_fine own (entry.Commit now ops) h sends = all_from P (sends_of ops) sends
   record_fine own (entry.Plain now p) h sends = sends p.message (inl refl)
-  record_fine own (entry.Offered marks) h sends = tt
   record_fine own (entry.Arrived now numbers part) h sends = part_fine own part h
-  record_fine own (entry.Taken now at id) h sends = tt
-  record_fine own (entry.Purged now at) h sends = tt
-  record_fine own (entry.Ticked now) h sends = tt
-  record_fine own (entry.Roll count) h sends = tt
+  record_fine own r h sends = tt
 
   written_fine : (w : Written) → In w d.written → IsFine P w.entry
   written_fine w i = let heard = all_in (λ (v : Written). HeardIn known d.sent v.by v.entry) d.written w agreed_now.1.heard.written i in

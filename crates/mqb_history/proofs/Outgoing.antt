@@ -35,7 +35,7 @@ use Rattle.mqb_session.specs.Sending.{is_ready, is_spent, stamped}
 use Rattle.mqb_session.specs.State as one_end
 use Rattle.mqb_session.specs.declared.heads.Kind.TheVariants as kind
 use Rattle.mqb_setup.specs.declared.internal.Internal.{Internal}
-use Rattle.mqb_history.specs.Calls.{Pump, outcome_of}
+use Rattle.mqb_model.specs.calls.Call.{Pump, outcome_of}
 use Rattle.mqb_history.specs.Committed.{commitments}
 use Rattle.mqb_history.specs.Made.{IsMade}
 use Rattle.mqb_history.proofs.Committing.{OrdinalsRise, all_in, kept_at}
@@ -177,7 +177,7 @@ raised_after s (Some (entry.Arrived now numbers part)) row n rise made marks the
 raised_after s (Some (entry.Taken now at id)) row n rise made marks there h = absurd marks
 raised_after s (Some (entry.Purged now at)) row n rise made marks there h = absurd marks
 raised_after s (Some (entry.Ticked now)) row n rise made marks there h = absurd marks
-raised_after s (Some (entry.Roll count)) row n rise made marks there h = absurd marks
+raised_after s (Some (entry.Set setting)) row n rise made marks there h = absurd marks
 
 -- It can be sent.
 module _ (d : QueueName) (peer : ℕ) (c : Channel) (v : StreamWorld) (s t : State) (ws : List Written) (o : Option Record) (now : ℕ) (due : AreDue t ws) (connected : v.connected ≡ true)

@@ -284,8 +284,6 @@ Offers rows _ = Unit {0}
 
 pub applied_no_more : (s : State) (r : Record) → CommitsNothing r → Offers s.outs r → NoMore s (apply s r)
 applied_no_more s (entry.Identity identity) h o = nothing_more s
-applied_no_more s (entry.Peer peer) h o = record { outs = have_no_more s.outs; next_ordinal = refl; numbers = omega arith }
-applied_no_more s (entry.CreateQueue number plan) h o = record { outs = have_no_more s.outs; next_ordinal = refl; numbers = omega arith }
 applied_no_more s (entry.Commit now ops) h o = absurd h
 applied_no_more s (entry.Plain now p) h o = more_then s (numbers_taken s 1) (apply s (entry.Plain now p))
     (record { outs = have_no_more s.outs; next_ordinal = refl; numbers = omega arith })
@@ -297,4 +295,4 @@ applied_no_more s (entry.Taken now at id) h o = from_same s (apply s (entry.Take
 applied_no_more s (entry.Purged now at) h o = from_same s (apply s (entry.Purged now at)) (purged_rows lane.Durable at now (begun s))
 applied_no_more s (entry.Ticked now) h o = more_then s (rows_expired now (begun s)).state (apply s (entry.Ticked now)) (expiring_no_more now (begun s))
     (from_same (rows_expired now (begun s)).state (apply s (entry.Ticked now)) (ticked_rows lane.Durable now (rows_expired now (begun s))))
-applied_no_more s (entry.Roll count) h o = record { outs = have_no_more s.outs; next_ordinal = refl; numbers = omega arith }
+applied_no_more s r h o = record { outs = have_no_more s.outs; next_ordinal = refl; numbers = omega arith }

@@ -49,19 +49,8 @@ use Rattle.mqb_history.proofs.Staying.{meets_rows, ticked_rows}
 
 -- a line that tells of no expiry tells of none in a channel
 pub no_expiry : (d : QueueName) (l : Line) → expiry_told l ≡ None → expiry_to d l ≡ None
-no_expiry d (line.Committed stream number id) e = refl
 no_expiry d (line.Expired stream number id moment) e = absurd (none_some (sym e))
-no_expiry d (line.Put stream number id) e = refl
-no_expiry d (line.Refused stream number class id) e = refl
-no_expiry d (line.Local id) e = refl
-no_expiry d (line.Stored id) e = refl
-no_expiry d (line.Bounced class id) e = refl
-no_expiry d (line.Released id) e = refl
-no_expiry d (line.Took id) e = refl
-no_expiry d (line.Purged id) e = refl
-no_expiry d (line.Swept id) e = refl
-no_expiry d (line.Lapsed id) e = refl
-no_expiry d (line.Emptied id) e = refl
+no_expiry d l e = refl
 
 -- An expiry.
 

@@ -36,7 +36,7 @@ use Rattle.mqb_session.specs.State as one_end
 use Rattle.mqb_session.specs.declared.heads.Kind.TheVariants as kind
 use Rattle.mqb_setup.specs.declared.internal.Internal.{Internal}
 use Rattle.mqb_setup.specs.declared.internal.Internal.TheVariants as internal
-use Rattle.mqb_history.specs.Calls.{Pump, outcome_of}
+use Rattle.mqb_model.specs.calls.Call.{Pump, outcome_of}
 use Rattle.mqb_history.proofs.Accounted.{IsApart, IsPacketOf, LeadsTo, Stands, resting}
 use Rattle.mqb_history.proofs.Fates.{IsFair, IsFairExpress, IsWaiting, PlainFair, RowFair, WaitsFairly, above_first, acknowledged_fate}
 use Rattle.mqb_history.proofs.Leads.{GoesAs, RowLeads, RowsLead}

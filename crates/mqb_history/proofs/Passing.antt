@@ -18,7 +18,7 @@ use Rattle.mqb_network.specs.Changes.{note_by, with_lines}
 use Rattle.mqb_network.specs.Choices.{Failure}
 use Rattle.mqb_network.specs.Courses.{Course, Written, posted, written_by}
 use Rattle.mqb_network.specs.Network.{Connection, Network, Note, connection_of, is_end, manager_at, other_end, with_manager}
-use Rattle.mqb_history.specs.Calls.{Pump, outcome_of}
+use Rattle.mqb_model.specs.calls.Call.{Answer, Pump, Pumped, outcome_of}
 use Rattle.mqb_history.specs.Changes.{calling, pumping}
 use Rattle.mqb_history.specs.Orderly.{IsOrderly}
 use Rattle.mqb_history.proofs.Beginning.{there}
@@ -45,30 +45,12 @@ posted_nothing i now c = ap (λ n. record { network = n; sent = c.sent ++ []; wr
     at (Some d) = ap (λ (notes : List Note). record c.network { notes = notes }) (append_nothing c.network.notes)
 
 marks_own : (own : Guid) (r : Record) → IsOfMarks r → IsOfOwn own r
-marks_own own (entry.Identity identity) h = absurd h
-marks_own own (entry.Peer peer) h = absurd h
-marks_own own (entry.CreateQueue number plan) h = absurd h
-marks_own own (entry.Commit now ops) h = absurd h
-marks_own own (entry.Plain now p) h = absurd h
 marks_own own (entry.Offered marks) h = tt
-marks_own own (entry.Arrived now numbers part) h = absurd h
-marks_own own (entry.Taken now place id) h = absurd h
-marks_own own (entry.Purged now place) h = absurd h
-marks_own own (entry.Ticked now) h = absurd h
-marks_own own (entry.Roll count) h = absurd h
+marks_own own r h = absurd h
 
 marks_stored : (ws : List Written) (s : State) (r : Record) → IsOfMarks r → ReleasesStored ws s r
-marks_stored ws s (entry.Identity identity) h = absurd h
-marks_stored ws s (entry.Peer peer) h = absurd h
-marks_stored ws s (entry.CreateQueue number plan) h = absurd h
-marks_stored ws s (entry.Commit now ops) h = absurd h
-marks_stored ws s (entry.Plain now p) h = absurd h
 marks_stored ws s (entry.Offered marks) h = tt
-marks_stored ws s (entry.Arrived now numbers part) h = absurd h
-marks_stored ws s (entry.Taken now place id) h = absurd h
-marks_stored ws s (entry.Purged now place) h = absurd h
-marks_stored ws s (entry.Ticked now) h = absurd h
-marks_stored ws s (entry.Roll count) h = absurd h
+marks_stored ws s r h = absurd h
 
 pump_is : (m : Manager) (now : ℕ) (before : one_end.State) → is_down m ≡ false → m.rest.session ≡ Some before → pump m now ≡ pump_linked m now before
 pump_is m now before up there = ap (λ b. unless m (cond b (Some fault.Down) None) (option_map_or (pump_linked m now) m.rest.session (answering m (Err fault.NotLinked)))) up
@@ -100,7 +82,7 @@ module _ (known : List Identity) (c : Course) (o : IsOrderly known c) (k : Keeps
   abbrev m : Manager
   m = manager_at c.network x
 
-  abbrev outcome : Outcome (Unit {0})
+  abbrev outcome : Outcome Answer
   outcome = outcome_of m (Pump now)
 
   abbrev next : Manager
@@ -239,7 +221,7 @@ pub pumping_keeps : (known : List Identity) (c : Course) (x now : ℕ) (failure 
 pumping_keeps known c x now (Some how) o k = subst KeepsStorage (sym (posted_nothing x now (calling x (Pump now) (Some how) c))) (at (connection_of c.network x) refl)
   where
     at : (d : Option Connection) → connection_of c.network x ≡ d → KeepsStorage (calling x (Pump now) (Some how) c)
-    at None e = works_keep c x (Pump now) (Some how) o.disjoint (λ own f. same_works own (manager_at c.network x) (pump (manager_at c.network x) now) ((idle_pump (manager_at c.network x) now (unlinked known c x o e)).works own)) k
+    at None e = works_keep c x (Pump now) (Some how) o.disjoint (λ own f. same_works Pumped own (manager_at c.network x) (pump (manager_at c.network x) now) ((idle_pump (manager_at c.network x) now (unlinked known c x o e)).works own)) k
     at (Some d) e = let end = connection_in c.network x d e in let connected = in_any (is_end x) c.network.connections d end.0 end.1 in let s = session_of known c x o connected in
         let p = own_pumps known c o k x now d s.0 e s.1 ((o.linked x).up connected) in
         failing_keeps c x (Pump now) how o.disjoint k (if_some IsOfMarks (IsOfOwn (k.rests x).own) (outcome_of (manager_at c.network x) (Pump now)).entry (marks_own (k.rests x).own) p.entry)
@@ -249,7 +231,7 @@ pumping_keeps known c x now None o k = at (connection_of c.network x) refl
     at : (d : Option Connection) → connection_of c.network x ≡ d → KeepsStorage (pumping x now None c)
     at None e = let idle = idle_pump (manager_at c.network x) now (unlinked known c x o e) in
         subst (λ packets. KeepsStorage (posted x now packets (calling x (Pump now) None c))) (sym idle.packets)
-        (subst KeepsStorage (sym (posted_nothing x now (calling x (Pump now) None c))) (works_keep c x (Pump now) None o.disjoint (λ own f. same_works own (manager_at c.network x) (pump (manager_at c.network x) now) (idle.works own)) k))
+        (subst KeepsStorage (sym (posted_nothing x now (calling x (Pump now) None c))) (works_keep c x (Pump now) None o.disjoint (λ own f. same_works Pumped own (manager_at c.network x) (pump (manager_at c.network x) now) (idle.works own)) k))
     at (Some d) e = let end = connection_in c.network x d e in let connected = in_any (is_end x) c.network.connections d end.0 end.1 in let s = session_of known c x o connected in
         let m = manager_at c.network x in let outcome = outcome_of m (Pump now) in let n = with_lines (lines_after m outcome) (with_manager c.network x (succeeded m outcome)) in
         subst (λ found. KeepsStorage (record {

@@ -166,10 +166,8 @@ recoverable_more before after p ps e f h = record {
 
 one_more : (o : Origin) (before after : one_end.State) (p : UserPacket) (ps : List UserPacket) → p.session ≡ Some (stamped (kind_of o) before).0 → is_storable p.tx p.message ≡ from_recoverable o
     → Sends (stamped (kind_of o) before).1 after ps → Sends before after (p ∷ ps)
-one_more (Owed row) before after p ps e f h = plain_more before after p ps e f h
 one_more OfRecoverable before after p ps e f h = recoverable_more before after p ps e f h
-one_more OfExpress before after p ps e f h = plain_more before after p ps e f h
-one_more (OfRow row number) before after p ps e f h = plain_more before after p ps e f h
+one_more o before after p ps e f h = plain_more before after p ps e f h
 
 -- What could go counts as stored exactly where it is one of the recoverable plain messages.
 abbrev pub IsRight : Candidate → Type 0
@@ -191,15 +189,11 @@ none_repeated to now n r session (c ∷ cs) = none_repeated to now (n + 1) (r + 
 
 after_stored : (o : Origin) (session : one_end.State) → (stamped (kind_of o) session).0.stored ≡ session.stored
 after_stored (Owed row) session = refl
-after_stored OfRecoverable session = refl
-after_stored OfExpress session = refl
-after_stored (OfRow row number) session = refl
+after_stored o session = refl
 
 still_stored : (o : Origin) (session : one_end.State) → (stamped (kind_of o) session).1.stored ≡ session.stored
 still_stored (Owed row) session = refl
-still_stored OfRecoverable session = refl
-still_stored OfExpress session = refl
-still_stored (OfRow row number) session = refl
+still_stored o session = refl
 
 pub all_told : (to : Guid) (now n : ℕ) (session : one_end.State) (cs : List Candidate) → session.stored ≡ n
     → AllByRecursion (λ x. stored_told x ≤ n) (map (packet_for to now) (with_heads session cs))
@@ -211,15 +205,11 @@ all_told to now n session (c ∷ cs) e = (
 
 after_got : (o : Origin) (session : one_end.State) → (stamped (kind_of o) session).0.ack ≡ session.got
 after_got (Owed row) session = refl
-after_got OfRecoverable session = refl
-after_got OfExpress session = refl
-after_got (OfRow row number) session = refl
+after_got o session = refl
 
 still_got : (o : Origin) (session : one_end.State) → (stamped (kind_of o) session).1.got ≡ session.got
 still_got (Owed row) session = refl
-still_got OfRecoverable session = refl
-still_got OfExpress session = refl
-still_got (OfRow row number) session = refl
+still_got o session = refl
 
 pub all_got_told : (to : Guid) (now n : ℕ) (session : one_end.State) (cs : List Candidate) → session.got ≡ n
     → AllByRecursion (λ x. got_told x ≤ n) (map (packet_for to now) (with_heads session cs))
@@ -451,9 +441,7 @@ counts_on session o q ps right e = (sent o, recoverable o right)
   where
     sent : (x : Origin) → (stamped (kind_of x) session).1.sent ≡ length (ps ++ q ∷ [])
     sent (Owed row) = let f = append_length ps (q ∷ []) in let g = e.0 in omega (arith, f, g)
-    sent OfRecoverable = let f = append_length ps (q ∷ []) in let g = e.0 in omega (arith, f, g)
-    sent OfExpress = let f = append_length ps (q ∷ []) in let g = e.0 in omega (arith, f, g)
-    sent (OfRow row number) = let f = append_length ps (q ∷ []) in let g = e.0 in omega (arith, f, g)
+    sent x = let f = append_length ps (q ∷ []) in let g = e.0 in omega (arith, f, g)
 
     all : (b : Bool) → is_storable q.tx q.message ≡ b → length (storable_ids (ps ++ q ∷ [])) ≡ length (storable_ids ps) + length (cond b (q.message.id ∷ []) [])
     all b f = ap (λ (ids : List MessageId). length ids) (filter_append storable_id ps (q ∷ [])) ∙ append_length (storable_ids ps) (storable_ids (q ∷ []))
@@ -463,10 +451,8 @@ counts_on session o q ps right e = (sent o, recoverable o right)
     none f = let n = all false f in let g = e.1 in omega (arith, n, g)
 
     recoverable : (x : Origin) → is_storable q.tx q.message ≡ from_recoverable x → (stamped (kind_of x) session).1.recoverable_sent ≡ length (storable_ids (ps ++ q ∷ []))
-    recoverable (Owed row) f = none f
     recoverable OfRecoverable f = let n = all true f in let g = e.1 in omega (arith, n, g)
-    recoverable OfExpress f = none f
-    recoverable (OfRow row number) f = none f
+    recoverable x f = none f
 
 left_cons : (o : Origin) (m : Message) (ms left : Lane → List Message) (kind : Lane) → cons_option (cond (is_from kind o) (Some m) None) (ms kind) ++ left kind ≡ left_of o m (λ other. ms other ++ left other) kind
 left_cons (Owed row) m ms left lane.Durable = refl

@@ -84,8 +84,7 @@ module _ (own : Guid) (ps : List UserPacket) (m : Manager) (waits : Waits own (A
     where
       none : (owed : Internal) → users_of (set_up_packet owed ∷ []) ≡ []
       none (internal.Establish e) = refl
-      none (internal.Parameters p) = refl
-      none (internal.Ack h) = refl
+      none owed = refl
 
   ack_pumped : (before : one_end.State) → m.rest.session ≡ Some before
       → Pumps own ps m before (cond before.owes (sending_one m (packet.Ack (stamped kind.Ack before).0) (stamped kind.Ack before).1) (answering m (Ok 0)))
@@ -192,11 +191,8 @@ module _ (own : Guid) (ps : List UserPacket) (m : Manager) (waits : Waits own (A
   linked_pumped now before linked e = owed_or_pumped now before (owed_by before.phase now before) linked e (told before.phase)
     where
       told : (f : Phase) → IfSome (owed_by f now before) (IsModest before)
-      told phase.Start = (omega arith, omega arith, tt)
-      told phase.OweEstablish = (omega arith, omega arith, tt)
-      told phase.OweRefusal = (omega arith, omega arith, tt)
-      told phase.OweParameters = (omega arith, omega arith, tt)
       told phase.WaitEstablish = tt
       told phase.WaitParameters = tt
       told phase.Ready = tt
       told (phase.Closed why) = tt
+      told f = (omega arith, omega arith, tt)

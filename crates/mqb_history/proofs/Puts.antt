@@ -68,17 +68,8 @@ commits_transact now e (m ∷ ms) h = at (resolved e.state m.destination) (commi
     at Nowhere rest = rest
 
 record_transacts : (s : State) (r : Record) → AllByRecursion (λ (c : Commitment). IsOfTransaction c.message) (commitments_in s r)
-record_transacts s (entry.Identity identity) = tt
-record_transacts s (entry.Peer peer) = tt
-record_transacts s (entry.CreateQueue number plan) = tt
 record_transacts s (entry.Commit now ops) = commits_transact now (takes_made s now ops) (sends_of ops) (sends_transact ops)
-record_transacts s (entry.Plain now p) = tt
-record_transacts s (entry.Offered marks) = tt
-record_transacts s (entry.Arrived now numbers part) = tt
-record_transacts s (entry.Taken now at id) = tt
-record_transacts s (entry.Purged now at) = tt
-record_transacts s (entry.Ticked now) = tt
-record_transacts s (entry.Roll count) = tt
+record_transacts s r = tt
 
 pub all_transact : (ws : List Written) → AllByRecursion (λ (c : Commitment). IsOfTransaction c.message) (commitments ws)
 all_transact [] = tt
@@ -106,25 +97,12 @@ pub record IsDeciding (r : Record) : Type 0 where
   pub there : packet.tx ≡ Some head
 
 decides : (channel : Channel) (r : Record) (p : Position) → decided_in channel r ≡ Some p → IsDeciding r
-decides channel (entry.Identity identity) p e = absurd (none_some e)
-decides channel (entry.Peer peer) p e = absurd (none_some e)
-decides channel (entry.CreateQueue number plan) p e = absurd (none_some e)
-decides channel (entry.Commit now ops) p e = absurd (none_some e)
-decides channel (entry.Plain now q) p e = absurd (none_some e)
-decides channel (entry.Offered marks) p e = absurd (none_some e)
-decides channel (entry.Arrived now numbers entry.Nothing) p e = absurd (none_some e)
 decides channel (entry.Arrived now numbers (entry.Decided q)) p e = at q.tx refl e
   where
     at : (o : Option TxHead) → q.tx ≡ o → position_in channel q.message o ≡ Some p → IsDeciding (entry.Arrived now numbers (entry.Decided q))
     at None f g = absurd (none_some g)
     at (Some tx) f g = record { now = now; numbers = numbers; packet = q; head = tx; entry = refl; there = f }
-decides channel (entry.Arrived now numbers (entry.Stored q)) p e = absurd (none_some e)
-decides channel (entry.Arrived now numbers (entry.OrderAcknowledged ordinal number)) p e = absurd (none_some e)
-decides channel (entry.Arrived now numbers (entry.Final q)) p e = absurd (none_some e)
-decides channel (entry.Taken now at id) p e = absurd (none_some e)
-decides channel (entry.Purged now at) p e = absurd (none_some e)
-decides channel (entry.Ticked now) p e = absurd (none_some e)
-decides channel (entry.Roll count) p e = absurd (none_some e)
+decides channel r p e = absurd (none_some e)
 
 only_in : {X : Type 0} (o : Option X) (x : X) → In x (cons_option o []) → o ≡ Some x
 only_in None x i = absurd i

@@ -93,8 +93,7 @@ put_there n s m q e = ap (λ o. numbered (option_map_or (λ l. with_lists s.plac
 
 number_places : (s : State) (x : Delivery) → (number_taken s x).places ≡ s.places
 number_places s delivery.Express = refl
-number_places s delivery.Recoverable = refl
-number_places s delivery.Transactional = refl
+number_places s x = refl
 
 -- a queue of this plan takes messages of transactions alone
 refused_plain : (q : Queue) (x : Delivery) → q.plan.transactional ≡ true → is_transactional x ≡ false → is_none (refusal_by x q) ≡ false
@@ -125,8 +124,7 @@ module _ (n : ℕ) (q : Queue) (transactional : q.plan.transactional ≡ true) w
 
   admin_plain : (x : Delivery) → is_transactional (admin_delivery x) ≡ false
   admin_plain delivery.Express = refl
-  admin_plain delivery.Recoverable = refl
-  admin_plain delivery.Transactional = refl
+  admin_plain x = refl
 
   admin_apart : (s : State) (m : Message) (class : Class) (now : ℕ) → numbered s.places.queues n ≡ Some q → SameQueue n s (admin_told s m class now)
   admin_apart s m class now e = at (admin_about s m class now) (plain (number_left s (admin_delivery m.delivery)))
@@ -186,14 +184,12 @@ pub record IsTaking (s : State) (m : Message) : Type 0 where
   pub takes : refusal_by m.delivery plan ≡ None
 
 target_takes : (s : State) (m : Message) (t : Target) → resolved s m.destination ≡ t → target_refusal s t m.delivery ≡ None → IsTaking s m
-target_takes s m (Here None) e f = absurd (none_some (sym f))
-target_takes s m (AtPeer k) e f = absurd (none_some (sym f))
-target_takes s m Nowhere e f = absurd (none_some (sym f))
 target_takes s m (Here (Some a)) e f = at (numbered s.places.queues a) refl f
   where
     at : (o : Option Queue) → numbered s.places.queues a ≡ o → option_map_or (refusal_by m.delivery) o (Some BAD_DESTINATION) ≡ None → IsTaking s m
     at None g h = absurd (none_some (sym h))
     at (Some x) g h = record { queue = a; plan = x; leads = e; there = g; takes = h }
+target_takes s m t e f = absurd (none_some (sym f))
 
 pub takes_put : (s : State) (p : UserPacket) → refusal_of s p ≡ None → IsTaking s p.message
 takes_put s p e = at (p.remaining == 0) e

@@ -94,10 +94,8 @@ module _ (x : MessageId) where
   put_aside s at m e = let le = elsewhere x s.places at (held.put (lane_of m.delivery) m) e in without_number 0 0 s (put_at s at m) refl refl (omega (arith, le)) (omega (arith, le))
 
   queued_more : (s : State) (t : Target) (m : Message) (n : ℕ) → (is_express m.delivery ≡ false → weight x m.id ≤ n) → copies x (placed s t m) ≤ copies x s + n
-  queued_more s (Here None) m n few = omega arith
   queued_more s (Here (Some k)) m n few = put_more x s.places (place.Queue k) m n few
-  queued_more s (AtPeer k) m n few = omega arith
-  queued_more s Nowhere m n few = omega arith
+  queued_more s t m n few = omega arith
 
   placed_more : (s : State) (t : Target) (m : Message) (n : ℕ) → (is_express m.delivery ≡ false → weight x m.id ≤ n) → copies x (placed s t m) + in_plain x (placed s t m) ≤ copies x s + in_plain x s + n
   placed_more s (Here None) m n few = omega arith
@@ -108,8 +106,7 @@ module _ (x : MessageId) where
   placed_own : (s : State) (t : Target) (m : Message) → ((placed s t m).identity ≡ s.identity) × ((placed s t m).next_number ≡ s.next_number)
   placed_own s (Here None) m = (refl, refl)
   placed_own s (Here (Some k)) m = (refl, refl)
-  placed_own s (AtPeer k) m = (refl, refl)
-  placed_own s Nowhere m = (refl, refl)
+  placed_own s t m = (refl, refl)
 
   pub placed_moves : (s : State) (t : Target) (m : Message) (n : ℕ) → (is_express m.delivery ≡ false → weight x m.id ≤ n) → Moves x 0 n s (placed s t m)
   placed_moves s t m n few = let own = placed_own s t m in let queues = queued_more s t m n few in let both = placed_more s t m n few in

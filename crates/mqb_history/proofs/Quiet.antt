@@ -27,7 +27,7 @@ use Rattle.mqb_session.specs.Sending.{is_ready}
 use Rattle.mqb_session.specs.State as one_end
 use Rattle.mqb_session.specs.State.{new_initiator}
 use Rattle.mqb_session.specs.declared.phase.Phase.{Phase}
-use Rattle.mqb_session.specs.declared.phase.Phase.TheVariants.{Closed, OweEstablish, OweParameters, OweRefusal, Ready, Start, WaitEstablish, WaitParameters}
+use Rattle.mqb_session.specs.declared.phase.Phase.TheVariants.{Closed, Ready, WaitEstablish, WaitParameters}
 use Rattle.mqb_session.specs.declared.phase.Role as one_role
 use Rattle.mqb_history.proofs.Beginning.{there}
 use Rattle.mqb_history.proofs.Ending.{parted_at}
@@ -126,14 +126,11 @@ owed_quiet C P Q u m now s there h phase e = by phase e
     })
 
     by : (phase : Phase) → s.phase ≡ phase → IsQuietPump C Q (pump_owed m now s (owed_by phase now s))
-    by Start e = record { quiet = record { entry = refl; session = u.owed s.phase s.role h }; packets = inr (_, tt, refl, u.sends s.phase s.role h (ap owes e)) }
-    by OweEstablish e = record { quiet = record { entry = refl; session = u.owed s.phase s.role h }; packets = inr (_, tt, refl, u.sends s.phase s.role h (ap owes e)) }
-    by OweRefusal e = record { quiet = record { entry = refl; session = u.owed s.phase s.role h }; packets = inr (_, tt, refl, u.sends s.phase s.role h (ap owes e)) }
-    by OweParameters e = record { quiet = record { entry = refl; session = u.owed s.phase s.role h }; packets = inr (_, tt, refl, u.sends s.phase s.role h (ap owes e)) }
     by WaitEstablish e = idle
     by WaitParameters e = idle
     by Ready e = idle
     by (Closed cause) e = idle
+    by x e = record { quiet = record { entry = refl; session = u.owed s.phase s.role h }; packets = inr (_, tt, refl, u.sends s.phase s.role h (ap owes e)) }
 
 pump_quiet : (C : Type 0) (P Q : InPhase) → IsUnready C P Q → (m : Manager) (now : ℕ) → Meets P m → IsQuietPump C Q (pump m now)
 pump_quiet C P Q u m now h = unless_quiet (pump_refusal m) (by m.rest.session refl)

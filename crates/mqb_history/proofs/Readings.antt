@@ -3,14 +3,8 @@ use Rattle.std.proofs.Common.{refl, ap, sym, subst, ◌∙◌}
 use Rattle.std.specs.List.{enumerate_from}
 use Rattle.std.specs.Prelude.{[], ◌+◌, ◌++◌, ◌∷◌, ◌≡◌, Bool, List, None, Option, Some, cond, false, is_some, length, map, true, ℕ}
 use Rattle.mqb_base.specs.declared.ids.Identity.{Identity}
-use Rattle.mqb_model.specs.calls.Commit.{commit}
-use Rattle.mqb_model.specs.calls.CreateQueue.{create_queue}
+use Rattle.mqb_model.specs.calls.Call.{requested}
 use Rattle.mqb_model.specs.calls.Link.{resend}
-use Rattle.mqb_model.specs.calls.Purge.{purge}
-use Rattle.mqb_model.specs.calls.Send.{send}
-use Rattle.mqb_model.specs.calls.SetRoll.{set_roll}
-use Rattle.mqb_model.specs.calls.Take.{take_message}
-use Rattle.mqb_model.specs.calls.Tick.{tick}
 use Rattle.mqb_model.specs.calls.hear.Hear.{hear}
 use Rattle.mqb_model.specs.calls.hear.Session.{HeardOutcome}
 use Rattle.mqb_model.specs.calls.pump.Pump.{PumpOutcome, pump}
@@ -34,7 +28,7 @@ use Rattle.mqb_network.proofs.Joining.{move_in_course}
 use Rattle.mqb_packet.specs.declared.packet.Packet.{Packet}
 use Rattle.mqb_queue.specs.Places.{numbered}
 use Rattle.mqb_history.specs.Changes.{changed, may_change}
-use Rattle.mqb_history.specs.Choosing.{Broke, Found, IsShown, Missed, Quiet, RepliesShowChoices, RunsAreShown, Sign, signs_of}
+use Rattle.mqb_history.specs.Choosing.{Broke, Found, IsShown, Missed, RepliesShowChoices, RunsAreShown, Sign, signs_of}
 use Rattle.mqb_history.specs.Histories.{HasHistory}
 use Rattle.mqb_history.specs.Orderly.{IsOrderly}
 use Rattle.mqb_history.proofs.Choosing.{by_first, call_shown, first_shown, flow_shown, heard_shown, once, only_well, pump_shown, shown_by_flow, shown_once}
@@ -115,9 +109,7 @@ shown_by_start _ = Well
 -- by the first alone
 started : (s : Sign) (x y : List Sign) → shown_by_start (s ∷ x) ≡ shown_by_start (s ∷ y)
 started (Broke how) x y = refl
-started Found x y = refl
-started Missed x y = refl
-started Quiet x y = refl
+started s x y = refl
 
 still_down : (n : Network) (i : ℕ) (b : Bool) → is_down (manager_at n i) ≡ b → is_down (manager_at (ended i n) i) ≡ b
 still_down n i b e = parted_at (λ m. is_down m ≡ b) n i i (λ m h. ap (λ x. elim x [ Up ↦ false | Down doubt ↦ true ]) (parted_condition m) ∙ h) e
@@ -132,21 +124,8 @@ restart_read n i Unread m = refl
 -- Every event.
 
 each_read : RefusalsChangeNothing → (known : List Identity) (c : Course) → IsOrderly known c → (e : Event) → IsRead c e
-each_read law known c o (event.Queue i plan) = by_once c (event.Queue i plan) (call_shown c.network i (create_queue (manager_at c.network i) plan)
-    (λ given lines. reply.Created given) ((law (manager_at c.network i)).create_queue_whole plan).touches (λ given lines. refl))
-each_read law known c o (event.Roll i count) = by_once c (event.Roll i count) (call_shown c.network i (set_roll (manager_at c.network i) count)
-    (λ given lines. reply.Rolled given) ((law (manager_at c.network i)).set_roll_whole count).touches (λ given lines. refl))
-each_read law known c o (event.Commit i now ops) = by_once c (event.Commit i now ops) (call_shown c.network i (commit (manager_at c.network i) ops now)
-    reply.Committed ((law (manager_at c.network i)).commit_whole ops now).touches (λ given lines. refl))
-each_read law known c o (event.Send i now recoverable parts) = by_once c (event.Send i now recoverable parts)
-    (call_shown c.network i (send (manager_at c.network i) parts recoverable now)
-    reply.Sent ((law (manager_at c.network i)).send_whole parts recoverable now).touches (λ given lines. refl))
-each_read law known c o (event.Take i now place) = by_once c (event.Take i now place) (call_shown c.network i (take_message (manager_at c.network i) place now)
-    reply.Took ((law (manager_at c.network i)).take_whole place now).touches (λ given lines. refl))
-each_read law known c o (event.Purge i now place) = by_once c (event.Purge i now place) (call_shown c.network i (purge (manager_at c.network i) place now)
-    reply.Purged ((law (manager_at c.network i)).purge_whole place now).touches (λ given lines. refl))
-each_read law known c o (event.Tick i now) = by_once c (event.Tick i now) (call_shown c.network i (tick (manager_at c.network i) now)
-    reply.Ticked ((law (manager_at c.network i)).tick_whole now).touches (λ given lines. refl))
+each_read law known c o (event.Asks i request) = by_once c (event.Asks i request) (call_shown c.network i (requested (manager_at c.network i) request) reply.Called
+    ((law (manager_at c.network i)).request_touches request) (λ given lines. refl))
 each_read law known c o (event.Connect a b now window_a window_b) = unwritten c (event.Connect a b now window_a window_b)
     (always_well (records_in c (event.Connect a b now window_a window_b)) (connect_empty known c o a b now window_a window_b))
 each_read law known c o (event.Disconnect i) = unwritten c (event.Disconnect i) (always_well (records_in c (event.Disconnect i))

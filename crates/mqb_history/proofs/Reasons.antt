@@ -52,13 +52,6 @@ abbrev HasPut : State → Record → MessageId → Type 0
 HasPut s r id = (stream : Stream) × (number : ℕ) × In (line.Put stream number id) (lines_of s r)
 
 pub decision_put : (c : Channel) (s : State) (r : Record) (x : Decision) → decision_in c s r ≡ Some x → x.outcome ≡ Put → HasPut s r x.message.id
-decision_put c s (entry.Identity identity) x e put = absurd (none_some e)
-decision_put c s (entry.Peer peer) x e put = absurd (none_some e)
-decision_put c s (entry.CreateQueue number plan) x e put = absurd (none_some e)
-decision_put c s (entry.Commit now ops) x e put = absurd (none_some e)
-decision_put c s (entry.Plain now p) x e put = absurd (none_some e)
-decision_put c s (entry.Offered marks) x e put = absurd (none_some e)
-decision_put c s (entry.Arrived now numbers entry.Nothing) x e put = absurd (none_some e)
 decision_put c s (entry.Arrived now numbers (entry.Decided p)) x e put = of_head p.tx refl e
   where
     r : Record
@@ -86,10 +79,4 @@ decision_put c s (entry.Arrived now numbers (entry.Decided p)) x e put = of_head
         at : (b : Bool) → option_map made (cond b (Some (position_of tx)) None) ≡ Some x → HasPut s r x.message.id
         at true g = put_there tx there (some_is (made (position_of tx)) x g)
         at false g = absurd (none_some g)
-decision_put c s (entry.Arrived now numbers (entry.Stored p)) x e put = absurd (none_some e)
-decision_put c s (entry.Arrived now numbers (entry.OrderAcknowledged ordinal number)) x e put = absurd (none_some e)
-decision_put c s (entry.Arrived now numbers (entry.Final p)) x e put = absurd (none_some e)
-decision_put c s (entry.Taken now at id) x e put = absurd (none_some e)
-decision_put c s (entry.Purged now at) x e put = absurd (none_some e)
-decision_put c s (entry.Ticked now) x e put = absurd (none_some e)
-decision_put c s (entry.Roll count) x e put = absurd (none_some e)
+decision_put c s r x e put = absurd (none_some e)

@@ -293,4 +293,4 @@ module _ (own : Guid) (K : MessageId → Type 0) (V : ℕ → Type 0) (mine : (i
   applied_knows s (entry.Taken now at id) r h = taken_knows at id now (begun s) h
   applied_knows s (entry.Purged now at) r h = purged_knows own K V mine lane.Durable at now (begun s) h
   applied_knows s (entry.Ticked now) r h = ticked_knows own K V mine lane.Durable now (rows_expired now (begun s)) (expiring_knows now (begun s) h)
-  applied_knows s (entry.Roll count) r h = record { identity = h.identity; bounded = h.bounded; fresh = h.fresh; plain = h.plain; places = h.places; rows = h.rows }
+  applied_knows s (entry.Set setting) r h = record { identity = h.identity; bounded = h.bounded; fresh = h.fresh; plain = h.plain; places = h.places; rows = h.rows }

@@ -104,9 +104,7 @@ told_or_not p (x ∷ zs) = at x refl (told_or_not p zs)
 
     at : (y : Packet) → x ≡ y → HasTold zs p ⊎ NoneTells zs p → HasTold (x ∷ zs) p ⊎ NoneTells (x ∷ zs) p
     at (packet.User user) e rest = first user e user.tx refl (is_order_ack user.message) refl (same_bytes user.message.body (spelling p)) refl rest
-    at (packet.Establish y) e rest = other (λ z f. let g = sym e ∙ f in let none : ⊥ = cc in none) rest
-    at (packet.Parameters y) e rest = other (λ z f. let g = sym e ∙ f in let none : ⊥ = cc in none) rest
-    at (packet.Ack y) e rest = other (λ z f. let g = sym e ∙ f in let none : ⊥ = cc in none) rest
+    at y e rest = other (λ z f. let g = sym e ∙ f in let none : ⊥ = cc in none) rest
 
 -- where packets tell what was decided last, the world does, and nothing else is told
 pub record IsToldOn (c : Channel) (v : StreamWorld) (zs : List Packet) : Type 0 where
@@ -184,14 +182,5 @@ row_tells c s t written ds p telling h same_ins g = record {
 -- a record of marks leaves them
 pub marks_ins : (s : State) (o : Option Record) → IfSome o IsOfMarks → (recorded s o).ins ≡ s.ins
 marks_ins s None h = refl
-marks_ins s (Some (entry.Identity identity)) h = absurd h
-marks_ins s (Some (entry.Peer peer)) h = absurd h
-marks_ins s (Some (entry.CreateQueue number plan)) h = absurd h
-marks_ins s (Some (entry.Commit now ops)) h = absurd h
-marks_ins s (Some (entry.Plain now p)) h = absurd h
 marks_ins s (Some (entry.Offered marks)) h = applied_ins s (entry.Offered marks) tt
-marks_ins s (Some (entry.Arrived now numbers part)) h = absurd h
-marks_ins s (Some (entry.Taken now place id)) h = absurd h
-marks_ins s (Some (entry.Purged now place)) h = absurd h
-marks_ins s (Some (entry.Ticked now)) h = absurd h
-marks_ins s (Some (entry.Roll count)) h = absurd h
+marks_ins s o h = absurd h

@@ -29,34 +29,13 @@ use Rattle.mqb_history.proofs.Tallies.{tally_both, weight, weight_own}
 
 taken_line : (id : MessageId) (l : Line) → taken_in l ≡ Some id → l ≡ line.Took id
 taken_line id (line.Took other) e = ap (λ k. line.Took k) (some_is other id e)
-taken_line id (line.Committed stream number other) e = absurd (none_some e)
-taken_line id (line.Put stream number other) e = absurd (none_some e)
-taken_line id (line.Refused stream number class other) e = absurd (none_some e)
-taken_line id (line.Expired stream number other moment) e = absurd (none_some e)
-taken_line id (line.Local other) e = absurd (none_some e)
-taken_line id (line.Stored other) e = absurd (none_some e)
-taken_line id (line.Bounced class other) e = absurd (none_some e)
-taken_line id (line.Released other) e = absurd (none_some e)
-taken_line id (line.Purged other) e = absurd (none_some e)
-taken_line id (line.Swept other) e = absurd (none_some e)
-taken_line id (line.Lapsed other) e = absurd (none_some e)
-taken_line id (line.Emptied other) e = absurd (none_some e)
+taken_line id l e = absurd (none_some e)
 
 -- a miss counts as leaving, and is no take
 missed_line : (id : MessageId) (l : Line) → missed_in l ≡ Some id → (word left_in id l ≡ 1) × (line.Took id ≡ l → ⊥)
 missed_line id (line.Purged other) e = (ap (weight id) (some_is other id e) ∙ weight_own id, λ f. let none : ⊥ = cc in none)
 missed_line id (line.Swept other) e = (ap (weight id) (some_is other id e) ∙ weight_own id, λ f. let none : ⊥ = cc in none)
-missed_line id (line.Took other) e = absurd (none_some e)
-missed_line id (line.Committed stream number other) e = absurd (none_some e)
-missed_line id (line.Put stream number other) e = absurd (none_some e)
-missed_line id (line.Refused stream number class other) e = absurd (none_some e)
-missed_line id (line.Expired stream number other moment) e = absurd (none_some e)
-missed_line id (line.Local other) e = absurd (none_some e)
-missed_line id (line.Stored other) e = absurd (none_some e)
-missed_line id (line.Bounced class other) e = absurd (none_some e)
-missed_line id (line.Released other) e = absurd (none_some e)
-missed_line id (line.Lapsed other) e = absurd (none_some e)
-missed_line id (line.Emptied other) e = absurd (none_some e)
+missed_line id l e = absurd (none_some e)
 
 -- one that was taken and missed left twice
 left_twice : (id : MessageId) (c : Course) → In id (told_by missed_in c) → In id (told_by taken_in c) → 2 ≤ times left_in id (lines_written c.written)
@@ -72,17 +51,7 @@ module _ (known : List Identity) (apart : AreApart known) (c : Course) (o : IsOr
       by : (x : Line) → IsMissOf id x → Told c x → In id (told_by missed_in c)
       by (line.Purged other) e i = told_in missed_in (lines_written c.written) (line.Purged other) id i (ap (λ y. Some y) e)
       by (line.Swept other) e i = told_in missed_in (lines_written c.written) (line.Swept other) id i (ap (λ y. Some y) e)
-      by (line.Took other) e i = absurd e
-      by (line.Committed stream number other) e i = absurd e
-      by (line.Put stream number other) e i = absurd e
-      by (line.Refused stream number class other) e i = absurd e
-      by (line.Expired stream number other moment) e i = absurd e
-      by (line.Local other) e i = absurd e
-      by (line.Stored other) e i = absurd e
-      by (line.Bounced class other) e i = absurd e
-      by (line.Released other) e i = absurd e
-      by (line.Lapsed other) e i = absurd e
-      by (line.Emptied other) e i = absurd e
+      by x e i = absurd e
 
   misses_true : AreMissesTrue c
   misses_true m id inside misses low = miss_of id low (subst (IsTold (Told c) IsMissOf) misses.0 ((noticed_fair known c o h m inside).fate.misses misses.1))

@@ -1,5 +1,5 @@
 -- Each final acknowledgement of which a record tells was a packet to its manager.
-use Rattle.std.proofs.Common.{refl, ap, ◌∙◌}
+use Rattle.std.proofs.Common.{refl, ap, ◌∙◌, subst}
 use Rattle.std.specs.Option.{option_map_or}
 use Rattle.std.specs.Prelude.{[], ◌++◌, ◌≡◌, IfSome, List, None, Option, Some, false, length, not, replicate, true, ℕ}
 use Rattle.mqb_base.specs.declared.ids.Identity.{Identity}
@@ -17,7 +17,7 @@ use Rattle.mqb_packet.specs.declared.packet.Packet.{Packet}
 use Rattle.mqb_packet.specs.declared.packet.Packet.TheVariants as packet
 use Rattle.mqb_packet.specs.declared.packet.UserPacket.{UserPacket}
 use Rattle.mqb_queue.specs.Places.{numbered}
-use Rattle.mqb_history.specs.Calls.{Call, Commit, CreateQueue, Hear, Pump, Purge, Resend, Send, SetRoll, Take, Tick, outcome_of}
+use Rattle.mqb_model.specs.calls.Call.{Call, Hear, Pump, outcome_of}
 use Rattle.mqb_history.specs.Changes.{Calls, Change, Drops, Ends, Fails, Finds, Hears, Links, Pumps, Restarts, calling, changed, given_out, hearing, is_of_packets, may_change}
 use Rattle.mqb_history.specs.Shown.{is_final_ack}
 use Rattle.mqb_history.proofs.Chaining.{called_goes, drops_goes, ends_goes, fails_goes, failed_goes, finds_goes, restarts_goes}
@@ -91,12 +91,7 @@ change_sent : (c : Course) (x : Change) (k : ℕ) (p : Packet) → numbered c.se
 change_sent c (Calls a call failure) k p e = ap (λ xs. numbered xs k) (calling_sent a call failure c) ∙ e
 change_sent c (Pumps a now failure) k p e = pumped_sent c a now failure k p (ap (λ xs. numbered xs k) (calling_sent a (Pump now) failure c) ∙ e)
 change_sent c (Hears d now failure) k p e = ap (λ xs. numbered xs k) (hearing_sent (numbered c.network.notes d) (numbered c.sent d) now failure c) ∙ e
-change_sent c (Links a b window_a window_b) k p e = e
-change_sent c (Ends a) k p e = e
-change_sent c (Drops d) k p e = e
-change_sent c (Restarts a) k p e = e
-change_sent c (Finds a) k p e = e
-change_sent c (Fails a) k p e = e
+change_sent c x k p e = e
 
 received_later : (c : Course) (x : Change) (i : ℕ) (p : UserPacket) → IsReceived c.network.notes c.sent i p → IsReceived (changed x c).network.notes (changed x c).sent i p
 received_later c x i p h = let n = change_notes c x h.place h.note h.noted in record {
@@ -110,21 +105,8 @@ received_later c x i p h = let n = change_notes c x h.place h.note h.noted in re
 }
 
 record_later : (c : Course) (x : Change) (i : ℕ) (r : Record) → IsFinalReceived c.network.notes c.sent i r → IsFinalReceived (changed x c).network.notes (changed x c).sent i r
-record_later c x i (entry.Identity identity) h = tt
-record_later c x i (entry.Peer peer) h = tt
-record_later c x i (entry.CreateQueue number plan) h = tt
-record_later c x i (entry.Commit now ops) h = tt
-record_later c x i (entry.Plain now p) h = tt
-record_later c x i (entry.Offered marks) h = tt
-record_later c x i (entry.Arrived now numbers entry.Nothing) h = tt
-record_later c x i (entry.Arrived now numbers (entry.Decided p)) h = tt
-record_later c x i (entry.Arrived now numbers (entry.Stored p)) h = tt
-record_later c x i (entry.Arrived now numbers (entry.OrderAcknowledged ordinal number)) h = tt
 record_later c x i (entry.Arrived now numbers (entry.Final p)) h = received_later c x i p h
-record_later c x i (entry.Taken now place id) h = tt
-record_later c x i (entry.Purged now place) h = tt
-record_later c x i (entry.Ticked now) h = tt
-record_later c x i (entry.Roll count) h = tt
+record_later c x i r h = tt
 
 -- Calls.
 
@@ -135,41 +117,22 @@ IsNoted notes sent i _ = Unit {0}
 
 module _ (notes : List Note) (sent : List Packet) (i : ℕ) (s : State) where
   final_noted : (call : Call) (now : ℕ) (numbers : List ℕ) (p : UserPacket) → IsNoted notes sent i call → RecordOf s call (entry.Arrived now numbers (entry.Final p)) → IsReceived notes sent i p
-  final_noted (Hear at x) now numbers p n h = record {
-    place = n.0;
-    note = n.1;
-    noted = n.2;
-    there = n.3 ∙ ap (λ y. Some y) h.0;
-    receiver = n.4;
-    plain = h.2.0;
-    final = join_and (not (is_express p.message.delivery)) (is_final_class p.message.class) (ap not h.2.1) h.3;
+  final_noted call now numbers p n h = record {
+    place = heard.0;
+    note = heard.1;
+    noted = heard.2;
+    there = heard.3 ∙ ap (λ y. Some y) h.part_is.0;
+    receiver = heard.4;
+    plain = h.part_is.2.0;
+    final = join_and (not (is_express p.message.delivery)) (is_final_class p.message.class) (ap not h.part_is.2.1) h.part_is.3;
   }
-  final_noted (Send at recoverable parts) now numbers p n h = absurd h
-  final_noted (Commit at ops) now numbers p n h = absurd h
-  final_noted (CreateQueue plan) now numbers p n h = absurd h
-  final_noted (SetRoll count) now numbers p n h = absurd h
-  final_noted (Take at place) now numbers p n h = absurd h
-  final_noted (Purge at place) now numbers p n h = absurd h
-  final_noted (Tick at) now numbers p n h = absurd h
-  final_noted Resend now numbers p n h = absurd h
-  final_noted (Pump at) now numbers p n h = absurd h
+    where
+      heard : IsNoted notes sent i (Hear h.now h.heard)
+      heard = subst (IsNoted notes sent i) h.call_is n
 
   record_noted : (call : Call) (r : Record) → IsNoted notes sent i call → RecordOf s call r → IsFinalReceived notes sent i r
-  record_noted call (entry.Identity identity) n h = tt
-  record_noted call (entry.Peer peer) n h = tt
-  record_noted call (entry.CreateQueue number plan) n h = tt
-  record_noted call (entry.Commit now ops) n h = tt
-  record_noted call (entry.Plain now p) n h = tt
-  record_noted call (entry.Offered marks) n h = tt
-  record_noted call (entry.Arrived now numbers entry.Nothing) n h = tt
-  record_noted call (entry.Arrived now numbers (entry.Decided p)) n h = tt
-  record_noted call (entry.Arrived now numbers (entry.Stored p)) n h = tt
-  record_noted call (entry.Arrived now numbers (entry.OrderAcknowledged ordinal number)) n h = tt
   record_noted call (entry.Arrived now numbers (entry.Final p)) n h = final_noted call now numbers p n h
-  record_noted call (entry.Taken now place id) n h = tt
-  record_noted call (entry.Purged now place) n h = tt
-  record_noted call (entry.Ticked now) n h = tt
-  record_noted call (entry.Roll count) n h = tt
+  record_noted call r n h = tt
 
 call_noted : (c : Course) (i : ℕ) (call : Call) → IsNoted c.network.notes c.sent i call → IfSome (outcome_of (manager_at c.network i) call).entry (IsFinalReceived c.network.notes c.sent i)
 call_noted c i call n = at (outcome_of (manager_at c.network i) call).entry (calls_are_of (manager_at c.network i) call).entry
@@ -183,16 +146,8 @@ pub unheard_received : (c : Course) (i : ℕ) (call : Call) → is_of_packets ca
 unheard_received c i call quiet = call_noted c i call (none call quiet)
   where
     none : (x : Call) → is_of_packets x ≡ false → IsNoted c.network.notes c.sent i x
-    none (Send at recoverable parts) e = tt
-    none (Commit at ops) e = tt
-    none (CreateQueue plan) e = tt
-    none (SetRoll count) e = tt
-    none (Take at place) e = tt
-    none (Purge at place) e = tt
-    none (Tick at) e = tt
-    none Resend e = tt
-    none (Pump at) e = tt
     none (Hear at x) e = absurd (clash e)
+    none x e = tt
 
 pub pump_received : (c : Course) (i now : ℕ) → IfSome (outcome_of (manager_at c.network i) (Pump now)).entry (IsFinalReceived c.network.notes c.sent i)
 pump_received c i now = call_noted c i (Pump now) tt
@@ -205,12 +160,7 @@ change_received : (c : Course) (x : Change) → may_change c x ≡ true → OfCh
 change_received c (Calls i call failure) may = unheard_received c i call (not_true (is_of_packets call) (split_and (not (is_of_packets call)) _ may).0)
 change_received c (Pumps i now failure) may = pump_received c i now
 change_received c (Hears k now failure) may = λ note x e f. heard_received c k now note x e f
-change_received c (Links a b window_a window_b) may = tt
-change_received c (Ends i) may = tt
-change_received c (Drops k) may = tt
-change_received c (Restarts i) may = tt
-change_received c (Finds i) may = tt
-change_received c (Fails i) may = tt
+change_received c x may = tt
 
 -- So it is in every course.
 

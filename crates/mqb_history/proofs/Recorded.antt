@@ -5,7 +5,6 @@ use Rattle.std.specs.List.{AllByRecursion, list_any}
 use Rattle.std.specs.Option.{option_map_or, option_or}
 use Rattle.std.specs.Prelude.{[], ◌&&◌, ◌+◌, ◌==◌, ◌∷◌, ◌≡◌, ◌≤◌, Bool, Err, IfSome, List, None, Ok, Option, Result, Some, cond, false, length, nat_lt, not, slice_get, true, unwrap_or, ℕ}
 use Rattle.mqb_base.specs.Same.{same_guid}
-use Rattle.mqb_base.specs.declared.class.TheConstants.Class.{NORMAL}
 use Rattle.mqb_base.specs.declared.draft.Op.{Op}
 use Rattle.mqb_base.specs.declared.draft.Parts.{Parts}
 use Rattle.mqb_base.specs.declared.heads.SessionHead.{SessionHead}
@@ -39,6 +38,9 @@ use Rattle.mqb_session.specs.declared.heads.HeadHeard.TheVariants as head
 use Rattle.mqb_session.specs.declared.phase.Phase.{Phase}
 use Rattle.mqb_session.specs.declared.phase.Phase.TheVariants as phase
 use Rattle.mqb_setup.specs.declared.internal.Internal.{Internal}
+use Rattle.mqb_history.specs.Changes.{is_of_packets}
+use Rattle.mqb_base.specs.declared.class.Class.{Class}
+use Rattle.mqb_model.specs.calls.Call as calls
 use Rattle.mqb_model.specs.calls.Commit.{Trial, commit_tried, has_too_large, ops_refusal, trial_of, try_ops, whole_refusal}
 use Rattle.mqb_model.specs.calls.CreateQueue.{create_refusal}
 use Rattle.mqb_model.specs.calls.Messages.{plain_message}
@@ -72,7 +74,6 @@ use Rattle.mqb_model.specs.records.Packets.{is_recoverable, is_too_large}
 use Rattle.mqb_model.specs.records.Record.{Part, Record}
 use Rattle.mqb_model.specs.records.Record as entry
 use Rattle.mqb_model.specs.rules.Arrivals.{refusal_of}
-use Rattle.mqb_model.specs.rules.Numbers.{own_id}
 use Rattle.mqb_model.specs.rules.Takes.{message_at}
 use Rattle.mqb_model.specs.rules.Timeouts.{durable_due}
 use Rattle.mqb_model.specs.state.Places.{is_express}
@@ -80,7 +81,7 @@ use Rattle.mqb_model.specs.state.Resolving.{is_for_order_layer, resolved}
 use Rattle.mqb_model.specs.state.Rows.{in_row}
 use Rattle.mqb_model.specs.state.State.{State}
 use Rattle.mqb_history.specs.Acked.{is_order_ack}
-use Rattle.mqb_history.specs.Calls.{Call, Commit, CreateQueue, Hear, Pump, Purge, Resend, Send, SetRoll, Take, Tick, answerless, outcome_of}
+use Rattle.mqb_model.specs.calls.Call.{Answer, Asks, Call, Commit, CreateQueue, Hear, Pump, Purge, Resend, Send, Set, Take, Tick, answered, outcome_of}
 use Rattle.mqb_history.proofs.Asking.{IfAsked, IsOfOps, ops_asked}
 use Rattle.mqb_history.proofs.Lists.{clash, none_some, split_and}
 use Rattle.mqb_history.proofs.Names.{same_guid_is}
@@ -110,37 +111,61 @@ PartOf own x (entry.Stored p) = (x ≡ packet.User p) × (p.to ≡ own) × IsPla
 PartOf own x (entry.OrderAcknowledged ordinal number) = IsAckHeard own x ordinal number
 PartOf own x (entry.Final p) = (x ≡ packet.User p) × (p.to ≡ own) × IsPlainPacket p × (is_final_class p.message.class ≡ true)
 
--- what a transaction sends is asked for, and its numbers are durable ones
-pub record IsCommitOf (s : State) (now : ℕ) (ops : List Op) (sends : List Message) : Type 0 where
+-- the call makes a transaction, what that sends is asked for, and its numbers are durable ones
+pub record IsCommitOf (s : State) (call : Call) (sends : List Message) : Type 0 where
+  pub now : ℕ
+  pub ops : List Op
+  pub call_is : call ≡ Asks (Commit now ops)
   pub asked : AllByRecursion (IsOfOps now ops) sends
   pub high : s.next_number + length sends ≤ FIRST_EXPRESS
 
--- a plain message bears the next number, which is a durable one
-pub record IsPlainOf (s : State) (m : Message) : Type 0 where
-  pub id : m.id ≡ own_id s s.next_number
-  pub class : m.class ≡ NORMAL
-  pub durable : is_express m.delivery ≡ false
+-- the call sends a message, under the next number, which is a durable one
+pub record IsPlainOf (s : State) (call : Call) (m : Message) : Type 0 where
+  pub now : ℕ
+  pub parts : Parts
+  pub call_is : call ≡ Asks (Send now true parts)
+  pub message : m ≡ plain_message s true now parts
   pub high : s.next_number + 1 ≤ FIRST_EXPRESS
 
--- the record of a call is of its kind
-abbrev pub RecordOf : State → Call → Record → Type 0
-RecordOf s (CreateQueue plan) (entry.CreateQueue number given) = Unit {0}
-RecordOf s (SetRoll count) (entry.Roll given) = Unit {0}
-RecordOf s (Commit now ops) (entry.Commit at made) = IsCommitOf s now ops (sends_of made)
-RecordOf s (Send now recoverable parts) (entry.Plain at p) = IsPlainOf s p.message
-RecordOf s (Take now place) (entry.Taken at from id) = Unit {0}
-RecordOf s (Purge now place) (entry.Purged at from) = Unit {0}
-RecordOf s (Tick now) (entry.Ticked at) = Unit {0}
-RecordOf s (Pump now) (entry.Offered marks) = Unit {0}
-RecordOf s (Hear now x) (entry.Arrived at numbers part) = PartOf s.identity.guid x part
-RecordOf s _ _ = ⊥
+-- the call hears a packet, of which this is the part
+pub record IsPartOf (s : State) (call : Call) (part : Part) : Type 0 where
+  pub now : ℕ
+  pub heard : Packet
+  pub call_is : call ≡ Hear now heard
+  pub part_is : PartOf s.identity.guid heard part
 
--- an express message is sent by a call that sends it, under the next express number, and heard by one that hears its packet
+-- The record of a call is of its kind: nothing leaves a place or expires in one that has to do with packets.
+abbrev pub RecordOf : State → Call → Record → Type 0
+RecordOf s call (entry.Identity identity) = ⊥
+RecordOf s call (entry.Peer peer) = ⊥
+RecordOf s call (entry.Commit at made) = IsCommitOf s call (sends_of made)
+RecordOf s call (entry.Plain at p) = IsPlainOf s call p.message
+RecordOf s call (entry.Arrived at numbers part) = IsPartOf s call part
+RecordOf s call (entry.Taken at from id) = is_of_packets call ≡ false
+RecordOf s call (entry.Purged at from) = is_of_packets call ≡ false
+RecordOf s call (entry.Ticked at) = is_of_packets call ≡ false
+RecordOf s call _ = Unit {0}
+
+-- the call sends a message beside its record, under the next express number
+pub record IsSentBeside (s : State) (call : Call) (m : Message) : Type 0 where
+  pub now : ℕ
+  pub parts : Parts
+  pub call_is : call ≡ Asks (Send now false parts)
+  pub message : m ≡ plain_message s false now parts
+
+-- the call hears the packet of a message beside its record, which is refused as it says
+pub record IsHeardBeside (s : State) (call : Call) (m : Message) (refusal : Option Class) : Type 0 where
+  pub now : ℕ
+  pub given : UserPacket
+  pub call_is : call ≡ Hear now (packet.User given)
+  pub message : given.message ≡ m
+  pub express : is_express m.delivery ≡ true
+  pub refusal_is : refusal ≡ refusal_of s given
+
+-- an express message is sent by a call that sends it, and heard by one that hears its packet
 abbrev pub BesideOf : State → Call → Beside → Type 0
-BesideOf s (Send now recoverable parts) (beside.SendsExpress at m) = (m.id ≡ own_id s s.next_express) × (m.class ≡ NORMAL) × (is_express m.delivery ≡ true)
-BesideOf s call (beside.SendsExpress at m) = ⊥
-BesideOf s (Hear now x) (beside.HearsExpress peer number at m refusal) = (p : UserPacket) × (x ≡ packet.User p) × (p.message ≡ m) × (is_express m.delivery ≡ true) × (refusal ≡ refusal_of s p)
-BesideOf s call (beside.HearsExpress peer number at m refusal) = ⊥
+BesideOf s call (beside.SendsExpress at m) = IsSentBeside s call m
+BesideOf s call (beside.HearsExpress peer number at m refusal) = IsHeardBeside s call m refusal
 BesideOf s call _ = Unit {0}
 
 pub record IsOutcomeOf {A : Type 0} (s : State) (call : Call) (outcome : Outcome A) : Type 0 where
@@ -168,25 +193,25 @@ some_unless s call false r h = h
 
 -- Calls on a store.
 
-commit_of : (m : Manager) (now : ℕ) (ops : List Op) (r : Result Trial CommitFault) → IfAsked now ops r → IfTried m.state r → IsOutcomeOf m.state (Commit now ops) (commit_tried m now r)
-commit_of m now ops (Err why) asked tried = nothing_of m (Commit now ops) (Err why) tt
+commit_of : (m : Manager) (now : ℕ) (ops : List Op) (r : Result Trial CommitFault) → IfAsked now ops r → IfTried m.state r → IsOutcomeOf m.state (Asks (Commit now ops)) (commit_tried m now r)
+commit_of m now ops (Err why) asked tried = nothing_of m (Asks (Commit now ops)) (Err why) tt
 commit_of m now ops (Ok t) asked tried = by (nat_lt (MAX_NUMBER + 1) t.sending.next_number) refl
   where
     outcome : Outcome (Result (List Done) CommitFault)
     outcome = recording m (entry.Commit now t.ops) (Ok t.done)
 
-    whole : t.sending.next_number ≤ FIRST_EXPRESS → IsOutcomeOf m.state (Commit now ops) outcome
-    whole le = record { entry = record { asked = asked; high = let e = tried.next in omega (arith, e, le) }; beside = tt }
+    whole : t.sending.next_number ≤ FIRST_EXPRESS → IsOutcomeOf m.state (Asks (Commit now ops)) outcome
+    whole le = record { entry = record { now = now; ops = ops; call_is = refl; asked = asked; high = let e = tried.next in omega (arith, e, le) }; beside = tt }
 
-    by : (b : Bool) → nat_lt (MAX_NUMBER + 1) t.sending.next_number ≡ b → IsOutcomeOf m.state (Commit now ops) (unless m (whole_refusal t) outcome)
-    by false e = unless_of m (Commit now ops) (whole_refusal t) outcome tt (whole (grind (arith, nat_tests)))
+    by : (b : Bool) → nat_lt (MAX_NUMBER + 1) t.sending.next_number ≡ b → IsOutcomeOf m.state (Asks (Commit now ops)) (unless m (whole_refusal t) outcome)
+    by false e = unless_of m (Asks (Commit now ops)) (whole_refusal t) outcome tt (whole (grind (arith, nat_tests)))
     by true e = refused (whole_refusal t) (spent e)
       where
         spent : nat_lt (MAX_NUMBER + 1) t.sending.next_number ≡ true → whole_refusal t ≡ Some commit_fault.NumbersSpent
         spent f = ap (λ z. cond z (Some commit_fault.NumbersSpent) (cond (has_too_large t.ops) (Some commit_fault.TooLarge) None)) f
 
-        refused : (o : Option CommitFault) → o ≡ Some commit_fault.NumbersSpent → IsOutcomeOf m.state (Commit now ops) (unless m o outcome)
-        refused (Some why) f = nothing_of m (Commit now ops) (Err why) tt
+        refused : (o : Option CommitFault) → o ≡ Some commit_fault.NumbersSpent → IsOutcomeOf m.state (Asks (Commit now ops)) (unless m o outcome)
+        refused (Some why) f = nothing_of m (Asks (Commit now ops)) (Err why) tt
         refused None f = absurd (let none : ⊥ = cc in none)
 
 -- a message for which no reason is found bears a durable number
@@ -194,7 +219,7 @@ send_high : (s : State) (a b : Option SendFault) → option_or a b ≡ None → 
 send_high s None b e = e
 send_high s (Some why) b e = absurd (let none : ⊥ = cc in none)
 
-send_of : (m : Manager) (now : ℕ) (recoverable : Bool) (parts : Parts) → IsOutcomeOf m.state (Send now recoverable parts)
+send_of : (m : Manager) (now : ℕ) (recoverable : Bool) (parts : Parts) → IsOutcomeOf m.state (Asks (Send now recoverable parts))
     (unless m (send_refusal m recoverable (plain_message m.state recoverable now parts)) (sending m recoverable (plain_message m.state recoverable now parts) now))
 send_of m now true parts = by (send_refusal m true message) refl
   where
@@ -215,10 +240,10 @@ send_of m now true parts = by (send_refusal m true message) refl
         down true f = absurd (let none : ⊥ = cc in none)
         down false f = reasons (nat_lt MAX_NUMBER m.state.next_number) (send_high m.state (target_fault m.state (resolved m.state message.destination)) (message_fault m.state true message) f)
 
-    by : (o : Option SendFault) → send_refusal m true message ≡ o → IsOutcomeOf m.state (Send now true parts) (unless m o (sending m true message now))
-    by (Some why) e = nothing_of m (Send now true parts) (Err why) tt
-    by None e = record { entry = record { id = refl; class = refl; durable = refl; high = let low = not_spent e in grind (arith, nat_tests) }; beside = tt }
-send_of m now false parts = unless_of m (Send now false parts) (send_refusal m false (plain_message m.state false now parts)) _ tt (record { entry = tt; beside = (refl, refl, refl) })
+    by : (o : Option SendFault) → send_refusal m true message ≡ o → IsOutcomeOf m.state (Asks (Send now true parts)) (unless m o (sending m true message now))
+    by (Some why) e = nothing_of m (Asks (Send now true parts)) (Err why) tt
+    by None e = record { entry = record { now = now; parts = parts; call_is = refl; message = refl; high = let low = not_spent e in grind (arith, nat_tests) }; beside = tt }
+send_of m now false parts = unless_of m (Asks (Send now false parts)) (send_refusal m false (plain_message m.state false now parts)) _ tt (record { entry = tt; beside = record { now = now; parts = parts; call_is = refl; message = refl } })
 
 taking_of : (m : Manager) (call : Call) (at : EntryPlace) (now : ℕ) (kind : Lane) (k : ℕ) (message : Message) → RecordOf m.state call (entry.Taken now at message.id) → BesideOf m.state call beside.Nothing
     → BesideOf m.state call (beside.TakesExpress now at k) → IsOutcomeOf m.state call (taking m at now kind k message)
@@ -230,8 +255,12 @@ taking_of m call at now lane.Express k message h g b = record { entry = tt; besi
 abbrev HearsRightly : Packet → Listening → HeardOutcome → Type 0
 HearsRightly x l outcome = IsOutcomeOf l.manager.state (Hear l.now x) outcome
 
+-- a packet that is heard has a part
+part_of : (s : State) (now : ℕ) (x : Packet) (part : Part) → PartOf s.identity.guid x part → IsPartOf s (Hear now x) part
+part_of s now x part h = record { now = now; heard = x; call_is = refl; part_is = h }
+
 heard_nothing : (x : Packet) (l : Listening) (answer : Heard) → HearsRightly x l (heard_as l entry.Nothing answer)
-heard_nothing x l answer = record { entry = some_unless l.manager.state (Hear l.now x) (length (numbers_released l) == 0) (entry.Arrived l.now (numbers_released l) entry.Nothing) tt; beside = tt }
+heard_nothing x l answer = record { entry = some_unless l.manager.state (Hear l.now x) (length (numbers_released l) == 0) (entry.Arrived l.now (numbers_released l) entry.Nothing) (part_of l.manager.state l.now x entry.Nothing tt); beside = tt }
 
 owing_of : (x : Packet) (l : Listening) (k : ℕ) (outcome : HeardOutcome) → HearsRightly x l outcome → HearsRightly x l (owing k outcome)
 owing_of x l k outcome h = record { entry = h.entry; beside = h.beside }
@@ -245,7 +274,7 @@ module _ (p : UserPacket) (l : Listening) (own : p.to ≡ l.manager.state.identi
   x = packet.User p
 
   judged_of : (tx : TxHead) (found : Verdict) → HearsRightly x l (judged l p tx found)
-  judged_of tx verdict.Next = record { entry = (refl, own); beside = tt }
+  judged_of tx verdict.Next = record { entry = part_of l.manager.state l.now x (entry.Decided p) (refl, own); beside = tt }
   judged_of tx verdict.Duplicate = either_heard x l (has_sequence l.manager.state p.message tx) (owing (index_for l.manager.state p.message) (duplicate_heard l tx)) (duplicate_heard l tx)
       (owing_of x l (index_for l.manager.state p.message) (duplicate_heard l tx) (heard_nothing x l (heard.Duplicate tx.sequence tx.number)))
       (heard_nothing x l (heard.Duplicate tx.sequence tx.number))
@@ -259,7 +288,8 @@ module _ (p : UserPacket) (l : Listening) (own : p.to ≡ l.manager.state.identi
   order_ack_of : p.tx ≡ None → (ack : OrderAck) → acknowledged_in l.manager.state p.message ≡ Some ack → HearsRightly x l (hear_order_ack l ack)
   order_ack_of none ack e = either_heard x l (list_any (raises (peer_heard l) ack) l.manager.state.outs) (order_acked l ack) (heard_as l entry.Nothing heard.OldAck)
       (record {
-        entry = record { given = p; heard = refl; to = own; plain = none; kind = tests.0; ack = ack; read = tests.1; ordinal_is = refl; number_is = refl };
+        entry = part_of l.manager.state l.now x (entry.OrderAcknowledged ack.sequence.ordinal ack.number)
+            (record { given = p; heard = refl; to = own; plain = none; kind = tests.0; ack = ack; read = tests.1; ordinal_is = refl; number_is = refl });
         beside = tt;
       }) (heard_nothing x l heard.OldAck)
     where
@@ -274,19 +304,19 @@ module _ (p : UserPacket) (l : Listening) (own : p.to ≡ l.manager.state.identi
   in_order_of none = at (is_express p.message.delivery) refl
     where
       recoverable : is_express p.message.delivery ≡ false → (b : Bool) → is_final l.manager.state p.message ≡ b → HearsRightly x l (cond b (hear_final l p) (hear_stored l p))
-      recoverable e true f = record { entry = (refl, own, (none, e), final_class f); beside = tt }
+      recoverable e true f = record { entry = part_of l.manager.state l.now x (entry.Final p) (refl, own, (none, e), final_class f); beside = tt }
         where
           final_class : is_final l.manager.state p.message ≡ true → is_final_class p.message.class ≡ true
           final_class g = (split_and (is_recoverable p.message.delivery) (is_final_class p.message.class)
               (split_and (is_recoverable p.message.delivery && is_final_class p.message.class) (is_for_order_layer l.manager.state p.message.destination) g).0).1
-      recoverable e false f = record { entry = (refl, own, (none, e)); beside = tt }
+      recoverable e false f = record { entry = part_of l.manager.state l.now x (entry.Stored p) (refl, own, (none, e)); beside = tt }
 
       at : (b : Bool) → is_express p.message.delivery ≡ b → HearsRightly x l (cond b (hear_express l p) (hear_recoverable l p))
       at true e = either_heard x l (is_for_order_layer l.manager.state p.message.destination) (discarded l) (hear_arriving l p.message (refusal_of l.manager.state p))
           (heard_nothing x l heard.Discarded)
           (record {
-            entry = some_unless l.manager.state (Hear l.now x) (length (numbers_released l) == 0) (entry.Arrived l.now (numbers_released l) entry.Nothing) tt;
-            beside = (p, refl, refl, e, refl);
+            entry = some_unless l.manager.state (Hear l.now x) (length (numbers_released l) == 0) (entry.Arrived l.now (numbers_released l) entry.Nothing) (part_of l.manager.state l.now x entry.Nothing tt);
+            beside = record { now = l.now; given = p; call_is = refl; message = refl; express = e; refusal_is = refl };
           })
       at false e = recoverable e (is_final l.manager.state p.message) refl
 
@@ -347,9 +377,7 @@ behind_of m now p session = by session.phase (is_ready session.phase && is_forei
 
 acknowledgement_of : (m : Manager) (now : ℕ) (x : Packet) (given : HeadHeard) (session : one_end.State) → IsOutcomeOf m.state (Hear now x) (hear_acknowledgement m now given session)
 acknowledgement_of m now x (head.Closed why) session = record { entry = tt; beside = tt }
-acknowledgement_of m now x head.InOrder session = heard_nothing x (listening m session now) heard.Session
-acknowledgement_of m now x head.OutOfOrder session = heard_nothing x (listening m session now) heard.Session
-acknowledgement_of m now x head.AckOnly session = heard_nothing x (listening m session now) heard.Session
+acknowledgement_of m now x given session = heard_nothing x (listening m session now) heard.Session
 
 linked_of : (m : Manager) (now : ℕ) (x : Packet) (session : one_end.State) → IsOutcomeOf m.state (Hear now x) (hear_linked m now x session)
 linked_of m now (packet.Establish e) session = record { entry = tt; beside = tt }
@@ -387,25 +415,25 @@ pump_of m now session = owed (owed_by session.phase now session)
 
 -- Each call.
 
-same_of : {A : Type 0} (s : State) (call : Call) (outcome : Outcome A) → IsOutcomeOf s call outcome → IsOutcomeOf s call (answerless outcome)
-same_of s call outcome h = record { entry = h.entry; beside = h.beside }
+same_of : {A : Type 0} (says : A → Answer) (s : State) (call : Call) (outcome : Outcome A) → IsOutcomeOf s call outcome → IsOutcomeOf s call (answered says outcome)
+same_of says s call outcome h = record { entry = h.entry; beside = h.beside }
 
 pub calls_are_of : (m : Manager) (call : Call) → IsOutcomeOf m.state call (outcome_of m call)
-calls_are_of m (CreateQueue plan) = same_of m.state (CreateQueue plan) _ (unless_of m (CreateQueue plan) (create_refusal m plan) _ tt (record { entry = tt; beside = tt }))
-calls_are_of m (SetRoll count) = same_of m.state (SetRoll count) _ (unless_of m (SetRoll count) (store_refusal m) _ tt (record { entry = tt; beside = tt }))
-calls_are_of m (Commit now ops) = same_of m.state (Commit now ops) _ (unless_of m (Commit now ops) (ops_refusal m ops) _ tt
+calls_are_of m (Asks (CreateQueue plan)) = same_of calls.Created m.state (Asks (CreateQueue plan)) _ (unless_of m (Asks (CreateQueue plan)) (create_refusal m plan) _ tt (record { entry = tt; beside = tt }))
+calls_are_of m (Asks (Set setting)) = same_of calls.WasSet m.state (Asks (Set setting)) _ (unless_of m (Asks (Set setting)) (store_refusal m) _ tt (record { entry = tt; beside = tt }))
+calls_are_of m (Asks (Commit now ops)) = same_of calls.Committed m.state (Asks (Commit now ops)) _ (unless_of m (Asks (Commit now ops)) (ops_refusal m ops) _ tt
     (commit_of m now ops (try_ops now 0 (trial_of m.state) ops) (ops_asked m.state ops now) (ops_tried m.state ops now)))
-calls_are_of m (Send now recoverable parts) = same_of m.state (Send now recoverable parts) _ (send_of m now recoverable parts)
-calls_are_of m (Take now p) = same_of m.state (Take now p) _ (unless_of m (Take now p) (take_refusal m) _ tt (or_of m.state (Take now p) (take_at m now) (place_named m.state.places.queues p) _
-    (λ at. or_of m.state (Take now p) (take_position m at now) (first_in m.state at now) _ (λ q. or_of m.state (Take now p) (taking m at now q.lane q.index) (message_at q.lane m.state at q.index) _
-    (λ x. taking_of m (Take now p) at now q.lane q.index x tt tt tt) (nothing_of m (Take now p) _ tt)) (nothing_of m (Take now p) _ tt)) (nothing_of m (Take now p) _ tt)))
-calls_are_of m (Purge now p) = same_of m.state (Purge now p) _ (unless_of m (Purge now p) (purge_refusal m) _ tt (or_of m.state (Purge now p) (purge_at m now) (place_named m.state.places.queues p) _
-    (λ at. or_of m.state (Purge now p) (purging m now at) (lists_at m.state.places at) _
-    (λ l. record { entry = some_unless m.state (Purge now p) (length l.durable == 0) (entry.Purged now at) tt; beside = tt }) (nothing_of m (Purge now p) _ tt)) (nothing_of m (Purge now p) _ tt)))
-calls_are_of m (Tick now) = same_of m.state (Tick now) _ (unless_of m (Tick now) (store_refusal m) _ tt
-    (record { entry = some_unless m.state (Tick now) (durable_due m.state now == 0) (entry.Ticked now) tt; beside = tt }))
+calls_are_of m (Asks (Send now recoverable parts)) = same_of calls.Sent m.state (Asks (Send now recoverable parts)) _ (send_of m now recoverable parts)
+calls_are_of m (Asks (Take now p)) = same_of calls.Took m.state (Asks (Take now p)) _ (unless_of m (Asks (Take now p)) (take_refusal m) _ tt (or_of m.state (Asks (Take now p)) (take_at m now) (place_named m.state.places.queues p) _
+    (λ at. or_of m.state (Asks (Take now p)) (take_position m at now) (first_in m.state at now) _ (λ q. or_of m.state (Asks (Take now p)) (taking m at now q.lane q.index) (message_at q.lane m.state at q.index) _
+    (λ x. taking_of m (Asks (Take now p)) at now q.lane q.index x refl tt tt) (nothing_of m (Asks (Take now p)) _ tt)) (nothing_of m (Asks (Take now p)) _ tt)) (nothing_of m (Asks (Take now p)) _ tt)))
+calls_are_of m (Asks (Purge now p)) = same_of calls.Purged m.state (Asks (Purge now p)) _ (unless_of m (Asks (Purge now p)) (purge_refusal m) _ tt (or_of m.state (Asks (Purge now p)) (purge_at m now) (place_named m.state.places.queues p) _
+    (λ at. or_of m.state (Asks (Purge now p)) (purging m now at) (lists_at m.state.places at) _
+    (λ l. record { entry = some_unless m.state (Asks (Purge now p)) (length l.durable == 0) (entry.Purged now at) refl; beside = tt }) (nothing_of m (Asks (Purge now p)) _ tt)) (nothing_of m (Asks (Purge now p)) _ tt)))
+calls_are_of m (Asks (Tick now)) = same_of calls.Ticked m.state (Asks (Tick now)) _ (unless_of m (Asks (Tick now)) (store_refusal m) _ tt
+    (record { entry = some_unless m.state (Asks (Tick now)) (durable_due m.state now == 0) (entry.Ticked now) refl; beside = tt }))
 calls_are_of m Resend = record { entry = tt; beside = tt }
-calls_are_of m (Pump now) = same_of m.state (Pump now) _ (unless_of m (Pump now) (pump_refusal m) _ tt
+calls_are_of m (Pump now) = same_of calls.Pumped m.state (Pump now) _ (unless_of m (Pump now) (pump_refusal m) _ tt
     (or_of m.state (Pump now) (pump_linked m now) m.rest.session _ (pump_of m now) (nothing_of m (Pump now) (Err pump_fault.NotLinked) tt)))
-calls_are_of m (Hear now x) = same_of m.state (Hear now x) _ (unless_of m (Hear now x) (hear_refusal m) _ tt
+calls_are_of m (Hear now x) = same_of calls.Heard m.state (Hear now x) _ (unless_of m (Hear now x) (hear_refusal m) _ tt
     (or_of m.state (Hear now x) (hear_linked m now x) m.rest.session _ (linked_of m now x) (nothing_of m (Hear now x) (Err hear_fault.NotLinked) tt)))

@@ -119,9 +119,7 @@ module _ (d : QueueName) (peer : ℕ) (c : Channel) (v : StreamWorld) (connected
       (all_of (IsMarkOf s.outs) marks (λ mark i. made_marks s (entry.Offered marks) made mark i))
 
   pub record_sourced : (r : Record) → IsMade s r → IsAckedTruly d peer v (apply s r).outs → Awaits d v.order_acks v.connection s.outs r → Finishes d v s r → IsSourced d peer c v (apply s r).outs (cs ++ commitments_in s r) (ls ++ lines_of s r)
-  record_sourced (entry.Identity identity) made truly awaits ends = quiet (entry.Identity identity) tt refl refl
   record_sourced (entry.Peer other) made truly awaits ends = absurd made
-  record_sourced (entry.CreateQueue number plan) made truly awaits ends = quiet (entry.CreateQueue number plan) tt refl refl
   record_sourced (entry.Commit now ops) made truly awaits ends = with_lines (entry.Commit now ops) (apply s (entry.Commit now ops)).outs (cs ++ commitments_in s (entry.Commit now ops)) tt (committed now ops)
   record_sourced (entry.Plain now p) made truly awaits ends = quiet (entry.Plain now p) tt refl (plain_sent_rows (numbers_taken s 1) p.message now).outs
   record_sourced (entry.Offered marks) made truly awaits ends = with_outs (entry.Offered marks) tt refl (marks_part marks made)
@@ -137,4 +135,4 @@ module _ (d : QueueName) (peer : ℕ) (c : Channel) (v : StreamWorld) (connected
   record_sourced (entry.Purged now at) made truly awaits ends = quiet (entry.Purged now at) tt refl (purged_rows lane.Durable at now (begun s)).outs
   record_sourced (entry.Ticked now) made truly awaits ends = subst (λ xs. IsSourced d peer c v (apply s (entry.Ticked now)).outs xs (ls ++ lines_of s (entry.Ticked now))) (sym (append_nothing cs))
       (ticked_sourced d peer c v cs s ws now held.0 h)
-  record_sourced (entry.Roll count) made truly awaits ends = quiet (entry.Roll count) tt refl refl
+  record_sourced r made truly awaits ends = quiet r tt refl refl

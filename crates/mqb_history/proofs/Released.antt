@@ -219,15 +219,11 @@ plain_unreleased s m id i = at (is_here (resolved s m.destination)) i
     at false none = none
 
 pub line_releases : (s : State) (r : Record) (id : MessageId) → In (line.Released id) (lines_of s r) → IsRelease s r id
-line_releases s (entry.Identity identity) id i = absurd i
-line_releases s (entry.Peer peer) id i = absurd i
-line_releases s (entry.CreateQueue number plan) id i = absurd i
 line_releases s (entry.Commit now ops) id i = none_released s (entry.Commit now ops) id (record { more = a.more; lines = a.lines; others = a.others }) i
   where
     a : Adds (sends_numbered s ops) (commit_effect s now ops)
     a = adds_then (sends_numbered s ops) (takes_made s now ops) (commit_effect s now ops) (ops_add now (sends_numbered s ops) ops) (sends_add now (takes_made s now ops) (sends_of ops))
 line_releases s (entry.Plain now p) id i = absurd (plain_unreleased s p.message id i)
-line_releases s (entry.Offered marks) id i = absurd i
 line_releases s (entry.Arrived now numbers part) id i = at (in_either (releases_made s numbers).lines a.more (line.Released id) (subst (In (line.Released id)) a.lines i))
   where
     a : Adds (releases_made s numbers) (part_made now (releases_made s numbers) part)
@@ -244,7 +240,7 @@ line_releases s (entry.Taken now at id2) id i = none_released s (entry.Taken now
 line_releases s (entry.Purged now at) id i = none_released s (entry.Purged now at) id (purged_adds lane.Durable at now (begun s)) i
 line_releases s (entry.Ticked now) id i = none_released s (entry.Ticked now) id
     (adds_then (begun s) (rows_expired now (begun s)) (lane_ticked lane.Durable now (rows_expired now (begun s))) (expiring_adds now (begun s)) (ticked_adds lane.Durable now (rows_expired now (begun s)))) i
-line_releases s (entry.Roll count) id i = absurd i
+line_releases s r id i = absurd i
 
 -- The lines of records.
 

@@ -153,14 +153,8 @@ module _ (x : MessageId) where
   taken_at_remains kind s (place.Queue n) k now e h = lane_or kind s e (λ m. joined e (message_taken kind (place.Queue n) k now e.state m)) (message_at kind e.state (place.Queue n) k) h
       (λ m there. let out = without_at kind e.state (place.Queue n) k in leaves kind s e (line.Took m.id) (after_take out (place.Queue n) m now) refl
       (meeting (laned kind (weight x m.id)) e.state (copied out n m) m RECEIVED now (then_still x (laned kind (weight x m.id)) 0 e.state out (copied out n m) (without_less kind e.state n k m there) (copied_still out n m))) h)
-  taken_at_remains kind s (place.JournalOf n) k now e h = lane_or kind s e (λ m. joined e (message_taken kind (place.JournalOf n) k now e.state m)) (message_at kind e.state (place.JournalOf n) k) h
-      (λ m there. leaves kind s e (line.Emptied m.id) (without_at kind e.state (place.JournalOf n) k) refl (aside kind e.state (without_at kind e.state (place.JournalOf n) k) (without_aside kind e.state (place.JournalOf n) k refl)) h)
-  taken_at_remains kind s place.Dead k now e h = lane_or kind s e (λ m. joined e (message_taken kind place.Dead k now e.state m)) (message_at kind e.state place.Dead k) h
-      (λ m there. leaves kind s e (line.Emptied m.id) (without_at kind e.state place.Dead k) refl (aside kind e.state (without_at kind e.state place.Dead k) (without_aside kind e.state place.Dead k refl)) h)
-  taken_at_remains kind s place.DeadXact k now e h = lane_or kind s e (λ m. joined e (message_taken kind place.DeadXact k now e.state m)) (message_at kind e.state place.DeadXact k) h
-      (λ m there. leaves kind s e (line.Emptied m.id) (without_at kind e.state place.DeadXact k) refl (aside kind e.state (without_at kind e.state place.DeadXact k) (without_aside kind e.state place.DeadXact k refl)) h)
-  taken_at_remains kind s place.Journal k now e h = lane_or kind s e (λ m. joined e (message_taken kind place.Journal k now e.state m)) (message_at kind e.state place.Journal k) h
-      (λ m there. leaves kind s e (line.Emptied m.id) (without_at kind e.state place.Journal k) refl (aside kind e.state (without_at kind e.state place.Journal k) (without_aside kind e.state place.Journal k refl)) h)
+  taken_at_remains kind s at k now e h = lane_or kind s e (λ m. joined e (message_taken kind at k now e.state m)) (message_at kind e.state at k) h
+      (λ m there. leaves kind s e (line.Emptied m.id) (without_at kind e.state at k) refl (aside kind e.state (without_at kind e.state at k) (without_aside kind e.state at k refl)) h)
 
   taken_remains : (s : State) (at : EntryPlace) (id : MessageId) (now : ℕ) (e : Effect) → Remains s e → Remains s (taken at id now e)
   taken_remains s at id now e h = remains_or s e (λ k. taken_at lane.Durable at k now e) (index_named e.state.places at id now) h (λ k there. taken_at_remains lane.Durable s at k now e h)
@@ -177,14 +171,8 @@ module _ (x : MessageId) where
   oldest_remains kind s (place.Queue n) now e h = lane_or kind s e (λ m. joined e (message_purged kind (place.Queue n) now e.state m)) (message_at kind e.state (place.Queue n) 0) h
       (λ m there. let out = without_at kind e.state (place.Queue n) 0 in leaves kind s e (line.Purged m.id) (meets out m QUEUE_PURGED now) refl
       (meeting (laned kind (weight x m.id)) e.state out m QUEUE_PURGED now (without_less kind e.state n 0 m there)) h)
-  oldest_remains kind s (place.JournalOf n) now e h = lane_or kind s e (λ m. joined e (message_purged kind (place.JournalOf n) now e.state m)) (message_at kind e.state (place.JournalOf n) 0) h
-      (λ m there. leaves kind s e (line.Emptied m.id) (without_at kind e.state (place.JournalOf n) 0) refl (aside kind e.state (without_at kind e.state (place.JournalOf n) 0) (without_aside kind e.state (place.JournalOf n) 0 refl)) h)
-  oldest_remains kind s place.Dead now e h = lane_or kind s e (λ m. joined e (message_purged kind place.Dead now e.state m)) (message_at kind e.state place.Dead 0) h
-      (λ m there. leaves kind s e (line.Emptied m.id) (without_at kind e.state place.Dead 0) refl (aside kind e.state (without_at kind e.state place.Dead 0) (without_aside kind e.state place.Dead 0 refl)) h)
-  oldest_remains kind s place.DeadXact now e h = lane_or kind s e (λ m. joined e (message_purged kind place.DeadXact now e.state m)) (message_at kind e.state place.DeadXact 0) h
-      (λ m there. leaves kind s e (line.Emptied m.id) (without_at kind e.state place.DeadXact 0) refl (aside kind e.state (without_at kind e.state place.DeadXact 0) (without_aside kind e.state place.DeadXact 0 refl)) h)
-  oldest_remains kind s place.Journal now e h = lane_or kind s e (λ m. joined e (message_purged kind place.Journal now e.state m)) (message_at kind e.state place.Journal 0) h
-      (λ m there. leaves kind s e (line.Emptied m.id) (without_at kind e.state place.Journal 0) refl (aside kind e.state (without_at kind e.state place.Journal 0) (without_aside kind e.state place.Journal 0 refl)) h)
+  oldest_remains kind s at now e h = lane_or kind s e (λ m. joined e (message_purged kind at now e.state m)) (message_at kind e.state at 0) h
+      (λ m there. leaves kind s e (line.Emptied m.id) (without_at kind e.state at 0) refl (aside kind e.state (without_at kind e.state at 0) (without_aside kind e.state at 0 refl)) h)
 
   pub purged_remains : (kind : Lane) (s : State) (at : EntryPlace) (now : ℕ) (e : Effect) → OfLane kind s e → OfLane kind s (purged kind at now e)
   purged_remains kind s at now e h = repeats (OfLane kind s) (oldest_purged kind at now) (oldest_remains kind s at now) (count_at kind e.state at) e h
@@ -365,7 +353,7 @@ module _ (x : MessageId) where
   record_moves s (entry.Taken now at id) = by_lines s s (effect_of s (entry.Taken now at id)) (taken_remains s at id now (begun s) (stays x s))
   record_moves s (entry.Purged now at) = by_lines s s (effect_of s (entry.Purged now at)) (purged_remains lane.Durable s at now (begun s) (stays x s))
   record_moves s (entry.Ticked now) = by_lines s s (effect_of s (entry.Ticked now)) (ticked_remains lane.Durable s now (rows_expired now (begun s)) (expiring_remains s now (begun s) (stays x s)))
-  record_moves s (entry.Roll count) = by_lines s s (effect_of s (entry.Roll count)) (idle s _ refl refl refl (omega arith))
+  record_moves s (entry.Set setting) = by_lines s s (effect_of s (entry.Set setting)) (idle s _ refl refl refl (omega arith))
 
   -- Beside a record nothing durable comes.
 

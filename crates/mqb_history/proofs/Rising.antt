@@ -63,18 +63,7 @@ place_of channel j = place_in channel j.stream j.number
 
 by_joined : (channel : Channel) (l : Line) → commitment_placed channel l ≡ option_and_then (place_of channel) (commitment_told l)
 by_joined channel (line.Committed stream number other) = refl
-by_joined channel (line.Put stream number other) = refl
-by_joined channel (line.Refused stream number class other) = refl
-by_joined channel (line.Expired stream number other moment) = refl
-by_joined channel (line.Local other) = refl
-by_joined channel (line.Stored other) = refl
-by_joined channel (line.Bounced class other) = refl
-by_joined channel (line.Released other) = refl
-by_joined channel (line.Took other) = refl
-by_joined channel (line.Purged other) = refl
-by_joined channel (line.Swept other) = refl
-by_joined channel (line.Lapsed other) = refl
-by_joined channel (line.Emptied other) = refl
+by_joined channel l = refl
 
 through : (channel : Channel) (ls : List Line) → filter_map (commitment_placed channel) ls ≡ filter_map (place_of channel) (filter_map commitment_told ls)
 through channel [] = refl

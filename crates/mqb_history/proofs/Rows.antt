@@ -123,18 +123,10 @@ record_rows s r ws made h = at r made
         (rows_then s.outs (apply s x).outs (row_after s.outs (apply s x).outs (applied_no_more s x nothing (made_offers s x h.0.0.rise made)).outs) (commitments ws) h.1))
 
     at : (x : Record) → IsMade s x → HaveRows (apply s x).outs (commitments ws ++ commitments_in s x)
-    at (entry.Identity identity) made = quiet (entry.Identity identity) made tt refl
     at (entry.Peer peer) made = absurd made
-    at (entry.CreateQueue number plan) made = quiet (entry.CreateQueue number plan) made tt refl
     at (entry.Commit now ops) made = sends_rows now (takes_made s now ops) (sends_of ops) (commitments ws)
         (same_outs s.outs (takes_made s now ops).state.outs (commitments ws) (takes_made_rows s now ops).outs h.1)
-    at (entry.Plain now p) made = quiet (entry.Plain now p) made tt refl
-    at (entry.Offered marks) made = quiet (entry.Offered marks) made tt refl
-    at (entry.Arrived now numbers part) made = quiet (entry.Arrived now numbers part) made tt refl
-    at (entry.Taken now place id) made = quiet (entry.Taken now place id) made tt refl
-    at (entry.Purged now place) made = quiet (entry.Purged now place) made tt refl
-    at (entry.Ticked now) made = quiet (entry.Ticked now) made tt refl
-    at (entry.Roll count) made = quiet (entry.Roll count) made tt refl
+    at x made = quiet x made tt refl
 
 pub rowed_by_records : IsByRecords AreRowed
 rowed_by_records = record {

@@ -83,7 +83,6 @@ resolved_peer s t same (name.Public guid false) k e = absurd (at (queue_register
     at : (o : Option ℕ) → at_queue o ≡ AtPeer k → ⊥
     at None f = let none : ⊥ = cc in none
     at (Some number) f = let none : ⊥ = cc in none
-resolved_peer s t same (name.Public guid true) k e = absurd (let none : ⊥ = cc in none)
 resolved_peer s t same (name.Private qm number false) k e = at (same_guid qm s.identity.guid) refl e
   where
     at : (b : Bool) → same_guid qm s.identity.guid ≡ b → cond b (Here (queue_numbered s number)) (at_peer (peer_known s qm)) ≡ AtPeer k
@@ -92,7 +91,6 @@ resolved_peer s t same (name.Private qm number false) k e = at (same_guid qm s.i
     at false f g = ap (λ (i : Identity). cond (same_guid qm i.guid) (Here (queue_numbered t number)) (at_peer (peer_known t qm))) same.identity
         ∙ ap (λ b. cond b (Here (queue_numbered t number)) (at_peer (peer_known t qm))) f
         ∙ ap (λ (ps : List Identity). at_peer (position (λ (p : Identity). same_guid p.guid qm) ps)) same.peers ∙ g
-resolved_peer s t same (name.Private qm number true) k e = absurd (let none : ⊥ = cc in none)
 resolved_peer s t same (name.Direct host queue false) k e = at (is_own_host s.identity host) refl e
   where
     at : (b : Bool) → is_own_host s.identity host ≡ b → cond b (Here (queue_named s queue)) (at_peer (peer_at s host)) ≡ AtPeer k
@@ -101,8 +99,7 @@ resolved_peer s t same (name.Direct host queue false) k e = at (is_own_host s.id
     at false f g = ap (λ (i : Identity). cond (is_own_host i host) (Here (queue_named t queue)) (at_peer (peer_at t host))) same.identity
         ∙ ap (λ b. cond b (Here (queue_named t queue)) (at_peer (peer_at t host))) f
         ∙ ap (λ (ps : List Identity). at_peer (position (is_host_of host) ps)) same.peers ∙ g
-resolved_peer s t same (name.Direct host queue true) k e = absurd (let none : ⊥ = cc in none)
-resolved_peer s t same (name.Machine qm kind) k e = absurd (let none : ⊥ = cc in none)
+resolved_peer s t same x k e = absurd (let none : ⊥ = cc in none)
 
 -- the first row that passes changes
 changed_where : (R : Row → Type 0) (change : Row → Row) (test : Row → Bool) (rows : List Row) → ((row : Row) → test row ≡ true → R row → R (change row)) → AllByRecursion R rows
@@ -254,9 +251,6 @@ module _ (R : Row → Type 0) (s : State) (r : Record) (a : Allows R s r) where
 -- Records.
 
 pub applied_each : (R : Row → Type 0) (s : State) (r : Record) → Allows R s r → AllByRecursion R s.outs → AllByRecursion R (apply s r).outs
-applied_each R s (entry.Identity identity) a h = h
-applied_each R s (entry.Peer peer) a h = h
-applied_each R s (entry.CreateQueue number plan) a h = h
 applied_each R s (entry.Commit now ops) a h = let same = takes_made_rows s now ops in (sends_go R s (entry.Commit now ops) a tt now (takes_made s now ops) (sends_of ops)
     (record { rows = same_all R s.outs (takes_made s now ops).state.outs same.outs h; low = let e = same.next_ordinal in omega (arith, e); manager = same.manager })).rows
 applied_each R s (entry.Plain now p) a h = same_all R s.outs _ (plain_sent_rows (numbers_taken s 1) p.message now).outs h
@@ -268,4 +262,4 @@ applied_each R s (entry.Taken now at id) a h = same_all R s.outs _ (taken_rows a
 applied_each R s (entry.Purged now at) a h = same_all R s.outs _ (purged_rows lane.Durable at now (begun s)).outs h
 applied_each R s (entry.Ticked now) a h = let e = rows_expired now (begun s) in
     same_all R e.state.outs _ (ticked_rows lane.Durable now e).outs (expiring_each R s (entry.Ticked now) a now (length s.outs) (begun s) h)
-applied_each R s (entry.Roll count) a h = h
+applied_each R s r a h = h

@@ -16,7 +16,7 @@ use Rattle.mqb_exactly_once.specs.Words.{In, position_of, row}
 use Rattle.mqb_exactly_once.specs.World.{Channel, Decision, KnownFate, Position, StreamWorld, Transfer}
 use Rattle.mqb_model.specs.Lists.{first_where}
 use Rattle.mqb_model.specs.declared.target.Target.{Target}
-use Rattle.mqb_model.specs.declared.target.Target.TheVariants.{AtPeer, Here, Nowhere}
+use Rattle.mqb_model.specs.declared.target.Target.TheVariants.{Here}
 use Rattle.mqb_model.specs.records.Applying.{apply}
 use Rattle.mqb_model.specs.records.Decisions.{decided_row}
 use Rattle.mqb_model.specs.records.Record.{Record}
@@ -64,9 +64,7 @@ target_not_late s (Here (Some number)) delivery = at (numbered s.places.queues n
     at : (o : Option Queue) → IsNotLate (option_map_or (refusal_by delivery) o (Some BAD_DESTINATION))
     at None = refl
     at (Some q) = refused_not_late delivery q
-target_not_late s (Here None) delivery = refl
-target_not_late s (AtPeer k) delivery = refl
-target_not_late s Nowhere delivery = refl
+target_not_late s t delivery = refl
 
 late_by : (s : State) (p : UserPacket) → is_late (outcome_by (refusal_of s p)) ≡ (p.remaining == 0)
 late_by s p = at (p.remaining == 0)
@@ -92,22 +90,9 @@ MayRule c transfers number _ = Unit {0}
 
 -- and still can where more was sent
 pub may_more : (c : Channel) (olds news : List Transfer) (number : ℕ) → ((t : Transfer) → In t olds → In t news) → (r : Record) → MayRule c olds number r → MayRule c news number r
-may_more c olds news number more (entry.Identity identity) h = tt
-may_more c olds news number more (entry.Peer peer) h = tt
-may_more c olds news number more (entry.CreateQueue queue plan) h = tt
-may_more c olds news number more (entry.Commit now ops) h = tt
-may_more c olds news number more (entry.Plain now p) h = tt
-may_more c olds news number more (entry.Offered marks) h = tt
-may_more c olds news number more (entry.Arrived now numbers entry.Nothing) h = tt
 may_more c olds news number more (entry.Arrived now numbers (entry.Decided p)) h = λ tx e inside. let g = h tx e inside in
     record { transfer = g.transfer; there = more g.transfer g.there; head = g.head; message = g.message; connection = g.connection; late = g.late }
-may_more c olds news number more (entry.Arrived now numbers (entry.Stored p)) h = tt
-may_more c olds news number more (entry.Arrived now numbers (entry.OrderAcknowledged ordinal n)) h = tt
-may_more c olds news number more (entry.Arrived now numbers (entry.Final p)) h = tt
-may_more c olds news number more (entry.Taken now at id) h = tt
-may_more c olds news number more (entry.Purged now at) h = tt
-may_more c olds news number more (entry.Ticked now) h = tt
-may_more c olds news number more (entry.Roll count) h = tt
+may_more c olds news number more r h = tt
 
 -- steps at the destination change nothing else
 pub record IsSameAtSource (v w : StreamWorld) : Type 0 where
@@ -247,18 +232,6 @@ module _ (c : Channel) (v : StreamWorld) (reached : Reached c v) (channel : v.ch
         at false e = apart_ruled e
 
   pub record_ruled : (r : Record) → IsMade s r → MayRule c v.transfers v.connection r → IsRuled c v (apply s r).ins (ws ++ record { by = i; before = s; entry = r } ∷ [])
-  record_ruled (entry.Identity identity) made may = quiet_ruled (entry.Identity identity) tt refl
   record_ruled (entry.Peer peer) made may = absurd made
-  record_ruled (entry.CreateQueue number plan) made may = quiet_ruled (entry.CreateQueue number plan) tt refl
-  record_ruled (entry.Commit now ops) made may = quiet_ruled (entry.Commit now ops) tt refl
-  record_ruled (entry.Plain now p) made may = quiet_ruled (entry.Plain now p) tt refl
-  record_ruled (entry.Offered marks) made may = quiet_ruled (entry.Offered marks) tt refl
-  record_ruled (entry.Arrived now numbers entry.Nothing) made may = quiet_ruled (entry.Arrived now numbers entry.Nothing) tt refl
   record_ruled (entry.Arrived now numbers (entry.Decided p)) made may = arrived_ruled now numbers p made may
-  record_ruled (entry.Arrived now numbers (entry.Stored p)) made may = quiet_ruled (entry.Arrived now numbers (entry.Stored p)) tt refl
-  record_ruled (entry.Arrived now numbers (entry.OrderAcknowledged ordinal number)) made may = quiet_ruled (entry.Arrived now numbers (entry.OrderAcknowledged ordinal number)) tt refl
-  record_ruled (entry.Arrived now numbers (entry.Final p)) made may = quiet_ruled (entry.Arrived now numbers (entry.Final p)) tt refl
-  record_ruled (entry.Taken now at id) made may = quiet_ruled (entry.Taken now at id) tt refl
-  record_ruled (entry.Purged now at) made may = quiet_ruled (entry.Purged now at) tt refl
-  record_ruled (entry.Ticked now) made may = quiet_ruled (entry.Ticked now) tt refl
-  record_ruled (entry.Roll count) made may = quiet_ruled (entry.Roll count) tt refl
+  record_ruled r made may = quiet_ruled r tt refl

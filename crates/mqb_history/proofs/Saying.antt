@@ -184,21 +184,17 @@ module _ (y : Sayings) where
   RecordSays _ = Unit {0}
 
   pub record_says : (s : State) (r : Record) → RecordSays r → AllByRecursion (Says y) (lines_of s r)
-  record_says s (entry.Identity identity) h = tt
-  record_says s (entry.Peer peer) h = tt
-  record_says s (entry.CreateQueue number plan) h = tt
   record_says s (entry.Commit now ops) h = sends_say now (takes_made s now ops) (sends_of ops) h (ops_say now (sends_numbered s ops) ops tt)
   record_says s (entry.Plain now p) h = at (is_here (resolved s p.message.destination))
     where
       at : (b : Bool) → AllByRecursion (Says y) (cond b (line.Local p.message.id ∷ []) [])
       at true = (h, tt)
       at false = tt
-  record_says s (entry.Offered marks) h = tt
   record_says s (entry.Arrived now numbers part) h = part_says now (releases_made s numbers) part h (releases_say (begun s) numbers tt)
   record_says s (entry.Taken now at id) h = taken_say at id now (begun s) h tt
   record_says s (entry.Purged now at) h = purged_say at now (begun s) h tt
   record_says s (entry.Ticked now) h = ticked_say h now (begun s) tt
-  record_says s (entry.Roll count) h = tt
+  record_says s r h = tt
 
   -- the takes of a transaction say nothing
   pub takes_say : (s : State) (now : ℕ) (ops : List RecordOp) → AllByRecursion (Says y) (takes_made s now ops).lines

@@ -68,20 +68,7 @@ decides_at channel (entry.Arrived now numbers (entry.Decided q)) p e = at q.tx r
     at : (o : Option TxHead) → q.tx ≡ o → position_in channel q.message o ≡ Some p → DecidesAt channel (entry.Arrived now numbers (entry.Decided q)) p
     at None f g = absurd (none_some g)
     at (Some tx) f g = by tx f (is_in_channel channel q.message) refl g
-decides_at channel (entry.Identity identity) p e = absurd (none_some e)
-decides_at channel (entry.Peer peer) p e = absurd (none_some e)
-decides_at channel (entry.CreateQueue number plan) p e = absurd (none_some e)
-decides_at channel (entry.Commit now ops) p e = absurd (none_some e)
-decides_at channel (entry.Plain now q) p e = absurd (none_some e)
-decides_at channel (entry.Offered marks) p e = absurd (none_some e)
-decides_at channel (entry.Arrived now numbers entry.Nothing) p e = absurd (none_some e)
-decides_at channel (entry.Arrived now numbers (entry.Stored q)) p e = absurd (none_some e)
-decides_at channel (entry.Arrived now numbers (entry.OrderAcknowledged ordinal number)) p e = absurd (none_some e)
-decides_at channel (entry.Arrived now numbers (entry.Final q)) p e = absurd (none_some e)
-decides_at channel (entry.Taken now at id) p e = absurd (none_some e)
-decides_at channel (entry.Purged now at) p e = absurd (none_some e)
-decides_at channel (entry.Ticked now) p e = absurd (none_some e)
-decides_at channel (entry.Roll count) p e = absurd (none_some e)
+decides_at channel r p e = absurd (none_some e)
 
 module _ (known : List Identity) (apart : AreApart known) (c : Course) (o : IsOrderly known c) (h : Agrees known c) (unexpired : AreUnexpired known c) where
   sent_kept : AreSentKept c

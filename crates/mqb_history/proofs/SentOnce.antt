@@ -61,17 +61,9 @@ module _ (x : MessageId) where
 
   -- a number is given for each send
   record_numbers : (s : State) (r : Record) → IsMade s r → given x s + by_record r ≤ given x (numbered_for s r)
-  record_numbers s (entry.Identity identity) made = omega arith
-  record_numbers s (entry.Peer peer) made = omega arith
-  record_numbers s (entry.CreateQueue number plan) made = omega arith
   record_numbers s (entry.Commit now ops) made = numbers_given x s.identity.guid s.next_number (sends_of ops) made.numbered
   record_numbers s (entry.Plain now p) made = let same = ap (weight x) made.id in let one = given_next x s.identity.guid s.next_number in omega (arith, same, one)
-  record_numbers s (entry.Offered marks) made = omega arith
-  record_numbers s (entry.Arrived now numbers part) made = omega arith
-  record_numbers s (entry.Taken now at id) made = omega arith
-  record_numbers s (entry.Purged now at) made = omega arith
-  record_numbers s (entry.Ticked now) made = omega arith
-  record_numbers s (entry.Roll count) made = omega arith
+  record_numbers s r made = omega arith
 
   abbrev pub IsNumbered : ℕ → State → List Written → Type 0
   IsNumbered i s ws = by_records ws ≤ given x s
@@ -109,18 +101,7 @@ module _ (x : MessageId) where
 
   committed_begins : (l : Line) → committed_in l ≡ Some x → begins x l ≡ 1
   committed_begins (line.Committed stream number id) e = ap (weight x) (some_is id x e) ∙ weight_own x
-  committed_begins (line.Put stream number id) e = absurd (none_some e)
-  committed_begins (line.Refused stream number class id) e = absurd (none_some e)
-  committed_begins (line.Expired stream number id moment) e = absurd (none_some e)
-  committed_begins (line.Local id) e = absurd (none_some e)
-  committed_begins (line.Stored id) e = absurd (none_some e)
-  committed_begins (line.Bounced class id) e = absurd (none_some e)
-  committed_begins (line.Released id) e = absurd (none_some e)
-  committed_begins (line.Took id) e = absurd (none_some e)
-  committed_begins (line.Purged id) e = absurd (none_some e)
-  committed_begins (line.Swept id) e = absurd (none_some e)
-  committed_begins (line.Lapsed id) e = absurd (none_some e)
-  committed_begins (line.Emptied id) e = absurd (none_some e)
+  committed_begins l e = absurd (none_some e)
 
   silent_record : (s : State) (r : Record) → RecordSays silent r → (l : Line) → In l (lines_of s r) → committed_in l ≡ Some x → ⊥
   silent_record s r says l i e = let none = none_begin x (lines_of s r) (record_says silent s r says) in let there = tally_there (begins x) (lines_of s r) l i in let one = committed_begins l e in omega (arith, none, there, one)
@@ -135,15 +116,11 @@ module _ (x : MessageId) where
       at true (inl f) = none_some (ap committed_in f ∙ e)
       at true (inr j) = j
       at false j = j
-  committed_sends s (entry.Identity identity) l i e = absurd (silent_record s (entry.Identity identity) tt l i e)
-  committed_sends s (entry.Peer peer) l i e = absurd (silent_record s (entry.Peer peer) tt l i e)
-  committed_sends s (entry.CreateQueue number plan) l i e = absurd (silent_record s (entry.CreateQueue number plan) tt l i e)
-  committed_sends s (entry.Offered marks) l i e = absurd (silent_record s (entry.Offered marks) tt l i e)
   committed_sends s (entry.Arrived now numbers part) l i e = absurd (silent_record s (entry.Arrived now numbers part) (part_silent now numbers part) l i e)
   committed_sends s (entry.Taken now at id) l i e = absurd (silent_record s (entry.Taken now at id) (λ none other. tt) l i e)
   committed_sends s (entry.Purged now at) l i e = absurd (silent_record s (entry.Purged now at) (λ none other. tt) l i e)
   committed_sends s (entry.Ticked now) l i e = absurd (silent_record s (entry.Ticked now) (λ id. tt) l i e)
-  committed_sends s (entry.Roll count) l i e = absurd (silent_record s (entry.Roll count) tt l i e)
+  committed_sends s r l i e = absurd (silent_record s r tt l i e)
 
 module _ (known : List Identity) (apart : AreApart known) (c : Course) (t : IsAccounted known c) (numbered : (x : MessageId) (j : ℕ) → OfEach (IsNumbered x) c j) (sent : AreAsSent c) where
   sends_once : (x : MessageId) → tally (bears x) (all_sends c.written) ≤ 1

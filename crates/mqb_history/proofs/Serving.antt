@@ -11,6 +11,7 @@ use Rattle.mqb_base.specs.declared.queues.EntryPlace.{EntryPlace}
 use Rattle.mqb_packet.specs.declared.packet.Packet.{Packet}
 use Rattle.mqb_queue.specs.Places.{lists_at, place_named}
 use Rattle.mqb_session.specs.State as one_end
+use Rattle.mqb_model.specs.calls.Call as calls
 use Rattle.mqb_model.specs.calls.Commit.{commit_tried, ops_refusal, trial_of, try_ops, whole_refusal}
 use Rattle.mqb_model.specs.calls.CreateQueue.{create_refusal}
 use Rattle.mqb_model.specs.calls.Link.{rewound}
@@ -28,7 +29,7 @@ use Rattle.mqb_model.specs.state.State.{State}
 use Rattle.mqb_network.specs.Choices.{Failure}
 use Rattle.mqb_network.specs.Courses.{Course, Written, written_by}
 use Rattle.mqb_network.specs.Network.{Network, manager_at, with_manager}
-use Rattle.mqb_history.specs.Calls.{Call, Commit, CreateQueue, Hear, Pump, Purge, Resend, Send, SetRoll, Take, Tick, answerless, outcome_of}
+use Rattle.mqb_model.specs.calls.Call.{Answer, Asks, Call, Commit, CreateQueue, Hear, Pump, Purge, Resend, Send, Set, Take, Tick, answered, outcome_of}
 use Rattle.mqb_history.specs.Changes.{calling, is_of_packets}
 use Rattle.mqb_history.specs.Orderly.{AreAllDisjoint}
 use Rattle.mqb_history.proofs.Between.{from_sender}
@@ -61,8 +62,8 @@ or_works : {X A : Type 0} (own : Guid) (m : Manager) (f : X → Outcome A) (o : 
 or_works own m f None other some = nothing_works own m other
 or_works own m f (Some x) other some = some x
 
-pub same_works : {A : Type 0} (own : Guid) (m : Manager) (outcome : Outcome A) → Works own m outcome → Works own m (answerless outcome)
-same_works own m outcome h = record { session = h.session; entry = h.entry; beside = h.beside }
+pub same_works : {A : Type 0} (says : A → Answer) (own : Guid) (m : Manager) (outcome : Outcome A) → Works own m outcome → Works own m (answered says outcome)
+same_works says own m outcome h = record { session = h.session; entry = h.entry; beside = h.beside }
 
 some_or : (own : Guid) (b : Bool) (r : Record) → IsWork own r → IfSome (cond b None (Some r)) (IsWork own)
 some_or own true r h = tt
@@ -88,44 +89,26 @@ resend_works own m = record { session = at m.rest.session refl; entry = tt; besi
     at (Some session) e = refl
 
 pub calls_work : (own : Guid) (m : Manager) (call : Call) → m.state.identity.guid ≡ own → is_of_packets call ≡ false → Works own m (outcome_of m call)
-calls_work own m (CreateQueue plan) e f = same_works own m _ (unless_works own m (create_refusal m plan) _ (record { session = refl; entry = tt; beside = tt }))
-calls_work own m (SetRoll count) e f = same_works own m _ (unless_works own m (store_refusal m) _ (record { session = refl; entry = tt; beside = tt }))
-calls_work own m (Commit now ops) e f = same_works own m _ (unless_works own m (ops_refusal m ops) _ (commit_works own m now (try_ops now 0 (trial_of m.state) ops)))
-calls_work own m (Send now recoverable p) e f = same_works own m _ (unless_works own m (send_refusal m recoverable (plain_message m.state recoverable now p)) _ (send_works own m recoverable now p e))
-calls_work own m (Take now p) e f = same_works own m _ (unless_works own m (take_refusal m) _ (or_works own m (take_at m now) (place_named m.state.places.queues p) _
+calls_work own m (Asks (CreateQueue plan)) e f = same_works calls.Created own m _ (unless_works own m (create_refusal m plan) _ (record { session = refl; entry = tt; beside = tt }))
+calls_work own m (Asks (Set setting)) e f = same_works calls.WasSet own m _ (unless_works own m (store_refusal m) _ (record { session = refl; entry = tt; beside = tt }))
+calls_work own m (Asks (Commit now ops)) e f = same_works calls.Committed own m _ (unless_works own m (ops_refusal m ops) _ (commit_works own m now (try_ops now 0 (trial_of m.state) ops)))
+calls_work own m (Asks (Send now recoverable p)) e f = same_works calls.Sent own m _ (unless_works own m (send_refusal m recoverable (plain_message m.state recoverable now p)) _ (send_works own m recoverable now p e))
+calls_work own m (Asks (Take now p)) e f = same_works calls.Took own m _ (unless_works own m (take_refusal m) _ (or_works own m (take_at m now) (place_named m.state.places.queues p) _
     (λ at. or_works own m (take_position m at now) (first_in m.state at now) _ (λ q. or_works own m (taking m at now q.lane q.index) (message_at q.lane m.state at q.index) _ (take_works own m at now q.lane q.index)))))
-calls_work own m (Purge now p) e f = same_works own m _ (unless_works own m (purge_refusal m) _ (or_works own m (purge_at m now) (place_named m.state.places.queues p) _
+calls_work own m (Asks (Purge now p)) e f = same_works calls.Purged own m _ (unless_works own m (purge_refusal m) _ (or_works own m (purge_at m now) (place_named m.state.places.queues p) _
     (λ at. or_works own m (purging m now at) (lists_at m.state.places at) _ (λ l. record { session = refl; entry = some_or own (length l.durable == 0) (entry.Purged now at) tt; beside = tt }))))
-calls_work own m (Tick now) e f = same_works own m _ (unless_works own m (store_refusal m) _ (record { session = refl; entry = some_or own _ (entry.Ticked now) tt; beside = tt }))
+calls_work own m (Asks (Tick now)) e f = same_works calls.Ticked own m _ (unless_works own m (store_refusal m) _ (record { session = refl; entry = some_or own _ (entry.Ticked now) tt; beside = tt }))
 calls_work own m Resend e f = resend_works own m
 calls_work own m (Pump now) e f = absurd (clash f)
 calls_work own m (Hear now p) e f = absurd (clash f)
 
 work_own : (own : Guid) (r : Record) → IsWork own r → IsOfOwn own r
-work_own own (entry.Identity identity) h = tt
-work_own own (entry.Peer peer) h = tt
-work_own own (entry.CreateQueue number plan) h = tt
-work_own own (entry.Commit now ops) h = tt
 work_own own (entry.Plain now p) h = h
-work_own own (entry.Offered marks) h = tt
-work_own own (entry.Arrived now numbers part) h = tt
-work_own own (entry.Taken now place id) h = tt
-work_own own (entry.Purged now place) h = tt
-work_own own (entry.Ticked now) h = tt
-work_own own (entry.Roll count) h = tt
+work_own own r h = tt
 
 work_stored : (own : Guid) (ws : List Written) (s : State) (r : Record) → IsWork own r → ReleasesStored ws s r
-work_stored own ws s (entry.Identity identity) h = tt
-work_stored own ws s (entry.Peer peer) h = tt
-work_stored own ws s (entry.CreateQueue number plan) h = tt
-work_stored own ws s (entry.Commit now ops) h = tt
-work_stored own ws s (entry.Plain now p) h = tt
-work_stored own ws s (entry.Offered marks) h = tt
 work_stored own ws s (entry.Arrived now numbers part) h = absurd h
-work_stored own ws s (entry.Taken now place id) h = tt
-work_stored own ws s (entry.Purged now place) h = tt
-work_stored own ws s (entry.Ticked now) h = tt
-work_stored own ws s (entry.Roll count) h = tt
+work_stored own ws s r h = tt
 
 pub if_some : {X : Type 0} (P Q : X → Type 0) (o : Option X) → ((x : X) → P x → Q x) → IfSome o P → IfSome o Q
 if_some P Q None f h = tt
@@ -145,7 +128,7 @@ flows_call c x call i j d works h = with_at (λ y. Flows (manager_at (with_manag
     m : Manager
     m = manager_at n x
 
-    outcome : Outcome (Unit {0})
+    outcome : Outcome Answer
     outcome = outcome_of m call
 
     next : Manager

@@ -308,21 +308,12 @@ durable_waits s n h = record {
 }
 
 same_releases : (ws : List Written) (s t : State) (r : Record) → t.identity ≡ s.identity → ((n : ℕ) → WaitsIn s n → WaitsIn t n) → ReleasesStored ws s r → ReleasesStored ws t r
-same_releases ws s t (entry.Identity identity) e keeps h = tt
-same_releases ws s t (entry.Peer peer) e keeps h = tt
-same_releases ws s t (entry.CreateQueue number plan) e keeps h = tt
-same_releases ws s t (entry.Commit now ops) e keeps h = tt
-same_releases ws s t (entry.Plain now p) e keeps h = tt
-same_releases ws s t (entry.Offered marks) e keeps h = tt
 same_releases ws s t (entry.Arrived now numbers part) e keeps h = all numbers h
   where
     all : (ns : List ℕ) → AllByRecursion (λ n. IsStoredIn ws (own_id s n) × WaitsIn s n) ns → AllByRecursion (λ n. IsStoredIn ws (own_id t n) × WaitsIn t n) ns
     all [] g = tt
     all (n ∷ ns) g = ((subst (λ (i : Identity). IsStoredIn ws (record { qm = i.guid; number = n })) (sym e) g.0.0, keeps n g.0.1), all ns g.1)
-same_releases ws s t (entry.Taken now place id) e keeps h = tt
-same_releases ws s t (entry.Purged now place) e keeps h = tt
-same_releases ws s t (entry.Ticked now) e keeps h = tt
-same_releases ws s t (entry.Roll count) e keeps h = tt
+same_releases ws s t r e keeps h = tt
 
 some_same_releases : (ws : List Written) (s t : State) (o : Option Record) → t.identity ≡ s.identity → ((n : ℕ) → WaitsIn s n → WaitsIn t n) → IfSome o (ReleasesStored ws s) → IfSome o (ReleasesStored ws t)
 some_same_releases ws s t None e keeps h = tt

@@ -69,16 +69,7 @@ left_as : (l : Line) (d : Decision) (f : KnownFate) → left_by l d ≡ Some f �
 left_as (line.Took id) d f e = departed_as Received id d (line.Took id) f refl e
 left_as (line.Purged id) d f e = departed_as Queue_purged id d (line.Purged id) f refl e
 left_as (line.Swept id) d f e = departed_as Receive_timeout id d (line.Swept id) f refl e
-left_as (line.Committed stream number id) d f e = absurd (none_some e)
-left_as (line.Put stream number id) d f e = absurd (none_some e)
-left_as (line.Refused stream number class id) d f e = absurd (none_some e)
-left_as (line.Expired stream number id moment) d f e = absurd (none_some e)
-left_as (line.Local id) d f e = absurd (none_some e)
-left_as (line.Stored id) d f e = absurd (none_some e)
-left_as (line.Bounced class id) d f e = absurd (none_some e)
-left_as (line.Released id) d f e = absurd (none_some e)
-left_as (line.Lapsed id) d f e = absurd (none_some e)
-left_as (line.Emptied id) d f e = absurd (none_some e)
+left_as l d f e = absurd (none_some e)
 
 left_from : (ls : List Line) (ds : List Decision) (f : KnownFate) → In f (fates_left ls ds) → (l : Line) × In l ls × (d : Decision) × In d ds × IsLeft d l f
 left_from ls ds f i = let x = in_flat (λ l. filter_map (left_by l) ds) ls f i in let y = chosen_from (left_by x.0) ds f x.2 in (x.0, x.1, y.0, y.1, left_as x.0 y.0 f y.2)
@@ -96,8 +87,7 @@ departs_by departure d put = by departure
 
     by : (x : Departure) → left_by (departure_line x d.message.id) d ≡ Some (record { position = d.position; fate = Was_put x })
     by Received = told Received
-    by Queue_purged = told Queue_purged
-    by Receive_timeout = told Receive_timeout
+    by x = told x
 
 pub left_in : (ls : List Line) (ds : List Decision) (d : Decision) (departure : Departure) → In d ds → d.outcome ≡ Put → In (departure_line departure d.message.id) ls
     → In (record { position = d.position; fate = Was_put departure }) (fates_left ls ds)

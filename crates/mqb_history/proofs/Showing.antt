@@ -1,7 +1,7 @@
 -- Each channel is shown by a stream world that a run reaches.
 use Rattle.mqb_packet.specs.declared.packet.Packet.TheVariants as packet
 use Rattle.mqb_packet.specs.declared.packet.UserPacket.{UserPacket}
-use Rattle.mqb_history.specs.Calls.{Pump, outcome_of}
+use Rattle.mqb_model.specs.calls.Call.{Pump, outcome_of}
 use Rattle.mqb_history.specs.Acked.{IsDecidedThere, is_order_ack}
 use Rattle.mqb_history.proofs.Spelling.{SpellsRow}
 use Rattle.mqb_history.proofs.Receipting.{AreTelling}

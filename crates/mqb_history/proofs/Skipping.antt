@@ -160,21 +160,8 @@ decides_packet channel now numbers p q (Some tx) there e = at (is_in_channel cha
     at false f e = absurd (none_some e)
 
 pub decides : (channel : Channel) (r : Record) (q : Position) → decided_in channel r ≡ Some q → Decides channel r q
-decides channel (entry.Identity identity) q e = absurd (none_some e)
-decides channel (entry.Peer peer) q e = absurd (none_some e)
-decides channel (entry.CreateQueue number plan) q e = absurd (none_some e)
-decides channel (entry.Commit now ops) q e = absurd (none_some e)
-decides channel (entry.Plain now p) q e = absurd (none_some e)
-decides channel (entry.Offered marks) q e = absurd (none_some e)
-decides channel (entry.Arrived now numbers entry.Nothing) q e = absurd (none_some e)
 decides channel (entry.Arrived now numbers (entry.Decided p)) q e = decides_packet channel now numbers p q p.tx refl e
-decides channel (entry.Arrived now numbers (entry.Stored p)) q e = absurd (none_some e)
-decides channel (entry.Arrived now numbers (entry.OrderAcknowledged ordinal number)) q e = absurd (none_some e)
-decides channel (entry.Arrived now numbers (entry.Final p)) q e = absurd (none_some e)
-decides channel (entry.Taken now place id) q e = absurd (none_some e)
-decides channel (entry.Purged now place) q e = absurd (none_some e)
-decides channel (entry.Ticked now) q e = absurd (none_some e)
-decides channel (entry.Roll count) q e = absurd (none_some e)
+decides channel r q e = absurd (none_some e)
 
 -- a number of a sequence was decided, or expired at the source
 abbrev IsSettledIn : Course → Channel → List Position → SequenceId → ℕ → Type 0

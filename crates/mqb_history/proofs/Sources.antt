@@ -257,18 +257,7 @@ module _ (known : List Identity) (apart : AreApart known) (c : Course) (o : IsOr
 
       at : (l : Line) → In l (mine x.source) → commitment_told l ≡ Some (joined_by (manager_at c.network x.source).state.identity.guid x.commitment) → (stream : Stream) × (number : ℕ) × In (line.Committed stream number id) (mine x.source)
       at (line.Committed stream number other) j e = (stream, number, subst (λ y. In (line.Committed stream number y) (mine x.source)) (ap (λ (y : Joined). y.id) (some_is _ _ e) ∙ x.names) j)
-      at (line.Local other) j e = absurd (none_some e)
-      at (line.Put stream number other) j e = absurd (none_some e)
-      at (line.Refused stream number class other) j e = absurd (none_some e)
-      at (line.Expired stream number other moment) j e = absurd (none_some e)
-      at (line.Stored other) j e = absurd (none_some e)
-      at (line.Bounced class other) j e = absurd (none_some e)
-      at (line.Released other) j e = absurd (none_some e)
-      at (line.Took other) j e = absurd (none_some e)
-      at (line.Purged other) j e = absurd (none_some e)
-      at (line.Swept other) j e = absurd (none_some e)
-      at (line.Lapsed other) j e = absurd (none_some e)
-      at (line.Emptied other) j e = absurd (none_some e)
+      at l j e = absurd (none_some e)
 
   -- one that was committed was not put at its source
   pub not_here : AreCommitmentsTold c → (id : MessageId) → IsCommittedAt known c id → (w : Written) → In w c.written → In (line.Local id) (lines_of w.before w.entry) → ⊥

@@ -20,7 +20,7 @@ use Rattle.mqb_exactly_once.specs.World.{Commitment, Position}
 use Rattle.mqb_model.specs.Lists.{without_first}
 use Rattle.mqb_model.specs.Loops.{for_each_below, repeated}
 use Rattle.mqb_model.specs.declared.target.Target.{Target}
-use Rattle.mqb_model.specs.declared.target.Target.TheVariants.{AtPeer, Here, Nowhere}
+use Rattle.mqb_model.specs.declared.target.Target.TheVariants.{AtPeer}
 use Rattle.mqb_model.specs.records.Applying.{apply, effect_of, lines_of}
 use Rattle.mqb_model.specs.records.Commit.{send_made, sends_numbered, sends_of, takes_made}
 use Rattle.mqb_model.specs.records.Decisions.{decided_line, message_decided, message_stored, stored_line}
@@ -285,23 +285,14 @@ other_unexpired (line.Committed stream number id) h = absurd h
 other_unexpired (line.Put stream number id) h = absurd h
 other_unexpired (line.Refused stream number class id) h = absurd h
 other_unexpired (line.Expired stream number id moment) h = absurd h
-other_unexpired (line.Local id) h = refl
-other_unexpired (line.Stored id) h = refl
-other_unexpired (line.Bounced class id) h = refl
-other_unexpired (line.Released id) h = refl
-other_unexpired (line.Took id) h = refl
-other_unexpired (line.Purged id) h = refl
-other_unexpired (line.Swept id) h = refl
-other_unexpired (line.Lapsed id) h = refl
-other_unexpired (line.Emptied id) h = refl
+other_unexpired l h = refl
 
 quiet_effect : (s : State) (f : Effect) → Adds (begun s) f → expiries_told f.lines ≡ []
 quiet_effect s f a = told_same expiry_told other_unexpired (begun s) f a
 
 commit_expires : (now : ℕ) (s : State) (t : Target) (m : Message) → expiries_told (committed_to now s t m).lines ≡ []
 commit_expires now s (AtPeer k) m = refl
-commit_expires now s (Here queue) m = refl
-commit_expires now s Nowhere m = refl
+commit_expires now s t m = refl
 
 sends_expire : (now : ℕ) (e : Effect) (ms : List Message) → expiries_told (fold (send_made now) e ms).lines ≡ expiries_told e.lines
 sends_expire now e [] = refl
@@ -330,9 +321,6 @@ IsNoTick (entry.Ticked now) = ⊥
 IsNoTick _ = Unit {0}
 
 pub expires_nothing : (s : State) (r : Record) → IsNoTick r → expiries_told (lines_of s r) ≡ []
-expires_nothing s (entry.Identity identity) h = refl
-expires_nothing s (entry.Peer peer) h = refl
-expires_nothing s (entry.CreateQueue number plan) h = refl
 expires_nothing s (entry.Commit now ops) h = sends_expire now (takes_made s now ops) (sends_of ops)
     ∙ told_same expiry_told other_unexpired (sends_numbered s ops) (takes_made s now ops) (ops_add now (sends_numbered s ops) ops)
 expires_nothing s (entry.Plain now p) h = at (is_here (resolved s p.message.destination))
@@ -340,7 +328,6 @@ expires_nothing s (entry.Plain now p) h = at (is_here (resolved s p.message.dest
     at : (b : Bool) → expiries_told (cond b (line.Local p.message.id ∷ []) []) ≡ []
     at true = refl
     at false = refl
-expires_nothing s (entry.Offered marks) h = refl
 expires_nothing s (entry.Arrived now numbers entry.Nothing) h = quiet_effect s (releases_made s numbers) (releases_add (begun s) numbers)
 expires_nothing s (entry.Arrived now numbers (entry.Decided p)) h = decided_expires now (releases_made s numbers) p p.tx (quiet_effect s (releases_made s numbers) (releases_add (begun s) numbers))
 expires_nothing s (entry.Arrived now numbers (entry.Stored p)) h = let e = releases_made s numbers in
@@ -351,7 +338,7 @@ expires_nothing s (entry.Arrived now numbers (entry.Final p)) h = let e = releas
 expires_nothing s (entry.Taken now place id) h = quiet_effect s (effect_of s (entry.Taken now place id)) (taken_adds place id now (begun s))
 expires_nothing s (entry.Purged now place) h = quiet_effect s (effect_of s (entry.Purged now place)) (purged_adds lane.Durable place now (begun s))
 expires_nothing s (entry.Ticked now) h = absurd h
-expires_nothing s (entry.Roll count) h = refl
+expires_nothing s r h = refl
 
 -- Records.
 
@@ -373,19 +360,8 @@ expiry_line (l ∷ ls) p i = at (λ j. expiry_line ls p j) l i
     own rest stream number id moment (inr j) = more (line.Expired stream number id moment) (rest j)
 
     at : (In p (expiries_told ls) → Goal ls) → (x : Line) → In p (cons_option (expiry_told x) (expiries_told ls)) → Goal (x ∷ ls)
-    at rest (line.Committed stream number id) j = more (line.Committed stream number id) (rest j)
     at rest (line.Expired stream number id moment) j = own rest stream number id moment j
-    at rest (line.Put stream number id) j = more (line.Put stream number id) (rest j)
-    at rest (line.Refused stream number class id) j = more (line.Refused stream number class id) (rest j)
-    at rest (line.Local id) j = more (line.Local id) (rest j)
-    at rest (line.Stored id) j = more (line.Stored id) (rest j)
-    at rest (line.Bounced class id) j = more (line.Bounced class id) (rest j)
-    at rest (line.Released id) j = more (line.Released id) (rest j)
-    at rest (line.Took id) j = more (line.Took id) (rest j)
-    at rest (line.Purged id) j = more (line.Purged id) (rest j)
-    at rest (line.Swept id) j = more (line.Swept id) (rest j)
-    at rest (line.Lapsed id) j = more (line.Lapsed id) (rest j)
-    at rest (line.Emptied id) j = more (line.Emptied id) (rest j)
+    at rest x j = more x (rest j)
 
 -- what expired was committed
 pub expired_committed : (s : State) (ws : List Written) (p : Position) → AreDue s ws → In p (expiries_told (lines_written ws)) → (c : Commitment) × In c (commitments ws) × (c.position ≡ p)
@@ -436,17 +412,8 @@ record_tidy s r ws h = at r
             ∙ sym (told_append expiry_told ls e.lines)
 
     at : (x : Record) → AllByRecursion (IsTidy (ls ++ lines_of s x)) (apply s x).outs
-    at (entry.Identity identity) = quiet (entry.Identity identity) tt
-    at (entry.Peer peer) = quiet (entry.Peer peer) tt
-    at (entry.CreateQueue number plan) = quiet (entry.CreateQueue number plan) tt
-    at (entry.Commit now ops) = quiet (entry.Commit now ops) tt
-    at (entry.Plain now p) = quiet (entry.Plain now p) tt
-    at (entry.Offered marks) = quiet (entry.Offered marks) tt
-    at (entry.Arrived now numbers part) = quiet (entry.Arrived now numbers part) tt
-    at (entry.Taken now place id) = quiet (entry.Taken now place id) tt
-    at (entry.Purged now place) = quiet (entry.Purged now place) tt
     at (entry.Ticked now) = tick now
-    at (entry.Roll count) = quiet (entry.Roll count) tt
+    at x = quiet x tt
 
 pub tidy_by_records : IsByRecords AreTidy
 tidy_by_records = record {

@@ -87,8 +87,7 @@ placed_rows s Nowhere m = same_rows s
 
 pub number_rows : (s : State) (d : Delivery) → HasSameRows s (number_taken s d)
 number_rows s delivery.Express = record { manager = record { identity = refl; peers = refl }; outs = refl; ins = refl; next_ordinal = refl; numbers = omega arith }
-number_rows s delivery.Recoverable = record { manager = record { identity = refl; peers = refl }; outs = refl; ins = refl; next_ordinal = refl; numbers = omega arith }
-number_rows s delivery.Transactional = record { manager = record { identity = refl; peers = refl }; outs = refl; ins = refl; next_ordinal = refl; numbers = omega arith }
+number_rows s d = record { manager = record { identity = refl; peers = refl }; outs = refl; ins = refl; next_ordinal = refl; numbers = omega arith }
 
 told_rows : (s : State) (t : Target) (n : Message) → HasSameRows s (told s t n)
 told_rows s t n = rows_if s (may_go s t n.delivery) (placed (number_taken s n.delivery) t n) s
@@ -126,10 +125,7 @@ copied_rows s number m = rows_or s (λ (q : Queue). cond q.plan.journal (put_at 
 
 pub after_take_rows : (s : State) (at : EntryPlace) (m : Message) (now : ℕ) → HasSameRows s (after_take s at m now)
 after_take_rows s (place.Queue number) m now = rows_then s (copied s number m) (after_take s (place.Queue number) m now) (copied_rows s number m) (meets_rows (copied s number m) m RECEIVED now)
-after_take_rows s (place.JournalOf number) m now = same_rows s
-after_take_rows s place.Dead m now = same_rows s
-after_take_rows s place.DeadXact m now = same_rows s
-after_take_rows s place.Journal m now = same_rows s
+after_take_rows s at m now = same_rows s
 
 -- an effect keeps the rows of another
 abbrev pub KeepsRows : Effect → Effect → Type 0

@@ -25,7 +25,7 @@ use Rattle.mqb_network.specs.Network.{Network, Note, manager_at, nobody, with_ma
 use Rattle.mqb_packet.specs.declared.packet.Packet.{Packet}
 use Rattle.mqb_plain.specs.Plain.{PlainLists}
 use Rattle.mqb_queue.specs.Places.{Queue, numbered}
-use Rattle.mqb_history.specs.Calls.{Call, Commit, CreateQueue, Hear, Pump, Purge, Resend, Send, SetRoll, Take, Tick, outcome_of}
+use Rattle.mqb_model.specs.calls.Call.{Call, outcome_of, Hear, Pump}
 use Rattle.mqb_history.specs.Changes.{Change, Calls, Drops, Ends, Fails, Finds, Hears, Links, Pumps, Restarts, calling, changed, given_out, hearing, may_change}
 use Rattle.mqb_history.specs.Decided.{written_of}
 use Rattle.mqb_history.specs.Made.{IsMade}
@@ -80,57 +80,18 @@ parted_quiet m = (parted_rows m, λ x. at x (is_down m), λ P c express. holds P
     at x false = beside_still x beside.Unmarks tt m.state
 
 express_of : (s : State) (call : Call) (b : Beside) → BesideOf s call b → IsExpressBeside b
-express_of s (Send now recoverable parts) (beside.SendsExpress at m) h = h.2
-express_of s (CreateQueue plan) (beside.SendsExpress at m) h = absurd h
-express_of s (SetRoll count) (beside.SendsExpress at m) h = absurd h
-express_of s (Commit now ops) (beside.SendsExpress at m) h = absurd h
-express_of s (Take now p) (beside.SendsExpress at m) h = absurd h
-express_of s (Purge now p) (beside.SendsExpress at m) h = absurd h
-express_of s (Tick now) (beside.SendsExpress at m) h = absurd h
-express_of s Resend (beside.SendsExpress at m) h = absurd h
-express_of s (Pump now) (beside.SendsExpress at m) h = absurd h
-express_of s (Hear now y) (beside.SendsExpress at m) h = absurd h
-express_of s (Hear now y) (beside.HearsExpress peer number at m refusal) h = h.3
-express_of s (Send now recoverable parts) (beside.HearsExpress peer number at m refusal) h = absurd h
-express_of s (CreateQueue plan) (beside.HearsExpress peer number at m refusal) h = absurd h
-express_of s (SetRoll count) (beside.HearsExpress peer number at m refusal) h = absurd h
-express_of s (Commit now ops) (beside.HearsExpress peer number at m refusal) h = absurd h
-express_of s (Take now p) (beside.HearsExpress peer number at m refusal) h = absurd h
-express_of s (Purge now p) (beside.HearsExpress peer number at m refusal) h = absurd h
-express_of s (Tick now) (beside.HearsExpress peer number at m refusal) h = absurd h
-express_of s Resend (beside.HearsExpress peer number at m refusal) h = absurd h
-express_of s (Pump now) (beside.HearsExpress peer number at m refusal) h = absurd h
-express_of s call beside.Nothing h = tt
-express_of s call (beside.TakesExpress now at index) h = tt
-express_of s call (beside.PurgesExpress now at) h = tt
-express_of s call (beside.TicksExpress now) h = tt
-express_of s call beside.Unmarks h = tt
-express_of s call (beside.DropsExpress peer number) h = tt
-express_of s call (beside.NotesSent peer sent) h = tt
+express_of s call (beside.SendsExpress at m) h = ap (λ (x : Message). is_express x.delivery) h.message
+express_of s call (beside.HearsExpress peer number at m refusal) h = h.express
+express_of s call b h = tt
 
 -- what is refused beside a record meets a class of notices
 pub class_beside : (s : State) (call : Call) (peer number now : ℕ) (m : Message) (refusal : Option Class) → BesideOf s call (beside.HearsExpress peer number now m refusal) → IfSome refusal IsOfNotices
-class_beside s (Hear at x) peer number now m refusal h = subst (λ o. IfSome o IsOfNotices) (sym h.4) (refusal_class s h.0)
-class_beside s (Send at recoverable parts) peer number now m refusal h = absurd h
-class_beside s (CreateQueue plan) peer number now m refusal h = absurd h
-class_beside s (SetRoll count) peer number now m refusal h = absurd h
-class_beside s (Commit at ops) peer number now m refusal h = absurd h
-class_beside s (Take at p) peer number now m refusal h = absurd h
-class_beside s (Purge at p) peer number now m refusal h = absurd h
-class_beside s (Tick at) peer number now m refusal h = absurd h
-class_beside s Resend peer number now m refusal h = absurd h
-class_beside s (Pump at) peer number now m refusal h = absurd h
+class_beside s call peer number now m refusal h = subst (λ o. IfSome o IsOfNotices) (sym h.refusal_is) (refusal_class s h.given)
 
 fine_of : (P : MessageId → Message → Type 0) → OfExpress P → (next : MessageId) (s : State) (call : Call) (b : Beside) → BesideOf s call b → IsFineBeside (P next) b
 fine_of P fine next s call (beside.SendsExpress at m) h = fine next m (express_of s call (beside.SendsExpress at m) h)
 fine_of P fine next s call (beside.HearsExpress peer number at m refusal) h = (fine next m (express_of s call (beside.HearsExpress peer number at m refusal) h), class_beside s call peer number at m refusal h)
-fine_of P fine next s call beside.Nothing h = tt
-fine_of P fine next s call (beside.TakesExpress now at index) h = tt
-fine_of P fine next s call (beside.PurgesExpress now at) h = tt
-fine_of P fine next s call (beside.TicksExpress now) h = tt
-fine_of P fine next s call beside.Unmarks h = tt
-fine_of P fine next s call (beside.DropsExpress peer number) h = tt
-fine_of P fine next s call (beside.NotesSent peer sent) h = tt
+fine_of P fine next s call b h = tt
 
 -- Changes.
 

@@ -13,7 +13,7 @@ use Rattle.mqb_network.specs.Courses.{Course}
 use Rattle.mqb_network.specs.Network.{Network, Note, manager_at, nobody, with_manager}
 use Rattle.mqb_packet.specs.declared.packet.Packet.{Packet}
 use Rattle.mqb_queue.specs.Places.{numbered}
-use Rattle.mqb_history.specs.Calls.{Call, Hear, Pump, outcome_of}
+use Rattle.mqb_model.specs.calls.Call.{Call, Hear, Pump, outcome_of}
 use Rattle.mqb_history.specs.Changes.{Change, Calls, Drops, Ends, Fails, Finds, Hears, Links, Pumps, Restarts, calling, changed, given_out, hearing, is_of_packets, may_change, may_fail, may_hear}
 use Rattle.mqb_history.specs.Doubts.{IsAsBefore, StaysDown, started_by}
 use Rattle.mqb_history.specs.Laws.{DownStays, FailuresAreSettled}

@@ -26,7 +26,7 @@ use Rattle.mqb_model.specs.state.State.{State}
 use Rattle.mqb_network.specs.Courses.{Course, Written, written_by}
 use Rattle.mqb_network.specs.Changes.{ended, ended_by, parted}
 use Rattle.mqb_network.specs.Network.{Connection, Network, Note, connection_of, manager_at, with_manager}
-use Rattle.mqb_history.specs.Calls.{Call, outcome_of}
+use Rattle.mqb_model.specs.calls.Call.{Answer, Call, outcome_of}
 use Rattle.mqb_history.specs.Stored.{IsStoredIn, WaitsIn}
 use Rattle.mqb_history.proofs.Between.{AreEnds, elsewhere, ends_turn, first_end, from_sender, outlives}
 use Rattle.mqb_history.proofs.Flowing.{Flows, stored_more}
@@ -54,21 +54,12 @@ ReleasesStored ws s (entry.Arrived now numbers part) = AllByRecursion (λ n. IsS
 ReleasesStored ws s _ = Unit {0}
 
 releases_more : (ws more : List Written) (s : State) (r : Record) → ReleasesStored ws s r → ReleasesStored (ws ++ more) s r
-releases_more ws more s (entry.Identity identity) h = tt
-releases_more ws more s (entry.Peer peer) h = tt
-releases_more ws more s (entry.CreateQueue number plan) h = tt
-releases_more ws more s (entry.Commit now ops) h = tt
-releases_more ws more s (entry.Plain now p) h = tt
-releases_more ws more s (entry.Offered marks) h = tt
 releases_more ws more s (entry.Arrived now numbers part) h = all numbers h
   where
     all : (ns : List ℕ) → AllByRecursion (λ n. IsStoredIn ws (own_id s n) × WaitsIn s n) ns → AllByRecursion (λ n. IsStoredIn (ws ++ more) (own_id s n) × WaitsIn s n) ns
     all [] g = tt
     all (n ∷ ns) g = ((stored_more ws more (own_id s n) g.0.0, g.0.1), all ns g.1)
-releases_more ws more s (entry.Taken now place id) h = tt
-releases_more ws more s (entry.Purged now place) h = tt
-releases_more ws more s (entry.Ticked now) h = tt
-releases_more ws more s (entry.Roll count) h = tt
+releases_more ws more s r h = tt
 
 pub some_releases_more : (ws more : List Written) (s : State) (o : Option Record) → IfSome o (ReleasesStored ws s) → IfSome o (ReleasesStored (ws ++ more) s)
 some_releases_more ws more s None h = tt
@@ -157,11 +148,11 @@ unread_rests m h = record {
   doubt = h.doubt;
 }
 
-pub failed_rests : (m : Manager) (outcome : Outcome (Unit {0})) (h : Rests m) → IfSome outcome.entry (IsOfOwn h.own) → Rests (failed m outcome)
+pub failed_rests : (m : Manager) (outcome : Outcome Answer) (h : Rests m) → IfSome outcome.entry (IsOfOwn h.own) → Rests (failed m outcome)
 failed_rests m outcome h o = record { own = h.own; waits = h.waits; unsent = λ up none. absurd (clash up); doubt = o }
 
 -- a call that sends nothing
-pub called_rests : (m : Manager) (outcome : Outcome (Unit {0})) (h : Rests m) → is_some outcome.rest.session ≡ is_some m.rest.session → IfSome outcome.entry (IsOfOwn h.own)
+pub called_rests : (m : Manager) (outcome : Outcome Answer) (h : Rests m) → is_some outcome.rest.session ≡ is_some m.rest.session → IfSome outcome.entry (IsOfOwn h.own)
     → IsPlainBeside outcome.beside → Rests (succeeded m outcome)
 called_rests m outcome h same o b = record {
   own = h.own;
@@ -212,7 +203,7 @@ well_keeps c x call k rests stores flows = record {
     m : Manager
     m = manager_at c.network x
 
-    outcome : Outcome (Unit {0})
+    outcome : Outcome Answer
     outcome = outcome_of m call
 
     more : List Written
@@ -270,7 +261,7 @@ failing_keeps c x call how disjoint k own stores = record {
     m : Manager
     m = manager_at c.network x
 
-    outcome : Outcome (Unit {0})
+    outcome : Outcome Answer
     outcome = outcome_of m call
 
     next : Network

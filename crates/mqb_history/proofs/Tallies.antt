@@ -142,9 +142,7 @@ module _ (x : MessageId) where
           → in_queues x (option_map_or (λ l. record p { queues = option_map_or (λ q. slice_set p.queues (k - 1) (record q { journal = g l })) o p.queues }) (option_map (λ q. q.journal) o) p) ≤ in_queues x p + n
       by None e = omega arith
       by (Some q) e = let set = tally_set (in_queue x) p.queues (k - 1) q (record q { journal = g q.journal }) (place_there p.queues k q e) in omega (arith, set)
-  changed_more p place.Dead g n more = omega arith
-  changed_more p place.DeadXact g n more = omega arith
-  changed_more p place.Journal g n more = omega arith
+  changed_more p at g n more = omega arith
 
   -- what is no queue is not counted
   pub elsewhere : (p : Places) (at : EntryPlace) (g : Lists → Lists) → is_queue at ≡ false → in_queues x (changed_at p at g) ≤ in_queues x p
@@ -155,9 +153,7 @@ module _ (x : MessageId) where
           → in_queues x (option_map_or (λ l. record p { queues = option_map_or (λ q. slice_set p.queues (k - 1) (record q { journal = g l })) o p.queues }) (option_map (λ q. q.journal) o) p) ≤ in_queues x p
       by None e = omega arith
       by (Some q) e = let set = tally_set (in_queue x) p.queues (k - 1) q (record q { journal = g q.journal }) (place_there p.queues k q e) in omega (arith, set)
-  elsewhere p place.Dead g e = omega arith
-  elsewhere p place.DeadXact g e = omega arith
-  elsewhere p place.Journal g e = omega arith
+  elsewhere p at g e = omega arith
 
   -- the lists of a queue have fewer
   pub changed_less : (p : Places) (k : ℕ) (g : Lists → Lists) (l : Lists) (n : ℕ) → lists_at p (place.Queue k) ≡ Some l → in_lists x (g l) + n ≤ in_lists x l → in_queues x (changed_at p (place.Queue k) g) + n ≤ in_queues x p

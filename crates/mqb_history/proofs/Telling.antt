@@ -62,8 +62,7 @@ quiet_effect channel s f a = told_same (decision_told channel) (other_undecided 
 
 commit_tells : (channel : Channel) (now : ℕ) (s : State) (t : Target) (m : Message) → told channel (committed_to now s t m).lines ≡ []
 commit_tells channel now s (AtPeer k) m = refl
-commit_tells channel now s (Here queue) m = refl
-commit_tells channel now s Nowhere m = refl
+commit_tells channel now s t m = refl
 
 sends_tell : (channel : Channel) (now : ℕ) (e : Effect) (ms : List Message) → told channel (fold (send_made now) e ms).lines ≡ told channel e.lines
 sends_tell channel now e [] = refl
@@ -92,9 +91,6 @@ decided_tells channel now e p (Some tx) none = joined_tells channel e (message_d
 -- Records.
 
 pub record_tells : (channel : Channel) (s : State) (r : Record) → told channel (lines_of s r) ≡ cons_option (decided_in channel r) []
-record_tells channel s (entry.Identity identity) = refl
-record_tells channel s (entry.Peer peer) = refl
-record_tells channel s (entry.CreateQueue number plan) = refl
 record_tells channel s (entry.Commit now ops) = sends_tell channel now (takes_made s now ops) (sends_of ops)
     ∙ told_same (decision_told channel) (other_undecided channel) (sends_numbered s ops) (takes_made s now ops) (ops_add now (sends_numbered s ops) ops)
 record_tells channel s (entry.Plain now p) = at (is_here (resolved s p.message.destination))
@@ -102,7 +98,6 @@ record_tells channel s (entry.Plain now p) = at (is_here (resolved s p.message.d
     at : (b : Bool) → told channel (cond b (line.Local p.message.id ∷ []) []) ≡ []
     at true = refl
     at false = refl
-record_tells channel s (entry.Offered marks) = refl
 record_tells channel s (entry.Arrived now numbers entry.Nothing) = quiet_effect channel s (releases_made s numbers) (releases_add (begun s) numbers)
 record_tells channel s (entry.Arrived now numbers (entry.Decided p)) = decided_tells channel now (releases_made s numbers) p p.tx
     (quiet_effect channel s (releases_made s numbers) (releases_add (begun s) numbers))
@@ -115,7 +110,7 @@ record_tells channel s (entry.Arrived now numbers (entry.Final p)) = let e = rel
 record_tells channel s (entry.Taken now place id) = quiet_effect channel s (effect_of s (entry.Taken now place id)) (taken_adds place id now (begun s))
 record_tells channel s (entry.Purged now place) = quiet_effect channel s (effect_of s (entry.Purged now place)) (purged_adds lane.Durable place now (begun s))
 record_tells channel s (entry.Ticked now) = ticking_tells (decision_told channel) (other_undecided channel) (λ stream number id moment. refl) s now
-record_tells channel s (entry.Roll count) = refl
+record_tells channel s r = refl
 
 -- of all records, in order
 lines_tell : (channel : Channel) (ws : List Written) → told channel (lines_written ws) ≡ decisions channel ws
@@ -211,9 +206,6 @@ decided_joins now e p None none = none
 decided_joins now e p (Some tx) none = more_joins e (message_decided now e.state p tx) none (line_joins p.message tx (refusal_of e.state p))
 
 pub record_joins : (s : State) (r : Record) → told_joins (lines_of s r) ≡ map (joined_by s.identity.guid) (commitments_in s r)
-record_joins s (entry.Identity identity) = refl
-record_joins s (entry.Peer peer) = refl
-record_joins s (entry.CreateQueue number plan) = refl
 record_joins s (entry.Commit now ops) = let e = takes_made s now ops in
     sends_join s.identity.guid now e (sends_of ops) (ap (λ (i : Identity). i.guid) (takes_made_rows s now ops).manager.identity)
     ∙ ap (λ js. js ++ map (joined_by s.identity.guid) (commitments_of now e (sends_of ops)))
@@ -223,7 +215,6 @@ record_joins s (entry.Plain now p) = at (is_here (resolved s p.message.destinati
     at : (b : Bool) → told_joins (cond b (line.Local p.message.id ∷ []) []) ≡ []
     at true = refl
     at false = refl
-record_joins s (entry.Offered marks) = refl
 record_joins s (entry.Arrived now numbers entry.Nothing) = quiet_joins s (releases_made s numbers) (releases_add (begun s) numbers)
 record_joins s (entry.Arrived now numbers (entry.Decided p)) = decided_joins now (releases_made s numbers) p p.tx (quiet_joins s (releases_made s numbers) (releases_add (begun s) numbers))
 record_joins s (entry.Arrived now numbers (entry.Stored p)) = let e = releases_made s numbers in
@@ -234,7 +225,7 @@ record_joins s (entry.Arrived now numbers (entry.Final p)) = let e = releases_ma
 record_joins s (entry.Taken now place id) = quiet_joins s (effect_of s (entry.Taken now place id)) (taken_adds place id now (begun s))
 record_joins s (entry.Purged now place) = quiet_joins s (effect_of s (entry.Purged now place)) (purged_adds lane.Durable place now (begun s))
 record_joins s (entry.Ticked now) = ticking_tells commitment_told other_uncommitted (λ stream number id moment. refl) s now
-record_joins s (entry.Roll count) = refl
+record_joins s r = refl
 
 -- The law.
 

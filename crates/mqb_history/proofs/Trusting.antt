@@ -99,18 +99,12 @@ module _ (own : Guid) (K J : MessageId → Type 0) (V W : ℕ → Type 0) (more 
 
 -- what is done beside a record is right in each state of the manager
 pub beside_moved : (b : Beside) (s t : State) → IsSameManager s t → IsRightBeside s b → IsRightBeside t b
-beside_moved beside.Nothing s t same h = tt
 beside_moved (beside.SendsExpress now m) s t same h = h
-beside_moved (beside.TakesExpress now at index) s t same h = tt
-beside_moved (beside.PurgesExpress now at) s t same h = tt
-beside_moved (beside.TicksExpress now) s t same h = tt
-beside_moved beside.Unmarks s t same h = tt
-beside_moved (beside.DropsExpress peer number) s t same h = tt
 beside_moved (beside.HearsExpress peer number now m refusal) s t same h = (
   h.0,
   λ e k f. h.1 e k (resolved_peer t s (record { identity = sym same.identity; peers = sym same.peers }) m.destination k f),
 )
-beside_moved (beside.NotesSent peer sent) s t same h = tt
+beside_moved b s t same h = tt
 
 -- A number of a row, whatever else changes of it.
 there_as : (c : Course) (i : ℕ) (a b : Row) (n : ℕ) → b.peer ≡ a.peer → b.destination ≡ a.destination → b.sequence ≡ a.sequence → IsDecidedThere c i a n → IsDecidedThere c i b n
@@ -153,30 +147,12 @@ record MayBeAcked (c : Course) (i : ℕ) (s : State) (r : Record) (row : Row) : 
   pub final : (m : Message) (k : Kept) → Finishes r m → peer_known s m.id.qm ≡ Some row.peer → In k row.kept → same_id k.message.id m.correlation ≡ true → IsDecidedThere c i row k.number
 
 no_acks : (r : Record) (ordinal number : ℕ) → IsCommit r → Acknowledges r ordinal number → ⊥
-no_acks (entry.Identity identity) ordinal number h g = h
-no_acks (entry.Peer peer) ordinal number h g = h
-no_acks (entry.CreateQueue n plan) ordinal number h g = h
 no_acks (entry.Commit now ops) ordinal number h g = g
-no_acks (entry.Plain now p) ordinal number h g = h
-no_acks (entry.Offered marks) ordinal number h g = h
-no_acks (entry.Arrived now numbers part) ordinal number h g = h
-no_acks (entry.Taken now place id) ordinal number h g = h
-no_acks (entry.Purged now place) ordinal number h g = h
-no_acks (entry.Ticked now) ordinal number h g = h
-no_acks (entry.Roll count) ordinal number h g = h
+no_acks r ordinal number h g = h
 
 no_final : (r : Record) (m : Message) → IsCommit r → Finishes r m → ⊥
-no_final (entry.Identity identity) m h g = h
-no_final (entry.Peer peer) m h g = h
-no_final (entry.CreateQueue n plan) m h g = h
 no_final (entry.Commit now ops) m h g = g
-no_final (entry.Plain now p) m h g = h
-no_final (entry.Offered marks) m h g = h
-no_final (entry.Arrived now numbers part) m h g = h
-no_final (entry.Taken now place id) m h g = h
-no_final (entry.Purged now place) m h g = h
-no_final (entry.Ticked now) m h g = h
-no_final (entry.Roll count) m h g = h
+no_final r m h g = h
 
 acked_as : (c : Course) (i : ℕ) (a b : Row) → b.peer ≡ a.peer → b.destination ≡ a.destination → b.sequence ≡ a.sequence → b.acked ≡ a.acked → IsAckedTruly c i a → IsAckedTruly c i b
 acked_as c i a b peer destination sequence same (inl e) = inl (same ∙ e)
@@ -256,13 +232,8 @@ module _ (known : List Identity) (c d : Course) (later : Later known c d) (i : �
 
   -- a record is right where it is true
   right : (r : Record) → IsMade state r → IsTrueRecord known c i state r → In (record { by = i; before = state; entry = r }) (written_of i d.written) → IsRight own (Known known d i) state r
-  right (entry.Identity identity) made h there = tt
-  right (entry.Peer peer) made h there = tt
-  right (entry.CreateQueue number plan) made h there = tt
   right (entry.Commit now ops) made h there = made.numbered
   right (entry.Plain now p) made h there = (made.id, made.left, made.ordinary)
-  right (entry.Offered marks) made h there = tt
-  right (entry.Arrived now numbers entry.Nothing) made h there = tt
   right (entry.Arrived now numbers (entry.Decided p)) made h there = λ e. inr (inl (record {
     written = record { by = i; before = state; entry = entry.Arrived now numbers (entry.Decided p) };
     there = there;
@@ -275,26 +246,12 @@ module _ (known : List Identity) (c d : Course) (later : Later known c d) (i : �
     names = refl;
   }))
   right (entry.Arrived now numbers (entry.Stored p)) made h there = λ e. inr (inr (later.unused p.message.id (h.stored p refl e)))
-  right (entry.Arrived now numbers (entry.OrderAcknowledged ordinal number)) made h there = tt
-  right (entry.Arrived now numbers (entry.Final p)) made h there = tt
-  right (entry.Taken now place id) made h there = tt
-  right (entry.Purged now place) made h there = tt
-  right (entry.Ticked now) made h there = tt
-  right (entry.Roll count) made h there = tt
+  right r made h there = tt
 
   -- how a record begins
   start_is : (r : Record) → (started state r).next_number ≡ state.next_number + sent_by r
-  start_is (entry.Identity identity) = omega arith
-  start_is (entry.Peer peer) = omega arith
-  start_is (entry.CreateQueue number plan) = omega arith
   start_is (entry.Commit now ops) = refl
-  start_is (entry.Plain now p) = omega arith
-  start_is (entry.Offered marks) = omega arith
-  start_is (entry.Arrived now numbers part) = omega arith
-  start_is (entry.Taken now place id) = omega arith
-  start_is (entry.Purged now place) = omega arith
-  start_is (entry.Ticked now) = omega arith
-  start_is (entry.Roll count) = omega arith
+  start_is r = omega arith
 
   module _ (counted : AreCounted state (written_of i c.written)) (knows : Knows own (Known known c i) (Vacant c i) state) where
     more_known : (id : MessageId) → Known known c i id → Known known d i id
@@ -327,17 +284,8 @@ module _ (known : List Identity) (c d : Course) (later : Later known c d) (i : �
 
       -- so many numbers are left
       bounded : (x : Record) → IsMade state x → (started state x).next_number ≤ MAX_NUMBER + 1
-      bounded (entry.Identity identity) m = knows.bounded
-      bounded (entry.Peer peer) m = knows.bounded
-      bounded (entry.CreateQueue number plan) m = knows.bounded
       bounded (entry.Commit now ops) m = m.left
-      bounded (entry.Plain now p) m = knows.bounded
-      bounded (entry.Offered marks) m = knows.bounded
-      bounded (entry.Arrived now numbers part) m = knows.bounded
-      bounded (entry.Taken now place id) m = knows.bounded
-      bounded (entry.Purged now place) m = knows.bounded
-      bounded (entry.Ticked now) m = knows.bounded
-      bounded (entry.Roll count) m = knows.bounded
+      bounded x m = knows.bounded
 
       -- what it begins with, but for the number
       record Begins (t : State) : Type 0 where
@@ -348,16 +296,7 @@ module _ (known : List Identity) (c d : Course) (later : Later known c d) (i : �
 
       begins : (x : Record) → Begins (started state x)
       begins (entry.Identity identity) = record { identity = refl; plain = refl; places = refl; outs = refl }
-      begins (entry.Peer peer) = record { identity = refl; plain = refl; places = refl; outs = refl }
-      begins (entry.CreateQueue number plan) = record { identity = refl; plain = refl; places = refl; outs = refl }
-      begins (entry.Commit now ops) = record { identity = refl; plain = refl; places = refl; outs = refl }
-      begins (entry.Plain now p) = record { identity = refl; plain = refl; places = refl; outs = refl }
-      begins (entry.Offered marks) = record { identity = refl; plain = refl; places = refl; outs = refl }
-      begins (entry.Arrived now numbers part) = record { identity = refl; plain = refl; places = refl; outs = refl }
-      begins (entry.Taken now place id) = record { identity = refl; plain = refl; places = refl; outs = refl }
-      begins (entry.Purged now place) = record { identity = refl; plain = refl; places = refl; outs = refl }
-      begins (entry.Ticked now) = record { identity = refl; plain = refl; places = refl; outs = refl }
-      begins (entry.Roll count) = record { identity = refl; plain = refl; places = refl; outs = refl }
+      begins x = record { identity = refl; plain = refl; places = refl; outs = refl }
 
       starts : Knows own (Known known d i) (Vacant d i) (started state r)
       starts = let b = begins r in let next = start_is r in record {

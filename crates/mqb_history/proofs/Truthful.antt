@@ -58,35 +58,14 @@ module _ (known : List Identity) (apart : AreApart known) (c : Course) (o : IsOr
       by : (x : Line) → failed_in x ≡ Some id → (w : Written) × In w c.written × In x (lines_of w.before w.entry) → IsCommittedAt known c id
       by (line.Expired stream number other moment) e w = subst (IsCommittedAt known c) (some_is other id e) (expired_at known apart c o h counted duly w.0 stream number other moment w.1 w.2).0
       by (line.Refused stream number class other) e w = subst (IsCommittedAt known c) (some_is other id e) (refused_at known apart c o h counted truly w.0 stream number class other w.1 w.2).committed
-      by (line.Committed stream number other) e w = absurd (none_some e)
-      by (line.Put stream number other) e w = absurd (none_some e)
-      by (line.Local other) e w = absurd (none_some e)
-      by (line.Stored other) e w = absurd (none_some e)
-      by (line.Bounced class other) e w = absurd (none_some e)
-      by (line.Released other) e w = absurd (none_some e)
-      by (line.Took other) e w = absurd (none_some e)
-      by (line.Purged other) e w = absurd (none_some e)
-      by (line.Swept other) e w = absurd (none_some e)
-      by (line.Lapsed other) e w = absurd (none_some e)
-      by (line.Emptied other) e w = absurd (none_some e)
+      by x e w = absurd (none_some e)
 
   pub local_line : (id : MessageId) → In id (told_by local_in c) → Told c (line.Local id)
   local_line id i = let l = told_from local_in (lines_written c.written) id i in by l.0 l.2 l.1
     where
       by : (x : Line) → local_in x ≡ Some id → Told c x → Told c (line.Local id)
       by (line.Local other) e j = subst (λ k. Told c (line.Local k)) (some_is other id e) j
-      by (line.Expired stream number other moment) e j = absurd (none_some e)
-      by (line.Refused stream number class other) e j = absurd (none_some e)
-      by (line.Committed stream number other) e j = absurd (none_some e)
-      by (line.Put stream number other) e j = absurd (none_some e)
-      by (line.Stored other) e j = absurd (none_some e)
-      by (line.Bounced class other) e j = absurd (none_some e)
-      by (line.Released other) e j = absurd (none_some e)
-      by (line.Took other) e j = absurd (none_some e)
-      by (line.Purged other) e j = absurd (none_some e)
-      by (line.Swept other) e j = absurd (none_some e)
-      by (line.Lapsed other) e j = absurd (none_some e)
-      by (line.Emptied other) e j = absurd (none_some e)
+      by x e j = absurd (none_some e)
 
   pub not_local : IsNoLocalRefused c
   not_local m id inside refuses local = let l = local_line id local in let w = record_of (line.Local id) l in
@@ -100,18 +79,7 @@ module _ (known : List Identity) (apart : AreApart known) (c : Course) (o : IsOr
     where
       by : (x : Line) → put_in x ≡ Some id → Told c x → (stream : Stream) × (number : ℕ) × Told c (line.Put stream number id)
       by (line.Put stream number other) e j = (stream, number, subst (λ k. Told c (line.Put stream number k)) (some_is other id e) j)
-      by (line.Local other) e j = absurd (none_some e)
-      by (line.Expired stream number other moment) e j = absurd (none_some e)
-      by (line.Refused stream number class other) e j = absurd (none_some e)
-      by (line.Committed stream number other) e j = absurd (none_some e)
-      by (line.Stored other) e j = absurd (none_some e)
-      by (line.Bounced class other) e j = absurd (none_some e)
-      by (line.Released other) e j = absurd (none_some e)
-      by (line.Took other) e j = absurd (none_some e)
-      by (line.Purged other) e j = absurd (none_some e)
-      by (line.Swept other) e j = absurd (none_some e)
-      by (line.Lapsed other) e j = absurd (none_some e)
-      by (line.Emptied other) e j = absurd (none_some e)
+      by x e j = absurd (none_some e)
 
   abbrev channel_of : Stream → Channel
   channel_of stream = record { source = stream.source; destination = stream.destination }
@@ -182,17 +150,7 @@ module _ (known : List Identity) (apart : AreApart known) (c : Course) (o : IsOr
           → (v : Written) × In v c.written × In x (lines_of v.before v.entry) → ⊥
       by t n w j b (line.Expired stream number other moment) e v = expired_not_put unexpired v.0 w stream t number n id moment v.1 (subst (λ k. In (line.Expired stream number k moment) (lines_of v.0.before v.0.entry)) (some_is other id e) v.2) j b
       by t n w j b (line.Refused stream number class other) e v = refused_not_put v.0 w stream t number n class id v.1 (subst (λ k. In (line.Refused stream number class k) (lines_of v.0.before v.0.entry)) (some_is other id e) v.2) j b
-      by t n w j b (line.Committed stream number other) e v = absurd (none_some e)
-      by t n w j b (line.Put stream number other) e v = absurd (none_some e)
-      by t n w j b (line.Local other) e v = absurd (none_some e)
-      by t n w j b (line.Stored other) e v = absurd (none_some e)
-      by t n w j b (line.Bounced class other) e v = absurd (none_some e)
-      by t n w j b (line.Released other) e v = absurd (none_some e)
-      by t n w j b (line.Took other) e v = absurd (none_some e)
-      by t n w j b (line.Purged other) e v = absurd (none_some e)
-      by t n w j b (line.Swept other) e v = absurd (none_some e)
-      by t n w j b (line.Lapsed other) e v = absurd (none_some e)
-      by t n w j b (line.Emptied other) e v = absurd (none_some e)
+      by t n w j b x e v = absurd (none_some e)
 
 -- The law.
 pub always_truthful : AlwaysTruthful

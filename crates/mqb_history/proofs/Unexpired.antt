@@ -25,8 +25,8 @@ use Rattle.mqb_packet.specs.declared.packet.Packet.TheVariants as packet
 use Rattle.mqb_packet.specs.declared.packet.UserPacket.{UserPacket}
 use Rattle.mqb_orders.specs.Rows.{Row}
 use Rattle.mqb_queue.specs.Places.{numbered}
-use Rattle.mqb_history.specs.Calls.{Call, Hear, Pump, outcome_of}
-use Rattle.mqb_history.specs.Changes.{Calls, Change, Drops, Ends, Fails, Finds, Hears, Links, Pumps, Restarts, calling, changed, hearing, may_change}
+use Rattle.mqb_model.specs.calls.Call.{Answer, Call, Hear, Pump, outcome_of}
+use Rattle.mqb_history.specs.Changes.{Calls, Change, Hears, Pumps, calling, changed, hearing, may_change}
 use Rattle.mqb_history.specs.Decided.{written_of}
 use Rattle.mqb_history.specs.Expired.{expiries_told, expiry_told}
 use Rattle.mqb_history.specs.Made.{IsMade}
@@ -41,7 +41,7 @@ use Rattle.mqb_history.proofs.Keeping.{IsClosed}
 use Rattle.mqb_history.proofs.Kept.{KeepsLeft, left_by_records}
 use Rattle.mqb_history.proofs.Leads.{AreLed, RowLeads, led_by_records}
 use Rattle.mqb_history.proofs.Leaving.{IsClean, expired_either}
-use Rattle.mqb_history.proofs.Lists.{append_nothing, get_within, none_some, set_there, some_is, within_get}
+use Rattle.mqb_history.proofs.Lists.{append_nothing, get_within, none_some, set_there, some_is, within_get, clash}
 use Rattle.mqb_history.proofs.Noticed.{told_from}
 use Rattle.mqb_history.proofs.Offered.{IsOffered, mark_of, pumped_offers}
 use Rattle.mqb_history.proofs.Offering.{IsAbove, StandsIn, line_above, record_stands, same_stands}
@@ -75,18 +75,7 @@ none_above s r tx stands e = let l = told_from expiry_told (lines_of s r) (recor
   where
     at : (x : Line) → IsAbove (mark_of tx) x → expiry_told x ≡ Some (record { sequence = tx.sequence; number = tx.number }) → ⊥
     at (line.Expired stream number id moment) g e = let same = some_is _ _ e in let lt = g (ap (λ (p : Position). p.sequence.ordinal) same) in let own = ap (λ (p : Position). p.number) same in omega (arith, lt, own)
-    at (line.Committed stream number id) g e = none_some e
-    at (line.Put stream number id) g e = none_some e
-    at (line.Refused stream number class id) g e = none_some e
-    at (line.Local id) g e = none_some e
-    at (line.Stored id) g e = none_some e
-    at (line.Bounced class id) g e = none_some e
-    at (line.Released id) g e = none_some e
-    at (line.Took id) g e = none_some e
-    at (line.Purged id) g e = none_some e
-    at (line.Swept id) g e = none_some e
-    at (line.Lapsed id) g e = none_some e
-    at (line.Emptied id) g e = none_some e
+    at x g e = none_some e
 
 -- with one record more
 stands_more : (i : ℕ) (s : State) (r : Record) (ws : List Written) (tx : TxHead) → IsMade s r → KeepsLeft s ws → StandsFor s ws tx
@@ -136,17 +125,15 @@ sent_stands i m o ws all p tx nothing same k h = record { stands = h.stands; las
 
 offers_nothing : (s : State) (now : ℕ) (o : Option Record) → IfSome o (RecordOf s (Pump now)) → SaysNothing s o
 offers_nothing s now None h = tt
-offers_nothing s now (Some (entry.Offered marks)) h = refl
 offers_nothing s now (Some (entry.Identity identity)) h = absurd h
 offers_nothing s now (Some (entry.Peer peer)) h = absurd h
-offers_nothing s now (Some (entry.CreateQueue number plan)) h = absurd h
-offers_nothing s now (Some (entry.Commit at ops)) h = absurd h
-offers_nothing s now (Some (entry.Plain at p)) h = absurd h
-offers_nothing s now (Some (entry.Arrived at numbers part)) h = absurd h
-offers_nothing s now (Some (entry.Taken at place id)) h = absurd h
-offers_nothing s now (Some (entry.Purged at place)) h = absurd h
-offers_nothing s now (Some (entry.Ticked at)) h = absurd h
-offers_nothing s now (Some (entry.Roll count)) h = absurd h
+offers_nothing s now (Some (entry.Commit at ops)) h = absurd (let none = h.call_is in cc)
+offers_nothing s now (Some (entry.Plain at p)) h = absurd (let none = h.call_is in cc)
+offers_nothing s now (Some (entry.Arrived at numbers part)) h = absurd (let none = h.call_is in cc)
+offers_nothing s now (Some (entry.Taken at place id)) h = absurd (clash h)
+offers_nothing s now (Some (entry.Purged at place)) h = absurd (clash h)
+offers_nothing s now (Some (entry.Ticked at)) h = absurd (clash h)
+offers_nothing s now o h = refl
 
 -- Courses.
 
@@ -169,7 +156,7 @@ module _ (known : List Identity) (apart : AreApart known) (c : Course) (o : IsOr
   abbrev pumper : Manager
   pumper = manager_at c.network i
 
-  abbrev outcome : Outcome (Unit {0})
+  abbrev outcome : Outcome Answer
   outcome = outcome_of pumper (Pump now)
 
   abbrev after : Course
@@ -247,12 +234,7 @@ change_holds known apart c (Calls i call failure) may o led h = quiet_holds know
 change_holds known apart c (Pumps i now None) may o led h = pump_holds known apart c o led h i now may
 change_holds known apart c (Pumps i now (Some how)) may o led h = quiet_holds known c (Pumps i now (Some how)) may o (append_nothing (calling i (Pump now) (Some how) c).sent ∙ calls_sent i (Pump now) (Some how) c) h
 change_holds known apart c (Hears k now failure) may o led h = quiet_holds known c (Hears k now failure) may o (hearing_sent (numbered c.network.notes k) (numbered c.sent k) now failure c) h
-change_holds known apart c (Links a b window_a window_b) may o led h = quiet_holds known c (Links a b window_a window_b) may o refl h
-change_holds known apart c (Ends i) may o led h = quiet_holds known c (Ends i) may o refl h
-change_holds known apart c (Drops k) may o led h = quiet_holds known c (Drops k) may o refl h
-change_holds known apart c (Restarts i) may o led h = quiet_holds known c (Restarts i) may o refl h
-change_holds known apart c (Finds i) may o led h = quiet_holds known c (Finds i) may o refl h
-change_holds known apart c (Fails i) may o led h = quiet_holds known c (Fails i) may o refl h
+change_holds known apart c x may o led h = quiet_holds known c x may o refl h
 
 abbrev pub IsHolding : List Identity → Course → Type 0
 IsHolding known c = IsOrderlyWith known AreLed c × AllHold c

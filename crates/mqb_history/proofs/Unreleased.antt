@@ -137,9 +137,7 @@ IsHere t = (number : ℕ) × (t ≡ Here (Some number))
 
 target_here : (s : State) (t : Target) (x : Delivery) → target_refusal s t x ≡ None → IsHere t
 target_here s (Here (Some number)) x e = (number, refl)
-target_here s (Here None) x e = absurd (let none : ⊥ = cc in none)
-target_here s (AtPeer k) x e = absurd (let none : ⊥ = cc in none)
-target_here s Nowhere x e = absurd (let none : ⊥ = cc in none)
+target_here s t x e = absurd (let none : ⊥ = cc in none)
 
 pub refusal_here : (s : State) (p : UserPacket) → refusal_of s p ≡ None → IsHere (resolved s p.message.destination)
 refusal_here s p e = at (p.remaining == 0) e
@@ -277,8 +275,7 @@ module _ (own : Guid) (Bears : Lane → ℕ → MessageId → Type 0) where
 
   pub number_waits : (s : State) (x : Delivery) → Waits own Bears s → Waits own Bears (number_taken s x)
   number_waits s delivery.Express h = record { identity = h.identity; plain = h.plain }
-  number_waits s delivery.Recoverable h = record { identity = h.identity; plain = h.plain }
-  number_waits s delivery.Transactional h = record { identity = h.identity; plain = h.plain }
+  number_waits s x h = record { identity = h.identity; plain = h.plain }
 
   -- Notices.
 
@@ -361,10 +358,7 @@ module _ (own : Guid) (Bears : Lane → ℕ → MessageId → Type 0) where
       by : (o : Option Queue) → Waits own Bears (option_map_or (λ q. cond q.plan.journal (put_at s (place.JournalOf number) m) s) o s)
       by None = h
       by (Some q) = journal q.plan.journal
-  after_take_waits s (place.JournalOf number) m now h = h
-  after_take_waits s place.Dead m now h = h
-  after_take_waits s place.DeadXact m now h = h
-  after_take_waits s place.Journal m now h = h
+  after_take_waits s at m now h = h
 
   pub taken_at_waits : (kind : Lane) (at : EntryPlace) (k now : ℕ) (e : Effect) → Waits own Bears e.state → Waits own Bears (taken_at kind at k now e).state
   taken_at_waits kind at k now e h = by (message_at kind e.state at k)

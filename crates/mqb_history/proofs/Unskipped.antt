@@ -185,9 +185,6 @@ expiring_holds ls now (suc n) e h = let f = for_each_below n (row_expired now) e
 -- Records.
 
 record_holds : (ls : List Line) (s : State) (r : Record) → Holds ls (begun s) → Holds ls (effect_of s r)
-record_holds ls s (entry.Identity identity) h = h
-record_holds ls s (entry.Peer peer) h = h
-record_holds ls s (entry.CreateQueue number plan) h = h
 record_holds ls s (entry.Commit now ops) h = sends_hold ls now (takes_made s now ops) (sends_of ops)
     (holds_adds ls (sends_numbered s ops) (takes_made s now ops) (ops_add now (sends_numbered s ops) ops) (takes_made_rows s now ops).outs h)
 record_holds ls s (entry.Plain now p) h = holds_same ls (begun s) (effect_of s (entry.Plain now p)) (effect_of s (entry.Plain now p)).lines refl
@@ -201,7 +198,7 @@ record_holds ls s (entry.Purged now place) h = holds_adds ls (begun s) (effect_o
     (purged_rows lane.Durable place now (begun s)).outs h
 record_holds ls s (entry.Ticked now) h = let e = rows_expired now (begun s) in
     holds_adds ls e (effect_of s (entry.Ticked now)) (ticked_adds lane.Durable now e) (ticked_rows lane.Durable now e).outs (expiring_holds ls now (length s.outs) (begun s) h)
-record_holds ls s (entry.Roll count) h = h
+record_holds ls s r h = h
 
 -- what holds of a manager's rows and its records: they count the commitments, and none above the acknowledged number is missing that did not expire
 abbrev pub AreHeld : State → List Written → Type 0

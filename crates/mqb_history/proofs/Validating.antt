@@ -4,14 +4,8 @@ use Rattle.std.proofs.lemmas.List.Elements.{recursion_from_All}
 use Rattle.std.specs.List.{AllByRecursion, enumerate_from, range_with_len}
 use Rattle.std.specs.Option.{option_map_or}
 use Rattle.std.specs.Prelude.{[], ◌+◌, ◌-◌, ◌==◌, ◌∷◌, ◌≡◌, All, Bool, Err, List, None, Ok, Option, Result, Some, cond, false, fold, is_none, is_some, length, slice_get, suc, true, unwrap_or, zero, ℕ}
-use Rattle.mqb_model.specs.calls.Commit.{commit}
-use Rattle.mqb_model.specs.calls.CreateQueue.{create_queue}
+use Rattle.mqb_model.specs.calls.Call.{requested}
 use Rattle.mqb_model.specs.calls.Link.{link, resend, unlink}
-use Rattle.mqb_model.specs.calls.Purge.{purge}
-use Rattle.mqb_model.specs.calls.Send.{send}
-use Rattle.mqb_model.specs.calls.SetRoll.{set_roll}
-use Rattle.mqb_model.specs.calls.Take.{take_message}
-use Rattle.mqb_model.specs.calls.Tick.{tick}
 use Rattle.mqb_model.specs.calls.hear.Hear.{IsReadable, hear}
 use Rattle.mqb_model.specs.calls.pump.Pump.{PumpOutcome, pump}
 use Rattle.mqb_model.specs.declared.answers.Role.{Role}
@@ -26,7 +20,7 @@ use Rattle.mqb_model.specs.managers.Restarts.{restarted, unread}
 use Rattle.mqb_model.specs.managers.Valid.{IsValidManager}
 use Rattle.mqb_network.specs.Answers.{only}
 use Rattle.mqb_network.specs.Changes.{dropped, ended, parted, succeeded_at}
-use Rattle.mqb_network.specs.Choices.{Choice, Failure, Fails, Kept, Lost, Unread, Well, choice_behind, failure_in}
+use Rattle.mqb_network.specs.Choices.{Choice, Failure, Kept, Unread, Well, choice_behind, failure_in}
 use Rattle.mqb_network.specs.Connecting.{any_connected, any_down, asking, both_linked, connect, connected, exchanged, linked_to, set_up}
 use Rattle.mqb_network.specs.Courses.{Course, called, called_unless, found_kept, moved, posted}
 use Rattle.mqb_network.specs.Delivering.{closes, deliver_packet, heard_by, passed, unheard}
@@ -238,14 +232,12 @@ found_sound law i c h = record {
 }
 
 reopen_sound : ManagerLaws → (i : ℕ) (choice : Choice) (c : Course) → IsSound c → IsSound (reopen i choice c).after
-reopen_sound law i Well c h = record { valid = restarted_sound law i c h; sent = h.sent }
-reopen_sound law i (Fails before how) c h = record { valid = restarted_sound law i c h; sent = h.sent }
-reopen_sound law i Lost c h = record { valid = restarted_sound law i c h; sent = h.sent }
 reopen_sound law i Kept c h = found_sound law i c h
 reopen_sound law i Unread c h = record {
   valid = with_valid c.network i (unread (manager_at c.network i)) h.valid (law.unread (manager_at c.network i) (h.valid i));
   sent = h.sent;
 }
+reopen_sound law i x c h = record { valid = restarted_sound law i c h; sent = h.sent }
 
 -- Every event.
 
@@ -254,14 +246,7 @@ call_sound : {A : Type 0} → ManagerLaws → (i : ℕ) (outcome : Outcome A) (c
 call_sound law i outcome choice c stays h = called_sound law i outcome (failure_in choice outcome) c stays h
 
 event_sound : ManagerLaws → (c : Course) (e : Event) (choice : Choice) → IsDraftedEvent e → IsSound c → IsSound (answer_to e (packet_of c.sent e) choice c).after
-event_sound law c (event.Queue i plan) choice d h = call_sound law i (create_queue (manager_at c.network i) plan) choice c ((law.calls (manager_at c.network i) (h.valid i)).queues plan) h
-event_sound law c (event.Roll i count) choice d h = call_sound law i (set_roll (manager_at c.network i) count) choice c ((law.calls (manager_at c.network i) (h.valid i)).rolls count d) h
-event_sound law c (event.Commit i now ops) choice d h = call_sound law i (commit (manager_at c.network i) ops now) choice c ((law.calls (manager_at c.network i) (h.valid i)).commits ops now d) h
-event_sound law c (event.Send i now recoverable p) choice d h = call_sound law i (send (manager_at c.network i) p recoverable now) choice c
-    ((law.calls (manager_at c.network i) (h.valid i)).sends p recoverable now d) h
-event_sound law c (event.Take i now place) choice d h = call_sound law i (take_message (manager_at c.network i) place now) choice c ((law.calls (manager_at c.network i) (h.valid i)).takes place now) h
-event_sound law c (event.Purge i now place) choice d h = call_sound law i (purge (manager_at c.network i) place now) choice c ((law.calls (manager_at c.network i) (h.valid i)).purges place now) h
-event_sound law c (event.Tick i now) choice d h = call_sound law i (tick (manager_at c.network i) now) choice c ((law.calls (manager_at c.network i) (h.valid i)).ticks now) h
+event_sound law c (event.Asks i request) choice d h = call_sound law i (requested (manager_at c.network i) request) choice c ((law.calls (manager_at c.network i) (h.valid i)).requests request d) h
 event_sound law c (event.Connect a b now window_a window_b) choice d h = connect_sound law a b now window_a window_b c h
 event_sound law c (event.Disconnect i) choice d h = disconnect_sound law (is_connected c.network i) i c h
 event_sound law c (event.Resend i) choice d h = resend_sound law (is_connected c.network i) i c h

@@ -68,17 +68,8 @@ OfLane lane.Express f ls e = Keeps f (λ l. In l ls) e.state
 lapsed_more : (f : Frame) (a b : ℕ) → a ≤ b → (l : Line) → IsRightLine f a l → IsRightLine f b l
 lapsed_more f a b le (line.Lapsed id) h = record { source = h.source; below = let lt = h.below in omega (arith, lt, le); known = h.known }
 lapsed_more f a b le (line.Committed stream number id) h = h
-lapsed_more f a b le (line.Put stream number id) h = tt
-lapsed_more f a b le (line.Refused stream number class id) h = tt
-lapsed_more f a b le (line.Expired stream number id moment) h = tt
 lapsed_more f a b le (line.Local id) h = h
-lapsed_more f a b le (line.Stored id) h = tt
-lapsed_more f a b le (line.Bounced class id) h = tt
-lapsed_more f a b le (line.Released id) h = tt
-lapsed_more f a b le (line.Took id) h = tt
-lapsed_more f a b le (line.Purged id) h = tt
-lapsed_more f a b le (line.Swept id) h = tt
-lapsed_more f a b le (line.Emptied id) h = tt
+lapsed_more f a b le x h = tt
 
 -- a step that adds lines
 pub walks_on : (f : Frame) (ls : List Line) (e next : Effect) → Keeps f (Known ls (joined e next)) next.state → e.state.next_number ≤ next.state.next_number
@@ -165,10 +156,7 @@ after_take_keeps kind f T s (place.Queue n) m now known g h = meets_keeps f T (c
     by : (o : Option Queue) → Keeps f T (option_map_or (λ q. cond q.plan.journal (put_at s (place.JournalOf n) m) s) o s)
     by None = h
     by (Some q) = journal q.plan.journal
-after_take_keeps kind f T s (place.JournalOf n) m now known g h = h
-after_take_keeps kind f T s place.Dead m now known g h = h
-after_take_keeps kind f T s place.DeadXact m now known g h = h
-after_take_keeps kind f T s place.Journal m now known g h = h
+after_take_keeps kind f T s at m now known g h = h
 
 pub taken_at_walks : (kind : Lane) (f : Frame) (ls : List Line) (at : EntryPlace) (k now : ℕ) (e : Effect) → OfLane kind f ls e → OfLane kind f ls (taken_at kind at k now e)
 taken_at_walks kind f ls at k now e h = by (message_at kind e.state at k) refl

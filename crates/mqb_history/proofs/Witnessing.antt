@@ -1,7 +1,7 @@
 -- Each run of the network is a run of the stream world, for each channel.
 use Rattle.mqb_base.specs.declared.ids.Guid.{Guid}
 use Rattle.mqb_model.specs.managers.Manager.{Manager}
-use Rattle.mqb_history.specs.Calls.{Pump, outcome_of}
+use Rattle.mqb_model.specs.calls.Call.{Pump, outcome_of}
 use Rattle.mqb_orders.specs.Rows.{Row}
 use Rattle.mqb_history.specs.Acked.{IsDecidedThere, is_order_ack}
 use Rattle.mqb_history.proofs.Spelling.{IsRightPacket, SpellsRow, pumps_right}

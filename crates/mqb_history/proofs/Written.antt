@@ -19,7 +19,7 @@ use Rattle.mqb_network.specs.Network.{Connection, Network, Note, connection_of, 
 use Rattle.mqb_network.specs.Runs.{beginning}
 use Rattle.mqb_packet.specs.declared.packet.Packet.{Packet}
 use Rattle.mqb_queue.specs.Places.{numbered}
-use Rattle.mqb_history.specs.Calls.{Call, Hear, Pump, outcome_of}
+use Rattle.mqb_model.specs.calls.Call.{Call, Hear, Pump, outcome_of}
 use Rattle.mqb_history.specs.Changes.{Change, Calls, Drops, Ends, Fails, Finds, Hears, Links, Pumps, Restarts, calling, changed, given_out, hearing, may_change}
 use Rattle.mqb_history.specs.Decided.{written_of}
 use Rattle.mqb_history.specs.Made.{IsMade}

@@ -8,6 +8,7 @@ use Rattle.mqb_base.specs.declared.message.Delivery.TheVariants.{Transactional}
 use Rattle.mqb_base.specs.declared.message.Message.{Message}
 use Rattle.mqb_exactly_once.specs.Words.{In}
 use Rattle.mqb_exactly_once.specs.World.{Commitment}
+use Rattle.mqb_model.specs.calls.Call.{Commit}
 use Rattle.mqb_model.specs.calls.Messages.{message_of}
 use Rattle.mqb_network.specs.Courses.{Course}
 use Rattle.mqb_network.specs.Doubts.{settled}
@@ -24,7 +25,7 @@ pub record IsAskedFor (ms : List Move) (i : ℕ) (m : Message) : Type 0 where
   pub ops : List Op
   pub parts : Parts
   pub there : In move ms
-  pub asks : move.event ≡ event.Commit i now ops
+  pub asks : move.event ≡ event.Asks i (Commit now ops)
   pub send : In (asked.Send parts) ops
   pub message : m ≡ message_of m.id Transactional 0 now parts
 

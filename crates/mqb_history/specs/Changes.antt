@@ -9,7 +9,7 @@ use Rattle.mqb_network.specs.Courses.{Course, called_unless, found_kept, moved, 
 use Rattle.mqb_network.specs.Network.{Note, is_connected, is_underway, manager_at}
 use Rattle.mqb_packet.specs.declared.packet.Packet.{Packet}
 use Rattle.mqb_queue.specs.Places.{numbered}
-use Rattle.mqb_history.specs.Calls.{Call, Hear, Pump, outcome_of}
+use Rattle.mqb_model.specs.calls.Call.{Answer, Call, Hear, Pump, outcome_of}
 
 -- one change
 pub data Change : Type 0 where
@@ -34,7 +34,7 @@ abbrev pub calling : ℕ → Call → Option Failure → Course → Course
 calling i call failure c = called_unless i (outcome_of (manager_at c.network i) call) failure c
 
 -- the packets that a call gives out, unless the disk fails
-abbrev pub given_out : Outcome (Unit {0}) → Option Failure → List Packet
+abbrev pub given_out : Outcome Answer → Option Failure → List Packet
 given_out outcome None = outcome.packets
 given_out outcome (Some how) = []
 

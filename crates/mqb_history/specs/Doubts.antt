@@ -6,7 +6,7 @@ use Rattle.mqb_model.specs.managers.Restarts.{restarted}
 use Rattle.mqb_network.specs.Choices.{Failure}
 use Rattle.mqb_network.specs.Courses.{Course}
 use Rattle.mqb_network.specs.Network.{manager_at}
-use Rattle.mqb_history.specs.Calls.{Call, outcome_of}
+use Rattle.mqb_model.specs.calls.Call.{Answer, Call, outcome_of}
 use Rattle.mqb_history.specs.Changes.{Change, Fails, Finds, Restarts, calling, changed}
 
 -- the manager that a change starts again, or is to
@@ -27,7 +27,7 @@ StaysDown c x = (i : ℕ) → is_down (manager_at c.network i) ≡ true → (sta
     → IsAsBefore (manager_at c.network i) (manager_at (changed x c).network i)
 
 -- Where the disk fails in a call, the manager is down in the state that it had, and the record is in doubt.
-pub record IsLeftInDoubt (before now : Manager) (outcome : Outcome (Unit {0})) : Type 0 where
+pub record IsLeftInDoubt (before now : Manager) (outcome : Outcome Answer) : Type 0 where
   pub state : now.state ≡ before.state
   pub condition : now.condition ≡ Down outcome.entry
 

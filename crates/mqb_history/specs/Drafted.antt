@@ -1,10 +1,9 @@
 -- What events ask for, and that managers stay valid.
-use Rattle.std.specs.Prelude.{◌+◌, ◌≡◌, ◌≤◌, All, Bool, List, length, true, ℕ}
+use Rattle.std.specs.Prelude.{◌+◌, ◌≤◌, All, Bool, List, length, ℕ}
 use Rattle.mqb_base.specs.declared.ids.Identity.{Identity}
 use Rattle.mqb_model.specs.declared.limits.TheConstants.{MAX_PEERS}
-use Rattle.mqb_model.specs.laws.Fitting.{IsDrafted, IsDraftedOp}
+use Rattle.mqb_model.specs.laws.Fitting.{IsDraftedRequest}
 use Rattle.mqb_model.specs.managers.Valid.{IsValidManager}
-use Rattle.mqb_model.specs.records.Applying.{is_roll}
 use Rattle.mqb_names.specs.Values.{IsName}
 use Rattle.mqb_network.specs.Doubts.{settled}
 use Rattle.mqb_network.specs.Events.{Event}
@@ -13,11 +12,9 @@ use Rattle.mqb_network.specs.Laws.{AreApart}
 use Rattle.mqb_network.specs.Network.{manager_at}
 use Rattle.mqb_network.specs.Runs.{IsRun, Move, after_run}
 
--- What an event asks for is in order: its messages were drafted, and its count is one at which sequences can be full.
+-- What an event asks for is in order: its messages were drafted, and its setting is one that a manager can have.
 abbrev pub IsDraftedEvent : Event → Type 0
-IsDraftedEvent (event.Roll i count) = is_roll count ≡ true
-IsDraftedEvent (event.Commit i now ops) = All IsDraftedOp ops
-IsDraftedEvent (event.Send i now recoverable p) = IsDrafted p
+IsDraftedEvent (event.Asks i request) = IsDraftedRequest request
 IsDraftedEvent _ = Unit {0}
 
 -- So are the managers of a network: they are apart, each can have all others as peers, and their hosts are names.

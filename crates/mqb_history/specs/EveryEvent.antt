@@ -11,6 +11,9 @@ use Rattle.mqb_base.specs.declared.ledger.Line.TheVariants as line
 use Rattle.mqb_base.specs.declared.message.Delivery.TheVariants.{Transactional}
 use Rattle.mqb_base.specs.declared.queues.Place.TheVariants as named
 use Rattle.mqb_base.specs.declared.times.TheConstants.{UNLIMITED}
+use Rattle.mqb_model.specs.calls.Call.{Commit, Purge, Send, Set, Take, Tick}
+use Rattle.mqb_model.specs.calls.Call as answer
+use Rattle.mqb_model.specs.records.Record.{Roll}
 use Rattle.mqb_model.specs.calls.Messages.{message_of}
 use Rattle.mqb_model.specs.declared.answers.Done.TheVariants as done
 use Rattle.mqb_model.specs.runs.Samples.{of_alpha, of_beta, orders, parts_of, remote_notes, to_orders}
@@ -55,13 +58,13 @@ three_sends = asked.Send first_parts
 
 -- Beta has a queue for one message, and a plain queue. Alpha's sequences are full with two messages, so the third message begins another one. The second expires.
 abbrev pub committing : List Exchange
-committing = record { move = a_queue 1; reply = reply.Created (Ok 1) }
-    ∷ record { move = a_plain_queue (codes "notes"); reply = reply.Created (Ok 2) }
-    ∷ asks (event.Roll 0 2) (reply.Rolled (Ok tt))
-    ∷ asks (event.Commit 0 1000 three_sends) (reply.Committed
-    (Ok (done.Sent (of_alpha 1) (to_orders 1).sequence 1 ∷ done.Sent (of_alpha 2) (to_orders 1).sequence 2 ∷ done.Sent (of_alpha 3) (to_orders 2).sequence 1 ∷ []))
+committing = record { move = a_queue 1; reply = reply.Called (answer.Created (Ok 1)) [] }
+    ∷ record { move = a_plain_queue (codes "notes"); reply = reply.Called (answer.Created (Ok 2)) [] }
+    ∷ asks (event.Asks 0 (Set (Roll 2))) (reply.Called (answer.WasSet (Ok tt)) [])
+    ∷ asks (event.Asks 0 (Commit 1000 three_sends)) (reply.Called (answer.Committed
+    (Ok (done.Sent (of_alpha 1) (to_orders 1).sequence 1 ∷ done.Sent (of_alpha 2) (to_orders 1).sequence 2 ∷ done.Sent (of_alpha 3) (to_orders 2).sequence 1 ∷ [])))
     (line.Committed (to_orders 1) 1 (of_alpha 1) ∷ line.Committed (to_orders 1) 2 (of_alpha 2) ∷ line.Committed (to_orders 2) 1 (of_alpha 3) ∷ []))
-    ∷ asks (event.Tick 0 1010) (reply.Ticked (Ok (record { durable = 1; express = 0 })) (line.Expired (to_orders 1) 2 (of_alpha 2) 1010 ∷ []))
+    ∷ asks (event.Asks 0 (Tick 1010)) (reply.Called (answer.Ticked (Ok (record { durable = 1; express = 0 }))) (line.Expired (to_orders 1) 2 (of_alpha 2) 1010 ∷ []))
     ∷ []
 
 -- Alpha's disk stops under the record of a pump. It cannot be read, and then the record is lost: nothing went.
@@ -108,12 +111,12 @@ refusing = asks (event.Flow 0 1017) (reply.Flowed (at_delivery 17
 -- A plain message is sent, stored and released. The message of the first queue is taken, and that of the other purged.
 abbrev pub taking : List Exchange
 taking = connects 1019 21
-    ∷ asks (event.Send 0 1019 true (parts_of remote_notes UNLIMITED 0 (codes "hi"))) (reply.Sent (Ok (of_alpha 4)) [])
+    ∷ asks (event.Asks 0 (Send 1019 true (parts_of remote_notes UNLIMITED 0 (codes "hi")))) (reply.Called (answer.Sent (Ok (of_alpha 4))) [])
     ∷ asks (event.Flow 0 1020) (reply.Flowed (at_delivery 25 (reply.Heard heard.Stored (line.Stored (of_alpha 4) ∷ [])) ∷ []))
     ∷ asks (event.Flow 1 1020) (reply.Flowed (at_delivery 26 (reply.Heard heard.Session (line.Released (of_alpha 4) ∷ [])) ∷ []))
-    ∷ asks (event.Take 1 1021 (named.Queue (codes "orders")))
-    (reply.Took (Ok (message_of (of_alpha 1) Transactional 0 1000 first_parts)) (line.Took (of_alpha 1) ∷ []))
-    ∷ asks (event.Purge 1 1021 (named.Queue (codes "notes"))) (reply.Purged (Ok 1) (line.Purged (of_alpha 4) ∷ []))
+    ∷ asks (event.Asks 1 (Take 1021 (named.Queue (codes "orders"))))
+    (reply.Called (answer.Took (Ok (message_of (of_alpha 1) Transactional 0 1000 first_parts))) (line.Took (of_alpha 1) ∷ []))
+    ∷ asks (event.Asks 1 (Purge 1021 (named.Queue (codes "notes")))) (reply.Called (answer.Purged (Ok 1)) (line.Purged (of_alpha 4) ∷ []))
     ∷ asks (event.Restart 1) reply.Opened
     ∷ []
 

@@ -9,6 +9,7 @@ use Rattle.mqb_base.specs.declared.message.Message.{Message}
 use Rattle.mqb_base.specs.declared.queues.Place.{Place}
 use Rattle.mqb_exactly_once.specs.Words.{In}
 use Rattle.mqb_fate.specs.Asking.{is_ordinary}
+use Rattle.mqb_model.specs.calls.Call.{Send}
 use Rattle.mqb_model.specs.calls.Commit.{commit}
 use Rattle.mqb_model.specs.calls.Messages.{message_of}
 use Rattle.mqb_model.specs.calls.Take.{take_message}
@@ -30,7 +31,7 @@ pub record IsAskedAlone (ms : List Move) (i : ℕ) (m : Message) : Type 0 where
   pub recoverable : Bool
   pub parts : Parts
   pub there : In move ms
-  pub asks : move.event ≡ event.Send i now recoverable parts
+  pub asks : move.event ≡ event.Asks i (Send now recoverable parts)
   pub message : m ≡ message_of m.id (if recoverable then Recoverable else Express) parts.priority now parts
 
 -- A message was asked for, in a transaction or by itself, of the manager whose GUID its identifier bears; it is the same in every field but the

@@ -8,6 +8,7 @@ use Rattle.mqb_base.specs.declared.ids.MessageId.{MessageId}
 use Rattle.mqb_base.specs.declared.ledger.Line.TheVariants as line
 use Rattle.mqb_base.specs.declared.queues.Place.TheVariants as named
 use Rattle.mqb_base.specs.declared.times.TheConstants.{UNLIMITED}
+use Rattle.mqb_model.specs.calls.Call.{CreateQueue, Purge, Send, Take}
 use Rattle.mqb_model.specs.runs.Samples.{of_alpha, parts_of, plan, queue_at, remote_notes}
 use Rattle.mqb_network.specs.Events as event
 use Rattle.mqb_network.specs.Network.{Network, manager_at}
@@ -17,7 +18,7 @@ use Rattle.mqb_network.specs.Worked.{network_of}
 
 -- a queue of beta that is not transactional
 abbrev pub a_plain_queue : List ℕ → Move
-a_plain_queue name = well (event.Queue 1 (plan name false 100 false))
+a_plain_queue name = well (event.Asks 1 (CreateQueue (plan name false 100 false)))
 
 -- a message to one of them, which asks to hear in the other one that it was not received
 abbrev pub asking : Parts
@@ -31,15 +32,15 @@ abbrev pub one_twice : List Move
 one_twice = a_plain_queue (codes "notes")
     ∷ a_plain_queue (codes "box")
     ∷ well (event.Connect 0 1 1000 64 64)
-    ∷ well (event.Send 0 1000 true asking)
+    ∷ well (event.Asks 0 (Send 1000 true asking))
     ∷ well (event.Pump 0 1001)
     ∷ well (event.Deliver 5 1001)
     ∷ well (event.Disconnect 0)
     ∷ well (event.Connect 0 1 1002 64 64)
     ∷ well (event.Pump 0 1002)
     ∷ well (event.Deliver 10 1002)
-    ∷ well (event.Take 1 1003 (named.Queue (codes "notes")))
-    ∷ well (event.Purge 1 1003 (named.Queue (codes "notes"))) ∷ []
+    ∷ well (event.Asks 1 (Take 1003 (named.Queue (codes "notes"))))
+    ∷ well (event.Asks 1 (Purge 1003 (named.Queue (codes "notes")))) ∷ []
 
 -- a message tells of a class
 pub record Telling : Type 0 where

@@ -28,13 +28,13 @@ not_down m up = ap (λ b. if b then Some fault.Down else None) up
 
 -- It comes to this.
 pub set_roll_is : (m : Manager) (count : ℕ) → is_down m ≡ false → set_roll m count ≡ outcome_by m (change_in (Some (form.Roll count))) Nothing (Ok tt)
-set_roll_is m count up = unless_none m (store_refusal m) (recording m (entry.Roll count) (Ok tt)) (not_down m up)
+set_roll_is m count up = unless_none m (store_refusal m) (recording m (entry.Set (entry.Roll count)) (Ok tt)) (not_down m up)
 
 pub set_roll_refused : (d : View) (m : ManagerState) (count : ℕ) → Lawful d → IsValidManager (manager_of m) → is_down (manager_of m) ≡ true
     → IsCall fault.Memory fault.DiskFault d d m m (set_roll (manager_of m) count) (Err fault.Down)
 set_roll_refused d m count law valid down = let k = manager_of m in
     refused_call fault.Memory fault.DiskFault fault.Down d m (set_roll k count) law valid
-    (unless_some k (store_refusal k) fault.Down (recording k (entry.Roll count) (Ok tt)) (ap (λ b. if b then Some fault.Down else None) down))
+    (unless_some k (store_refusal k) fault.Down (recording k (entry.Set (entry.Roll count)) (Ok tt)) (ap (λ b. if b then Some fault.Down else None) down))
     (λ same. let none : ⊥ = cc in none)
 
 roll_full : (count : ℕ) → is_roll count ≡ true → IsFull count
@@ -46,4 +46,4 @@ pub set_roll_ready : (d : View) (m : ManagerState) (count : ℕ) → RecordsFit 
 set_roll_ready d m count fit keep leave valid on up roll = let k = manager_of m in
     ready_by tt d m (Some (form.Roll count)) Nothing (set_roll k count) (set_roll_is k count up)
     (up_from m up) on (record { put = roll_full count roll; small = omega arith; is_record = refl })
-    ((fit k).rolls count roll) ((keep k valid).rolls count roll) ((leave k valid).rolls count)
+    ((fit k).sets (entry.Roll count) roll) ((keep k valid).sets (entry.Roll count) roll) ((leave k valid).sets (entry.Roll count))

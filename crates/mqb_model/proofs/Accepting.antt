@@ -152,14 +152,12 @@ queue_known plan messages transactional = at (transactional && not plan.transact
     at false false false = tt
 
 target_known : (s : State) (t : Target) (x : Delivery) → IfSome (target_refusal s t x) Known
-target_known s (Here None) x = refl
 target_known s (Here (Some number)) x = at (numbered s.places.queues number)
   where
     at : (o : Option Queue) → IfSome (option_map_or (refusal_by x) o (Some BAD_DESTINATION)) Known
     at None = refl
     at (Some q) = queue_known q.plan (length_met (is_recorded x) q.lists) (is_transactional x)
-target_known s (AtPeer k) x = refl
-target_known s Nowhere x = refl
+target_known s t x = refl
 
 pub refusal_known : (s : State) (p : UserPacket) → IfSome (refusal_of s p) Known
 refusal_known s p = at (p.remaining == 0)
@@ -180,10 +178,8 @@ abbrev pub IsHere : Target → Type 0
 IsHere t = (number : ℕ) × (t ≡ Here (Some number))
 
 target_here : (s : State) (t : Target) (x : Delivery) → target_refusal s t x ≡ None → IsHere t
-target_here s (Here None) x e = absurd (let none : ⊥ = cc in none)
 target_here s (Here (Some number)) x e = (number, refl)
-target_here s (AtPeer k) x e = absurd (let none : ⊥ = cc in none)
-target_here s Nowhere x e = absurd (let none : ⊥ = cc in none)
+target_here s t x e = absurd (let none : ⊥ = cc in none)
 
 pub refusal_here : (s : State) (p : UserPacket) → refusal_of s p ≡ None → IsHere (resolved s p.message.destination)
 refusal_here s p e = at (p.remaining == 0) e

@@ -80,7 +80,7 @@ added_peer_is_valid s peer v told f = record {
   durable = v.durable;
   next_number = v.next_number;
   next_ordinal = v.next_ordinal;
-  roll = v.roll;
+  settings = v.settings;
   own = subst (λ ms. All (IsOwn s.identity.guid s.next_number) (kept_messages s ++ ms)) (sym plain) v.own;
   ids_differ = subst (λ ms. AllPairs (λ a b. same_id a.id b.id ≡ false) (kept_messages s ++ ms)) (sym plain) v.ids_differ;
 }
@@ -120,7 +120,7 @@ made_queue_is_valid s number plan v f = record {
   durable = subst (λ ms. All (λ m. is_express m.delivery ≡ false) ms) (sym placed) v.durable;
   next_number = v.next_number;
   next_ordinal = v.next_ordinal;
-  roll = v.roll;
+  settings = v.settings;
   own = v.own;
   ids_differ = v.ids_differ;
 }

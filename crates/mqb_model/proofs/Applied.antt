@@ -14,7 +14,7 @@ use Rattle.mqb_model.proofs.Arriving.{arrived_is_valid}
 use Rattle.mqb_model.proofs.Committing.{commit_is_valid}
 use Rattle.mqb_model.proofs.Departing.{purged_is_valid, taken_is_valid, ticked_is_valid}
 use Rattle.mqb_model.proofs.Offering.{offered_is_valid}
-use Rattle.mqb_model.proofs.Standing.{rolled_is_valid}
+use Rattle.mqb_model.proofs.Standing.{set_is_valid}
 use Rattle.mqb_model.proofs.Validity.{restarted_is_valid}
 
 pub applied_is_valid : AppliedIsValid
@@ -28,7 +28,7 @@ applied_is_valid s (entry.Arrived now numbers part) v told f = arrived_is_valid 
 applied_is_valid s (entry.Taken now at id) v told f = taken_is_valid s now at id v
 applied_is_valid s (entry.Purged now at) v told f = purged_is_valid s now at v
 applied_is_valid s (entry.Ticked now) v told f = ticked_is_valid s now v
-applied_is_valid s (entry.Roll count) v told f = rolled_is_valid s count v f
+applied_is_valid s (entry.Set setting) v told f = set_is_valid s setting v f
 
 recorded_valid : (s : State) (o : Option Record) → IsValidState s → IfSome o (IsWritable s) → IsValidState (recorded s o)
 recorded_valid s None v w = v

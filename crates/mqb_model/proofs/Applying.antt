@@ -198,7 +198,7 @@ durable_is_applied s (entry.Arrived now numbers part) v f = arrived_record_same 
 durable_is_applied s (entry.Taken now at id) v f = taken_same at id now (begun s) (valid_holds s v)
 durable_is_applied s (entry.Purged now at) v f = purged_same at now (begun s) (valid_holds s v)
 durable_is_applied s (entry.Ticked now) v f = ticked_same now (begun s) (valid_holds s v)
-durable_is_applied s (entry.Roll count) v f = refl
+durable_is_applied s (entry.Set setting) v f = refl
 
 -- Which records fit.
 
@@ -227,8 +227,7 @@ takes_fit_same now e (Take queue id ∷ ops) h = ap (λ b. b && takes_fit (taken
 
 join_fits_same : (s : State) (t : Target) (destination : QueueName) → join_fits (durable s) t destination ≡ join_fits s t destination
 join_fits_same s (AtPeer k) destination = refl
-join_fits_same s (Here queue) destination = refl
-join_fits_same s Nowhere destination = refl
+join_fits_same s t destination = refl
 
 joins_fit_same : (now : ℕ) (e : Effect) (ms : List Message) → AllByRecursion IsDurable ms → joins_fit (durable_effect e) now ms ≡ joins_fit e now ms
 joins_fit_same now e [] d = refl
@@ -262,11 +261,9 @@ final_test_same : (s : State) (m : Message) → is_final (durable s) m ≡ is_fi
 final_test_same s m = ap (λ t. (is_recoverable m.delivery && is_final_class m.class) && (names_order_layer m.destination && is_here t)) (resolved_same s m.destination)
 
 part_fits_same : (s : State) (part : Part) → part_fits (durable s) part ≡ part_fits s part
-part_fits_same s Nothing = refl
-part_fits_same s (Decided p) = refl
 part_fits_same s (Stored p) = ap (λ b. is_from_peer s p.message && is_recoverable p.message.delivery && not b) (final_test_same s p.message)
-part_fits_same s (OrderAcknowledged ordinal number) = refl
 part_fits_same s (Final p) = ap (λ b. is_from_peer s p.message && b) (final_test_same s p.message)
+part_fits_same s part = refl
 
 arrived_fits_same : (s : State) (numbers : List ℕ) (part : Part) → arrived_fits (durable s) numbers part ≡ arrived_fits s numbers part
 arrived_fits_same s numbers part = ap (λ b. b && part_fits (releases_made (durable s) numbers).state part) (releases_fit_same (begun s) numbers)
@@ -280,8 +277,6 @@ place_fits_same s at = ap is_some (lists_same s.places at) ∙ by (lists_at s.pl
     by (Some l) = refl
 
 pub durable_is_fitted : DurableIsFitted
-durable_is_fitted s (entry.Identity identity) v = refl
-durable_is_fitted s (entry.Peer peer) v = refl
 durable_is_fitted s (entry.CreateQueue number plan) v = queue_fits_same s number plan
 durable_is_fitted s (entry.Commit now ops) v = commit_fits_same s now ops (valid_holds s v)
 durable_is_fitted s (entry.Plain now p) v = sendable_same s headers.Session s.next_number p
@@ -289,5 +284,4 @@ durable_is_fitted s (entry.Offered marks) v = marks_fit_same s marks
 durable_is_fitted s (entry.Arrived now numbers part) v = arrived_fits_same s numbers part
 durable_is_fitted s (entry.Taken now at id) v = take_fits_same s now at id
 durable_is_fitted s (entry.Purged now at) v = place_fits_same s at
-durable_is_fitted s (entry.Ticked now) v = refl
-durable_is_fitted s (entry.Roll count) v = refl
+durable_is_fitted s r v = refl

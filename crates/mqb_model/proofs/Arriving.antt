@@ -190,7 +190,7 @@ ins_stand whose low high s rows differ to_queues h = let v = h.valid in record {
     durable = v.durable;
     next_number = v.next_number;
     next_ordinal = v.next_ordinal;
-    roll = v.roll;
+    settings = v.settings;
     own = v.own;
     ids_differ = v.ids_differ;
   };
@@ -253,12 +253,7 @@ decided_to_queues s m tx named v = at (in_index s m)
 -- where names lead does not depend on incoming rows
 pub resolved_stays : (s : State) (rows : List InRow) (name : QueueName) → resolved (record s { ins = rows }) name ≡ resolved s name
 resolved_stays s rows (Public guid true) = refl
-resolved_stays s rows (Public guid false) = refl
-resolved_stays s rows (Private qm number true) = refl
-resolved_stays s rows (Private qm number false) = refl
-resolved_stays s rows (Direct host queue true) = refl
-resolved_stays s rows (Direct host queue false) = refl
-resolved_stays s rows (Machine qm kind) = refl
+resolved_stays s rows name = refl
 
 decided_stands : (whose : Guid) (low high now : ℕ) (s : State) (p : UserPacket) (tx : TxHead) → IsPlaced p.message → Stands whose low high s → Stands whose low high (message_decided now s p tx).state
 decided_stands whose low high now s p tx placed h = arrived_stands whose low high after p.message now (refusal_of s p) (refusal_known s p)

@@ -16,15 +16,15 @@ use Rattle.mqb_queue.specs.Places.{Queue, new_queue}
 use Rattle.mqb_session.specs.State as one_end
 use Rattle.mqb_model.specs.calls.AddPeer.{add_peer, add_peer_refusal}
 use Rattle.mqb_model.specs.calls.CreateQueue.{create_queue, create_refusal}
-use Rattle.mqb_model.specs.calls.SetRoll.{set_roll, store_refusal}
+use Rattle.mqb_model.specs.calls.SetRoll.{set_to, store_refusal}
 use Rattle.mqb_model.specs.laws.Fitting.{IsFitting}
 use Rattle.mqb_model.specs.managers.Manager.{Condition, Down, Manager, Up, doubt_of, is_down, linked_peer}
 use Rattle.mqb_model.specs.managers.Outcomes.{Outcome, recording, succeeded, unless}
 use Rattle.mqb_model.specs.managers.Valid.{BearMarks, IsLinkedWell, IsSessionOf, IsUnsent, IsValidManager, IsWritable, MarksRise, MayBear, express_placed, express_waiting}
-use Rattle.mqb_model.specs.records.Applying.{fits, is_roll}
+use Rattle.mqb_model.specs.records.Applying.{fits, is_setting, with_setting}
 use Rattle.mqb_model.specs.records.Peer.{next_queue, with_new_queue, with_peer}
 use Rattle.mqb_model.specs.records.Record as entry
-use Rattle.mqb_model.specs.records.Record.{Record}
+use Rattle.mqb_model.specs.records.Record.{Record, Setting}
 use Rattle.mqb_model.specs.state.Places.{is_express}
 use Rattle.mqb_model.specs.state.Resolving.{peer_known}
 use Rattle.mqb_model.specs.state.State.{State}
@@ -32,7 +32,7 @@ use Rattle.mqb_model.specs.state.Valid.{IsCarried}
 use Rattle.mqb_model.proofs.Adding.{added_peer_is_valid, made_queue_is_valid}
 use Rattle.mqb_model.proofs.Fitting.{some_fit}
 use Rattle.mqb_model.proofs.Linking.{bear, may_bear}
-use Rattle.mqb_model.proofs.Standing.{refused_is_same, rolled_is_valid, stays}
+use Rattle.mqb_model.proofs.Standing.{refused_is_same, set_is_valid, stays}
 
 -- A call that is refused leaves the manager as it was.
 unless_valid : {V E : Type 0} (m : Manager) (refusal : Option E) (outcome : Outcome (Result V E)) → IsValidManager m
@@ -56,16 +56,16 @@ fits_where : {V E : Type 0} (m : Manager) (refusal : Option E) (r : Record) (ans
 fits_where m None r answer e f = f
 fits_where m (Some fault) r answer e f = absurd (let none : ⊥ = cc in none)
 
--- The count.
+-- A setting.
 
-roll_linked : (s : State) (count : ℕ) (c : Condition) (o : Option one_end.State) → IsLinkedWell s c o → IsLinkedWell (record s { roll = count }) c o
-roll_linked s count Up (Some session) h = record { kept = h.kept; own = h.own; peer = h.peer; first = h.first; marks = h.marks }
-roll_linked s count Up None h = h
-roll_linked s count (Down doubt) o h = h
+set_linked : (s : State) (setting : Setting) (c : Condition) (o : Option one_end.State) → IsLinkedWell s c o → IsLinkedWell (with_setting s setting) c o
+set_linked s setting Up (Some session) h = record { kept = h.kept; own = h.own; peer = h.peer; first = h.first; marks = h.marks }
+set_linked s setting Up None h = h
+set_linked s setting (Down doubt) o h = h
 
-rolled : (m : Manager) (count : ℕ) → is_roll count ≡ true → is_down m ≡ false → IsValidManager m → IsValidManager (succeeded m (recording m (entry.Roll count) true))
-rolled m count f up v = record {
-  state = rolled_is_valid m.state count v.state f;
+set : (m : Manager) (setting : Setting) → is_setting setting ≡ true → is_down m ≡ false → IsValidManager m → IsValidManager (succeeded m (recording m (entry.Set setting) true))
+set m setting f up v = record {
+  state = set_is_valid m.state setting v.state f;
   express = record {
     placed = v.express.placed;
     waiting = v.express.waiting;
@@ -74,10 +74,10 @@ rolled m count f up v = record {
     next_express = v.express.next_express;
   };
   marks = v.marks;
-  session = roll_linked m.state count m.condition m.rest.session v.session;
+  session = set_linked m.state setting m.condition m.rest.session v.session;
   cursors = ap length (stays 0 (length m.state.outs) m.rest.cursors v.cursors) ∙ v.cursors;
   owes = ap length (stays false (length m.state.ins) m.rest.owes v.owes) ∙ v.owes;
-  doubt = no_doubt m.condition (IsWritable (record m.state { roll = count })) up;
+  doubt = no_doubt m.condition (IsWritable (with_setting m.state setting)) up;
 }
 
 -- A queue.
@@ -235,7 +235,7 @@ added m peer named f up v = record {
 pub record SomeKeepValid (m : Manager) : Type 0 where
   pub peers : (peer : Identity) → IsName peer.host → IsValidManager (succeeded m (add_peer m peer))
   pub queues : (plan : QueuePlan) → IsValidManager (succeeded m (create_queue m plan))
-  pub rolls : (count : ℕ) → is_roll count ≡ true → IsValidManager (succeeded m (set_roll m count))
+  pub sets : (setting : Setting) → is_setting setting ≡ true → IsValidManager (succeeded m (set_to m setting))
 
 pub some_keep_valid : (m : Manager) → IsValidManager m → SomeKeepValid m
 some_keep_valid m v = record {
@@ -243,5 +243,5 @@ some_keep_valid m v = record {
       (λ e. added m peer named (fits_where m (add_peer_refusal m peer) (entry.Peer peer) (Ok (length m.state.peers)) e ((some_fit m).peers peer)) (up_where (is_down m) _ _ e) v);
   queues = λ plan. unless_valid m (create_refusal m plan) (recording m (entry.CreateQueue (next_queue m.state) plan) (Ok (next_queue m.state))) v
       (λ e. made m (next_queue m.state) plan (fits_where m (create_refusal m plan) (entry.CreateQueue (next_queue m.state) plan) (Ok (next_queue m.state)) e ((some_fit m).queues plan)) (up_where (is_down m) _ _ e) v);
-  rolls = λ count f. unless_valid m (store_refusal m) (recording m (entry.Roll count) (Ok tt)) v (λ e. rolled m count f (up_where (is_down m) _ _ e) v);
+  sets = λ setting f. unless_valid m (store_refusal m) (recording m (entry.Set setting) (Ok tt)) v (λ e. set m setting f (up_where (is_down m) _ _ e) v);
 }

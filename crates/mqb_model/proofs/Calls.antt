@@ -1,4 +1,7 @@
 -- The records of all calls fit, a valid manager stays valid by each call, and its store stands for what the record left.
+use Rattle.mqb_model.specs.calls.Call as answer
+use Rattle.mqb_model.specs.calls.Call.{Answer, Commit, CreateQueue, Purge, Request, Send, Set, Take, Tick, answered, requested}
+use Rattle.mqb_base.specs.declared.queues.QueuePlan.{QueuePlan}
 use Rattle.std.specs.Prelude.{All, Bool, Err, IfSome, List, None, Ok, Option, Result, Some, length, true, ℕ, ◌≡◌}
 use Rattle.std.proofs.Common.{refl}
 use Rattle.mqb_base.specs.declared.draft.Op.{Op}
@@ -10,29 +13,29 @@ use Rattle.mqb_model.specs.calls.CreateQueue.{create_queue, create_refusal}
 use Rattle.mqb_model.specs.calls.Link.{link_refusal, linking}
 use Rattle.mqb_model.specs.calls.Purge.{purge}
 use Rattle.mqb_model.specs.calls.Send.{send}
-use Rattle.mqb_model.specs.calls.SetRoll.{set_roll, store_refusal}
+use Rattle.mqb_model.specs.calls.SetRoll.{set_to, store_refusal}
 use Rattle.mqb_model.specs.calls.Take.{take_message}
 use Rattle.mqb_model.specs.calls.Tick.{tick}
 use Rattle.mqb_model.specs.declared.answers.Role.{Role}
 use Rattle.mqb_model.specs.declared.faults.CommitFault.{CommitFault}
 use Rattle.mqb_model.specs.declared.faults.LinkFault.{LinkFault}
 use Rattle.mqb_model.specs.laws.Durable.{CallsLeaveStore, LeavesStore}
-use Rattle.mqb_model.specs.laws.Fitting.{IsAsRead, IsDrafted, IsDraftedOp, IsFitting, RecordsFit}
+use Rattle.mqb_model.specs.laws.Fitting.{IsAsRead, IsDrafted, IsDraftedOp, IsDraftedRequest, IsFitting, ReadRecords, RecordsFit, RecordsOf}
 use Rattle.mqb_model.specs.managers.Manager.{Manager}
 use Rattle.mqb_model.specs.managers.Outcomes.{Outcome, recording, succeeded, unless}
 use Rattle.mqb_model.specs.managers.Valid.{IsValidManager, IsWritable}
 use Rattle.mqb_model.specs.records.Peer.{next_queue}
 use Rattle.mqb_model.specs.records.Record as entry
-use Rattle.mqb_model.specs.records.Record.{Record}
+use Rattle.mqb_model.specs.records.Record.{Record, Setting}
 use Rattle.mqb_model.specs.calls.hear.Hear.{hear}
 use Rattle.mqb_model.specs.calls.pump.Pump.{pump}
-use Rattle.mqb_model.specs.records.Applying.{fits}
+use Rattle.mqb_model.specs.records.Applying.{fits, is_setting}
 use Rattle.mqb_model.specs.records.Carrying.{IsRead}
 use Rattle.mqb_model.proofs.Validity.{failed_is_valid}
 use Rattle.mqb_model.proofs.Standing.{stands_for}
 use Rattle.mqb_model.proofs.Succeeding.{IsKept}
 use Rattle.mqb_model.specs.laws.Keeping.{CallsKeepValid, StaysValid}
-use Rattle.mqb_model.proofs.Calling.{some_keep_valid}
+use Rattle.mqb_model.proofs.Calling.{SomeKeepValid, some_keep_valid}
 use Rattle.mqb_model.proofs.Fitting.{some_fit}
 use Rattle.mqb_model.proofs.Heard.{hear_sound}
 use Rattle.mqb_model.proofs.Pumping.{pump_sound}
@@ -44,7 +47,7 @@ pub records_fit : RecordsFit
 records_fit m = let some = some_fit m in record {
   peers = some.peers;
   queues = some.queues;
-  rolls = some.rolls;
+  sets = some.sets;
   commits = commit_goes m;
   sends = some.sends;
   takes = some.takes;
@@ -79,19 +82,66 @@ stays m outcome v f r valid = record { succeeds = valid; fails = failed_is_valid
     writable None f r = tt
     writable (Some entry) f r = record { fits = f; read = r }
 
+-- what a request comes to keeps valid what the call does
+as_answered : {A : Type 0} (says : A → Answer) (m : Manager) (outcome : Outcome A) → StaysValid m outcome → StaysValid m (answered says outcome)
+as_answered says m outcome h = record { succeeds = h.succeeds; fails = h.fails }
+
 pub calls_keep_valid : CallsKeepValid
-calls_keep_valid m v = let some = some_keep_valid m v in let each = each_is_kept m v in let fit = records_fit m in let read = records_are_read m in record {
+calls_keep_valid m v = record {
   peers = λ peer named. stays m (add_peer m peer) v (fit.peers peer) (read.peers peer named) (some.peers peer named);
-  queues = λ plan. stays m (create_queue m plan) v (fit.queues plan) (read.queues plan) (some.queues plan);
-  rolls = λ count h. stays m (set_roll m count) v (fit.rolls count h) (read.rolls count) (some.rolls count h);
-  commits = λ ops now d. stays m (commit m ops now) v (fit.commits ops now) (read.commits ops now d) (each.commits ops now d).valid;
-  sends = λ p recoverable now d. stays m (send m p recoverable now) v (fit.sends p recoverable now) (read.sends p recoverable now d) (each.sends p recoverable now d).valid;
-  takes = λ p now. stays m (take_message m p now) v (fit.takes p now) (read.takes p now) (each.takes p now).valid;
-  purges = λ p now. stays m (purge m p now) v (fit.purges p now) (read.purges p now) (each.purges p now).valid;
-  ticks = λ now. stays m (tick m now) v (fit.ticks now) (read.ticks now) (each.ticks now).valid;
+  queues = queues;
+  sets = sets;
+  commits = commits;
+  sends = sends;
+  takes = takes;
+  purges = purges;
+  ticks = ticks;
   hears = λ p now r. stays m (hear m p now) v (fit.hears v p now r) (read.hears v p now r) (hear_sound m p now v r).kept.valid;
   pumps = λ now. stays m (pump m now) v (fit.pumps v now) (read.pumps v now) (pump_sound m now v).kept.valid;
+  requests = requests;
 }
+  where
+    some : SomeKeepValid m
+    some = some_keep_valid m v
+
+    each : EachIsKept m
+    each = each_is_kept m v
+
+    fit : RecordsOf m
+    fit = records_fit m
+
+    read : ReadRecords m
+    read = records_are_read m
+
+    queues : (plan : QueuePlan) → StaysValid m (create_queue m plan)
+    queues plan = stays m (create_queue m plan) v (fit.queues plan) (read.queues plan) (some.queues plan)
+
+    sets : (setting : Setting) → is_setting setting ≡ true → StaysValid m (set_to m setting)
+    sets setting h = stays m (set_to m setting) v (fit.sets setting h) (read.sets setting) (some.sets setting h)
+
+    commits : (ops : List Op) (now : ℕ) → All IsDraftedOp ops → StaysValid m (commit m ops now)
+    commits ops now d = stays m (commit m ops now) v (fit.commits ops now) (read.commits ops now d) (each.commits ops now d).valid
+
+    sends : (p : Parts) (recoverable : Bool) (now : ℕ) → IsDrafted p → StaysValid m (send m p recoverable now)
+    sends p recoverable now d = stays m (send m p recoverable now) v (fit.sends p recoverable now) (read.sends p recoverable now d) (each.sends p recoverable now d).valid
+
+    takes : (p : Place) (now : ℕ) → StaysValid m (take_message m p now)
+    takes p now = stays m (take_message m p now) v (fit.takes p now) (read.takes p now) (each.takes p now).valid
+
+    purges : (p : Place) (now : ℕ) → StaysValid m (purge m p now)
+    purges p now = stays m (purge m p now) v (fit.purges p now) (read.purges p now) (each.purges p now).valid
+
+    ticks : (now : ℕ) → StaysValid m (tick m now)
+    ticks now = stays m (tick m now) v (fit.ticks now) (read.ticks now) (each.ticks now).valid
+
+    requests : (given : Request) → IsDraftedRequest given → StaysValid m (requested m given)
+    requests (CreateQueue plan) d = as_answered answer.Created m (create_queue m plan) (queues plan)
+    requests (Set setting) d = as_answered answer.WasSet m (set_to m setting) (sets setting d)
+    requests (Commit now ops) d = as_answered answer.Committed m (commit m ops now) (commits ops now d)
+    requests (Send now recoverable p) d = as_answered answer.Sent m (send m p recoverable now) (sends p recoverable now d)
+    requests (Take now p) d = as_answered answer.Took m (take_message m p now) (takes p now)
+    requests (Purge now p) d = as_answered answer.Purged m (purge m p now) (purges p now)
+    requests (Tick now) d = as_answered answer.Ticked m (tick m now) (ticks now)
 
 -- nothing is done beside a record alone
 record_leaves : {V E : Type 0} (m : Manager) (refusal : Option E) (r : Record) (answer : Result V E) → LeavesStore m (unless m refusal (recording m r answer))
@@ -115,7 +165,7 @@ pub calls_leave_store : CallsLeaveStore
 calls_leave_store m v = let each = each_is_kept m v in record {
   peers = λ peer. record_leaves m (add_peer_refusal m peer) (entry.Peer peer) (Ok (length m.state.peers));
   queues = λ plan. record_leaves m (create_refusal m plan) (entry.CreateQueue (next_queue m.state) plan) (Ok (next_queue m.state));
-  rolls = λ count. record_leaves m (store_refusal m) (entry.Roll count) (Ok tt);
+  sets = λ setting. record_leaves m (store_refusal m) (entry.Set setting) (Ok tt);
   commits = commit_leaves m;
   sends = λ p recoverable now d. (each.sends p recoverable now d).volatile;
   takes = λ p now. (each.takes p now).volatile;

@@ -192,7 +192,7 @@ numbered_stands s count left v = record {
     durable = v.durable;
     next_number = (let first : 1 ≤ s.next_number = v.next_number.0 in omega arith, left);
     next_ordinal = v.next_ordinal;
-    roll = v.roll;
+    settings = v.settings;
     own = λ k d lt. let one = v.own k d lt in record { source = one.source; number = later _ one.number };
     ids_differ = v.ids_differ;
   };

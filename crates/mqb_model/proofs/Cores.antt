@@ -72,14 +72,11 @@ numbered_plans qs n = at (numbered qs n) ∙ ap (option_map (λ plan. n)) (sym (
     at (Some q) = refl
 
 pub lead_is : (s : State) (name : QueueName) → resolved s name ≡ lead (names s) name
-lead_is s (Public guid true) = refl
 lead_is s (Public guid false) = ap (λ o. at_queue (number_at o)) (sym (position_mapped (λ plan. option_map_or (same_guid guid) plan.public false) (λ q. q.plan) s.places.queues))
-lead_is s (Private qm number true) = refl
 lead_is s (Private qm number false) = ap (λ o. cond (same_guid qm s.identity.guid) (Here o) (at_peer (position (λ p. same_guid p.guid qm) s.peers))) (numbered_plans s.places.queues number)
-lead_is s (Direct host queue true) = refl
 lead_is s (Direct host queue false) = ap (λ o. cond (is_own_host s.identity host) (Here (number_at o)) (at_peer (position (is_host_of host) s.peers)))
     (sym (position_mapped (λ plan. same_ignoring_case plan.name queue) (λ q. q.plan) s.places.queues))
-lead_is s (Machine qm kind) = refl
+lead_is s name = refl
 
 pub lead_same : (s t : State) (name : QueueName) → names s ≡ names t → resolved s name ≡ resolved t name
 lead_same s t name e = lead_is s name ∙ ap (λ n. lead n name) e ∙ sym (lead_is t name)
@@ -90,8 +87,7 @@ guid_of n _ = n.identity.guid
 
 guid_is : (s : State) (t : Target) → guid_at s t ≡ guid_of (names s) t
 guid_is s (AtPeer k) = refl
-guid_is s (Here queue) = refl
-guid_is s Nowhere = refl
+guid_is s t = refl
 
 pub guid_same : (s t : State) (to : Target) → names s ≡ names t → guid_at s to ≡ guid_at t to
 guid_same s t to e = guid_is s to ∙ ap (λ n. guid_of n to) e ∙ sym (guid_is t to)
@@ -115,14 +111,11 @@ put_core s at m = place_core s at (put (lane_of m.delivery) m)
 
 number_core : (s : State) (x : Delivery) → core (number_taken s x) ≡ core s
 number_core s delivery.Express = refl
-number_core s delivery.Recoverable = refl
-number_core s delivery.Transactional = refl
+number_core s x = refl
 
 placed_core : (s : State) (t : Target) (m : Message) → core (placed s t m) ≡ core s
-placed_core s (Here None) m = refl
 placed_core s (Here (Some n)) m = put_core s (place.Queue n) m
-placed_core s (AtPeer k) m = refl
-placed_core s Nowhere m = refl
+placed_core s t m = refl
 
 -- any message
 abbrev pub Any : Message → Type 0

@@ -84,10 +84,7 @@ copied_stands whose low high s number m p h = at (numbered s.places.queues numbe
 
 after_take_stands : (whose : Guid) (low high : ℕ) (s : State) (at : EntryPlace) (m : Message) (now : ℕ) → IsPlaced m → Stands whose low high s → Stands whose low high (after_take s at m now)
 after_take_stands whose low high s (place.Queue number) m now p h = meets_stands whose low high (copied s number m) m RECEIVED now p refl (copied_stands whose low high s number m p h)
-after_take_stands whose low high s (place.JournalOf number) m now p h = h
-after_take_stands whose low high s place.Dead m now p h = h
-after_take_stands whose low high s place.DeadXact m now p h = h
-after_take_stands whose low high s place.Journal m now p h = h
+after_take_stands whose low high s at m now p h = h
 
 taken_at_stands : (whose : Guid) (low high : ℕ) (at : EntryPlace) (k now : ℕ) (e : Effect) → Stands whose low high e.state → Stands whose low high (taken_at lane.Durable at k now e).state
 taken_at_stands whose low high at k now e h = of (message_at lane.Durable e.state at k) (item_there e.state at k h.valid)

@@ -71,7 +71,7 @@ durable_is_valid s v = record {
   durable = subst (λ ms. All (λ m. is_express m.delivery ≡ false) ms) (sym (placed_stay s)) v.durable;
   next_number = v.next_number;
   next_ordinal = v.next_ordinal;
-  roll = v.roll;
+  settings = v.settings;
   own = subst (λ ms. All (IsOwn s.identity.guid s.next_number) (kept_messages s ++ ms)) (sym plain) v.own;
   ids_differ = subst (λ ms. AllPairs (λ a b. same_id a.id b.id ≡ false) (kept_messages s ++ ms)) (sym plain) v.ids_differ;
 }
@@ -109,7 +109,7 @@ stands_for_valid s v = record {
   durable = subst (λ ms. All (λ m. is_express m.delivery ≡ false) ms) (placed_stay s) v.durable;
   next_number = v.next_number;
   next_ordinal = v.next_ordinal;
-  roll = v.roll;
+  settings = v.settings;
   own = subst (λ ms. All (IsOwn s.identity.guid s.next_number) (kept_messages s ++ ms)) plain v.own;
   ids_differ = subst (λ ms. AllPairs (λ a b. same_id a.id b.id ≡ false) (kept_messages s ++ ms)) plain v.ids_differ;
 }

@@ -86,20 +86,14 @@ is_same a b e is =
     subst IsRead same is
 
 pub entry_is_read : PacketsAreRead → (given : Entry) (r : Record) → IsTyped given → record_in given ≡ Some r → IsRead r
-entry_is_read are (form.Identity v) r typed e = is_same _ r e tt
 entry_is_read are (form.Peer v) r typed e = is_same _ r e typed
-entry_is_read are (form.CreateQueue v) r typed e = is_same _ r e tt
 entry_is_read are (form.Commit now ops) r typed e =
     let read = map_some (λ ops. entry.Commit now ops) (all_some (map op_of ops)) r e in
     subst IsRead read.2 (All-from_recursion IsRecorded (sends_of read.0) (ops_are are ops read.0 (recursion_from_All IsTypedOp ops typed) read.1))
 entry_is_read are (form.Plain now bytes) r typed e =
     let read = map_some (λ p. entry.Plain now p) (user_packet_of bytes) r e in
     subst IsRead read.2 (are bytes read.0 typed read.1)
-entry_is_read are (form.Offered marks) r typed e = is_same _ r e tt
 entry_is_read are (form.Arrived now released given) r typed e =
     let read = map_some (λ part. entry.Arrived now released part) (part_of given) r e in
     subst IsRead read.2 (part_is are given read.0 typed read.1)
-entry_is_read are (form.Taken now at id) r typed e = is_same _ r e tt
-entry_is_read are (form.Purged now at) r typed e = is_same _ r e tt
-entry_is_read are (form.Ticked now) r typed e = is_same _ r e tt
-entry_is_read are (form.Roll count) r typed e = is_same _ r e tt
+entry_is_read are x r typed e = is_same _ r e tt

@@ -19,7 +19,7 @@ use Rattle.mqb_model.specs.calls.Messages.{plain_message}
 use Rattle.mqb_model.specs.calls.Send.{plain_entry, send, send_refusal, target_fault}
 use Rattle.mqb_model.specs.calls.Purge.{purge, purge_at, purge_refusal, purging}
 use Rattle.mqb_model.specs.calls.Take.{take_at, take_message, take_refusal}
-use Rattle.mqb_model.specs.calls.SetRoll.{set_roll, store_refusal}
+use Rattle.mqb_model.specs.calls.SetRoll.{set_to, store_refusal}
 use Rattle.mqb_model.specs.calls.Tick.{tick, ticking}
 use Rattle.mqb_model.specs.declared.faults.AddPeerFault.TheVariants as peer_fault
 use Rattle.mqb_model.specs.declared.faults.CreateFault.TheVariants as create_fault
@@ -38,9 +38,10 @@ use Rattle.mqb_model.specs.state.State.{State}
 use Rattle.mqb_model.specs.laws.Fitting.{IsFitting}
 use Rattle.mqb_model.specs.managers.Manager.{Manager, is_down}
 use Rattle.mqb_model.specs.managers.Outcomes.{Outcome, answering, changing, recording, unless}
-use Rattle.mqb_model.specs.records.Applying.{fits, is_roll}
+use Rattle.mqb_model.specs.records.Applying.{fits, is_setting}
 use Rattle.mqb_model.specs.records.Peer.{next_queue, peer_there, queue_there}
 use Rattle.mqb_model.specs.records.Record as entry
+use Rattle.mqb_model.specs.records.Record.{Setting}
 use Rattle.mqb_model.specs.rules.Timeouts.{durable_due}
 use Rattle.mqb_model.proofs.Taking.{taking_fits}
 
@@ -165,7 +166,7 @@ place_taken m now (Some at) = taking_fits m now at
 pub record SomeFit (m : Manager) : Type 0 where
   pub peers : (peer : Identity) → IsFitting m (add_peer m peer)
   pub queues : (given : QueuePlan) → IsFitting m (create_queue m given)
-  pub rolls : (count : ℕ) → is_roll count ≡ true → IsFitting m (set_roll m count)
+  pub sets : (setting : Setting) → is_setting setting ≡ true → IsFitting m (set_to m setting)
   pub sends : (p : Parts) (recoverable : Bool) (now : ℕ) → IsFitting m (send m p recoverable now)
   pub takes : (p : Place) (now : ℕ) → IsFitting m (take_message m p now)
   pub purges : (p : Place) (now : ℕ) → IsFitting m (purge m p now)
@@ -175,7 +176,7 @@ pub some_fit : (m : Manager) → SomeFit m
 some_fit m = record {
   peers = peer_goes m;
   queues = queue_goes m;
-  rolls = λ count h. unless_fits m (store_refusal m) (recording m (entry.Roll count) (Ok tt)) h;
+  sets = λ setting h. unless_fits m (store_refusal m) (recording m (entry.Set setting) (Ok tt)) h;
   sends = send_goes m;
   takes = λ p now. unless_fits m (take_refusal m) (option_map_or (take_at m now) (place_named m.state.places.queues p) (answering m (Err take_fault.NoQueue)))
       (place_taken m now (place_named m.state.places.queues p));

@@ -83,9 +83,7 @@ module _ (m : Manager) (v : IsValidManager m) (up : is_down m ≡ false) (now : 
 
   ack_sound : (h : SessionHead) (given : HeadHeard) (after : one_end.State) → IsOne after → IsSound m (hear_acknowledgement m now given after)
   ack_sound h (head.Closed why) after l = session_sound after (heard.Closed why) l
-  ack_sound h head.InOrder after l = nothing_sound (listening m after now) (listens after l) heard.Session
-  ack_sound h head.OutOfOrder after l = nothing_sound (listening m after now) (listens after l) heard.Session
-  ack_sound h head.AckOnly after l = nothing_sound (listening m after now) (listens after l) heard.Session
+  ack_sound h given after l = nothing_sound (listening m after now) (listens after l) heard.Session
 
   -- User packets.
 

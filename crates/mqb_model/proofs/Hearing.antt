@@ -88,22 +88,15 @@ pub record Listens (l : Listening) : Type 0 where
 
 resolved_plain : (s : State) (ps : List PlainLists) (name : QueueName) → resolved (record s { plain = ps }) name ≡ resolved s name
 resolved_plain s ps (Public guid true) = refl
-resolved_plain s ps (Public guid false) = refl
-resolved_plain s ps (Private qm number true) = refl
-resolved_plain s ps (Private qm number false) = refl
-resolved_plain s ps (Direct host queue true) = refl
-resolved_plain s ps (Direct host queue false) = refl
-resolved_plain s ps (Machine qm kind) = refl
+resolved_plain s ps name = refl
 
 final_plain : (s : State) (ps : List PlainLists) (m : Message) → is_final (record s { plain = ps }) m ≡ is_final s m
 final_plain s ps m = ap (λ t. (is_recoverable m.delivery && is_final_class m.class) && (names_order_layer m.destination && is_here t)) (resolved_plain s ps m.destination)
 
 part_plain : (s : State) (ps : List PlainLists) (part : Part) → part_fits (record s { plain = ps }) part ≡ part_fits s part
-part_plain s ps entry.Nothing = refl
-part_plain s ps (entry.Decided p) = refl
 part_plain s ps (entry.Stored p) = ap (λ b. is_from_peer s p.message && is_recoverable p.message.delivery && not b) (final_plain s ps p.message)
-part_plain s ps (entry.OrderAcknowledged ordinal number) = refl
 part_plain s ps (entry.Final p) = ap (λ b. is_from_peer s p.message && b) (final_plain s ps p.message)
+part_plain s ps part = refl
 
 released_plain : (e : Effect) (numbers : List ℕ) → (ps : List PlainLists) × ((fold message_released e numbers).state ≡ record e.state { plain = ps })
 released_plain e [] = (e.state.plain, refl)
@@ -177,10 +170,7 @@ module _ (l : Listening) (h : Listens l) where
           accords = rests_accord (with_session l.manager.rest l.session) after s (subst (IsLinked s.identity s.peers s.plain) (sym e) h.linked) cursors owes base;
         }
         at false = written entry.Nothing f owes
-    arrival (entry.Decided p) f owes = written (entry.Decided p) f owes
-    arrival (entry.Stored p) f owes = written (entry.Stored p) f owes
-    arrival (entry.OrderAcknowledged ordinal number) f owes = written (entry.OrderAcknowledged ordinal number) f owes
-    arrival (entry.Final p) f owes = written (entry.Final p) f owes
+    arrival part f owes = written part f owes
 
     -- the whole outcome, where what is done beside the record accords and leaves what is durable
     pub beside_sound : (part : Part) (answer : Heard) (b : Beside) → IsFit s part → length after.owes ≤ length (ins_after s.ins part)

@@ -191,8 +191,7 @@ placed_holds s Nowhere m d h = h
 
 number_holds : (s : State) (x : Delivery) → Holds s → Holds (number_taken s x)
 number_holds s delivery.Express h = h
-number_holds s delivery.Recoverable h = h
-number_holds s delivery.Transactional h = h
+number_holds s x h = h
 
 told_holds : (s : State) (t : Target) (n : Message) → IsDurable n → Holds s → Holds (told s t n)
 told_holds s t n d h = at (may_go s t n.delivery)

@@ -39,25 +39,22 @@ peer_within s passes k e = at (position passes s.peers) refl e
     at (Some j) there e = let same : j ≡ k = cc in subst (λ n. n < length s.peers) same ((position-Some passes s.peers j s.identity there).0)
 
 pub led_within : (s : State) (name : QueueName) (k : ℕ) → resolved s name ≡ AtPeer k → k < length s.peers
-led_within s (Public guid true) k e = absurd (let none : ⊥ = cc in none)
 led_within s (Public guid false) k e = at (queue_registered s guid) e
   where
     at : (o : Option ℕ) → option_map_or (λ number. Here (Some number)) o Nowhere ≡ AtPeer k → k < length s.peers
     at None e = absurd (let none : ⊥ = cc in none)
     at (Some number) e = absurd (let none : ⊥ = cc in none)
-led_within s (Private qm number true) k e = absurd (let none : ⊥ = cc in none)
 led_within s (Private qm number false) k e = at (same_guid qm s.identity.guid) e
   where
     at : (b : Bool) → cond b (Here (queue_numbered s number)) (at_peer (peer_known s qm)) ≡ AtPeer k → k < length s.peers
     at true e = absurd (let none : ⊥ = cc in none)
     at false e = peer_within s (λ p. same_guid p.guid qm) k e
-led_within s (Direct host queue true) k e = absurd (let none : ⊥ = cc in none)
 led_within s (Direct host queue false) k e = at (is_own_host s.identity host) e
   where
     at : (b : Bool) → cond b (Here (queue_named s queue)) (at_peer (peer_at s host)) ≡ AtPeer k → k < length s.peers
     at true e = absurd (let none : ⊥ = cc in none)
     at false e = peer_within s (λ p. is_host_of host p) k e
-led_within s (Machine qm kind) k e = absurd (let none : ⊥ = cc in none)
+led_within s name k e = absurd (let none : ⊥ = cc in none)
 
 -- A message joins rows.
 
@@ -87,7 +84,7 @@ gained_stands whose low high s rows next m left headed rise order gains carried 
     durable = v.durable;
     next_number = v.next_number;
     next_ordinal = left;
-    roll = v.roll;
+    settings = v.settings;
     own = All-from_recursion own (kept_in rows ++ recoverable_messages s) (gains_all own m whole fresh.own (recursion_from_All own (waiting s) v.own));
     ids_differ = all_pairs Differ (kept_in rows ++ recoverable_messages s)
         (gains_pairs Differ m whole fresh.before fresh.behind (pairs_of Differ (waiting s) v.ids_differ));
@@ -165,7 +162,7 @@ roomy s peer destination v = at (last_sequence s peer destination)
     (fewer_all (IsOnly s.outs) (fewer_filter (leads_to peer destination) s.outs) (only_ones s.outs (pairs_of Precedes s.outs v.ordinals_rise))))
   where
     roll : s.roll ≤ MAX_ROLL
-    roll = at_most s.roll MAX_ROLL (split_and (nat_le 1 s.roll) (nat_le s.roll MAX_ROLL) v.roll).1
+    roll = at_most s.roll MAX_ROLL (split_and (nat_le 1 s.roll) (nat_le s.roll MAX_ROLL) v.settings).1
 
     tested : (row : Row) → IsOnly s.outs row → (b : Bool) → nat_lt row.committed s.roll ≡ b
         → IfSome (cond b (Some row) None) (λ row. IsOnly s.outs row × (row.committed < MAX_ROLL))

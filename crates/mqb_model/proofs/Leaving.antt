@@ -71,17 +71,11 @@ copied_holds s n m d h = by (numbered s.places.queues n)
 
 after_take_same : (s : State) (at : EntryPlace) (m : Message) (now : ℕ) → IsDurable m → after_take (durable s) at m now ≡ durable (after_take s at m now)
 after_take_same s (place.Queue n) m now d = ap (λ u. meets u m RECEIVED now) (copied_same s n m d) ∙ meets_same (copied s n m) m RECEIVED now d
-after_take_same s (place.JournalOf n) m now d = refl
-after_take_same s place.Dead m now d = refl
-after_take_same s place.DeadXact m now d = refl
-after_take_same s place.Journal m now d = refl
+after_take_same s at m now d = refl
 
 after_take_holds : (s : State) (at : EntryPlace) (m : Message) (now : ℕ) → IsDurable m → Holds s → Holds (after_take s at m now)
 after_take_holds s (place.Queue n) m now d h = meets_holds (copied s n m) m RECEIVED now d (copied_holds s n m d h)
-after_take_holds s (place.JournalOf n) m now d h = h
-after_take_holds s place.Dead m now d h = h
-after_take_holds s place.DeadXact m now d h = h
-after_take_holds s place.Journal m now d h = h
+after_take_holds s at m now d h = h
 
 message_taken_same : (at : EntryPlace) (k now : ℕ) (s : State) (m : Message) → IsDurable m
     → message_taken lane.Durable at k now (durable s) m ≡ durable_effect (message_taken lane.Durable at k now s m)

@@ -44,20 +44,15 @@ numbered_same qs n = ap (option_map (λ q. n)) (numbered_mapped durable_queue qs
     at (Some q) = refl
 
 pub resolved_same : (s : State) (name : QueueName) → resolved (durable s) name ≡ resolved s name
-resolved_same s (Public guid true) = refl
 resolved_same s (Public guid false) = ap (λ o. at_queue (number_at o)) (position_mapped (is_registered guid) durable_queue s.places.queues)
-resolved_same s (Private qm number true) = refl
 resolved_same s (Private qm number false) = ap (λ o. cond (same_guid qm s.identity.guid) (Here o) (at_peer (peer_known s qm))) (numbered_same s.places.queues number)
-resolved_same s (Direct host queue true) = refl
 resolved_same s (Direct host queue false) = ap (λ o. cond (is_own_host s.identity host) (Here (number_at o)) (at_peer (peer_at s host))) (found_same s.places.queues queue)
-resolved_same s (Machine qm kind) = refl
+resolved_same s name = refl
 
 pub place_same : (s : State) (p : Place) → place_named (durable s).places.queues p ≡ place_named s.places.queues p
 place_same s (named.Queue name) = ap (option_map (λ k. place.Queue (k + 1))) (found_same s.places.queues name)
 place_same s (named.JournalOf name) = ap (option_map (λ k. place.JournalOf (k + 1))) (found_same s.places.queues name)
-place_same s named.Dead = refl
-place_same s named.DeadXact = refl
-place_same s named.Journal = refl
+place_same s p = refl
 
 -- Places.
 
@@ -69,9 +64,7 @@ of_queues read same (Some q) = ap Some (same q)
 pub lists_same : (p : Places) (at : EntryPlace) → lists_at (durable_places p) at ≡ option_map durable_lists (lists_at p at)
 lists_same p (place.Queue number) = ap (option_map (λ q. q.lists)) (numbered_mapped durable_queue p.queues number) ∙ of_queues (λ q. q.lists) (λ q. refl) (numbered p.queues number)
 lists_same p (place.JournalOf number) = ap (option_map (λ q. q.journal)) (numbered_mapped durable_queue p.queues number) ∙ of_queues (λ q. q.journal) (λ q. refl) (numbered p.queues number)
-lists_same p place.Dead = refl
-lists_same p place.DeadXact = refl
-lists_same p place.Journal = refl
+lists_same p at = refl
 
 -- a place of a queue is changed by lists that are given
 with_queue_lists : (p : Places) (n : ℕ) (g : Lists → Lists) → ((l : Lists) → g (durable_lists l) ≡ durable_lists (g l)) → (o : Option Queue)
@@ -152,11 +145,9 @@ by_same delivery.Recoverable q h = refl
 by_same delivery.Transactional q h = refl
 
 pub refusal_same : (s : State) (t : Target) (d : Delivery) → is_express d ≡ false → target_refusal (durable s) t d ≡ target_refusal s t d
-refusal_same s (Here None) d h = refl
 refusal_same s (Here (Some n)) d h = ap (λ o. option_map_or (refusal_by d) o (Some BAD_DESTINATION)) (numbered_mapped durable_queue s.places.queues n) ∙ at (numbered s.places.queues n)
   where
     at : (o : Option Queue) → option_map_or (refusal_by d) (option_map durable_queue o) (Some BAD_DESTINATION) ≡ option_map_or (refusal_by d) o (Some BAD_DESTINATION)
     at None = refl
     at (Some q) = by_same d q h
-refusal_same s (AtPeer k) d h = refl
-refusal_same s Nowhere d h = refl
+refusal_same s t d h = refl

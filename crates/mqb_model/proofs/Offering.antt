@@ -62,7 +62,7 @@ rows_valid s rows v headed rise order fewer = record {
   durable = v.durable;
   next_number = v.next_number;
   next_ordinal = v.next_ordinal;
-  roll = v.roll;
+  settings = v.settings;
   own = All-from_recursion own (kept_in rows ++ recoverable_messages s)
       (fewer_all own whole (recursion_from_All own (kept_messages s ++ recoverable_messages s) v.own));
   ids_differ = all_pairs Differ (kept_in rows ++ recoverable_messages s)

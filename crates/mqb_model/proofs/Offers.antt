@@ -182,9 +182,6 @@ numbers_kept s n row [] e h = tt
 numbers_kept s n row (c ∷ cs) e h = by (numbers_kept s n row cs e h.1) c.origin h.0
   where
     by : AllByRecursion (IsKeptOrNone row) (filter_map (λ c. number_of_row n c.origin) cs) → (from : Origin) → IsOffered s from → AllByRecursion (IsKeptOrNone row) (cons_option (number_of_row n from) (filter_map (λ c. number_of_row n c.origin) cs))
-    by later (Owed i) o = later
-    by later OfRecoverable o = later
-    by later OfExpress o = later
     by later (OfRow i number) o = at (i == n) refl
       where
         at : (b : Bool) → (i == n) ≡ b → AllByRecursion (IsKeptOrNone row) (cons_option (cond b (Some number) None) (filter_map (λ c. number_of_row n c.origin) cs))
@@ -194,6 +191,7 @@ numbers_kept s n row (c ∷ cs) e h = by (numbers_kept s n row cs e h.1) c.origi
           later,
         )
         at false f = later
+    by later x o = later
 
 greatest_kept : (s : State) (n : ℕ) (row : Row) (cs : List Candidate) → slice_get s.outs n ≡ Some row → AllByRecursion (IsThere s) cs → nat_lt row.offered (greatest_sent cs n) ≡ true
     → list_any (λ k. k.number == greatest_sent cs n) row.kept ≡ true
@@ -327,10 +325,8 @@ counted_apart n (c ∷ cs) = by (counted_apart n cs) c.origin
     one false number = omega arith
 
     by : behind (n + 1) cs + of_rows n cs ≤ behind n cs → (from : Origin) → cond (from_row (n + 1) from) 1 0 + behind (n + 1) cs + length (cons_option (number_of_row n from) numbers) ≤ cond (from_row n from) 1 0 + behind n cs
-    by later (Owed i) = omega (arith, later)
-    by later OfRecoverable = omega (arith, later)
-    by later OfExpress = omega (arith, later)
     by later (OfRow i number) = let parts = split_at n i in let more = one (i == n) number in omega (arith, later, parts, more)
+    by later x = omega (arith, later)
 
 none_sent : (offered : ℕ) (numbers : List ℕ) → nat_lt offered (fold max 0 numbers) ≡ true → 1 ≤ length numbers
 none_sent offered [] e = absurd (none offered e)

@@ -27,9 +27,7 @@ ok_given (Err fault) x e = absurd cc
 
 user_given : (q : Packet) (p : UserPacket) → as_user q ≡ Some p → q ≡ packet.User p
 user_given (packet.User user) p e = cc
-user_given (packet.Establish establish) p e = absurd cc
-user_given (packet.Parameters parameters) p e = absurd cc
-user_given (packet.Ack head) p e = absurd cc
+user_given q p e = absurd cc
 
 -- The bytes spell the packet.
 pub spells : (bytes : List ℕ) (p : UserPacket) → user_packet_of bytes ≡ Some p → Spells (packet.User p) bytes

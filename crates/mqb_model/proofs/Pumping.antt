@@ -151,15 +151,11 @@ module _ (rest : Rest) (session : one_end.State) (m : may_send session ≡ true)
 
 noted_peers : (k : ℕ) (head : SessionHead) (s : State) (from : Origin) → (noted_as k head s from).peers ≡ s.peers
 noted_peers k head s (Owed row) = refl
-noted_peers k head s OfRecoverable = refl
-noted_peers k head s OfExpress = refl
-noted_peers k head s (OfRow row number) = refl
+noted_peers k head s from = refl
 
 sent_peer : (session : one_end.State) (from : Origin) → (stamped (kind_of from) session).1.peer ≡ session.peer
 sent_peer session (Owed row) = refl
-sent_peer session OfRecoverable = refl
-sent_peer session OfExpress = refl
-sent_peer session (OfRow row number) = refl
+sent_peer session from = refl
 
 all_noted : (rest : Rest) (session : one_end.State) (cs : List Candidate) (s : State) (k : ℕ) → k ≡ peer_in s.peers session → Go session cs → Accords (with_session rest session) s
     → Accords (with_session rest (session_behind session cs)) (fold (noted k) s (map origin_of (with_heads session cs)))

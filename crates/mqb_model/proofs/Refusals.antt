@@ -1,4 +1,10 @@
 -- A call that is refused changes nothing, and the disk is called exactly where a record is written.
+use Rattle.mqb_model.specs.calls.Call.{Commit, CreateQueue, Purge, Request, Send, Set, Take, Tick, requested}
+use Rattle.mqb_base.specs.declared.draft.Op.{Op}
+use Rattle.mqb_base.specs.declared.draft.Parts.{Parts}
+use Rattle.mqb_base.specs.declared.queues.Place.{Place}
+use Rattle.mqb_base.specs.declared.queues.QueuePlan.{QueuePlan}
+use Rattle.mqb_model.specs.records.Record.{Setting}
 use Rattle.std.proofs.Common.{refl}
 use Rattle.mqb_base.specs.declared.heads.TxHead.{TxHead}
 use Rattle.mqb_base.specs.declared.heard.Heard.{Heard}
@@ -20,7 +26,7 @@ use Rattle.mqb_setup.specs.declared.internal.Internal.{Internal}
 use Rattle.mqb_model.specs.declared.faults.CommitFault.{CommitFault}
 use Rattle.std.specs.List.{list_any}
 use Rattle.std.specs.Option.{option_map_or}
-use Rattle.std.specs.Prelude.{◌==◌, ◌&&◌, ◌∷◌, [], Bool, Err, List, None, Ok, Option, Result, Some, cond, false, length, not, slice_get, true, ℕ}
+use Rattle.std.specs.Prelude.{◌==◌, ◌&&◌, ◌∷◌, [], Bool, Err, List, None, Ok, Option, Result, Some, cond, false, length, not, slice_get, true, ℕ, ◌≡◌, is_some}
 use Rattle.mqb_base.specs.declared.heard.Heard.TheVariants as heard
 use Rattle.mqb_base.specs.declared.message.Lane.{Lane}
 use Rattle.mqb_base.specs.declared.message.Lane.TheVariants as lane
@@ -31,15 +37,15 @@ use Rattle.mqb_session.specs.Phases.{owed_by}
 use Rattle.mqb_session.specs.Sending.{is_ready, is_spent, stamped}
 use Rattle.mqb_session.specs.declared.heads.Kind.TheVariants as kind
 use Rattle.mqb_model.specs.calls.AddPeer.{add_peer_refusal}
-use Rattle.mqb_model.specs.calls.Commit.{Trial, commit_tried, ops_refusal, trial_of, try_ops, whole_refusal}
-use Rattle.mqb_model.specs.calls.CreateQueue.{create_refusal}
+use Rattle.mqb_model.specs.calls.Commit.{Trial, commit, commit_tried, ops_refusal, trial_of, try_ops, whole_refusal}
+use Rattle.mqb_model.specs.calls.CreateQueue.{create_queue, create_refusal}
 use Rattle.mqb_model.specs.calls.Link.{link_refusal, linking}
 use Rattle.mqb_model.specs.calls.Messages.{plain_message}
-use Rattle.mqb_model.specs.calls.Purge.{purge_at, purge_refusal, purging}
-use Rattle.mqb_model.specs.calls.Send.{send_refusal, sending}
-use Rattle.mqb_model.specs.calls.SetRoll.{store_refusal}
-use Rattle.mqb_model.specs.calls.Take.{first_in, take_at, take_position, take_refusal, taking}
-use Rattle.mqb_model.specs.calls.Tick.{ticking}
+use Rattle.mqb_model.specs.calls.Purge.{purge, purge_at, purge_refusal, purging}
+use Rattle.mqb_model.specs.calls.Send.{send, send_refusal, sending}
+use Rattle.mqb_model.specs.calls.SetRoll.{set_to, store_refusal}
+use Rattle.mqb_model.specs.calls.Take.{first_in, take_at, take_message, take_position, take_refusal, taking}
+use Rattle.mqb_model.specs.calls.Tick.{tick, ticking}
 use Rattle.mqb_model.specs.calls.hear.Hear.{hear_acknowledgement, hear_behind, hear_linked, hear_refusal, hear_user, listening}
 use Rattle.mqb_model.specs.calls.hear.Plain.{hear_arriving, hear_express, hear_final, hear_in_order, hear_message, hear_plain, hear_recoverable, hear_stored}
 use Rattle.mqb_model.specs.calls.hear.Session.{Listening, ack_heard, discarded, heard_as, peer_heard, user_heard}
@@ -121,10 +127,8 @@ duplicate_goes m l message tx = either m (has_sequence l.manager.state message t
     (record { refused = tt; touches = refl }) (record { refused = tt; touches = refl })
 
 judged_goes : (m : Manager) (l : Listening) (p : UserPacket) (tx : TxHead) (verdict : Verdict) → IsWhole m (judged l p tx verdict)
-judged_goes m l p tx verdict.Next = record { refused = tt; touches = refl }
 judged_goes m l p tx verdict.Duplicate = duplicate_goes m l p.message tx
-judged_goes m l p tx verdict.Gap = record { refused = tt; touches = refl }
-judged_goes m l p tx verdict.Stale = record { refused = tt; touches = refl }
+judged_goes m l p tx verdict = record { refused = tt; touches = refl }
 
 stream_goes : (m : Manager) (l : Listening) (p : UserPacket) (tx : TxHead) → IsWhole m (hear_in_stream l p tx)
 stream_goes m l p tx = let found = verdict_of (in_row l.manager.state p.message) tx in
@@ -161,9 +165,7 @@ behind_goes m now p head.AckOnly session = user_goes m (listening m session now)
 
 acknowledgement_goes : (m : Manager) (now : ℕ) (given : HeadHeard) (session : one_end.State) → IsWhole m (hear_acknowledgement m now given session)
 acknowledgement_goes m now (head.Closed why) session = record { refused = tt; touches = refl }
-acknowledgement_goes m now head.InOrder session = record { refused = tt; touches = refl }
-acknowledgement_goes m now head.OutOfOrder session = record { refused = tt; touches = refl }
-acknowledgement_goes m now head.AckOnly session = record { refused = tt; touches = refl }
+acknowledgement_goes m now given session = record { refused = tt; touches = refl }
 
 linked_goes : (m : Manager) (now : ℕ) (p : Packet) (session : one_end.State) → IsWhole m (hear_linked m now p session)
 linked_goes m now (packet.Establish e) session = record { refused = tt; touches = refl }
@@ -206,25 +208,57 @@ session_goes m now session = owed_goes m now session (owed_by session.phase now 
 
 -- each call
 
+created_whole : (m : Manager) (given : QueuePlan) → IsWhole m (create_queue m given)
+created_whole m given = whole_unless m (create_refusal m given) (recording m (entry.CreateQueue (next_queue m.state) given) (Ok (next_queue m.state)))
+    (record { refused = tt; touches = refl })
+
+setting_whole : (m : Manager) (setting : Setting) → IsWhole m (set_to m setting)
+setting_whole m setting = whole_unless m (store_refusal m) (recording m (entry.Set setting) (Ok tt)) (record { refused = tt; touches = refl })
+
+committed_whole : (m : Manager) (ops : List Op) (now : ℕ) → IsWhole m (commit m ops now)
+committed_whole m ops now = whole_unless m (ops_refusal m ops) (commit_tried m now (try_ops now 0 (trial_of m.state) ops))
+    (commit_goes m now (try_ops now 0 (trial_of m.state) ops))
+
+sent_whole : (m : Manager) (p : Parts) (recoverable : Bool) (now : ℕ) → IsWhole m (send m p recoverable now)
+sent_whole m p recoverable now = let message = plain_message m.state recoverable now p in
+    whole_unless m (send_refusal m recoverable message) (sending m recoverable message now) (sending_goes m recoverable message now)
+
+taken_whole : (m : Manager) (p : Place) (now : ℕ) → IsWhole m (take_message m p now)
+taken_whole m p now = whole_unless m (take_refusal m) (option_map_or (take_at m now) (place_named m.state.places.queues p) (answering m (Err take_fault.NoQueue)))
+    (whole_or m (take_at m now) (place_named m.state.places.queues p) (answering m (Err take_fault.NoQueue)) (take_goes m now) (refusing m take_fault.NoQueue))
+
+purged_whole : (m : Manager) (p : Place) (now : ℕ) → IsWhole m (purge m p now)
+purged_whole m p now = whole_unless m (purge_refusal m) (option_map_or (purge_at m now) (place_named m.state.places.queues p) (answering m (Err purge_fault.NoQueue)))
+    (whole_or m (purge_at m now) (place_named m.state.places.queues p) (answering m (Err purge_fault.NoQueue)) (purge_goes m now) (refusing m purge_fault.NoQueue))
+
+ticked_whole : (m : Manager) (now : ℕ) → IsWhole m (tick m now)
+ticked_whole m now = whole_unless m (store_refusal m) (ticking m now) (record { refused = tt; touches = refl })
+
+-- and each request
+requests_touch : (m : Manager) (given : Request) → (requested m given).touches ≡ is_some (requested m given).entry
+requests_touch m (CreateQueue plan) = (created_whole m plan).touches
+requests_touch m (Set setting) = (setting_whole m setting).touches
+requests_touch m (Commit now ops) = (committed_whole m ops now).touches
+requests_touch m (Send now recoverable parts) = (sent_whole m parts recoverable now).touches
+requests_touch m (Take now place) = (taken_whole m place now).touches
+requests_touch m (Purge now place) = (purged_whole m place now).touches
+requests_touch m (Tick now) = (ticked_whole m now).touches
+
 pub refusals_change_nothing : RefusalsChangeNothing
 refusals_change_nothing m = record {
   add_peer_whole = λ peer. whole_unless m (add_peer_refusal m peer) (recording m (entry.Peer peer) (Ok (length m.state.peers)))
       (record { refused = tt; touches = refl });
-  create_queue_whole = λ given. whole_unless m (create_refusal m given) (recording m (entry.CreateQueue (next_queue m.state) given) (Ok (next_queue m.state)))
-      (record { refused = tt; touches = refl });
-  set_roll_whole = λ count. whole_unless m (store_refusal m) (recording m (entry.Roll count) (Ok tt)) (record { refused = tt; touches = refl });
-  commit_whole = λ ops now. whole_unless m (ops_refusal m ops) (commit_tried m now (try_ops now 0 (trial_of m.state) ops))
-      (commit_goes m now (try_ops now 0 (trial_of m.state) ops));
-  send_whole = λ p recoverable now. let message = plain_message m.state recoverable now p in
-      whole_unless m (send_refusal m recoverable message) (sending m recoverable message now) (sending_goes m recoverable message now);
-  take_whole = λ p now. whole_unless m (take_refusal m) (option_map_or (take_at m now) (place_named m.state.places.queues p) (answering m (Err take_fault.NoQueue)))
-      (whole_or m (take_at m now) (place_named m.state.places.queues p) (answering m (Err take_fault.NoQueue)) (take_goes m now) (refusing m take_fault.NoQueue));
-  purge_whole = λ p now. whole_unless m (purge_refusal m) (option_map_or (purge_at m now) (place_named m.state.places.queues p) (answering m (Err purge_fault.NoQueue)))
-      (whole_or m (purge_at m now) (place_named m.state.places.queues p) (answering m (Err purge_fault.NoQueue)) (purge_goes m now) (refusing m purge_fault.NoQueue));
-  tick_whole = λ now. whole_unless m (store_refusal m) (ticking m now) (record { refused = tt; touches = refl });
+  create_queue_whole = created_whole m;
+  set_whole = setting_whole m;
+  commit_whole = committed_whole m;
+  send_whole = sent_whole m;
+  take_whole = taken_whole m;
+  purge_whole = purged_whole m;
+  tick_whole = ticked_whole m;
   link_whole = λ end window. whole_unless m (link_refusal m end window) (linking m end window) (record { refused = tt; touches = refl });
   hear_whole = λ p now. whole_unless m (hear_refusal m) (option_map_or (hear_linked m now p) m.rest.session (answering m (Err hear_fault.NotLinked)))
       (whole_or m (hear_linked m now p) m.rest.session (answering m (Err hear_fault.NotLinked)) (linked_goes m now p) (refusing m hear_fault.NotLinked));
   pump_whole = λ now. whole_unless m (pump_refusal m) (option_map_or (pump_linked m now) m.rest.session (answering m (Err pump_fault.NotLinked)))
       (whole_or m (pump_linked m now) m.rest.session (answering m (Err pump_fault.NotLinked)) (session_goes m now) (refusing m pump_fault.NotLinked));
+  request_touches = requests_touch m;
 }

@@ -120,7 +120,7 @@ places_stand whose low high s p h plans are = let v = h.valid in record {
     durable = λ k d lt. (all_placed (record s { places = p }) are k d lt).1;
     next_number = v.next_number;
     next_ordinal = v.next_ordinal;
-    roll = v.roll;
+    settings = v.settings;
     own = v.own;
     ids_differ = v.ids_differ;
   };
@@ -152,9 +152,7 @@ plans_stay qs n change keeps = at (numbered qs n) refl
 with_lists_plans : (p : Places) (at : EntryPlace) (l : Lists) → map plan_of (with_lists p at l).queues ≡ map plan_of p.queues
 with_lists_plans p (place.Queue n) l = plans_stay p.queues n (λ q. record q { lists = l }) (λ q. refl)
 with_lists_plans p (place.JournalOf n) l = plans_stay p.queues n (λ q. record q { journal = l }) (λ q. refl)
-with_lists_plans p place.Dead l = refl
-with_lists_plans p place.DeadXact l = refl
-with_lists_plans p place.Journal l = refl
+with_lists_plans p at l = refl
 
 -- the plans of queues stay where what a place holds is changed
 pub changed_plans : (p : Places) (at : EntryPlace) (g : Lists → Lists) → map plan_of (changed_at p at g).queues ≡ map plan_of p.queues
@@ -204,7 +202,7 @@ number_stands whose low high s left h = let v = h.valid in record {
     durable = v.durable;
     next_number = (omega arith, omega arith);
     next_ordinal = v.next_ordinal;
-    roll = v.roll;
+    settings = v.settings;
     own = λ k d lt. let one = v.own k d lt in record { source = one.source; number = later _ s.next_number one.number };
     ids_differ = v.ids_differ;
   };
@@ -254,7 +252,7 @@ pushed_stands whose low high s k m carried recoverable fresh h = let v = h.valid
     durable = v.durable;
     next_number = v.next_number;
     next_ordinal = v.next_ordinal;
-    roll = v.roll;
+    settings = v.settings;
     own = All-from_recursion own (kept_messages s ++ plain_in after) (gains_all own m whole fresh.own (recursion_from_All own (waiting s) v.own));
     ids_differ = all_pairs Differ (kept_messages s ++ plain_in after)
         (gains_pairs Differ m whole fresh.before fresh.behind (pairs_of Differ (waiting s) v.ids_differ));
@@ -304,7 +302,7 @@ plain_stands whose low high s ps counted fewer h = let v = h.valid in record {
     durable = v.durable;
     next_number = v.next_number;
     next_ordinal = v.next_ordinal;
-    roll = v.roll;
+    settings = v.settings;
     own = All-from_recursion own (kept_messages s ++ plain_in ps) (fewer_all own whole (recursion_from_All own (waiting s) v.own));
     ids_differ = all_pairs Differ (kept_messages s ++ plain_in ps) (fewer_pairs Differ whole (pairs_of Differ (waiting s) v.ids_differ));
   };

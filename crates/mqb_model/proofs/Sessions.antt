@@ -35,34 +35,19 @@ use Rattle.mqb_model.proofs.Members.{split_and}
 -- Phases: one that sets up comes from one that does.
 
 parameters_set_up : (ph : Phase) (r : Role) → IsSettingUp (phase_after_parameters ph r) → IsSettingUp ph
-parameters_set_up phase.Start r h = tt
-parameters_set_up phase.WaitEstablish r h = tt
-parameters_set_up phase.OweEstablish r h = tt
-parameters_set_up phase.OweRefusal r h = tt
-parameters_set_up phase.OweParameters r h = tt
-parameters_set_up phase.WaitParameters r h = tt
 parameters_set_up phase.Ready r h = h
 parameters_set_up (phase.Closed why) r h = h
+parameters_set_up ph r h = tt
 
 establish_set_up : (ph : Phase) (r : Role) (wanted : Bool) → IsSettingUp (phase_after_establish ph r wanted) → IsSettingUp ph
-establish_set_up phase.Start r wanted h = tt
-establish_set_up phase.WaitEstablish r wanted h = tt
-establish_set_up phase.OweEstablish r wanted h = tt
-establish_set_up phase.OweRefusal r wanted h = tt
-establish_set_up phase.OweParameters r wanted h = tt
-establish_set_up phase.WaitParameters r wanted h = tt
 establish_set_up phase.Ready r wanted h = h
 establish_set_up (phase.Closed why) r wanted h = h
+establish_set_up ph r wanted h = tt
 
 owed_set_up : (ph : Phase) (r : Role) → IsSettingUp (phase_after_owed ph r) → IsSettingUp ph
-owed_set_up phase.Start r h = tt
-owed_set_up phase.WaitEstablish r h = tt
-owed_set_up phase.OweEstablish r h = tt
-owed_set_up phase.OweRefusal r h = tt
-owed_set_up phase.OweParameters r h = tt
-owed_set_up phase.WaitParameters r h = tt
 owed_set_up phase.Ready r h = h
 owed_set_up (phase.Closed why) r h = h
+owed_set_up ph r h = tt
 
 -- the peer stays, or an acceptor that waits finds it
 abbrev Finds : Phase → Role → Bool → Type 0
@@ -167,12 +152,6 @@ module _ (identity : Identity) (peers : List Identity) (plain : List PlainLists)
   pub head_linked : (From : Type 0) (h : SessionHead) (session : one_end.State) (ph : Phase) → session.phase ≡ ph → h.user < 2 ^ 16 → (ph ≡ phase.Ready → From) → Links session
       → Links (head_in ph h session).1 × HeardWith From (head_in ph h session).0 (head_in ph h session).1
   head_linked From h session (phase.Closed why) e small from l = (l, tt)
-  head_linked From h session phase.Start e small from l = (closed session cause.Early l, tt)
-  head_linked From h session phase.WaitEstablish e small from l = (closed session cause.Early l, tt)
-  head_linked From h session phase.OweEstablish e small from l = (closed session cause.Early l, tt)
-  head_linked From h session phase.OweRefusal e small from l = (closed session cause.Early l, tt)
-  head_linked From h session phase.OweParameters e small from l = (closed session cause.Early l, tt)
-  head_linked From h session phase.WaitParameters e small from l = (closed session cause.Early l, tt)
   head_linked From h session phase.Ready e small from l = bad (is_bad_ack h session) refl
     where
       ready : IsSettingUp session.phase → session.sent ≡ 0
@@ -222,6 +201,7 @@ module _ (identity : Identity) (peers : List Identity) (plain : List PlainLists)
       bad true f = (closed session cause.BadAck l, tt)
       bad false f = let both = neither (nat_lt session.sent h.ack) (nat_lt session.recoverable_sent h.stored) f in
           ordered both.0 both.1 (h.user == 0) (h.user == session.got + 1) refl
+  head_linked From h session ph e small from l = (closed session cause.Early l, tt)
 
   pub closed_linked : (session : one_end.State) (why : Cause) → Links session → Links (closing why session).1
   closed_linked session why l = closed session why l
@@ -260,14 +240,9 @@ module _ (identity : Identity) (peers : List Identity) (plain : List PlainLists)
       one n e le = grind (arith, nat_tests)
 
   ready_not : (ph : Phase) → is_ready ph ≡ true → IsSettingUp ph → ⊥
-  ready_not phase.Start e u = let none : ⊥ = cc in none
-  ready_not phase.WaitEstablish e u = let none : ⊥ = cc in none
-  ready_not phase.OweEstablish e u = let none : ⊥ = cc in none
-  ready_not phase.OweRefusal e u = let none : ⊥ = cc in none
-  ready_not phase.OweParameters e u = let none : ⊥ = cc in none
-  ready_not phase.WaitParameters e u = let none : ⊥ = cc in none
   ready_not phase.Ready e u = u
   ready_not (phase.Closed why) e u = u
+  ready_not ph e u = let none : ⊥ = cc in none
 
   is_ready_where : (session : one_end.State) → may_send session ≡ true → is_ready session.phase ≡ true
   is_ready_where session m = (split_and (is_ready session.phase) _ m).0

@@ -170,7 +170,7 @@ pub records_are_spelled : RecordsAreSpelled
 records_are_spelled m = record {
   peers = λ peer. unless_spelled m (add_peer_refusal m peer) (recording m (entry.Peer peer) (Ok (length m.state.peers))) tt;
   queues = λ plan. unless_spelled m (create_refusal m plan) (recording m (entry.CreateQueue (next_queue m.state) plan) (Ok (next_queue m.state))) tt;
-  rolls = λ n h. unless_spelled m (store_refusal m) (recording m (entry.Roll n) (Ok tt)) h;
+  sets = λ setting h. unless_spelled m (store_refusal m) (recording m (entry.Set setting) (Ok tt)) h;
   commits = commit_spelled m;
   sends = λ p recoverable now. unless_spelled m (send_refusal m recoverable (plain_message m.state recoverable now p)) (sending m recoverable (plain_message m.state recoverable now p) now)
       (sending_spelled m recoverable (plain_message m.state recoverable now p) now);

@@ -17,17 +17,17 @@ use Rattle.mqb_session.specs.State as one_end
 use Rattle.mqb_model.specs.Lists.{grown}
 use Rattle.mqb_model.specs.calls.Link.{begun_anew, rewound}
 use Rattle.mqb_model.specs.declared.limits.TheConstants.{FIRST_EXPRESS}
-use Rattle.mqb_model.specs.laws.Validity.{RefusedIsSame, ResentIsValid, RolledIsValid, UnlinkedIsValid}
+use Rattle.mqb_model.specs.laws.Validity.{RefusedIsSame, ResentIsValid, SetIsValid, UnlinkedIsValid}
 use Rattle.mqb_model.specs.managers.Beside as beside
 use Rattle.mqb_model.specs.managers.Beside.{all_unmarked, beside_done}
 use Rattle.mqb_model.specs.managers.Manager.{Condition, Down, Manager, Rest, Up, doubt_of, linked_peer, rest_for}
 use Rattle.mqb_model.specs.managers.Valid.{IsExpressValid, IsLinkedWell, IsUnsent, IsValidManager, IsWritable, MarksRise, express_waiting}
-use Rattle.mqb_model.specs.records.Applying.{fits}
-use Rattle.mqb_model.specs.records.Record.{Record}
+use Rattle.mqb_model.specs.records.Applying.{fits, is_setting, with_setting}
+use Rattle.mqb_model.specs.records.Record.{Record, Roll, Setting}
 use Rattle.mqb_model.specs.state.Durable.{durable, durable_places, durable_plain}
 use Rattle.mqb_model.specs.state.Places.{is_express}
 use Rattle.mqb_model.specs.state.State.{State}
-use Rattle.mqb_model.specs.state.Valid.{IsCarried, IsOwn, IsValidState, kept_messages, recoverable_messages}
+use Rattle.mqb_model.specs.state.Valid.{AreSettings, IsCarried, IsOwn, IsValidState, kept_messages, recoverable_messages}
 use Rattle.mqb_model.proofs.Applying.{durable_is_fitted}
 use Rattle.mqb_model.proofs.Durable.{messages_stay}
 use Rattle.mqb_model.proofs.Validity.{grown_length, in_order, unsent_items}
@@ -87,7 +87,7 @@ unmarked_valid s v = record {
   durable = v.durable;
   next_number = v.next_number;
   next_ordinal = v.next_ordinal;
-  roll = v.roll;
+  settings = v.settings;
   own = subst (λ ms. All (IsOwn s.identity.guid s.next_number) (kept_messages s ++ ms)) (sym plain) v.own;
   ids_differ = subst (λ ms. AllPairs (λ a b. same_id a.id b.id ≡ false) (kept_messages s ++ ms)) (sym plain) v.ids_differ;
 }
@@ -183,9 +183,13 @@ resent_is_valid m v = at m.rest.session refl
     at (Some session) e = subst (λ given. IsValidManager (record m { rest = rest_for m.state (left given) })) (sym e)
         (rests m (left (Some session)) v refl (rewound_length (linked_peer m.state session) m.state.outs m.rest.cursors v.cursors) v.owes)
 
--- Sequences are full at another count.
-pub rolled_is_valid : RolledIsValid
-rolled_is_valid s count v f = record {
+-- Something is set.
+
+set_soundly : (s : State) (setting : Setting) → is_setting setting ≡ true → AreSettings (with_setting s setting)
+set_soundly s (Roll count) f = f
+
+pub set_is_valid : SetIsValid
+set_is_valid s setting v f = record {
   few_peers = v.few_peers;
   few_queues = v.few_queues;
   peers_differ = v.peers_differ;
@@ -205,7 +209,7 @@ rolled_is_valid s count v f = record {
   durable = v.durable;
   next_number = v.next_number;
   next_ordinal = v.next_ordinal;
-  roll = f;
+  settings = set_soundly s setting f;
   own = v.own;
   ids_differ = v.ids_differ;
 }

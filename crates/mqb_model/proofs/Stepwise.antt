@@ -93,11 +93,4 @@ pub stepwise_is_effect : StepwiseIsEffect
 stepwise_is_effect s (entry.Commit now ops) = commit_law s now ops
 stepwise_is_effect s (entry.Offered marks) = offered_law s marks
 stepwise_is_effect s (entry.Arrived now numbers part) = arrived_law s now numbers part
-stepwise_is_effect s (entry.Identity identity) = refl
-stepwise_is_effect s (entry.Peer peer) = refl
-stepwise_is_effect s (entry.CreateQueue number plan) = refl
-stepwise_is_effect s (entry.Plain now p) = refl
-stepwise_is_effect s (entry.Taken now at id) = refl
-stepwise_is_effect s (entry.Purged now at) = refl
-stepwise_is_effect s (entry.Ticked now) = refl
-stepwise_is_effect s (entry.Roll count) = refl
+stepwise_is_effect s r = refl

@@ -276,7 +276,7 @@ pub records_are_read : RecordsAreRead
 records_are_read m = record {
   peers = λ peer named. unless_read m (add_peer_refusal m peer) (recording m (entry.Peer peer) (Ok (length m.state.peers))) named;
   queues = λ plan. unless_read m (create_refusal m plan) (recording m (entry.CreateQueue (next_queue m.state) plan) (Ok (next_queue m.state))) tt;
-  rolls = λ n. unless_read m (store_refusal m) (recording m (entry.Roll n) (Ok tt)) tt;
+  sets = λ setting. unless_read m (store_refusal m) (recording m (entry.Set setting) (Ok tt)) tt;
   commits = commit_read m;
   sends = send_read m;
   takes = λ p now. unless_read m (take_refusal m) (option_map_or (take_at m now) (place_named m.state.places.queues p) (answering m (Err take_fault.NoQueue)))

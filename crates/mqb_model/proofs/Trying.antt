@@ -163,8 +163,7 @@ IsPlain n = is_transactional n.delivery ≡ false
 
 notice_delivery : (x : Delivery) → is_transactional (admin_delivery x) ≡ false
 notice_delivery delivery.Express = refl
-notice_delivery delivery.Recoverable = refl
-notice_delivery delivery.Transactional = refl
+notice_delivery x = refl
 
 admin_plain : (s : State) (m : Message) (class : Class) (now : ℕ) → IfSome (admin_about s m class now) IsPlain
 admin_plain s m class now = by (number_left s (admin_delivery m.delivery))
@@ -203,8 +202,7 @@ takes_plain q x plain none = by (is_transactional x) plain q.plan.transactional 
 
 number_places : (s : State) (x : Delivery) → (number_taken s x).places ≡ s.places
 number_places s delivery.Express = refl
-number_places s delivery.Recoverable = refl
-number_places s delivery.Transactional = refl
+number_places s x = refl
 
 -- a queue that is not transactional is seen by its plan alone
 plain_seen : (q : Queue) (l : Lists) → q.plan.transactional ≡ false → seen (record q { lists = l }) ≡ seen q
@@ -219,10 +217,8 @@ goes_seen s n m plain goes = lists_seen s.places n (put (lane_of m.delivery) m) 
     by (Some q) h = plain_seen q (put (lane_of m.delivery) m q.lists) (takes_plain q m.delivery plain h)
 
 told_seen : (s : State) (t : Target) (m : Message) → IsPlain m → may_go s t m.delivery ≡ true → all_seen (placed (number_taken s m.delivery) t m) ≡ all_seen s
-told_seen s (Here None) m plain goes = ap (λ p. map seen p.queues) (number_places s m.delivery)
 told_seen s (Here (Some n)) m plain goes = ap (λ p. map seen (changed_at p (place.Queue n) (put (lane_of m.delivery) m)).queues) (number_places s m.delivery) ∙ goes_seen s n m plain goes
-told_seen s (AtPeer k) m plain goes = ap (λ p. map seen p.queues) (number_places s m.delivery)
-told_seen s Nowhere m plain goes = ap (λ p. map seen p.queues) (number_places s m.delivery)
+told_seen s t m plain goes = ap (λ p. map seen p.queues) (number_places s m.delivery)
 
 seen_outlasts : (w : List (QueuePlan × List Message)) → Outlasts Any IsPlain (λ s. all_seen s ≡ w)
 seen_outlasts w = record {

@@ -127,7 +127,7 @@ empty_is_valid identity = record {
   durable = All-nil _;
   next_number = (omega arith, omega arith);
   next_ordinal = (omega arith, omega arith);
-  roll = refl;
+  settings = refl;
   own = All-nil _;
   ids_differ = λ j k d less lt. absurd (omega arith);
 }

@@ -112,10 +112,7 @@ module _ (kind : Lane) (Met Notice : Message → Type 0) (P : State → Type 0) 
 
   pub after_take_outlasts : (s : State) (at : EntryPlace) (m : Message) (now : ℕ) → Met m → P s → P (after_take s at m now)
   after_take_outlasts s (place.Queue number) m now l h = meets_outlasts Met Notice P w (copied s number m) m RECEIVED now l refl (copied_outlasts s number m l h)
-  after_take_outlasts s (place.JournalOf number) m now l h = h
-  after_take_outlasts s place.Dead m now l h = h
-  after_take_outlasts s place.DeadXact m now l h = h
-  after_take_outlasts s place.Journal m now l h = h
+  after_take_outlasts s at m now l h = h
 
   pub taken_at_outlasts : (at : EntryPlace) (k now : ℕ) (e : Effect) → P e.state → P (taken_at kind at k now e).state
   taken_at_outlasts at k now e h = of (message_at kind e.state at k) (v.item e.state at k h)

@@ -10,3 +10,4 @@ pub mod Tick
 pub mod Link
 pub mod hear
 pub mod pump
+pub mod Call

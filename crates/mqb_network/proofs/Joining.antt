@@ -14,14 +14,8 @@ use Rattle.mqb_model.specs.calls.hear.Hear.{hear}
 use Rattle.mqb_model.specs.calls.Link.{resend}
 use Rattle.mqb_model.specs.calls.pump.Pump.{PumpOutcome, pump}
 use Rattle.mqb_model.specs.declared.faults.PumpFault.{PumpFault}
-use Rattle.mqb_model.specs.calls.CreateQueue.{create_queue}
-use Rattle.mqb_model.specs.calls.SetRoll.{set_roll}
-use Rattle.mqb_model.specs.calls.Commit.{commit}
-use Rattle.mqb_model.specs.calls.Send.{send}
-use Rattle.mqb_model.specs.calls.Take.{take_message}
-use Rattle.mqb_model.specs.calls.Purge.{purge}
-use Rattle.mqb_model.specs.calls.Tick.{tick}
-use Rattle.mqb_network.specs.Choices.{Choice, Failure, Fails, Kept, Lost, Unread, Well, choice_behind, failure_in}
+use Rattle.mqb_model.specs.calls.Call.{requested}
+use Rattle.mqb_network.specs.Choices.{Choice, Failure, Kept, Well, choice_behind, failure_in}
 use Rattle.mqb_network.specs.Events.{Event}
 use Rattle.mqb_network.specs.Events as event
 use Rattle.mqb_network.specs.Replies.{Reply}
@@ -194,22 +188,14 @@ drop_joins b k c = at (is_some (numbered c.network.notes k))
     at false = refl
 
 reopen_joins : (b : Course) (i : ℕ) (choice : Choice) (c : Course) → (reopen i choice (joined b c)).after ≡ joined b (reopen i choice c).after
-reopen_joins b i Well c = refl
-reopen_joins b i (Fails written how) c = refl
-reopen_joins b i Lost c = refl
 reopen_joins b i Kept c = written_joins b i (doubt_of (manager_at c.network i).condition) (found_at i) c
-reopen_joins b i Unread c = refl
+reopen_joins b i choice c = refl
 
 -- Every event.
 
 answer_joins : (b : Course) (e : Event) (p : Option Packet) (choice : Choice) (c : Course)
     → (answer_to e p choice (joined b c)).after ≡ joined b (answer_to e p choice c).after
-answer_joins b (event.Queue i plan) p choice c = called_joins b i (create_queue (manager_at c.network i) plan) choice c
-answer_joins b (event.Commit i now ops) p choice c = called_joins b i (commit (manager_at c.network i) ops now) choice c
-answer_joins b (event.Send i now recoverable parts) p choice c = called_joins b i (send (manager_at c.network i) parts recoverable now) choice c
-answer_joins b (event.Take i now place) p choice c = called_joins b i (take_message (manager_at c.network i) place now) choice c
-answer_joins b (event.Purge i now place) p choice c = called_joins b i (purge (manager_at c.network i) place now) choice c
-answer_joins b (event.Tick i now) p choice c = called_joins b i (tick (manager_at c.network i) now) choice c
+answer_joins b (event.Asks i request) p choice c = called_joins b i (requested (manager_at c.network i) request) choice c
 answer_joins b (event.Connect x y now window_x window_y) p choice c = ap (λ a. a.after) (connect_joins b x y now window_x window_y c)
 answer_joins b (event.Disconnect i) p choice c = ap (λ a. a.after) (disconnect_joins b i c)
 answer_joins b (event.Pump i now) p choice c = ap (λ a. a.after) (pump_joins b i now (pump (manager_at c.network i) now) choice c)
@@ -219,7 +205,6 @@ answer_joins b (event.Flow i now) p choice c = ap (λ a. a.after) (flowing_joins
 answer_joins b (event.Resend i) p choice c = ap (λ a. a.after) (resend_joins b i c)
 answer_joins b (event.Arm i) p choice c = refl
 answer_joins b (event.Restart i) p choice c = reopen_joins b i choice (moved (ended i) c)
-answer_joins b (event.Roll i count) p choice c = called_joins b i (set_roll (manager_at c.network i) count) choice c
 
 -- a course that has nothing behind it yet
 begun_joins : (c : Course) → joined c (course_from c.network) ≡ c

@@ -16,11 +16,11 @@ use Rattle.mqb_model.specs.calls.hear.Session.{HeardOutcome}
 use Rattle.mqb_model.specs.calls.hear.Hear.{hear}
 use Rattle.mqb_model.specs.calls.pump.Pump.{PumpOutcome, pump}
 use Rattle.mqb_model.specs.declared.faults.PumpFault.{PumpFault}
-use Rattle.mqb_network.specs.Choices.{Choice, Failure, Fails, Kept, Lost, Unread, Well, failure_in, choice_behind}
+use Rattle.mqb_network.specs.Choices.{Choice, Failure, Kept, Well, failure_in, choice_behind}
 use Rattle.mqb_network.specs.Events.{Event}
 use Rattle.mqb_network.specs.Events as event
 use Rattle.mqb_network.specs.Network.{Connection, Network, Note, connection_of, is_connected, is_underway, manager_at, with_manager}
-use Rattle.mqb_network.specs.Changes.{dropped, ended, ended_by, failed_at, found_at, note_by, noted, restarted_at, succeeded_at, unread_at}
+use Rattle.mqb_network.specs.Changes.{dropped, ended, ended_by, failed_at, found_at, note_by, noted, succeeded_at}
 use Rattle.mqb_network.specs.Courses.{Course, Written, called, called_unless, course_from, found_kept, moved, posted, with_written, written_by}
 use Rattle.mqb_network.specs.Answers.{Answer, only}
 use Rattle.mqb_network.specs.Replies as reply
@@ -37,13 +37,7 @@ use Rattle.mqb_model.specs.calls.Link.{link, link_refusal, linking, resend}
 use Rattle.mqb_model.specs.declared.answers.Role.{Role}
 use Rattle.mqb_model.specs.declared.answers.Role.TheVariants.{Acceptor}
 use Rattle.mqb_model.specs.declared.faults.LinkFault.{LinkFault}
-use Rattle.mqb_model.specs.calls.CreateQueue.{create_queue}
-use Rattle.mqb_model.specs.calls.SetRoll.{set_roll}
-use Rattle.mqb_model.specs.calls.Commit.{commit}
-use Rattle.mqb_model.specs.calls.Send.{send}
-use Rattle.mqb_model.specs.calls.Take.{take_message}
-use Rattle.mqb_model.specs.calls.Purge.{purge}
-use Rattle.mqb_model.specs.calls.Tick.{tick}
+use Rattle.mqb_model.specs.calls.Call.{requested}
 
 -- a course began with this ledger, and has the lines of its records behind it
 abbrev pub Extends : List Line → Course → Type 0
@@ -211,21 +205,13 @@ resend_extends l i c h = either_answer l (is_connected c.network i) (record { re
     (moved_extends l (succeeded_at i (resend (manager_at c.network i))) c (no_lines i (resend (manager_at c.network i)) c.network refl) h) h
 
 reopen_extends : (l : List Line) (i : ℕ) (choice : Choice) (c : Course) → Extends l c → Extends l (reopen i choice c).after
-reopen_extends l i Well c h = h
-reopen_extends l i (Fails written how) c h = h
-reopen_extends l i Lost c h = h
 reopen_extends l i Kept c h = kept_extends l i c h
-reopen_extends l i Unread c h = h
+reopen_extends l i choice c h = h
 
 -- Every event.
 
 answer_extends : (l : List Line) (e : Event) (p : Option Packet) (choice : Choice) (c : Course) → Extends l c → Extends l (answer_to e p choice c).after
-answer_extends l (event.Queue i plan) p choice c h = called_extends l i (create_queue (manager_at c.network i) plan) choice c h
-answer_extends l (event.Commit i now ops) p choice c h = called_extends l i (commit (manager_at c.network i) ops now) choice c h
-answer_extends l (event.Send i now recoverable parts) p choice c h = called_extends l i (send (manager_at c.network i) parts recoverable now) choice c h
-answer_extends l (event.Take i now place) p choice c h = called_extends l i (take_message (manager_at c.network i) place now) choice c h
-answer_extends l (event.Purge i now place) p choice c h = called_extends l i (purge (manager_at c.network i) place now) choice c h
-answer_extends l (event.Tick i now) p choice c h = called_extends l i (tick (manager_at c.network i) now) choice c h
+answer_extends l (event.Asks i request) p choice c h = called_extends l i (requested (manager_at c.network i) request) choice c h
 answer_extends l (event.Connect a b now window_a window_b) p choice c h = connect_extends l a b now window_a window_b c h
 answer_extends l (event.Disconnect i) p choice c h = disconnect_extends l i c h
 answer_extends l (event.Pump i now) p choice c h = pump_extends l i now (pump (manager_at c.network i) now) choice c h
@@ -235,7 +221,6 @@ answer_extends l (event.Flow i now) p choice c h = flowing l i now choice c h
 answer_extends l (event.Resend i) p choice c h = resend_extends l i c h
 answer_extends l (event.Arm i) p choice c h = h
 answer_extends l (event.Restart i) p choice c h = reopen_extends l i choice (moved (ended i) c) (moved_extends l (ended i) c (ended_ledger i c.network) h)
-answer_extends l (event.Roll i count) p choice c h = called_extends l i (set_roll (manager_at c.network i) count) choice c h
 
 -- Runs.
 

@@ -1,18 +1,9 @@
 -- What is answered to an event.
-use Rattle.std.specs.Prelude.{List, Result, ℕ}
+use Rattle.std.specs.Prelude.{List, ℕ}
 use Rattle.mqb_base.specs.declared.heard.Heard as base
-use Rattle.mqb_base.specs.declared.ids.MessageId.{MessageId}
 use Rattle.mqb_base.specs.declared.ledger.Line.{Line}
-use Rattle.mqb_base.specs.declared.message.Message.{Message}
-use Rattle.mqb_model.specs.declared.answers.Done.{Done}
-use Rattle.mqb_model.specs.declared.answers.Ticked as answers
-use Rattle.mqb_model.specs.declared.faults.CommitFault.{CommitFault}
-use Rattle.mqb_model.specs.declared.faults.CreateFault.{CreateFault}
+use Rattle.mqb_model.specs.calls.Call.{Answer}
 use Rattle.mqb_model.specs.declared.faults.PumpFault.{PumpFault}
-use Rattle.mqb_model.specs.declared.faults.PurgeFault.{PurgeFault}
-use Rattle.mqb_model.specs.declared.faults.SendFault.{SendFault}
-use Rattle.mqb_model.specs.declared.faults.StoreFault.{StoreFault}
-use Rattle.mqb_model.specs.declared.faults.TakeFault.{TakeFault}
 use Rattle.mqb_network.specs.Choices.{Failure}
 
 -- what becomes of a packet that is delivered
@@ -29,17 +20,12 @@ pub record Arrival : Type 0 where
   pub packet : ℕ
   pub delivery : Delivery
 
--- the answer of a manager's call and the lines of its record, or what became of the network
+-- what a manager answered, or what became of the network
 pub data Reply : Type 0 where
   -- the disk of the manager failed
   DiskFailed : Failure → Reply
-  Created : Result ℕ CreateFault → Reply
-  Rolled : Result (Unit {0}) StoreFault → Reply
-  Committed : Result (List Done) CommitFault → List Line → Reply
-  Sent : Result MessageId SendFault → List Line → Reply
-  Took : Result Message TakeFault → List Line → Reply
-  Purged : Result ℕ PurgeFault → List Line → Reply
-  Ticked : Result answers.Ticked StoreFault → List Line → Reply
+  -- what a manager answered, and the lines of its record
+  Called : Answer → List Line → Reply
   -- a manager is down, or has a connection, or these packets set the session up
   NotUp : Reply
   Linked : Reply

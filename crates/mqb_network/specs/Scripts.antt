@@ -4,6 +4,7 @@ use Rattle.mqb_base.specs.declared.draft.Op.{Op}
 use Rattle.mqb_base.specs.declared.draft.Op.TheVariants as asked
 use Rattle.mqb_base.specs.declared.ids.Identity.{Identity}
 use Rattle.mqb_base.specs.declared.times.TheConstants.{UNLIMITED}
+use Rattle.mqb_model.specs.calls.Call.{Commit, CreateQueue, Tick}
 use Rattle.mqb_model.specs.runs.Samples.{alpha, beta, orders, parts_of, plan}
 use Rattle.mqb_network.specs.Choices.{Choice, Failed, Fails, Kept, Lost, Stopped, Unread, Well}
 use Rattle.mqb_network.specs.Events.{Event}
@@ -24,7 +25,7 @@ pair = alpha ∷ beta ∷ []
 
 -- a queue of beta
 abbrev pub a_queue : ℕ → Move
-a_queue quota = well (event.Queue 1 (plan (codes "orders") true quota false))
+a_queue quota = well (event.Asks 1 (CreateQueue (plan (codes "orders") true quota false)))
 
 -- a message to it
 abbrev pub a_send : List ℕ → Op
@@ -32,7 +33,7 @@ a_send body = asked.Send (parts_of orders UNLIMITED 0 body)
 
 -- alpha commits one message
 abbrev pub one_order : Move
-one_order = well (event.Commit 0 1000 (a_send (codes "one") ∷ []))
+one_order = well (event.Asks 0 (Commit 1000 (a_send (codes "one") ∷ [])))
 
 -- a queue of beta, and a connection
 abbrev pub opening : List Move → List Move
@@ -48,9 +49,9 @@ one_message = opening (one_order
 
 -- The receiver's disk fails under the second of three packets of a flow; then it cannot be read, has the record, and cannot be read again.
 abbrev pub one_unheard : List Move
-one_unheard = opening (well (event.Commit 0 1000 (a_send (codes "one") ∷ a_send (codes "two") ∷ a_send (codes "three") ∷ []))
+one_unheard = opening (well (event.Asks 0 (Commit 1000 (a_send (codes "one") ∷ a_send (codes "two") ∷ a_send (codes "three") ∷ [])))
     ∷ given (event.Flow 0 1001) (Fails 2 Failed)
-    ∷ well (event.Tick 1 1002)
+    ∷ well (event.Asks 1 (Tick 1002))
     ∷ given (event.Restart 1) Unread
     ∷ given (event.Restart 1) Kept
     ∷ given (event.Restart 1) Unread

@@ -1,7 +1,7 @@
 -- One event.
 use Rattle.std.specs.Prelude.{Option}
 use Rattle.mqb_packet.specs.declared.packet.Packet.{Packet}
-use Rattle.mqb_network.specs.Answers.{Answer, commit_by, only, purge_by, queue, roll, send_by, take_by, tick_by}
+use Rattle.mqb_network.specs.Answers.{Answer, asked_by, only}
 use Rattle.mqb_network.specs.Choices.{Choice}
 use Rattle.mqb_network.specs.Connecting.{connect, disconnect, resend_by}
 use Rattle.mqb_network.specs.Courses.{Course, course_from}
@@ -14,13 +14,7 @@ use Rattle.mqb_network.specs.Sending.{flow, pump_out}
 
 -- an event in the course of others; a packet that it delivers says this
 abbrev pub answer_to : event.Event → Option Packet → Choice → Course → Answer
-answer_to (event.Queue i plan) p choice c = queue i plan choice c
-answer_to (event.Roll i count) p choice c = roll i count choice c
-answer_to (event.Commit i now ops) p choice c = commit_by i now ops choice c
-answer_to (event.Send i now recoverable parts) p choice c = send_by i now recoverable parts choice c
-answer_to (event.Take i now place) p choice c = take_by i now place choice c
-answer_to (event.Purge i now place) p choice c = purge_by i now place choice c
-answer_to (event.Tick i now) p choice c = tick_by i now choice c
+answer_to (event.Asks i request) p choice c = asked_by i request choice c
 answer_to (event.Connect a b now window_a window_b) p choice c = connect a b now window_a window_b c
 answer_to (event.Disconnect i) p choice c = disconnect i c
 answer_to (event.Resend i) p choice c = resend_by i c

@@ -5,6 +5,7 @@ use Rattle.mqb_base.specs.declared.heard.Heard.TheVariants as heard
 use Rattle.mqb_base.specs.declared.ids.MessageId.{MessageId}
 use Rattle.mqb_base.specs.declared.ids.SequenceId.{SequenceId}
 use Rattle.mqb_base.specs.declared.ledger.Line.TheVariants as line
+use Rattle.mqb_model.specs.calls.Call as answer
 use Rattle.mqb_model.specs.declared.answers.Done.TheVariants as done
 use Rattle.mqb_model.specs.declared.faults.PumpFault.TheVariants as pump_fault
 use Rattle.mqb_model.specs.declared.faults.StoreFault.TheVariants as store_fault
@@ -41,13 +42,13 @@ at_delivery k what = record { packet = k; delivery = what }
 
 -- a commit of one message that is the next of its sequence
 abbrev pub one_committed : reply.Reply
-one_committed = reply.Committed (Ok (done.Sent (of_alpha 1) first 1 ∷ [])) (line.Committed (to_orders 1) 1 (of_alpha 1) ∷ [])
+one_committed = reply.Called (answer.Committed (Ok (done.Sent (of_alpha 1) first 1 ∷ []))) (line.Committed (to_orders 1) 1 (of_alpha 1) ∷ [])
 
 -- The message is committed, sent, put and acknowledged, and the ledger has two lines.
 pub record OneArrives : Type 0 where
   pub run : IsRun pair one_message
   pub replies : replies_of one_message
-      ≡ reply.Created (Ok 1)
+      ≡ reply.Called (answer.Created (Ok 1)) []
       ∷ reply.Connected (1 ∷ 2 ∷ 3 ∷ 4 ∷ [])
       ∷ one_committed
       ∷ reply.Pumped (5 ∷ [])
@@ -70,7 +71,7 @@ pub record OneIsUnheard : Type 0 where
       ∷ at_delivery 6 (reply.Unheard Failed)
       ∷ at_delivery 7 reply.Gone
       ∷ [])
-      ∷ reply.Ticked (Err store_fault.Down) []
+      ∷ reply.Called (answer.Ticked (Err store_fault.Down)) []
       ∷ reply.DiskFailed Failed
       ∷ reply.OpenedKept (line.Put (to_orders 1) 2 (of_alpha 2) ∷ [])
       ∷ reply.DiskFailed Failed
@@ -83,7 +84,7 @@ pub record OneIsUnheard : Type 0 where
 pub record OneIsLost : Type 0 where
   pub run : IsRun pair one_lost
   pub replies : replies_of one_lost
-      ≡ reply.Created (Ok 1)
+      ≡ reply.Called (answer.Created (Ok 1)) []
       ∷ reply.Connected (1 ∷ 2 ∷ 3 ∷ 4 ∷ [])
       ∷ one_committed
       ∷ reply.Armed
@@ -97,7 +98,7 @@ pub record OneIsLost : Type 0 where
 pub record OneIsKept : Type 0 where
   pub run : IsRun pair one_kept
   pub replies : replies_of one_kept
-      ≡ reply.Created (Ok 1)
+      ≡ reply.Called (answer.Created (Ok 1)) []
       ∷ reply.Connected (1 ∷ 2 ∷ 3 ∷ 4 ∷ [])
       ∷ one_committed
       ∷ reply.Pumped (5 ∷ [])
@@ -112,7 +113,7 @@ pub record OneIsKept : Type 0 where
 pub record OneCloses : Type 0 where
   pub run : IsRun pair one_closed
   pub replies : replies_of one_closed
-      ≡ reply.Created (Ok 1)
+      ≡ reply.Called (answer.Created (Ok 1)) []
       ∷ reply.Connected (1 ∷ 2 ∷ 3 ∷ 4 ∷ [])
       ∷ reply.Dropped
       ∷ reply.Delivered reply.Gone

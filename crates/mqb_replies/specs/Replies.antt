@@ -3,6 +3,8 @@ use Rattle.std.specs.Prelude.{Err, List, None, Ok, Result, Some, ℕ}
 use Rattle.mqb_base.specs.declared.ids.MessageId.{MessageId}
 use Rattle.mqb_base.specs.declared.ledger.Line.{Line}
 use Rattle.mqb_base.specs.declared.message.Message.{Message}
+use Rattle.mqb_model.specs.calls.Call.{Answer}
+use Rattle.mqb_model.specs.calls.Call as answer
 use Rattle.mqb_model.specs.declared.answers.Done.{Done}
 use Rattle.mqb_model.specs.declared.answers.Ticked.{Ticked}
 use Rattle.mqb_model.specs.declared.faults.CommitFault.{CommitFault}
@@ -111,3 +113,14 @@ tick_reply (Err fault) lines = store_fault_reply fault
 abbrev pub roll_reply : Result (Unit {0}) StoreFault → Result Reply AnswerFault
 roll_reply (Ok done) = Ok reply.Done
 roll_reply (Err fault) = store_fault_reply fault
+
+-- What is replied to what a request is answered. A call that has to do with packets has a reply of its own.
+abbrev pub reply_of : Answer → List Line → Result Reply AnswerFault
+reply_of (answer.Created given) lines = create_reply given
+reply_of (answer.WasSet given) lines = roll_reply given
+reply_of (answer.Committed given) lines = commit_reply given lines
+reply_of (answer.Sent given) lines = send_reply given lines
+reply_of (answer.Took given) lines = take_reply given lines
+reply_of (answer.Purged given) lines = purge_reply given lines
+reply_of (answer.Ticked given) lines = tick_reply given lines
+reply_of _ lines = Err Memory

@@ -5,17 +5,8 @@ use Rattle.mqb_answers.specs.Outcomes.{OutcomesAreTold, outcome_of}
 use Rattle.mqb_answers.specs.Told.{told_reply}
 use Rattle.mqb_answers.specs.declared.told.CallEnd.{CallEnd}
 use Rattle.mqb_answers.specs.declared.told.Taken.{Taken}
-use Rattle.mqb_base.specs.declared.draft.Op.{Op}
-use Rattle.mqb_base.specs.declared.draft.Parts.{Parts}
-use Rattle.mqb_base.specs.declared.queues.Place.{Place}
-use Rattle.mqb_base.specs.declared.queues.QueuePlan.{QueuePlan}
-use Rattle.mqb_model.specs.calls.Commit.{commit}
-use Rattle.mqb_model.specs.calls.CreateQueue.{create_queue}
-use Rattle.mqb_model.specs.calls.Purge.{purge}
-use Rattle.mqb_model.specs.calls.Send.{send}
-use Rattle.mqb_model.specs.calls.SetRoll.{set_roll}
-use Rattle.mqb_model.specs.calls.Take.{take_message}
-use Rattle.mqb_model.specs.calls.Tick.{tick}
+use Rattle.mqb_model.specs.calls.Call.{Commit, CreateQueue, Purge, Request, Send, Set, Take, Tick, requested}
+use Rattle.mqb_model.specs.records.Record.{Roll}
 use Rattle.mqb_model.specs.managers.Manager.{Manager}
 use Rattle.mqb_model.specs.managers.Outcomes.{lines_after}
 use Rattle.mqb_network.specs.Replies as network
@@ -29,24 +20,15 @@ reply_of : (end : CallEnd) (taken : Taken) (r : Result Reply AnswerFault) → Is
 reply_of end taken (Ok given) ok = (given, refl)
 reply_of end taken (Err fault) ok = absurd (let none : ⊥ = cc in none)
 
-module _ (law : OutcomesAreTold) (m : Manager) where
-  pub created : (plan : QueuePlan) → IsTold (network.Created (create_queue m plan).answer)
-  created plan = reply_of _ _ _ (law (call.CreateQueue plan) m 0)
+-- what a request is answered
+abbrev IsAnswered : Manager → Request → Type 0
+IsAnswered m request = IsTold (network.Called (requested m request).answer (lines_after m (requested m request)))
 
-  pub rolled : (count : ℕ) → IsTold (network.Rolled (set_roll m count).answer)
-  rolled count = reply_of _ _ _ (law (call.SetRoll count) m 0)
-
-  pub committed : (ops : List Op) (now : ℕ) → IsTold (network.Committed (commit m ops now).answer (lines_after m (commit m ops now)))
-  committed ops now = reply_of _ _ _ (law (call.Commit ops) m now)
-
-  pub sent : (parts : Parts) (recoverable : Bool) (now : ℕ) → IsTold (network.Sent (send m parts recoverable now).answer (lines_after m (send m parts recoverable now)))
-  sent parts recoverable now = reply_of _ _ _ (law (call.Send recoverable parts) m now)
-
-  pub took : (place : Place) (now : ℕ) → IsTold (network.Took (take_message m place now).answer (lines_after m (take_message m place now)))
-  took place now = reply_of _ _ _ (law (call.Take place) m now)
-
-  pub purged : (place : Place) (now : ℕ) → IsTold (network.Purged (purge m place now).answer (lines_after m (purge m place now)))
-  purged place now = reply_of _ _ _ (law (call.Purge place) m now)
-
-  pub ticked : (now : ℕ) → IsTold (network.Ticked (tick m now).answer (lines_after m (tick m now)))
-  ticked now = reply_of _ _ _ (law call.Tick m now)
+pub answered : OutcomesAreTold → (m : Manager) (request : Request) → IsAnswered m request
+answered law m (CreateQueue plan) = reply_of _ _ _ (law (call.CreateQueue plan) m 0)
+answered law m (Set (Roll count)) = reply_of _ _ _ (law (call.SetRoll count) m 0)
+answered law m (Commit now ops) = reply_of _ _ _ (law (call.Commit ops) m now)
+answered law m (Send now recoverable parts) = reply_of _ _ _ (law (call.Send recoverable parts) m now)
+answered law m (Take now place) = reply_of _ _ _ (law (call.Take place) m now)
+answered law m (Purge now place) = reply_of _ _ _ (law (call.Purge place) m now)
+answered law m (Tick now) = reply_of _ _ _ (law call.Tick m now)

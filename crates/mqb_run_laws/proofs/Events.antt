@@ -5,10 +5,12 @@ use Rattle.mqb_answers.specs.Outcomes.{OutcomesAreTold}
 use Rattle.mqb_packet.specs.declared.packet.Packet.{Packet}
 use Rattle.mqb_queue.specs.Places.{numbered}
 use Rattle.mqb_history.specs.Orderly.{IsOrderly}
+use Rattle.mqb_model.specs.calls.Call.{Commit, CreateQueue, Purge, Send, Set, Take, Tick}
 use Rattle.mqb_model.specs.calls.Link.{resend}
 use Rattle.mqb_model.specs.calls.pump.Pump.{pump}
 use Rattle.mqb_model.specs.declared.faults.PumpFault.{PumpFault}
 use Rattle.mqb_model.specs.managers.Manager.{Manager, is_down}
+use Rattle.mqb_model.specs.records.Record.{Roll}
 use Rattle.mqb_network.specs.Answers.{lines_at, only}
 use Rattle.mqb_network.specs.Changes.{dropped, ended, succeeded_at}
 use Rattle.mqb_network.specs.Choices.{Choice, Lost, Well}
@@ -29,7 +31,7 @@ use Rattle.mqb_script.specs.declared.events.Event.TheVariants as event
 use Rattle.mqb_script.specs.declared.managers.Which.{Which}
 use Rattle.mqb_traffic.specs.Networks.{index_of}
 use Rattle.mqb_transcript.specs.declared.replies.Reply.TheVariants as reply
-use Rattle.mqb_run_laws.proofs.Calls.{committed, created, purged, rolled, sent, ticked, took}
+use Rattle.mqb_run_laws.proofs.Calls.{answered}
 use Rattle.mqb_run_laws.proofs.Connects.{connect_told}
 use Rattle.mqb_run_laws.proofs.Pumps.{pump_told}
 use Rattle.mqb_run_laws.proofs.Tellable.{IsTold}
@@ -98,12 +100,12 @@ module _ (law : OutcomesAreTold) (c : Course) (orderly : IsOrderly hosts c) wher
   at which = manager_at c.network (index_of which)
 
   pub can_be_played : (e : Event) → CanBePlayed e
-  can_be_played (event.Queue manager plan) = goes_well (event.Queue manager plan) refl (created law (at manager) plan)
-  can_be_played (event.Commit manager now ops) = goes_well (event.Commit manager now ops) refl (committed law (at manager) ops now)
-  can_be_played (event.Send manager now recoverable parts) = goes_well (event.Send manager now recoverable parts) refl (sent law (at manager) parts recoverable now)
-  can_be_played (event.Take manager now place) = goes_well (event.Take manager now place) refl (took law (at manager) place now)
-  can_be_played (event.Purge manager now place) = goes_well (event.Purge manager now place) refl (purged law (at manager) place now)
-  can_be_played (event.Tick manager now) = goes_well (event.Tick manager now) refl (ticked law (at manager) now)
+  can_be_played (event.Queue manager plan) = goes_well (event.Queue manager plan) refl (answered law (at manager) (CreateQueue plan))
+  can_be_played (event.Commit manager now ops) = goes_well (event.Commit manager now ops) refl (answered law (at manager) (Commit now ops))
+  can_be_played (event.Send manager now recoverable parts) = goes_well (event.Send manager now recoverable parts) refl (answered law (at manager) (Send now recoverable parts))
+  can_be_played (event.Take manager now place) = goes_well (event.Take manager now place) refl (answered law (at manager) (Take now place))
+  can_be_played (event.Purge manager now place) = goes_well (event.Purge manager now place) refl (answered law (at manager) (Purge now place))
+  can_be_played (event.Tick manager now) = goes_well (event.Tick manager now) refl (answered law (at manager) (Tick now))
   can_be_played (event.Connect manager now alpha beta) = goes_well (event.Connect manager now alpha beta) refl
       (connect_told c orderly manager now (window_of manager alpha beta) (window_of (other manager) alpha beta))
   can_be_played event.Disconnect = goes_well event.Disconnect refl (disconnect_told 0 (course_from c.network))
@@ -118,4 +120,4 @@ module _ (law : OutcomesAreTold) (c : Course) (orderly : IsOrderly hosts c) wher
       by : (down : Bool) → is_down (at manager) ≡ down → CanBePlayed (event.Restart manager pick)
       by true is = record { choice = Lost; may_be = is; tells = opened_told (ended (index_of manager) c.network) (index_of manager) }
       by false is = goes_well (event.Restart manager pick) (ap not is) (opened_told (ended (index_of manager) c.network) (index_of manager))
-  can_be_played (event.Roll manager count) = goes_well (event.Roll manager count) refl (rolled law (at manager) count)
+  can_be_played (event.Roll manager count) = goes_well (event.Roll manager count) refl (answered law (at manager) (Set (Roll count)))

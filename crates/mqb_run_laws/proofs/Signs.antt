@@ -5,6 +5,8 @@ use Rattle.mqb_base.specs.declared.ids.MessageId.{MessageId}
 use Rattle.mqb_base.specs.declared.ledger.Line.{Line}
 use Rattle.mqb_base.specs.declared.message.Message.{Message}
 use Rattle.mqb_history.specs.Choosing.{Quiet, Sign, sign_of, signs_of}
+use Rattle.mqb_model.specs.calls.Call.{Answer}
+use Rattle.mqb_model.specs.calls.Call as answer
 use Rattle.mqb_model.specs.declared.answers.Done.{Done}
 use Rattle.mqb_model.specs.declared.answers.Ticked.{Ticked}
 use Rattle.mqb_model.specs.declared.faults.CommitFault.{CommitFault}
@@ -25,7 +27,7 @@ use Rattle.mqb_model.specs.declared.faults.TakeFault.{TakeFault}
 use Rattle.mqb_model.specs.declared.faults.TakeFault.TheVariants as take
 use Rattle.mqb_network.specs.Choices as choice
 use Rattle.mqb_network.specs.Replies as network
-use Rattle.mqb_replies.specs.Replies.{commit_reply, create_reply, op_reply, purge_reply, roll_reply, send_reply, take_reply, tick_reply}
+use Rattle.mqb_replies.specs.Replies.{commit_reply, create_reply, op_reply, purge_reply, reply_of, roll_reply, send_reply, take_reply, tick_reply}
 use Rattle.mqb_replies.specs.declared.faults.AnswerFault.{AnswerFault}
 use Rattle.mqb_runs.specs.Pumped.{pump_fault_reply}
 use Rattle.mqb_runs.specs.Replies.{arrival_of, connected_reply, delivery_reply, outcome_of, told}
@@ -142,16 +144,22 @@ delivery_shown (network.Unheard choice.Failed) = refl
 
 -- Each answer.
 
+answered : (a : Answer) (lines : List Line) → IsQuiet (reply_of a lines)
+answered (answer.Created r) lines = created r
+answered (answer.WasSet r) lines = rolled r
+answered (answer.Committed r) lines = committed r lines
+answered (answer.Sent r) lines = sent r lines
+answered (answer.Took r) lines = took r lines
+answered (answer.Purged r) lines = purged r lines
+answered (answer.Ticked r) lines = ticked r lines
+answered answer.Resent lines = refl
+answered (answer.Pumped r) lines = refl
+answered (answer.Heard r) lines = refl
+
 each_told : (r : network.Reply) → told_signs (told r) ≡ signs_of r
 each_told (network.DiskFailed choice.Stopped) = refl
 each_told (network.DiskFailed choice.Failed) = refl
-each_told (network.Created answer) = created answer
-each_told (network.Rolled answer) = rolled answer
-each_told (network.Committed answer lines) = committed answer lines
-each_told (network.Sent answer lines) = sent answer lines
-each_told (network.Took answer lines) = took answer lines
-each_told (network.Purged answer lines) = purged answer lines
-each_told (network.Ticked answer lines) = ticked answer lines
+each_told (network.Called answer lines) = answered answer lines
 each_told network.NotUp = refl
 each_told network.Linked = refl
 each_told (network.Connected packets) = connected packets

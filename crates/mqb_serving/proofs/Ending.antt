@@ -87,9 +87,6 @@ module _ (m : StoredManager) (asks : Purpose) (now : ℕ) where
   stops_as : (read : List ℕ) (x y : Option (List ℕ)) (n k : StoredManager) (why : ConnFault) (s : Stops (StartsAt start read) start x y n why)
       → (why ≡ fault.DiskFault → k ≡ n) → ((why ≡ fault.DiskFault → ⊥) → k ≡ stored_after n (unlink n.manager)) → EndsAs (Err why) m asks now read s.written k
   stops_as read x y n k (fault.Peer why) s down left = absurd (let wrong : ⊥ = s.left in wrong)
-  stops_as read x y n k fault.ReadFault s down left = cut_short read x y n k fault.ReadFault s s.left (left (λ same. let wrong : ⊥ = cc in wrong))
-  stops_as read x y n k fault.WriteFault s down left = cut_short read x y n k fault.WriteFault s s.left (left (λ same. let wrong : ⊥ = cc in wrong))
-  stops_as read x y n k fault.Memory s down left = cut_short read x y n k fault.Memory s s.left (left (λ same. let wrong : ⊥ = cc in wrong))
   stops_as read x y n k fault.DiskFault s down left = record {
     at = s.at.stored;
     moment = moment_at read x y n fault.DiskFault s;
@@ -97,6 +94,7 @@ module _ (m : StoredManager) (asks : Purpose) (now : ℕ) where
     next = subst (λ (t : ℕ). IsNext (Starts m asks now read) s.at.stored t s.left.0) (moment_now read x y n fault.DiskFault s) s.left.1;
     left = down refl ∙ s.left.2;
   }
+  stops_as read x y n k why s down left = cut_short read x y n k why s s.left (left (λ same. let wrong : ⊥ = cc in wrong))
 
   -- Either way it serves.
 
@@ -157,10 +155,7 @@ module _ (m : StoredManager) (asks : Purpose) (now : ℕ) where
   -- a fault says nothing of it
   pub serves_part : (h i x y : Option (List ℕ)) (n k : StoredManager) (why : ConnFault) → Converses (linked m asks now) h i x y n (Err why) → ServesWhole (Err why) asks now m k h x y
   serves_part h i x y n k (fault.Peer why) c = absurd (let wrong : ⊥ = c.ends.left in wrong)
-  serves_part h i x y n k fault.ReadFault c = tt
-  serves_part h i x y n k fault.WriteFault c = tt
-  serves_part h i x y n k fault.Memory c = tt
-  serves_part h i x y n k fault.DiskFault c = tt
+  serves_part h i x y n k why c = tt
 
 -- A manager behind a fault of its disk is not linked, and one that was unlinked neither.
 

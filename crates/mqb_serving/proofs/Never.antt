@@ -112,10 +112,8 @@ module _ (l : Listening) where
   duplicate_heard_so message tx = either IsHearAnswer (has_sequence l.manager.state message tx) (owing (index_for l.manager.state message) (duplicate_heard l tx)) (duplicate_heard l tx) tt tt
 
   judged_so : (p : UserPacket) (tx : TxHead) (verdict : Verdict) → IsHearAnswer (judged l p tx verdict).answer
-  judged_so p tx verdict.Next = tt
   judged_so p tx verdict.Duplicate = duplicate_heard_so p.message tx
-  judged_so p tx verdict.Gap = tt
-  judged_so p tx verdict.Stale = tt
+  judged_so p tx verdict = tt
 
   stream_so : (p : UserPacket) (tx : TxHead) → IsHearAnswer (hear_in_stream l p tx).answer
   stream_so p tx = let found = verdict_of (in_row l.manager.state p.message) tx in
@@ -146,9 +144,7 @@ behind_so m now p head.AckOnly s = user_so (listening m s now) false p
 
 acknowledgement_so : (m : Manager) (now : ℕ) (h : HeadHeard) (s : one_end.State) → IsHearAnswer (hear_acknowledgement m now h s).answer
 acknowledgement_so m now (head.Closed why) s = tt
-acknowledgement_so m now head.InOrder s = tt
-acknowledgement_so m now head.OutOfOrder s = tt
-acknowledgement_so m now head.AckOnly s = tt
+acknowledgement_so m now h s = tt
 
 linked_so : (m : Manager) (now : ℕ) (p : Packet) (s : one_end.State) → IsHearAnswer (hear_linked m now p s).answer
 linked_so m now (packet.Establish e) s = tt

@@ -84,18 +84,14 @@ next_sent s c = at c.origin
   where
     at : (origin : Origin) → (session_after s (record c { origin = origin })).sent ≡ s.sent + 1
     at (Owed row) = refl
-    at OfRecoverable = refl
-    at OfExpress = refl
-    at (OfRow row number) = refl
+    at origin = refl
 
 next_phase : (s : one_end.State) (c : Candidate) → (session_after s c).phase ≡ s.phase
 next_phase s c = at c.origin
   where
     at : (origin : Origin) → (session_after s (record c { origin = origin })).phase ≡ s.phase
     at (Owed row) = refl
-    at OfRecoverable = refl
-    at OfExpress = refl
-    at (OfRow row number) = refl
+    at origin = refl
 
 -- what packets leave of a session
 record IsBehind (s t : one_end.State) : Type 0 where
@@ -224,13 +220,7 @@ few_left (Some s) = omega (arith, at s.phase, owed s.owes)
   where
     at : (phase : Phase) → owed_in phase ≤ 1
     at Start = omega arith
-    at OweEstablish = omega arith
-    at OweRefusal = omega arith
-    at OweParameters = omega arith
-    at WaitEstablish = omega arith
-    at WaitParameters = omega arith
-    at Ready = omega arith
-    at (Closed why) = omega arith
+    at phase = omega arith
 
     owed : (owes : Bool) → one_if owes ≤ 1
     owed true = omega arith

@@ -39,11 +39,8 @@ gives_to c d e x y same g = record { packets = g.packets; given = same ∙ g.giv
 
 -- another record may be under way
 pub left_map : (under others : Record → Type 0) (why : ConnFault) (m n : StoredManager) → ((r : Record) → under r → others r) → LeftBy why under m n → LeftBy why others m n
-left_map under others (fault.Peer why) m n map left = left
-left_map under others fault.ReadFault m n map left = left
-left_map under others fault.WriteFault m n map left = left
-left_map under others fault.Memory m n map left = left
 left_map under others fault.DiskFault m n map left = (left.0, map left.0 left.1, left.2)
+left_map under others why m n map left = left
 
 next_map : (starts others : Starting) (m : StoredManager) (now : ℕ) → IsWithin starts others
     → (r : Record) → IsNext starts m now r → IsNext others m now r

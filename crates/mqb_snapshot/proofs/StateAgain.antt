@@ -77,7 +77,7 @@ counters : (s : State) → IsValidState s → AreCounters s (recoverable_message
 counters s v = record {
   next_number = v.next_number;
   next_ordinal = v.next_ordinal;
-  roll = v.roll;
+  roll = v.settings;
   numbers = all_both Below (recoverable_messages s) (kept_messages s) (all_behind Below (kept_messages s) (recoverable_messages s) both) (all_front Below (kept_messages s) (recoverable_messages s) both);
   ordinals = all_weaker (IsGivenOrdinal s.next_ordinal) (λ row. row.sequence.ordinal < s.next_ordinal) (λ row g. g.below) s.outs
       (recursion_from_All (IsGivenOrdinal s.next_ordinal) s.outs v.ordinals_given);

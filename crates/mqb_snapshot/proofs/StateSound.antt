@@ -68,7 +68,7 @@ is_valid p number ordinal roll is next next_ordinal least most = record {
   durable = all_of IsPlaced (λ m. is_express m.delivery ≡ false) (λ m h. h.1) (placed_messages s) is.placed;
   next_number = (leb-true _ _ limits.0, leb-true _ _ limits.1);
   next_ordinal = (omega (arith, above), leb-true _ _ ordinals.1);
-  roll = and_from (nat_le 1 roll) (nat_le roll MAX_ROLL) (le-leb 1 roll least) (le-leb roll MAX_ROLL most);
+  settings = and_from (nat_le 1 roll) (nat_le roll MAX_ROLL) (le-leb 1 roll least) (le-leb roll MAX_ROLL most);
   own = all_of (λ m. (same_guid m.id.qm s.identity.guid ≡ true) × Among m.id.number p.numbers) (IsOwn s.identity.guid number)
       (λ m both. record { source = both.0; number = below_next m.id.number number p.numbers numbers.1 both.1 }) (own_messages s)
       (all_two (λ m. same_guid m.id.qm s.identity.guid ≡ true) (λ m. Among m.id.number p.numbers) (own_messages s) (is.own).source (is.own).known);

@@ -46,7 +46,7 @@ valid_with s ps number long same v = record {
   durable = v.durable;
   next_number = v.next_number;
   next_ordinal = v.next_ordinal;
-  roll = v.roll;
+  settings = v.settings;
   own = subst (λ ms. All (IsOwn s.identity.guid s.next_number) (kept_messages s ++ ms)) (sym same) v.own;
   ids_differ = subst (λ ms. AllPairs (λ a b. same_id a.id b.id ≡ false) (kept_messages s ++ ms)) (sym same) v.ids_differ;
 }

@@ -45,16 +45,7 @@ by_more guid (entry.Identity identity) records more none = at (same_guid identit
         → cond b (fold applied_after (Some (empty identity)) (records ++ more)) None ≡ None
     at false is = refl
     at true is = fold-append applied_after (Some (empty identity)) records more ∙ ap (λ o. fold applied_after o more) is ∙ fold_none more
-by_more guid (entry.Peer peer) records more none = refl
-by_more guid (entry.CreateQueue number plan) records more none = refl
-by_more guid (entry.Commit now ops) records more none = refl
-by_more guid (entry.Plain now p) records more none = refl
-by_more guid (entry.Offered marks) records more none = refl
-by_more guid (entry.Arrived now numbers part) records more none = refl
-by_more guid (entry.Taken now place id) records more none = refl
-by_more guid (entry.Purged now place) records more none = refl
-by_more guid (entry.Ticked now) records more none = refl
-by_more guid (entry.Roll count) records more none = refl
+by_more guid first records more none = refl
 
 -- records, and more records
 abbrev both : Option (List Record) → Option (List Record) → Option (List Record)

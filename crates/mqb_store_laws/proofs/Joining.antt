@@ -55,7 +55,7 @@ of_push (entry.Arrived now numbers part ∷ records) s r is = absurd (let no : N
 of_push (entry.Taken now at id ∷ records) s r is = absurd (let no : None ≡ Some s = is in cc)
 of_push (entry.Purged now at ∷ records) s r is = absurd (let no : None ≡ Some s = is in cc)
 of_push (entry.Ticked now ∷ records) s r is = absurd (let no : None ≡ Some s = is in cc)
-of_push (entry.Roll count ∷ records) s r is = absurd (let no : None ≡ Some s = is in cc)
+of_push (entry.Set setting ∷ records) s r is = absurd (let no : None ≡ Some s = is in cc)
 
 -- in a store too
 by_push : (guid : Guid) (records : List Record) (s : State) (r : Record) → state_by guid records ≡ Some s → state_by guid (records ++ r ∷ []) ≡ applied s r
@@ -75,7 +75,7 @@ by_push guid (entry.Arrived now numbers part ∷ records) s r is = absurd (let n
 by_push guid (entry.Taken now at id ∷ records) s r is = absurd (let no : None ≡ Some s = is in cc)
 by_push guid (entry.Purged now at ∷ records) s r is = absurd (let no : None ≡ Some s = is in cc)
 by_push guid (entry.Ticked now ∷ records) s r is = absurd (let no : None ≡ Some s = is in cc)
-by_push guid (entry.Roll count ∷ records) s r is = absurd (let no : None ≡ Some s = is in cc)
+by_push guid (entry.Set setting ∷ records) s r is = absurd (let no : None ≡ Some s = is in cc)
 
 all_some_none : {X : Type 0} (xs : List (Option X)) → all_some (xs ++ None ∷ []) ≡ None
 all_some_none [] = refl
@@ -158,16 +158,7 @@ begin_anywhere first = at (record_of first)
     at : (o : Option Record) → option_and_then state_of (all_some (o ∷ [])) ≡ option_map empty (identity_in o)
     at None = refl
     at (Some (entry.Identity identity)) = refl
-    at (Some (entry.Peer peer)) = refl
-    at (Some (entry.CreateQueue number plan)) = refl
-    at (Some (entry.Commit now ops)) = refl
-    at (Some (entry.Plain now p)) = refl
-    at (Some (entry.Offered marks)) = refl
-    at (Some (entry.Arrived now numbers part)) = refl
-    at (Some (entry.Taken now place id)) = refl
-    at (Some (entry.Purged now place)) = refl
-    at (Some (entry.Ticked now)) = refl
-    at (Some (entry.Roll count)) = refl
+    at o = refl
 
 begin_in_store : (guid : Guid) (first : List ℕ)
     → state_in guid (first ∷ []) ≡ option_map empty (option_and_then (with_guid guid) (identity_in (record_of first)))
@@ -178,18 +169,8 @@ begin_in_store guid first = at (record_of first)
     tested identity false = refl
 
     at : (o : Option Record) → option_and_then (state_by guid) (all_some (o ∷ [])) ≡ option_map empty (option_and_then (with_guid guid) (identity_in o))
-    at None = refl
     at (Some (entry.Identity identity)) = tested identity (same_guid identity.guid guid)
-    at (Some (entry.Peer peer)) = refl
-    at (Some (entry.CreateQueue number plan)) = refl
-    at (Some (entry.Commit now ops)) = refl
-    at (Some (entry.Plain now p)) = refl
-    at (Some (entry.Offered marks)) = refl
-    at (Some (entry.Arrived now numbers part)) = refl
-    at (Some (entry.Taken now place id)) = refl
-    at (Some (entry.Purged now place)) = refl
-    at (Some (entry.Ticked now)) = refl
-    at (Some (entry.Roll count)) = refl
+    at o = refl
 
 pub entries_begin : EntriesBegin
 entries_begin = record { anywhere = begin_anywhere; in_store = begin_in_store }

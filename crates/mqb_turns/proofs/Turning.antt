@@ -1,9 +1,11 @@
 -- A call of one manager with its disk is a turn of the world.
-use Rattle.std.proofs.Common.{◌≡◌, ℕ, Bool, true, cond, List, [], ◌++◌, Option, Some, None, Result, Ok, Err, refl, sym, ap, subst, ◌∙◌}
+use Rattle.std.proofs.Common.{◌≡◌, ap₂, ℕ, Bool, true, cond, List, [], ◌++◌, Option, Some, None, Result, Ok, Err, refl, sym, ap, subst, ◌∙◌}
 use Rattle.std.specs.Option.{option_map_or}
-use Rattle.std.specs.Prelude.{IfOk, is_some, length, nat_lt, if◌then◌else◌}
+use Rattle.std.specs.Prelude.{IfOk, IsTrue, is_some, length, nat_lt, if◌then◌else◌}
 use Rattle.mqb_base.specs.declared.ledger.Line.{Line}
 use Rattle.mqb_outside.specs.Disk.{View}
+use Rattle.mqb_model.specs.calls.Call.{Request, answered, requested}
+use Rattle.mqb_model.specs.calls.Call as calls
 use Rattle.mqb_model.specs.managers.Manager.{Manager}
 use Rattle.mqb_model.specs.managers.Outcomes.{Outcome, failed, lines_after, succeeded}
 use Rattle.mqb_model.specs.records.Record.{Record}
@@ -13,9 +15,11 @@ use Rattle.mqb_seats.specs.Moves.{IsMove}
 use Rattle.mqb_seats.specs.Seats.{IsHeldOn, SeatState, seated}
 use Rattle.mqb_network.specs.Answers.{Answer, call}
 use Rattle.mqb_network.specs.Changes.{ended, failed_at, succeeded_at, with_lines}
-use Rattle.mqb_network.specs.Choices.{Choice, Failure, Fails, Well, failure_in}
-use Rattle.mqb_network.specs.Courses.{called_unless, course_from, written_by}
+use Rattle.mqb_network.specs.Choices.{Choice, Failure, Fails, Kept, Lost, Unread, Well, failure_in}
+use Rattle.mqb_network.specs.Courses.{Course, called_unless, course_from, written_by}
+use Rattle.mqb_network.specs.Events as event
 use Rattle.mqb_network.specs.Network.{Network, manager_at, with_manager}
+use Rattle.mqb_network.specs.Runs.{may_fail}
 use Rattle.mqb_network.specs.Replies as network
 use Rattle.mqb_replies.specs.declared.faults.AnswerFault.{AnswerFault}
 use Rattle.mqb_script.specs.declared.managers.Which.{Which}
@@ -29,7 +33,7 @@ use Rattle.mqb_traffic.specs.States.{TrafficState}
 use Rattle.mqb_transcript.specs.declared.replies.Reply.{Reply}
 use Rattle.mqb_turns.specs.Replies.{told}
 use Rattle.mqb_turns.specs.Settling.{Settles}
-use Rattle.mqb_turns.specs.Turns.{FailsAsAnswered, IsTurn}
+use Rattle.mqb_turns.specs.Turns.{FailsAsAnswered, IsTurn, answers_to}
 use Rattle.mqb_turns.specs.Sides.{Side, network_at, side}
 
 -- what follows of a result
@@ -144,3 +148,50 @@ module _ {A : Type 0} (which : Which) (s t b : SeatState) (tr : TrafficState) (y
       → IsTurn which (side s b tr) y d e stopped answers given
   call_turn (Told reply recorded) given is_called settled = told_turn reply recorded given is_called settled
   call_turn (Broke how) given is_called settled = broke_turn how given is_called settled
+
+-- A request is the call that it comes to.
+
+same_unless : {A : Type 0} (says : A → calls.Answer) (i : ℕ) (o : Outcome A) (failure : Option Failure) (c : Course) → called_unless i (answered says o) failure c ≡ called_unless i o failure c
+same_unless says i o None c = refl
+same_unless says i o (Some how) c = refl
+
+asked_so : {A : Type 0} (says : A → calls.Answer) (i : ℕ) (o : Outcome A) (choice : Choice) (c : Course)
+    → call i (answered says o) choice network.Called c ≡ call i o choice (λ a. network.Called (says a)) c
+asked_so {A} says i o choice c = ap₂ answer_by (ap replied (same choice))
+    (ap (λ f. called_unless i (answered says o) f c) (same choice) ∙ same_unless says i o (failure_in choice o) c)
+  where
+    answer_by : network.Reply → Course → Answer
+    answer_by given after = record { reply = given; after = after }
+
+    replied : Option Failure → network.Reply
+    replied f = option_map_or network.DiskFailed f (network.Called (says o.answer) (lines_after (manager_at c.network i) o))
+
+    same : (choice : Choice) → failure_in choice (answered says o) ≡ failure_in choice o
+    same Well = refl
+    same (Fails before how) = refl
+    same Kept = refl
+    same Lost = refl
+    same Unread = refl
+
+-- a turn of answers is one of those that are the same for each choice
+pub turn_as : {which : Which} {x y : Side} {d e : View} {stopped : Bool} (answers others : Choice → Answer) {given : Reply} → ((choice : Choice) → answers choice ≡ others choice)
+    → IsTurn which x y d e stopped others given → IsTurn which x y d e stopped answers given
+turn_as {which} {x} {y} {d} {e} {stopped} answers others {given} same h = record {
+  choice = h.choice;
+  may = subst (λ (a : Answer). IsTrue (may_fail (length a.after.written) h.choice)) (sym (same Well)) h.may;
+  reply = ap (λ (a : Answer). told a.reply) (same h.choice) ∙ h.reply;
+  network = ap (λ (a : Answer). a.after.network) (same h.choice) ∙ h.network;
+  sent = ap (λ (a : Answer). a.after.sent) (same h.choice) ∙ h.sent;
+  held = h.held;
+  beside = h.beside;
+  faults = subst (λ (a : Answer). FailsAsAnswered stopped d.faults e.faults a.reply) (sym (same h.choice)) h.faults;
+}
+
+-- a request is a turn where its call is
+pub asked_turn : {A : Type 0} {which : Which} {x y : Side} {d e : View} {stopped : Bool} {given : Reply} (says : A → calls.Answer) (request : Request) (made : Outcome A)
+    → requested (manager_at (network_at which x) (index_of which)) request ≡ answered says made
+    → IsTurn which x y d e stopped (λ choice. call (index_of which) made choice (λ a. network.Called (says a)) (course_from (network_at which x))) given
+    → IsTurn which x y d e stopped (answers_to which x (event.Asks (index_of which) request)) given
+asked_turn {A} {which} {x} says request made same h = turn_as (answers_to which x (event.Asks (index_of which) request)) _
+    (λ choice. ap (λ (o : Outcome calls.Answer). call (index_of which) o choice network.Called (course_from (network_at which x))) same
+    ∙ asked_so says (index_of which) made choice (course_from (network_at which x))) h

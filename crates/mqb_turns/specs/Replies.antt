@@ -2,7 +2,7 @@
 use Rattle.std.specs.Prelude.{[], ◌∷◌, Err, List, Ok, Result, map, ℕ}
 use Rattle.mqb_network.specs.Choices as choice
 use Rattle.mqb_network.specs.Replies as network
-use Rattle.mqb_replies.specs.Replies.{commit_reply, create_reply, purge_reply, roll_reply, send_reply, take_reply, tick_reply}
+use Rattle.mqb_replies.specs.Replies.{reply_of}
 use Rattle.mqb_replies.specs.declared.faults.AnswerFault.{AnswerFault}
 use Rattle.mqb_replies.specs.declared.faults.AnswerFault.TheVariants.{Memory}
 use Rattle.mqb_seats.specs.Pumped.{pump_fault_reply}
@@ -41,13 +41,7 @@ delivery_reply (network.Unheard how) = failure_reply how
 -- a reply, or why there is none: no run has such an answer
 abbrev pub told : network.Reply → Result Reply AnswerFault
 told (network.DiskFailed how) = Ok (failure_reply how)
-told (network.Created answer) = create_reply answer
-told (network.Rolled answer) = roll_reply answer
-told (network.Committed answer lines) = commit_reply answer lines
-told (network.Sent answer lines) = send_reply answer lines
-told (network.Took answer lines) = take_reply answer lines
-told (network.Purged answer lines) = purge_reply answer lines
-told (network.Ticked answer lines) = tick_reply answer lines
+told (network.Called answer lines) = reply_of answer lines
 told network.NotUp = Ok reply.Down
 told network.Linked = Ok reply.Linked
 told (network.Connected packets) = connected_reply packets

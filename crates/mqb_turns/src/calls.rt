@@ -1,6 +1,8 @@
 //! The calls of one manager with its disk. Each is a turn of the network.
 ghost use Rattle.std.specs.Prelude.{◌≡◌, ◌≤◌, IfOk, length, true};
+ghost use Rattle.mqb_model.specs.calls.Call as request;
 ghost use Rattle.mqb_model.specs.records.Applying.{is_roll};
+ghost use Rattle.mqb_model.specs.records.Record.{Roll};
 ghost use Rattle.mqb_seats.specs.Holding.{StaysStored};
 ghost use Rattle.mqb_seats.specs.Lasting.{Lasts};
 ghost use Rattle.mqb_seats.specs.Seats.{IsHeldOn};
@@ -31,7 +33,7 @@ pub fn queue<P: Power>(
     ensures turn { IfOk result (IsTurn which (side own.old other.old traffic.old)
         (side own.new other.new traffic.new) (P.view disk.old) (P.view disk.new)
         (P.is_stopped disk.new) (answers_to which (side own.old other.old traffic.old)
-        (event.Queue (index_of which) plan.now))) }
+        (event.Asks (index_of which) (request.CreateQueue plan.now)))) }
     ensures switch { (P.view disk.new).switch ≡ (P.view disk.old).switch }
     ensures lasts { Lasts (P.view disk.old) (P.view disk.new) own.old own.new }
     ensures beside { StaysStored other.old other.new }
@@ -55,7 +57,7 @@ pub fn roll<P: Power>(
     ensures turn { IfOk result (IsTurn which (side own.old other.old traffic.old)
         (side own.new other.new traffic.new) (P.view disk.old) (P.view disk.new)
         (P.is_stopped disk.new) (answers_to which (side own.old other.old traffic.old)
-        (event.Roll (index_of which) count))) }
+        (event.Asks (index_of which) (request.Set (Roll count))))) }
     ensures switch { (P.view disk.new).switch ≡ (P.view disk.old).switch }
     ensures lasts { Lasts (P.view disk.old) (P.view disk.new) own.old own.new }
     ensures beside { StaysStored other.old other.new }
@@ -80,7 +82,7 @@ pub fn commit<P: Power>(
     ensures turn { IfOk result (IsTurn which (side own.old other.old traffic.old)
         (side own.new other.new traffic.new) (P.view disk.old) (P.view disk.new)
         (P.is_stopped disk.new) (answers_to which (side own.old other.old traffic.old)
-        (event.Commit (index_of which) now ops.now))) }
+        (event.Asks (index_of which) (request.Commit now ops.now)))) }
     ensures switch { (P.view disk.new).switch ≡ (P.view disk.old).switch }
     ensures lasts { Lasts (P.view disk.old) (P.view disk.new) own.old own.new }
     ensures beside { StaysStored other.old other.new }
@@ -105,7 +107,7 @@ pub fn send<P: Power>(
     ensures turn { IfOk result (IsTurn which (side own.old other.old traffic.old)
         (side own.new other.new traffic.new) (P.view disk.old) (P.view disk.new)
         (P.is_stopped disk.new) (answers_to which (side own.old other.old traffic.old)
-        (event.Send (index_of which) now recoverable draft.now))) }
+        (event.Asks (index_of which) (request.Send now recoverable draft.now)))) }
     ensures switch { (P.view disk.new).switch ≡ (P.view disk.old).switch }
     ensures lasts { Lasts (P.view disk.old) (P.view disk.new) own.old own.new }
     ensures beside { StaysStored other.old other.new }
@@ -129,7 +131,7 @@ pub fn take<P: Power>(
     ensures turn { IfOk result (IsTurn which (side own.old other.old traffic.old)
         (side own.new other.new traffic.new) (P.view disk.old) (P.view disk.new)
         (P.is_stopped disk.new) (answers_to which (side own.old other.old traffic.old)
-        (event.Take (index_of which) now place.now))) }
+        (event.Asks (index_of which) (request.Take now place.now)))) }
     ensures switch { (P.view disk.new).switch ≡ (P.view disk.old).switch }
     ensures lasts { Lasts (P.view disk.old) (P.view disk.new) own.old own.new }
     ensures beside { StaysStored other.old other.new }
@@ -153,7 +155,7 @@ pub fn purge<P: Power>(
     ensures turn { IfOk result (IsTurn which (side own.old other.old traffic.old)
         (side own.new other.new traffic.new) (P.view disk.old) (P.view disk.new)
         (P.is_stopped disk.new) (answers_to which (side own.old other.old traffic.old)
-        (event.Purge (index_of which) now place.now))) }
+        (event.Asks (index_of which) (request.Purge now place.now)))) }
     ensures switch { (P.view disk.new).switch ≡ (P.view disk.old).switch }
     ensures lasts { Lasts (P.view disk.old) (P.view disk.new) own.old own.new }
     ensures beside { StaysStored other.old other.new }
@@ -176,7 +178,7 @@ pub fn tick<P: Power>(
     ensures turn { IfOk result (IsTurn which (side own.old other.old traffic.old)
         (side own.new other.new traffic.new) (P.view disk.old) (P.view disk.new)
         (P.is_stopped disk.new) (answers_to which (side own.old other.old traffic.old)
-        (event.Tick (index_of which) now))) }
+        (event.Asks (index_of which) (request.Tick now)))) }
     ensures switch { (P.view disk.new).switch ≡ (P.view disk.old).switch }
     ensures lasts { Lasts (P.view disk.old) (P.view disk.new) own.old own.new }
     ensures beside { StaysStored other.old other.new }

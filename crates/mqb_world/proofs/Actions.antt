@@ -7,13 +7,8 @@ use Rattle.mqb_deliveries.specs.Steps.{FallsShort, may_at}
 use Rattle.mqb_outside.specs.Disk.{Switch, View}
 use Rattle.mqb_outside.specs.declared.power.Mode.{Mode}
 use Rattle.mqb_outside.specs.declared.power.Pick.{Pick}
-use Rattle.mqb_model.specs.calls.Commit.{commit}
-use Rattle.mqb_model.specs.calls.CreateQueue.{create_queue}
-use Rattle.mqb_model.specs.calls.Purge.{purge}
-use Rattle.mqb_model.specs.calls.Send.{send}
-use Rattle.mqb_model.specs.calls.SetRoll.{set_roll}
-use Rattle.mqb_model.specs.calls.Take.{take_message}
-use Rattle.mqb_model.specs.calls.Tick.{tick}
+use Rattle.mqb_model.specs.calls.Call.{Commit, CreateQueue, Purge, Request, Send, Set, Take, Tick, requested}
+use Rattle.mqb_model.specs.records.Record.{Roll}
 use Rattle.mqb_model.specs.calls.pump.Pump.{PumpOutcome, pump}
 use Rattle.mqb_model.specs.declared.faults.PumpFault.{PumpFault}
 use Rattle.mqb_model.specs.managers.Manager.{Manager, is_down}
@@ -85,14 +80,18 @@ may_of_call which n (event.Resend m) is choice = absurd is
 may_of_call which n (event.Arm m call mode) is choice = absurd is
 may_of_call which n (event.Restart m pick) is choice = absurd is
 
+asked_none : (n : Network) (m : Which) (request : Request) (choice : Choice) → IsNoDelivery (step n None (network.Asks (index_of m) request) choice).reply
+asked_none n m request choice = let outcome = requested (manager_at n (index_of m)) request in
+    none_delivered (failure_in choice outcome) (answer.Called outcome.answer (lines_at (index_of m) outcome (course_from n))) tt
+
 call_none : (which : Which) (n : Network) (asked : Event) → IsCallOf which asked → (choice : Choice) → IsNoDelivery (step n None (event_of asked) choice).reply
-call_none which n (event.Queue m plan) is choice = none_delivered (failure_in choice (create_queue (manager_at n (index_of m)) plan)) (answer.Created (create_queue (manager_at n (index_of m)) plan).answer) tt
-call_none which n (event.Commit m now ops) is choice = none_delivered (failure_in choice (commit (manager_at n (index_of m)) ops now)) (answer.Committed (commit (manager_at n (index_of m)) ops now).answer (lines_at (index_of m) (commit (manager_at n (index_of m)) ops now) (course_from n))) tt
-call_none which n (event.Send m now recoverable parts) is choice = none_delivered (failure_in choice (send (manager_at n (index_of m)) parts recoverable now)) (answer.Sent (send (manager_at n (index_of m)) parts recoverable now).answer (lines_at (index_of m) (send (manager_at n (index_of m)) parts recoverable now) (course_from n))) tt
-call_none which n (event.Take m now place) is choice = none_delivered (failure_in choice (take_message (manager_at n (index_of m)) place now)) (answer.Took (take_message (manager_at n (index_of m)) place now).answer (lines_at (index_of m) (take_message (manager_at n (index_of m)) place now) (course_from n))) tt
-call_none which n (event.Purge m now place) is choice = none_delivered (failure_in choice (purge (manager_at n (index_of m)) place now)) (answer.Purged (purge (manager_at n (index_of m)) place now).answer (lines_at (index_of m) (purge (manager_at n (index_of m)) place now) (course_from n))) tt
-call_none which n (event.Tick m now) is choice = none_delivered (failure_in choice (tick (manager_at n (index_of m)) now)) (answer.Ticked (tick (manager_at n (index_of m)) now).answer (lines_at (index_of m) (tick (manager_at n (index_of m)) now) (course_from n))) tt
-call_none which n (event.Roll m count) is choice = none_delivered (failure_in choice (set_roll (manager_at n (index_of m)) count)) (answer.Rolled (set_roll (manager_at n (index_of m)) count).answer) tt
+call_none which n (event.Queue m plan) is choice = asked_none n m (CreateQueue plan) choice
+call_none which n (event.Commit m now ops) is choice = asked_none n m (Commit now ops) choice
+call_none which n (event.Send m now recoverable parts) is choice = asked_none n m (Send now recoverable parts) choice
+call_none which n (event.Take m now place) is choice = asked_none n m (Take now place) choice
+call_none which n (event.Purge m now place) is choice = asked_none n m (Purge now place) choice
+call_none which n (event.Tick m now) is choice = asked_none n m (Tick now) choice
+call_none which n (event.Roll m count) is choice = asked_none n m (Set (Roll count)) choice
 call_none which n (event.Connect m now alpha beta) is choice = absurd is
 call_none which n event.Disconnect is choice = absurd is
 call_none which n (event.Pump m now) is choice = absurd is

@@ -5,14 +5,8 @@ use Rattle.std.proofs.lemmas.List.FromFn.{length-range_with_len}
 use Rattle.std.specs.List.{enumerate_from}
 use Rattle.std.specs.Option.{option_map_or}
 use Rattle.std.specs.Prelude.{◌-◌, fold, is_some, replicate, slice_set}
-use Rattle.mqb_model.specs.calls.Commit.{commit}
-use Rattle.mqb_model.specs.calls.CreateQueue.{create_queue}
 use Rattle.mqb_model.specs.calls.Link.{resend}
-use Rattle.mqb_model.specs.calls.Purge.{purge}
-use Rattle.mqb_model.specs.calls.Send.{send}
-use Rattle.mqb_model.specs.calls.SetRoll.{set_roll}
-use Rattle.mqb_model.specs.calls.Take.{take_message}
-use Rattle.mqb_model.specs.calls.Tick.{tick}
+use Rattle.mqb_model.specs.calls.Call.{requested}
 use Rattle.mqb_model.specs.calls.hear.Hear.{hear}
 use Rattle.mqb_model.specs.calls.hear.Session.{HeardOutcome}
 use Rattle.mqb_model.specs.calls.pump.Pump.{PumpOutcome, pump}
@@ -218,13 +212,7 @@ where_so false given none n some nothing = nothing
 -- No event that is told makes connections outnumber packets.
 pub step_begun : (n : Network) (q : Option Packet) (e : Event) (choice : Choice) (given : Reply) → told (step n q e choice).reply ≡ Ok given → IsBegun n
     → IsBegun (step n q e choice).after.network
-step_begun n q (event.Queue i plan) choice given is begun = grown_begun n (step n q (event.Queue i plan) choice).after.network (called_grown i (create_queue (manager_at n i) plan) choice (course_from n)) begun
-step_begun n q (event.Roll i count) choice given is begun = grown_begun n (step n q (event.Roll i count) choice).after.network (called_grown i (set_roll (manager_at n i) count) choice (course_from n)) begun
-step_begun n q (event.Commit i now ops) choice given is begun = grown_begun n (step n q (event.Commit i now ops) choice).after.network (called_grown i (commit (manager_at n i) ops now) choice (course_from n)) begun
-step_begun n q (event.Send i now recoverable parts) choice given is begun = grown_begun n (step n q (event.Send i now recoverable parts) choice).after.network (called_grown i (send (manager_at n i) parts recoverable now) choice (course_from n)) begun
-step_begun n q (event.Take i now place) choice given is begun = grown_begun n (step n q (event.Take i now place) choice).after.network (called_grown i (take_message (manager_at n i) place now) choice (course_from n)) begun
-step_begun n q (event.Purge i now place) choice given is begun = grown_begun n (step n q (event.Purge i now place) choice).after.network (called_grown i (purge (manager_at n i) place now) choice (course_from n)) begun
-step_begun n q (event.Tick i now) choice given is begun = grown_begun n (step n q (event.Tick i now) choice).after.network (called_grown i (tick (manager_at n i) now) choice (course_from n)) begun
+step_begun n q (event.Asks i request) choice given is begun = grown_begun n (step n q (event.Asks i request) choice).after.network (called_grown i (requested (manager_at n i) request) choice (course_from n)) begun
 step_begun n q (event.Connect a b now wa wb) choice given is begun = connect_begun a b now wa wb n given is begun
 step_begun n q (event.Disconnect i) choice given is begun = grown_begun n (step n q (event.Disconnect i) choice).after.network (where_so (is_connected n i) (record { reply = network.Disconnected; after = moved (ended i) (course_from n) }) (only (course_from n) network.Unlinked) n (ended_grown i n) (same_grown n)) begun
 step_begun n q (event.Resend i) choice given is begun = grown_begun n (step n q (event.Resend i) choice).after.network (where_so (is_connected n i) (record { reply = network.Resent; after = moved (succeeded_at i (resend (manager_at n i))) (course_from n) }) (only (course_from n) network.Unlinked) n (same_grown n) (same_grown n)) begun

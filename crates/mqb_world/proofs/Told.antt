@@ -4,6 +4,8 @@ use Rattle.std.specs.Option.{option_map_or}
 use Rattle.mqb_base.specs.declared.ids.MessageId.{MessageId}
 use Rattle.mqb_base.specs.declared.ledger.Line.{Line}
 use Rattle.mqb_base.specs.declared.message.Message.{Message}
+use Rattle.mqb_model.specs.calls.Call.{Answer}
+use Rattle.mqb_model.specs.calls.Call as answer
 use Rattle.mqb_model.specs.declared.answers.Done.{Done}
 use Rattle.mqb_model.specs.declared.answers.Ticked.{Ticked}
 use Rattle.mqb_model.specs.declared.faults.CommitFault.{CommitFault}
@@ -24,7 +26,7 @@ use Rattle.mqb_model.specs.declared.faults.TakeFault.{TakeFault}
 use Rattle.mqb_model.specs.declared.faults.TakeFault.TheVariants as takes
 use Rattle.mqb_network.specs.Choices.{Failed, Failure, Stopped}
 use Rattle.mqb_network.specs.Replies as network
-use Rattle.mqb_replies.specs.Replies.{commit_reply, create_reply, op_reply, purge_reply, roll_reply, send_reply, take_reply, tick_reply}
+use Rattle.mqb_replies.specs.Replies.{commit_reply, create_reply, op_reply, purge_reply, reply_of, roll_reply, send_reply, take_reply, tick_reply}
 use Rattle.mqb_replies.specs.declared.faults.AnswerFault.{AnswerFault}
 use Rattle.mqb_script.specs.declared.events.Event.{Event}
 use Rattle.mqb_seats.specs.Called.{failure_of, how_by}
@@ -107,6 +109,18 @@ of_ticked (Err stores.Down) ls = refl
 of_ticked (Err stores.Memory) ls = refl
 of_ticked (Err stores.DiskFault) ls = refl
 
+of_answer : (a : Answer) (ls : List Line) → failures_in_told (reply_of a ls) ≡ []
+of_answer (answer.Created r) ls = of_created r
+of_answer (answer.WasSet r) ls = of_rolled r
+of_answer (answer.Committed r) ls = of_committed r ls
+of_answer (answer.Sent r) ls = of_sent r ls
+of_answer (answer.Took r) ls = of_taken r ls
+of_answer (answer.Purged r) ls = of_purged r ls
+of_answer (answer.Ticked r) ls = of_ticked r ls
+of_answer answer.Resent ls = refl
+of_answer (answer.Pumped r) ls = refl
+of_answer (answer.Heard r) ls = refl
+
 of_connected : (ks : List ℕ) → failures_in_told (connected_reply ks) ≡ []
 of_connected [] = refl
 of_connected (a ∷ []) = refl
@@ -138,13 +152,7 @@ faults_so asked stopped before after says r none fails = at r none fails
     at : (r : network.Reply) → IsNoDelivery r → FailsAsAnswered stopped before after r → FaultsGo asked stopped before after (failures_in_told (told r))
     at (network.DiskFailed Stopped) none (rose, how) = (rose, says Stopped how)
     at (network.DiskFailed Failed) none (rose, how) = (rose, says Failed how)
-    at (network.Created r) none same = quiet (create_reply r) (of_created r) same
-    at (network.Rolled r) none same = quiet (roll_reply r) (of_rolled r) same
-    at (network.Committed r ls) none same = quiet (commit_reply r ls) (of_committed r ls) same
-    at (network.Sent r ls) none same = quiet (send_reply r ls) (of_sent r ls) same
-    at (network.Took r ls) none same = quiet (take_reply r ls) (of_taken r ls) same
-    at (network.Purged r ls) none same = quiet (purge_reply r ls) (of_purged r ls) same
-    at (network.Ticked r ls) none same = quiet (tick_reply r ls) (of_ticked r ls) same
+    at (network.Called answer ls) none same = quiet (reply_of answer ls) (of_answer answer ls) same
     at network.NotUp none same = same
     at network.Linked none same = same
     at (network.Connected ks) none same = quiet (connected_reply ks) (of_connected ks) same

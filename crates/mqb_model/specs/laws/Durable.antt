@@ -20,7 +20,7 @@ use Rattle.mqb_model.specs.calls.CreateQueue.{create_queue}
 use Rattle.mqb_model.specs.calls.Link.{link, resend, unlink}
 use Rattle.mqb_model.specs.calls.Purge.{purge}
 use Rattle.mqb_model.specs.calls.Send.{send}
-use Rattle.mqb_model.specs.calls.SetRoll.{set_roll}
+use Rattle.mqb_model.specs.calls.SetRoll.{set_to}
 use Rattle.mqb_model.specs.calls.Take.{take_message}
 use Rattle.mqb_model.specs.calls.Tick.{tick}
 use Rattle.mqb_model.specs.calls.hear.Hear.{IsReadable, hear}
@@ -35,7 +35,7 @@ use Rattle.mqb_model.specs.records.Decisions.{message_decided, message_stored}
 use Rattle.mqb_model.specs.records.Offered.{offered_effect}
 use Rattle.mqb_model.specs.records.Peer.{with_new_queue, with_peer}
 use Rattle.mqb_model.specs.records.Plain.{plain_effect}
-use Rattle.mqb_model.specs.records.Record.{Record}
+use Rattle.mqb_model.specs.records.Record.{Record, Setting}
 use Rattle.mqb_model.specs.records.Releases.{message_released}
 use Rattle.mqb_model.specs.rules.Effects.{Effect, begun}
 use Rattle.mqb_model.specs.rules.Notices.{meets}
@@ -100,7 +100,7 @@ LeavesStore m outcome = durable (state_after m outcome) ≡ durable (recorded m.
 pub record EachLeavesStore (m : Manager) : Type 0 where
   pub peers : (peer : Identity) → LeavesStore m (add_peer m peer)
   pub queues : (given : QueuePlan) → LeavesStore m (create_queue m given)
-  pub rolls : (count : ℕ) → LeavesStore m (set_roll m count)
+  pub sets : (setting : Setting) → LeavesStore m (set_to m setting)
   pub commits : (ops : List Op) (now : ℕ) → LeavesStore m (commit m ops now)
   pub sends : (p : Parts) (recoverable : Bool) (now : ℕ) → IsDrafted p → LeavesStore m (send m p recoverable now)
   pub takes : (p : Place) (now : ℕ) → LeavesStore m (take_message m p now)

@@ -10,11 +10,12 @@ use Rattle.mqb_base.specs.declared.queues.QueuePlan.{QueuePlan}
 use Rattle.mqb_names.specs.Values.{IsName, IsQueueName}
 use Rattle.mqb_packet.specs.declared.packet.Packet.{Packet}
 use Rattle.mqb_model.specs.calls.AddPeer.{add_peer}
+use Rattle.mqb_model.specs.calls.Call.{Commit, Request, Send, Set}
 use Rattle.mqb_model.specs.calls.Commit.{commit}
 use Rattle.mqb_model.specs.calls.CreateQueue.{create_queue}
 use Rattle.mqb_model.specs.calls.Purge.{purge}
 use Rattle.mqb_model.specs.calls.Send.{send}
-use Rattle.mqb_model.specs.calls.SetRoll.{set_roll}
+use Rattle.mqb_model.specs.calls.SetRoll.{set_to}
 use Rattle.mqb_model.specs.calls.Take.{take_message}
 use Rattle.mqb_model.specs.calls.Tick.{tick}
 use Rattle.mqb_model.specs.calls.hear.Hear.{IsReadable, hear}
@@ -22,9 +23,10 @@ use Rattle.mqb_model.specs.calls.pump.Pump.{pump}
 use Rattle.mqb_model.specs.managers.Manager.{Manager}
 use Rattle.mqb_model.specs.managers.Outcomes.{Outcome}
 use Rattle.mqb_model.specs.managers.Valid.{IsValidManager}
-use Rattle.mqb_model.specs.records.Applying.{fits, is_roll}
+use Rattle.mqb_model.specs.records.Applying.{fits, is_setting}
 use Rattle.mqb_model.specs.records.Carrying.{IsRead}
 use Rattle.mqb_model.specs.records.Counting.{IsSpellable}
+use Rattle.mqb_model.specs.records.Record.{Setting}
 
 -- the record of a call fits, where there is one
 abbrev pub IsFitting : {A : Type 0} → Manager → Outcome A → Type 0
@@ -34,7 +36,7 @@ IsFitting m outcome = IfSome outcome.entry (λ r. fits m.state r ≡ true)
 pub record RecordsOf (m : Manager) : Type 0 where
   pub peers : (peer : Identity) → IsFitting m (add_peer m peer)
   pub queues : (given : QueuePlan) → IsFitting m (create_queue m given)
-  pub rolls : (count : ℕ) → is_roll count ≡ true → IsFitting m (set_roll m count)
+  pub sets : (setting : Setting) → is_setting setting ≡ true → IsFitting m (set_to m setting)
   pub commits : (ops : List Op) (now : ℕ) → IsFitting m (commit m ops now)
   pub sends : (p : Parts) (recoverable : Bool) (now : ℕ) → IsFitting m (send m p recoverable now)
   pub takes : (p : Place) (now : ℕ) → IsFitting m (take_message m p now)
@@ -55,7 +57,7 @@ IsSpelled outcome = IfSome outcome.entry IsSpellable
 pub record SpelledRecords (m : Manager) : Type 0 where
   pub peers : (peer : Identity) → IsSpelled (add_peer m peer)
   pub queues : (given : QueuePlan) → IsSpelled (create_queue m given)
-  pub rolls : (count : ℕ) → is_roll count ≡ true → IsSpelled (set_roll m count)
+  pub sets : (setting : Setting) → is_setting setting ≡ true → IsSpelled (set_to m setting)
   pub commits : (ops : List Op) (now : ℕ) → IsSpelled (commit m ops now)
   pub sends : (p : Parts) (recoverable : Bool) (now : ℕ) → IsSpelled (send m p recoverable now)
   pub takes : (p : Place) (now : ℕ) → IsSpelled (take_message m p now)
@@ -80,6 +82,13 @@ abbrev pub IsDraftedOp : Op → Type 0
 IsDraftedOp (asked.Send p) = IsDrafted p
 IsDraftedOp (asked.Take name) = Unit {0}
 
+-- and a request: its ops or its message are drafted, or its setting is one
+abbrev pub IsDraftedRequest : Request → Type 0
+IsDraftedRequest (Set setting) = is_setting setting ≡ true
+IsDraftedRequest (Commit now ops) = All IsDraftedOp ops
+IsDraftedRequest (Send now recoverable p) = IsDrafted p
+IsDraftedRequest _ = Unit {0}
+
 -- the record of a call is as one that was read, where there is one
 abbrev pub IsAsRead : {A : Type 0} → Outcome A → Type 0
 IsAsRead outcome = IfSome outcome.entry IsRead
@@ -88,7 +97,7 @@ IsAsRead outcome = IfSome outcome.entry IsRead
 pub record ReadRecords (m : Manager) : Type 0 where
   pub peers : (peer : Identity) → IsName peer.host → IsAsRead (add_peer m peer)
   pub queues : (given : QueuePlan) → IsAsRead (create_queue m given)
-  pub rolls : (count : ℕ) → IsAsRead (set_roll m count)
+  pub sets : (setting : Setting) → IsAsRead (set_to m setting)
   pub commits : (ops : List Op) (now : ℕ) → All IsDraftedOp ops → IsAsRead (commit m ops now)
   pub sends : (p : Parts) (recoverable : Bool) (now : ℕ) → IsDrafted p → IsAsRead (send m p recoverable now)
   pub takes : (p : Place) (now : ℕ) → IsAsRead (take_message m p now)

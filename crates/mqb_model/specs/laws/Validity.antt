@@ -1,5 +1,5 @@
 -- Managers begin valid, and stay so where a disk fails and where they are started again.
-use Rattle.std.specs.Prelude.{◌≡◌, Bool, IfSome, Option, false, true, ℕ}
+use Rattle.std.specs.Prelude.{◌≡◌, Bool, IfSome, Option, false, true}
 use Rattle.mqb_base.specs.declared.ids.Identity.{Identity}
 use Rattle.mqb_model.specs.calls.Link.{resend, unlink}
 use Rattle.mqb_model.specs.managers.Manager.{Manager, new_manager, unlinked}
@@ -8,7 +8,7 @@ use Rattle.mqb_model.specs.managers.Restarts.{restarted, unread}
 use Rattle.mqb_model.specs.managers.Valid.{IsValidManager, IsWritable}
 use Rattle.mqb_model.specs.records.Applying.{apply, fits}
 use Rattle.mqb_model.specs.records.Record as entry
-use Rattle.mqb_model.specs.records.Record.{Record}
+use Rattle.mqb_model.specs.records.Record.{Record, Setting}
 use Rattle.mqb_model.specs.state.Durable.{durable}
 use Rattle.mqb_model.specs.state.State.{State}
 use Rattle.mqb_model.specs.state.Valid.{IsValidState}
@@ -50,7 +50,7 @@ UnlinkedIsValid = (m : Manager) → IsValidManager m → IsValidManager (succeed
 abbrev pub ResentIsValid : Type 0
 ResentIsValid = (m : Manager) → IsValidManager m → IsValidManager (succeeded m (resend m))
 
--- A valid state is valid with another count at which sequences are full.
-abbrev pub RolledIsValid : Type 0
-RolledIsValid = (s : State) (count : ℕ) → IsValidState s → fits s (entry.Roll count) ≡ true
-    → IsValidState (apply s (entry.Roll count))
+-- A valid state is valid with another setting.
+abbrev pub SetIsValid : Type 0
+SetIsValid = (s : State) (setting : Setting) → IsValidState s → fits s (entry.Set setting) ≡ true
+    → IsValidState (apply s (entry.Set setting))

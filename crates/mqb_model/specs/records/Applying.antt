@@ -9,13 +9,21 @@ use Rattle.mqb_model.specs.records.Commit.{commit_effect, commit_fits, take_fits
 use Rattle.mqb_model.specs.records.Offered.{offered_effect, offered_fits}
 use Rattle.mqb_model.specs.records.Peer.{peer_fits, queue_fits, with_new_queue, with_peer}
 use Rattle.mqb_model.specs.records.Plain.{plain_effect, plain_fits}
-use Rattle.mqb_model.specs.records.Record.{Record}
+use Rattle.mqb_model.specs.records.Record.{Record, Roll, Setting}
 use Rattle.mqb_model.specs.records.Record as entry
 use Rattle.mqb_model.specs.rules.Effects.{Effect, begun}
 use Rattle.mqb_model.specs.rules.Purges.{purged}
 use Rattle.mqb_model.specs.rules.Takes.{taken}
 use Rattle.mqb_model.specs.rules.Timeouts.{lane_ticked, rows_expired}
 use Rattle.mqb_model.specs.state.State.{State}
+
+-- the count at which a sequence is full, behind a setting
+abbrev pub roll_by : Setting → ℕ → ℕ
+roll_by (Roll count) before = count
+
+-- the state with a setting
+abbrev pub with_setting : State → Setting → State
+with_setting s setting = record s { roll = roll_by setting s.roll }
 
 -- The state that a record leaves, and its lines. An identity is a first record alone, and changes nothing later.
 abbrev pub effect_of : State → Record → Effect
@@ -29,7 +37,7 @@ effect_of s (entry.Arrived now numbers part) = arrived_effect s now numbers part
 effect_of s (entry.Taken now at id) = taken at id now (begun s)
 effect_of s (entry.Purged now at) = purged lane.Durable at now (begun s)
 effect_of s (entry.Ticked now) = lane_ticked lane.Durable now (rows_expired now (begun s))
-effect_of s (entry.Roll count) = begun (record s { roll = count })
+effect_of s (entry.Set setting) = begun (with_setting s setting)
 
 -- the state that a record leaves
 abbrev pub apply : State → Record → State
@@ -43,6 +51,10 @@ lines_of s r = (effect_of s r).lines
 abbrev pub is_roll : ℕ → Bool
 is_roll count = nat_le 1 count && nat_le count MAX_ROLL
 
+-- a setting is one that a manager can have
+abbrev pub is_setting : Setting → Bool
+is_setting (Roll count) = is_roll count
+
 -- A record fits a state: whatever it names is there, and its packets are of its kind.
 abbrev pub fits : State → Record → Bool
 fits s (entry.Identity identity) = false
@@ -55,4 +67,4 @@ fits s (entry.Arrived now numbers part) = arrived_fits s numbers part
 fits s (entry.Taken now at id) = take_fits s now at id
 fits s (entry.Purged now at) = is_some (lists_at s.places at)
 fits s (entry.Ticked now) = true
-fits s (entry.Roll count) = is_roll count
+fits s (entry.Set setting) = is_setting setting

@@ -4,7 +4,7 @@ use Rattle.mqb_base.specs.declared.message.Lane.TheVariants as lane
 use Rattle.mqb_packet.specs.Plain.{message_size}
 use Rattle.mqb_packet.specs.declared.packet.Headers.TheVariants as headers
 use Rattle.mqb_model.specs.declared.limits.TheConstants.{MAX_OPS, MAX_PACKETS, MAX_RECORD, MAX_RELEASED}
-use Rattle.mqb_model.specs.records.Applying.{is_roll}
+use Rattle.mqb_model.specs.records.Applying.{is_setting}
 use Rattle.mqb_model.specs.records.Finals.{names_offered}
 use Rattle.mqb_model.specs.records.Record.{Part, Record, RecordOp}
 use Rattle.mqb_model.specs.records.Record as entry
@@ -46,5 +46,5 @@ abbrev pub IsSpellable : Record → Type 0
 IsSpellable (entry.Commit now ops) = (1 ≤ length ops) × (length ops ≤ MAX_OPS) × (commit_size ops ≤ MAX_RECORD)
 IsSpellable (entry.Offered marks) = (1 ≤ length marks) × (length marks ≤ MAX_PACKETS)
 IsSpellable (entry.Arrived now numbers part) = length numbers ≤ MAX_RELEASED
-IsSpellable (entry.Roll count) = IsTrue (is_roll count)
+IsSpellable (entry.Set setting) = IsTrue (is_setting setting)
 IsSpellable _ = Unit {0}

@@ -67,7 +67,7 @@ record_in (form.Arrived now released part) = option_map (λ part. entry.Arrived 
 record_in (form.Taken now at id) = Some (entry.Taken now at id)
 record_in (form.Purged now at) = Some (entry.Purged now at)
 record_in (form.Ticked now) = Some (entry.Ticked now)
-record_in (form.Roll count) = Some (entry.Roll count)
+record_in (form.Roll count) = Some (entry.Set (entry.Roll count))
 
 -- the record that bytes are, all of them
 abbrev pub record_of : List ℕ → Option Record

@@ -23,6 +23,11 @@ pub data Part : Type 0 where
   -- a final acknowledgement
   Final : UserPacket → Part
 
+-- what a manager is set to, which touches neither rows nor lists
+pub data Setting : Type 0 where
+  -- so many messages fill a sequence
+  Roll : (count : ℕ) → Setting
+
 -- one record, by its kind
 pub data Record : Type 0 where
   Identity : ids.Identity → Record
@@ -35,4 +40,4 @@ pub data Record : Type 0 where
   Taken : (now : ℕ) → EntryPlace → MessageId → Record
   Purged : (now : ℕ) → EntryPlace → Record
   Ticked : (now : ℕ) → Record
-  Roll : (count : ℕ) → Record
+  Set : Setting → Record

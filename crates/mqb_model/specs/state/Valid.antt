@@ -88,6 +88,10 @@ pub record IsOwn (own : Guid) (next : ℕ) (m : Message) : Type 0 where
   pub source : same_guid m.id.qm own ≡ true
   pub number : m.id.number < next
 
+-- a state is set to what a manager can be set to
+abbrev pub AreSettings : State → Type 0
+AreSettings s = is_roll s.roll ≡ true
+
 -- A valid state, point by point.
 pub record IsValidState (s : State) : Type 0 where
   -- few peers and queues, of which none repeats another, and plain lists for each peer
@@ -118,7 +122,7 @@ pub record IsValidState (s : State) : Type 0 where
   -- numbers are left, or just used up
   pub next_number : (1 ≤ s.next_number) × (s.next_number ≤ MAX_NUMBER + 1)
   pub next_ordinal : (1 ≤ s.next_ordinal) × (s.next_ordinal ≤ MAX_ORDINAL + 1)
-  pub roll : is_roll s.roll ≡ true
+  pub settings : AreSettings s
   -- identifiers are the manager's own, and differ
   pub own : All (IsOwn s.identity.guid s.next_number) (kept_messages s ++ recoverable_messages s)
   pub ids_differ : AllPairs (λ a b. same_id a.id b.id ≡ false) (kept_messages s ++ recoverable_messages s)

@@ -1,17 +1,18 @@
 use Rattle.std.proofs.Common.{refl}
+use Rattle.mqb_model.specs.calls.Call as request
 use Rattle.mqb_model.specs.calls.Commit.{commit}
 use Rattle.mqb_seats.specs.Seats.{seated}
 use Rattle.mqb_seats.specs.lemmas.Keeping.{lasts_then_stored}
 use Rattle.mqb_network.specs.Replies as network
 use Rattle.mqb_replies.specs.Replies as replies
-use Rattle.mqb_turns.proofs.Turning.{call_turn, if_ok}
+use Rattle.mqb_turns.proofs.Turning.{asked_turn, call_turn, if_ok}
 use Rattle.mqb_turns.proofs.calls.commit.Goals as goal
 
 pub returns-clause-turn : goal.returns-clause-turn
 returns-clause-turn g c = let told = c.in_ok-called.ensures {u = tt} in if_ok c.settle.result (λ given settles.
-    call_turn c.args.which c.args.own.now c.commit.new.self c.args.other.now c.args.traffic.now _ _ _ (g.P.Power.is_stopped c.commit.new.disk)
-    (λ k. commit k c.args.ops.now c.args.now) (network.Committed) (replies.commit_reply) (λ a ls. refl) (λ same a ls. same)
-    ((c.refusals_change_nothing.ensures (seated c.args.own.now)).commit_whole c.args.ops.now c.args.now).touches c.in_ok-called.called given told.called (settles c.args.which)) c.settle.ensures.settled
+    asked_turn request.Committed (request.Commit c.args.now c.args.ops.now) _ refl (call_turn c.args.which c.args.own.now c.commit.new.self c.args.other.now c.args.traffic.now _ _ _ (g.P.Power.is_stopped c.commit.new.disk)
+    (λ k. commit k c.args.ops.now c.args.now) (λ a. network.Called (request.Committed a)) (replies.commit_reply) (λ a ls. refl) (λ same a ls. same)
+    ((c.refusals_change_nothing.ensures (seated c.args.own.now)).commit_whole c.args.ops.now c.args.now).touches c.in_ok-called.called given told.called (settles c.args.which))) c.settle.ensures.settled
 
 pub returns-clause-lasts : goal.returns-clause-lasts
 returns-clause-lasts g c = lasts_then_stored c.commit.ensures.lasts c.settle.ensures.own

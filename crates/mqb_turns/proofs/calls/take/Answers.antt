@@ -1,17 +1,18 @@
 use Rattle.std.proofs.Common.{refl}
+use Rattle.mqb_model.specs.calls.Call as request
 use Rattle.mqb_model.specs.calls.Take.{take_message}
 use Rattle.mqb_seats.specs.Seats.{seated}
 use Rattle.mqb_seats.specs.lemmas.Keeping.{lasts_then_stored}
 use Rattle.mqb_network.specs.Replies as network
 use Rattle.mqb_replies.specs.Replies as replies
-use Rattle.mqb_turns.proofs.Turning.{call_turn, if_ok}
+use Rattle.mqb_turns.proofs.Turning.{asked_turn, call_turn, if_ok}
 use Rattle.mqb_turns.proofs.calls.take.Goals as goal
 
 pub returns-clause-turn : goal.returns-clause-turn
 returns-clause-turn g c = let told = c.in_ok-called.ensures {u = tt} in if_ok c.settle.result (λ given settles.
-    call_turn c.args.which c.args.own.now c.take.new.self c.args.other.now c.args.traffic.now _ _ _ (g.P.Power.is_stopped c.take.new.disk)
-    (λ k. take_message k c.args.place.now c.args.now) (network.Took) (replies.take_reply) (λ a ls. refl) (λ same a ls. same)
-    ((c.refusals_change_nothing.ensures (seated c.args.own.now)).take_whole c.args.place.now c.args.now).touches c.in_ok-called.called given told.called (settles c.args.which)) c.settle.ensures.settled
+    asked_turn request.Took (request.Take c.args.now c.args.place.now) _ refl (call_turn c.args.which c.args.own.now c.take.new.self c.args.other.now c.args.traffic.now _ _ _ (g.P.Power.is_stopped c.take.new.disk)
+    (λ k. take_message k c.args.place.now c.args.now) (λ a. network.Called (request.Took a)) (replies.take_reply) (λ a ls. refl) (λ same a ls. same)
+    ((c.refusals_change_nothing.ensures (seated c.args.own.now)).take_whole c.args.place.now c.args.now).touches c.in_ok-called.called given told.called (settles c.args.which))) c.settle.ensures.settled
 
 pub returns-clause-lasts : goal.returns-clause-lasts
 returns-clause-lasts g c = lasts_then_stored c.take.ensures.lasts c.settle.ensures.own
