@@ -5,7 +5,7 @@ use crate::counters::Counters;
 use crate::marks::RowMarks;
 use crate::new_peer::NewPeer;
 use crate::new_row::NewRow;
-use mqb_base::{EntryPlace, Lane, Message, SequenceId};
+use mqb_base::{EntryPlace, Lane, Message, Roomed, SequenceId};
 use mqb_orders::{InRow, Kept};
 use mqb_plain::Outgoing;
 use mqb_queue::NewQueue;
@@ -73,5 +73,15 @@ impl Change {
             self,
             Change::Insert { .. } | Change::InsertPlain { .. } | Change::InsertKept { .. }
         )
+    }
+
+    /// Lets go what a change puts. Where a change ends by this call, how it ends is not proved again.
+    pub fn discard(self) {
+        drop(self);
+    }
+
+    /// The same of many changes.
+    pub fn discard_all(changes: Roomed<Change>) {
+        drop(changes);
     }
 }

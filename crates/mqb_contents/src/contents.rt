@@ -68,6 +68,11 @@ impl Contents {
         }
     }
 
+    /// Lets all that is kept go. Where contents end by this call, how they end is not proved again.
+    pub fn close(self) {
+        drop(self);
+    }
+
     pub fn identity(&self) -> &Identity
         ensures { result.now ≡ self.now.lists.identity }
     {

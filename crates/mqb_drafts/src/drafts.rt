@@ -121,11 +121,12 @@ impl Draft {
         turn(&mut self.contents, &mut self.log, &mut self.turned);
         let Draft {
             contents,
-            log: _,
+            log,
             turned,
             lines,
             alloc: _,
         } = self;
+        log.discard();
         (contents, turned, lines)
     }
 
@@ -136,11 +137,13 @@ impl Draft {
     {
         let Draft {
             contents,
-            log: _,
-            turned: _,
+            log,
+            turned,
             lines,
             alloc: _,
         } = self;
+        log.discard();
+        turned.discard();
         (contents, lines)
     }
 
@@ -167,7 +170,7 @@ impl Draft {
                 Ok(())
             }
             Err(Memory) => {
-                drop(change);
+                change.discard();
                 Err(Memory)
             }
         }

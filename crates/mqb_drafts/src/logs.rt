@@ -65,6 +65,12 @@ impl Log {
         Some(self.changes.pop())
     }
 
+    /// Lets the changes go.
+    pub fn discard(self) {
+        let Log { changes } = self;
+        Change::discard_all(changes);
+    }
+
     /// How many messages the changes hold.
     pub fn messages(&self) -> u64
         ensures { result ≡ messages self.now.items }

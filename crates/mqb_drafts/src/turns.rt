@@ -28,7 +28,7 @@ pub fn redo(contents: &mut Contents, mut log: Log)
     ensures rooms { contents.new.rooms ≡ rooms_redone contents.old.rooms log.items }
 {
     while let Some(change) = log.pop() {
-        drop(contents.change(change));
+        contents.change(change).discard();
     }
-    drop(log);
+    log.discard();
 }

@@ -135,6 +135,13 @@ impl Manager {
 
     /// Lets the manager go; whatever it recorded stays on its disk. Where a manager ends by this call, how it ends is not proved again.
     pub fn close(self) {
-        drop(self);
+        let Manager {
+            store,
+            session: _,
+            cursors: _,
+            owes: _,
+            alloc: _,
+        } = self;
+        store.close();
     }
 }

@@ -15,7 +15,7 @@ use std::alloc::Global;
 use std::marker::Model;
 
 /// The parts of a state that were read so far, and the numbers of the manager's own messages among them.
-#[derive(Debug, Drop)]
+#[derive(Debug)]
 pub(crate) struct ReadParts {
     pub(crate) contents: Contents,
     numbers: IndexSet<u32>,
@@ -45,7 +45,18 @@ impl ReadParts {
     pub(crate) fn into_contents(self) -> Contents
         ensures { result.lists ≡ self.state }
     {
-        self.contents
+        let ReadParts {
+            contents,
+            numbers,
+            alloc: _,
+        } = self;
+        drop(numbers);
+        contents
+    }
+
+    /// Lets go what was read.
+    pub(crate) fn close(self) {
+        self.into_contents().close();
     }
 
     /// The numbers of the manager's own messages.
@@ -64,11 +75,11 @@ impl ReadParts {
     {
         match self.contents.make_room(&change) {
             Ok(()) => {
-                drop(self.contents.change(change));
+                self.contents.change(change).discard();
                 Ok(())
             }
             Err(Memory) => {
-                drop(change);
+                change.discard();
                 Err(Memory)
             }
         }

@@ -99,11 +99,11 @@ pub fn read_back(alloc: Global, bytes: &[u8]) -> Result<Contents, BackFault>
     match parts.parts(&mut cursor) {
         Ok(()) if cursor.rest().is_empty() => Ok(parts.into_contents()),
         Ok(()) => {
-            drop(parts);
+            parts.close();
             Err(BackFault::Bad { at: cursor.at() })
         }
         Err(fault) => {
-            drop(parts);
+            parts.close();
             Err(fault)
         }
     }

@@ -1,10 +1,12 @@
-ghost use Rattle.std.specs.Prelude.{◌≡◌, ◌≤◌, ◌++◌, All, IfOk, OnOk, false, length};
+ghost use Rattle.std.specs.Prelude.{◌≡◌, ◌≤◌, ◌++◌, [], All, IfOk, OnOk, false, length};
 ghost use Rattle.mqb_base.specs.Messages.{IsWellFormed};
 ghost use Rattle.mqb_base.specs.declared.roomed.TheConstants.{MAX_MEMBERS};
 ghost use Rattle.mqb_entries.specs.Spelled.{spelled_packet};
 ghost use Rattle.mqb_fate.specs.Asking.{is_transactional};
+ghost use Rattle.mqb_heads.specs.User.{plain_user};
 ghost use Rattle.mqb_packet.specs.Plain.{base_for, message_size, plain_user_packet};
 ghost use Rattle.mqb_packet.specs.declared.packet.Headers.TheVariants.{Bare};
+ghost use Rattle.mqb_snapshot.specs.declared.messages.TheConstants.{NOBODY};
 ghost use Rattle.mqb_snapshot.specs.Spelled.{IsSized, header_of, spelled_message, spelled_messages, stored};
 ghost use Rattle.mqb_snapshot.specs.Values.{AreHeld, IsHeld};
 
@@ -28,17 +30,45 @@ fn copy_of(name: &Option<QueueName>) -> Result<Option<QueueName>, Memory>
     }
 }
 
+/// Copies of the names that a user header has.
+fn names_of(message: &Message) -> Result<(QueueName, Option<QueueName>, Option<QueueName>), Memory>
+    ensures destination { IfOk result (λ names. names.0 ≡ message.now.destination) }
+    ensures admin { IfOk result (λ names. names.1 ≡ message.now.admin) }
+    ensures response { IfOk result (λ names. names.2 ≡ message.now.response) }
+{
+    Ok((
+        message.destination.clone()?,
+        copy_of(&message.admin)?,
+        copy_of(&message.response)?,
+    ))
+}
+
+/// No label, no extension and no body.
+fn no_texts(alloc: Global) -> Result<(Units, Bytes, Bytes), Memory>
+    ensures label { IfOk result (λ texts. texts.0 ≡ []) }
+    ensures extension { IfOk result (λ texts. texts.1 ≡ []) }
+    ensures body { IfOk result (λ texts. texts.2 ≡ []) }
+{
+    Ok((
+        Units::from_slice(alloc, &[])?,
+        Bytes::from_slice(alloc, &[])?,
+        Bytes::from_slice(alloc, &[])?,
+    ))
+}
+
 /// The message whose user header a store has: a recoverable one. Its label, extension and body stand elsewhere.
 fn header_of(alloc: Global, message: &Message) -> Result<Message, Memory>
     ensures { IfOk result (λ header. header ≡ header_of message.now) }
 {
+    let (destination, admin, response) = names_of(message)?;
+    let (label, extension, body) = no_texts(alloc)?;
     Ok(Message {
-        destination: message.destination.clone()?,
-        admin: copy_of(&message.admin)?,
-        response: copy_of(&message.response)?,
-        label: Units::from_slice(alloc, &[])?,
-        extension: Bytes::from_slice(alloc, &[])?,
-        body: Bytes::from_slice(alloc, &[])?,
+        destination,
+        admin,
+        response,
+        label,
+        extension,
+        body,
         delivery: Delivery::Recoverable,
         id: message.id,
         class: message.class,
@@ -68,6 +98,17 @@ fn base_of(message: &Message, size: u32) -> BaseHead
 }
 
 impl Tail {
+    /// The user header of a message as a store has it.
+    fn stored_user(&mut self, alloc: Global, message: &Message) -> Result<(), Memory>
+        requires { IsSized message.now }
+        ensures added { OnOk result (self.new.text ≡
+            self.old.text ++ plain_user (header_of message.now) NOBODY) }
+        ensures front { self.new.front ≡ self.old.front }
+    {
+        let header = header_of(alloc, message)?;
+        self.user(&header)
+    }
+
     /// The packet of a message, behind its length.
     fn packet(&mut self, alloc: Global, message: &Message) -> Result<(), Memory>
         requires { IsSized message.now }
@@ -79,10 +120,9 @@ impl Tail {
         let Ok(size) = message_size(message, Headers::Bare) else {
             unreachable!();
         };
-        let header = header_of(alloc, message)?;
         self.u32(size)?;
         self.base(&base_of(message, size))?;
-        self.user(&header)?;
+        self.stored_user(alloc, message)?;
         self.props(message)?;
         Ok(())
     }

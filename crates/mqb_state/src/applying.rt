@@ -39,7 +39,8 @@ fn apply_in(
             (contents, Ok(lines))
         }
         Err(fault) => {
-            let (contents, _, _) = draft.finish();
+            let (contents, log, _) = draft.finish();
+            log.discard();
             (contents, Err(fault))
         }
     }

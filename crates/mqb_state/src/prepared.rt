@@ -39,6 +39,12 @@ impl Prepared {
         mem::replace(&mut self.lines, Roomed::new(alloc))
     }
 
+    /// Lets go what was prepared. Where it ends by this call, how it ends is not proved again.
+    pub fn discard(self) {
+        let Prepared { log, lines: _ } = self;
+        log.discard();
+    }
+
     /// How many messages the changes hold: those that are new, and none that the state had.
     pub fn messages(&self) -> u64
         ensures { result ≡ messages self.now.changes }

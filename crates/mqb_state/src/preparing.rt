@@ -92,7 +92,10 @@ fn try_in(
     let (contents, log, lines) = draft.finish();
     match tried {
         Ok(()) => (contents, Ok(Prepared { log, lines })),
-        Err(fault) => (contents, Err(fault)),
+        Err(fault) => {
+            log.discard();
+            (contents, Err(fault))
+        }
     }
 }
 

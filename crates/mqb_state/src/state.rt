@@ -66,4 +66,10 @@ impl State {
         let contents = read_back(alloc, bytes)?;
         Ok(State { contents, alloc })
     }
+
+    /// Lets the state go. Where a state ends by this call, how it ends is not proved again.
+    pub fn close(self) {
+        let State { contents, alloc: _ } = self;
+        contents.close();
+    }
 }

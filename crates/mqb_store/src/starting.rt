@@ -87,7 +87,7 @@ impl Store {
         let mut journal = match Journal::format(alloc, disk, identity.guid) {
             Ok(journal) => journal,
             Err(fault) => {
-                drop(state);
+                state.close();
                 return Err(fault);
             }
         };
@@ -100,7 +100,7 @@ impl Store {
                 alloc,
             }),
             Err(fault) => {
-                drop(state);
+                state.close();
                 Err(fault)
             }
         }
@@ -143,7 +143,7 @@ impl Store {
                 alloc,
             }),
             Err(fault) => {
-                drop(state);
+                state.close();
                 Err(fault)
             }
         }

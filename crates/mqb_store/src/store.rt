@@ -28,3 +28,17 @@ impl Model for Store {
       lines = w.lines.items;
     } };
 }
+
+impl Store {
+    /// Lets the store go; whatever was recorded stays on its disk. Where a store ends by this call, how it ends is not proved again.
+    pub fn close(self) {
+        let Store {
+            state,
+            journal: _,
+            entry: _,
+            lines: _,
+            alloc: _,
+        } = self;
+        state.close();
+    }
+}

@@ -103,7 +103,7 @@ impl Store {
                 Ok(())
             }
             Err(fault) => {
-                drop(prepared);
+                prepared.discard();
                 Err(fault)
             }
         }
