@@ -36,7 +36,8 @@ impl Listener<'_> {
         packet: &LentPacket<'_>,
         refusal: Option<Class>,
     ) -> Result<Hearing<'a>, Memory>
-        ensures heard { Hears self.now result (λ l. hear_arriving l packet.now.said.message refusal) }
+        ensures heard { Hears self.now result
+            (λ l. hear_arriving l packet.now.said.message refusal) }
         ensures brings { Brings [] result }
     {
         let message = packet.to_message(self.alloc())?;

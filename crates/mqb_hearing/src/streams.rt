@@ -86,7 +86,8 @@ impl Listener<'_> {
         packet: &LentPacket<'_>,
         tx: &TxHead,
     ) -> Result<Hearing<'a>, Memory>
-        ensures heard { Hears self.now result (λ l. hear_duplicate l packet.now.said.message tx.now) }
+        ensures heard { Hears self.now result
+            (λ l. hear_duplicate l packet.now.said.message tx.now) }
         ensures brings { Brings [] result }
     {
         let contents = self.contents();
