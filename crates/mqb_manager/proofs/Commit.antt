@@ -107,13 +107,8 @@ commit_refused d m ops now why law valid up refused = by why refused
     by : (why : CommitFault) → IsRefusedBy (tried m.store.state now ops) why
         → IsCall fault.Memory fault.DiskFault d d m m (commit (manager_of m) ops now) (Err why)
     by fault.Memory r = unmade_call fault.Memory fault.DiskFault d m (commit (manager_of m) ops now) law (λ same. let none : ⊥ = cc in none)
-    by fault.Down r = same fault.Down (λ same. let none : ⊥ = cc in none) r
-    by fault.NoOps r = same fault.NoOps (λ same. let none : ⊥ = cc in none) r
-    by fault.TooManyOps r = same fault.TooManyOps (λ same. let none : ⊥ = cc in none) r
-    by (fault.AtOp index x) r = same (fault.AtOp index x) (λ same. let none : ⊥ = cc in none) r
-    by fault.NumbersSpent r = same fault.NumbersSpent (λ same. let none : ⊥ = cc in none) r
-    by fault.TooLarge r = same fault.TooLarge (λ same. let none : ⊥ = cc in none) r
     by fault.DiskFault r = absurd (tried_unbroken m.store.state now ops r)
+    by why r = same why (λ same. let none : ⊥ = cc in none) r
 
 -- It is written.
 

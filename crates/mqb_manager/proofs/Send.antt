@@ -50,10 +50,8 @@ numbered_unbroken None e = let none : ⊥ = cc in none
 numbered_unbroken (Some q) e = queue_unbroken q.plan.transactional (nat_le q.plan.quota (count q.lists)) e
 
 target_unbroken : (s : State) (t : Target) → target_fault s t ≡ Some fault.DiskFault → ⊥
-target_unbroken s (AtPeer k) e = let none : ⊥ = cc in none
-target_unbroken s Nowhere e = let none : ⊥ = cc in none
-target_unbroken s (Here None) e = let none : ⊥ = cc in none
 target_unbroken s (Here (Some number)) e = numbered_unbroken (numbered s.places.queues number) e
+target_unbroken s t e = let none : ⊥ = cc in none
 
 message_unbroken : (a b : Bool) → (if a then Some fault.NumbersSpent else if b then Some fault.TooLarge else None) ≡ Some fault.DiskFault → ⊥
 message_unbroken true b e = let none : ⊥ = cc in none
@@ -95,14 +93,8 @@ module _ (p : Parts) (recoverable : Bool) (now : ℕ) where
       by : (why : SendFault) → RefusesSend s (λ m. send m p recoverable now) why
           → IsCall fault.Memory fault.DiskFault d d m m (send (manager_of m) p recoverable now) (Err why)
       by fault.Memory r = unmade_call fault.Memory fault.DiskFault d m (send (manager_of m) p recoverable now) law (λ same. let none : ⊥ = cc in none)
-      by fault.Down r = same fault.Down (λ same. let none : ⊥ = cc in none) (r (manager_of m) (sym at) up)
-      by fault.UnknownPeer r = same fault.UnknownPeer (λ same. let none : ⊥ = cc in none) (r (manager_of m) (sym at) up)
-      by fault.NoQueue r = same fault.NoQueue (λ same. let none : ⊥ = cc in none) (r (manager_of m) (sym at) up)
-      by fault.Transactional r = same fault.Transactional (λ same. let none : ⊥ = cc in none) (r (manager_of m) (sym at) up)
-      by fault.QueueFull r = same fault.QueueFull (λ same. let none : ⊥ = cc in none) (r (manager_of m) (sym at) up)
-      by fault.NumbersSpent r = same fault.NumbersSpent (λ same. let none : ⊥ = cc in none) (r (manager_of m) (sym at) up)
-      by fault.TooLarge r = same fault.TooLarge (λ same. let none : ⊥ = cc in none) (r (manager_of m) (sym at) up)
       by fault.DiskFault r = absurd (send_unbroken (manager_of m) p recoverable now (r (manager_of m) (sym at) up))
+      by why r = same why (λ same. let none : ⊥ = cc in none) (r (manager_of m) (sym at) up)
 
   -- It is written, where there is an entry.
 

@@ -131,10 +131,7 @@ take_refused d m s place now why law keeps refused = by why refused
     by : (why : TakeFault) → RefusesTake s (λ m. take_message m place now) why
         → IsCall take_fault.Memory take_fault.DiskFault d d m m (take_message (manager_of m) place now) (Err why)
     by take_fault.Memory r = unmade_call take_fault.Memory take_fault.DiskFault d m (take_message (manager_of m) place now) law (λ same. let none : ⊥ = cc in none)
-    by take_fault.Down r = same take_fault.Down r
-    by take_fault.NoQueue r = same take_fault.NoQueue r
-    by take_fault.QueueEmpty r = same take_fault.QueueEmpty r
-    by take_fault.DiskFault r = same take_fault.DiskFault r
+    by why r = same why r
 
 -- Want of memory comes before no refusal.
 pub take_first : (s : State) (m : ManagerState) (place : Place) (now : ℕ) (why : TakeFault) → Keeps s m → RefusesTake s (λ m. take_message m place now) why
@@ -148,10 +145,7 @@ take_first s m place now why keeps refused = by why refused
     by : (why : TakeFault) → RefusesTake s (λ m. take_message m place now) why
         → OnErr (take_message (manager_of m) place now).answer (Err why ≡ (take_message (manager_of m) place now).answer)
     by take_fault.Memory r = first_unrefused (take_message (manager_of m) place now).answer (Err take_fault.Memory) (r (manager_of m) keeps.kept keeps.up)
-    by take_fault.Down r = same take_fault.Down r
-    by take_fault.NoQueue r = same take_fault.NoQueue r
-    by take_fault.QueueEmpty r = same take_fault.QueueEmpty r
-    by take_fault.DiskFault r = same take_fault.DiskFault r
+    by why r = same why r
 
 pub purge_refused : (d : View) (m : ManagerState) (s : State) (place : Place) (now : ℕ) (why : PurgeFault) → Lawful d → Keeps s m
     → Refuses s (λ m. purge m place now) why
