@@ -216,10 +216,8 @@ ticks_never m now = refused stores.DiskFault m (store_refusal m) _ (first stores
 -- Packets that are heard.
 
 judged_never : (l : Listening) (p : UserPacket) (tx : TxHead) (v : Verdict) → Never hears.DiskFault (judged l p tx v)
-judged_never l p tx verdict.Next = oks _ hears.DiskFault
 judged_never l p tx verdict.Duplicate = either hears.DiskFault _ _ _ (oks _ hears.DiskFault) (oks _ hears.DiskFault)
-judged_never l p tx verdict.Gap = oks _ hears.DiskFault
-judged_never l p tx verdict.Stale = oks _ hears.DiskFault
+judged_never l p tx v = oks _ hears.DiskFault
 
 stream_never : (l : Listening) (p : UserPacket) (tx : TxHead) → Never hears.DiskFault (hear_in_stream l p tx)
 stream_never l p tx = either hears.DiskFault (is_ordinary p.message) _ (discarded l) (judged_never l p tx _) (oks _ hears.DiskFault)
@@ -244,9 +242,7 @@ behind_never m now p head.AckOnly session = user_never (listening m session now)
 
 acks_never : (m : Manager) (now : ℕ) (h : HeadHeard) (session : one_end.State) → Never hears.DiskFault (hear_acknowledgement m now h session)
 acks_never m now (head.Closed why) session = oks _ hears.DiskFault
-acks_never m now head.InOrder session = oks _ hears.DiskFault
-acks_never m now head.OutOfOrder session = oks _ hears.DiskFault
-acks_never m now head.AckOnly session = oks _ hears.DiskFault
+acks_never m now h session = oks _ hears.DiskFault
 
 linked_never : (m : Manager) (now : ℕ) (p : Packet) (session : one_end.State) → Never hears.DiskFault (hear_linked m now p session)
 linked_never m now (packet.Establish e) session = oks _ hears.DiskFault
