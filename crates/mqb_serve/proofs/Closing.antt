@@ -23,11 +23,8 @@ use Rattle.mqb_serve.specs.Talking.{stored_of}
 use Rattle.mqb_serve.proofs.Calls.{quietly_up, stored_so}
 
 pub disk_is : (why : ConnFault) → is_disk_fault why ≡ true → why ≡ fault.DiskFault
-disk_is (fault.Peer why) is = absurd (let wrong : ⊥ = cc in wrong)
-disk_is fault.ReadFault is = absurd (let wrong : ⊥ = cc in wrong)
-disk_is fault.WriteFault is = absurd (let wrong : ⊥ = cc in wrong)
-disk_is fault.Memory is = absurd (let wrong : ⊥ = cc in wrong)
 disk_is fault.DiskFault is = refl
+disk_is why is = absurd (let wrong : ⊥ = cc in wrong)
 
 pub not_disk : (why : ConnFault) → is_disk_fault why ≡ false → why ≡ fault.DiskFault → ⊥
 not_disk why works is = let wrong : true ≡ false = sym (ap is_disk_fault is) ∙ works in true_false wrong

@@ -42,10 +42,6 @@ went r none = (λ is. let wrong : ⊥ = none_some (ap stopped_pumping (sym is) �
 module _ (d e : View) (m n : ManagerState) (now : ℕ) (up : IsUp m) where
   pub pump_stopped : (r : Result ℕ PumpFault) (why : ConnFault) (x : Option (List ℕ)) → IsCall pump_fault.Memory pump_fault.DiskFault d e m n (pump (manager_of m) now) r
       → stopped_pumping r ≡ Some why → PumpStops (stored_of m) now (stored_of n) x x why
-  pump_stopped (Ok count) why x call is = absurd (let wrong : ⊥ = cc in wrong)
-  pump_stopped (Err pump_fault.Down) why x call is = absurd (let wrong : ⊥ = cc in wrong)
-  pump_stopped (Err pump_fault.NotLinked) why x call is = absurd (let wrong : ⊥ = cc in wrong)
-  pump_stopped (Err pump_fault.Spent) why x call is = absurd (let wrong : ⊥ = cc in wrong)
   pump_stopped (Err pump_fault.Memory) why x call is =
       subst (λ (w : ConnFault). PumpStops (stored_of m) now (stored_of n) x x w) (some_is fault.Memory why is)
       (inl (memory_so pump_fault.Memory pump_fault.DiskFault m n (pump (manager_of m) now) (Err pump_fault.Memory) call.ends refl (λ same. let wrong : ⊥ = cc in wrong) (never_wants (manager_of m) now), refl))
@@ -57,6 +53,7 @@ module _ (d e : View) (m n : ManagerState) (now : ℕ) (up : IsUp m) where
             ),
         refl,
       ))
+  pump_stopped r why x call is = absurd (let wrong : ⊥ = cc in wrong)
 
   pub pump_keeps : {T : Type 0} (r : Result ℕ PumpFault) (why : ConnFault) → IsCall pump_fault.Memory pump_fault.DiskFault d e m n (pump (manager_of m) now) r
       → stopped_pumping r ≡ Some why → Keeps {T = T} d e m n (Err why)
@@ -117,9 +114,6 @@ module _ (d e : View) (m n : ManagerState) (v : PacketView) (now : ℕ) (up : Is
 
   module _ (frame : List ℕ) (read : packet_of frame ≡ Ok (seen_packet v)) where
     by_fault : (why : ConnFault) (q : Result Heard HearFault) → r ≡ q → stopped_hearing q ≡ Some why → LeftBy why (HearsBy frame (stored_of m) now) (stored_of m) (stored_of n)
-    by_fault why (Ok heard) same is = absurd (let wrong : ⊥ = cc in wrong)
-    by_fault why (Err hear_fault.Down) same is = absurd (let wrong : ⊥ = cc in wrong)
-    by_fault why (Err hear_fault.NotLinked) same is = absurd (let wrong : ⊥ = cc in wrong)
     by_fault why (Err hear_fault.Memory) same is =
         subst (λ (w : ConnFault). LeftBy w (HearsBy frame (stored_of m) now) (stored_of m) (stored_of n)) (some_is fault.Memory why is)
         (memory_so hear_fault.Memory hear_fault.DiskFault m n (hear (manager_of m) p now) r one.ends same (λ same. let wrong : ⊥ = cc in wrong) (never_wants_to_hear (manager_of m) p now))
@@ -127,6 +121,7 @@ module _ (d e : View) (m n : ManagerState) (v : PacketView) (now : ℕ) (up : Is
         let doubt = broken_so hear_fault.Memory hear_fault.DiskFault m n (hear (manager_of m) p now) r one.ends same (λ same. let wrong : ⊥ = cc in wrong) (never_fails_to_hear (manager_of m) p now) in
         subst (λ (w : ConnFault). LeftBy w (HearsBy frame (stored_of m) now) (stored_of m) (stored_of n)) (some_is fault.DiskFault why is)
         (doubt.0, record { packet = p; spells = record { parts = seen_packet v; read = read; said = is_shown }; comes_to = doubt.1 }, doubt.2)
+    by_fault why q same is = absurd (let wrong : ⊥ = cc in wrong)
 
     pub hear_stopped : (why : ConnFault) → stopped_hearing r ≡ Some why → LeftBy why (HearsBy frame (stored_of m) now) (stored_of m) (stored_of n)
     hear_stopped why is = by_fault why r refl is
@@ -162,23 +157,16 @@ module _ (d e : View) (m n : ManagerState) (v : PacketView) (now : ℕ) (up : Is
 -- No such call reads or writes the connection.
 
 pub hear_never_writes : (r : Result Heard HearFault) (why : ConnFault) → stopped_hearing r ≡ Some why → is_write_fault why ≡ false
-hear_never_writes (Ok heard) why is = absurd (let wrong : ⊥ = cc in wrong)
-hear_never_writes (Err hear_fault.Down) why is = absurd (let wrong : ⊥ = cc in wrong)
-hear_never_writes (Err hear_fault.NotLinked) why is = absurd (let wrong : ⊥ = cc in wrong)
 hear_never_writes (Err hear_fault.Memory) why is = ap is_write_fault (sym (some_is fault.Memory why is))
 hear_never_writes (Err hear_fault.DiskFault) why is = ap is_write_fault (sym (some_is fault.DiskFault why is))
+hear_never_writes r why is = absurd (let wrong : ⊥ = cc in wrong)
 
 pub hear_never_reads : (r : Result Heard HearFault) (why : ConnFault) → stopped_hearing r ≡ Some why → is_read_fault why ≡ false
-hear_never_reads (Ok heard) why is = absurd (let wrong : ⊥ = cc in wrong)
-hear_never_reads (Err hear_fault.Down) why is = absurd (let wrong : ⊥ = cc in wrong)
-hear_never_reads (Err hear_fault.NotLinked) why is = absurd (let wrong : ⊥ = cc in wrong)
 hear_never_reads (Err hear_fault.Memory) why is = ap is_read_fault (sym (some_is fault.Memory why is))
 hear_never_reads (Err hear_fault.DiskFault) why is = ap is_read_fault (sym (some_is fault.DiskFault why is))
+hear_never_reads r why is = absurd (let wrong : ⊥ = cc in wrong)
 
 pub pump_never_reads : (r : Result ℕ PumpFault) (why : ConnFault) → stopped_pumping r ≡ Some why → is_read_fault why ≡ false
-pump_never_reads (Ok count) why is = absurd (let wrong : ⊥ = cc in wrong)
-pump_never_reads (Err pump_fault.Down) why is = absurd (let wrong : ⊥ = cc in wrong)
-pump_never_reads (Err pump_fault.NotLinked) why is = absurd (let wrong : ⊥ = cc in wrong)
-pump_never_reads (Err pump_fault.Spent) why is = absurd (let wrong : ⊥ = cc in wrong)
 pump_never_reads (Err pump_fault.Memory) why is = ap is_read_fault (sym (some_is fault.Memory why is))
 pump_never_reads (Err pump_fault.DiskFault) why is = ap is_read_fault (sym (some_is fault.DiskFault why is))
+pump_never_reads r why is = absurd (let wrong : ⊥ = cc in wrong)
