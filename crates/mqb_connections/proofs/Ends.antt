@@ -30,12 +30,10 @@ taken_back (Some n) given now opened closed =
 -- Counts of faults. A line that was written is one behind which the program goes on.
 
 same_faults : (a b : ℕ) (end : Answer) → GoesOn end → FaultsAsSaid is_disk_fault a b end → b ≡ a
-same_faults a b (Ok done) goes said = said
 same_faults a b (Err (fault.Peer why)) goes said = said
-same_faults a b (Err fault.ReadFault) goes said = said
-same_faults a b (Err fault.WriteFault) goes said = said
 same_faults a b (Err fault.DiskFault) goes said = absurd goes
 same_faults a b (Err fault.Memory) goes said = absurd goes
+same_faults a b end goes said = said
 
 pub disk_behind : (number a b : ℕ) (end : Answer) (before after : Option (List ℕ)) (r : Result (Unit {0}) Status)
     → TellsEnd number end before after r → FaultsAsSaid is_disk_fault a b end → MatchResult r (λ _. b ≡ a) (DiskFaultHasCause a b)
@@ -43,28 +41,16 @@ disk_behind number a b end before after (Ok done) told said = same_faults a b en
 disk_behind number a b end before after (Err status.DiskFault) told said = subst (FaultsAsSaid is_disk_fault a b) told.0 said
 disk_behind number a b end before after (Err status.Memory) told said = tt
 disk_behind number a b end before after (Err status.WriteFault) told said = tt
-disk_behind number a b end before after (Err status.Done) told said = absurd told
-disk_behind number a b end before after (Err status.Usage) told said = absurd told
 disk_behind number a b end before after (Err (status.Script line kind)) told said = absurd told
-disk_behind number a b end before after (Err status.TooLong) told said = absurd told
-disk_behind number a b end before after (Err status.TooManyLines) told said = absurd told
-disk_behind number a b end before after (Err status.ReadFault) told said = absurd told
-disk_behind number a b end before after (Err status.NetFault) told said = absurd told
-disk_behind number a b end before after (Err (status.BadStore at)) told said = absurd told
-disk_behind number a b end before after (Err status.NotEmpty) told said = absurd told
-disk_behind number a b end before after (Err (status.Peer why)) told said = absurd told
-disk_behind number a b end before after (Err status.NetFull) told said = absurd told
-disk_behind number a b end before after (Err status.Refused) told said = absurd told
+disk_behind number a b end before after r told said = absurd told
 
 -- A connection that is taken back is lost where a half of it failed.
 pub lost_as_said : (r w l m : ℕ) (end : Answer) → FaultsAsSaid is_read_fault 0 r end → FaultsAsSaid is_write_fault 0 w end
     → (0 < r + w → Rose l m) → (r + w ≡ 0 → m ≡ l) → FaultsAsSaid is_lost l m end
-lost_as_said r w l m (Ok done) reads writes lost kept = kept (omega (arith, reads, writes))
 lost_as_said r w l m (Err (fault.Peer why)) reads writes lost kept = kept (omega (arith, reads, writes))
 lost_as_said r w l m (Err fault.ReadFault) reads writes lost kept = lost (omega (arith, reads, writes))
 lost_as_said r w l m (Err fault.WriteFault) reads writes lost kept = lost (omega (arith, reads, writes))
-lost_as_said r w l m (Err fault.DiskFault) reads writes lost kept = kept (omega (arith, reads, writes))
-lost_as_said r w l m (Err fault.Memory) reads writes lost kept = kept (omega (arith, reads, writes))
+lost_as_said r w l m end reads writes lost kept = kept (omega (arith, reads, writes))
 
 pub lost_over : (r0 r w0 w l0 l m : ℕ) (end : Answer) → r0 ≡ 0 → w0 ≡ 0 → l ≡ l0 → FaultsAsSaid is_read_fault r0 r end
     → FaultsAsSaid is_write_fault w0 w end → (0 < r + w → Rose l m) → (r + w ≡ 0 → m ≡ l) → FaultsAsSaid is_lost l0 m end
@@ -75,9 +61,6 @@ lost_over r0 r w0 w l0 l m end no_read no_write same reads writes lost kept =
 -- The end of a probe.
 
 pub probe_disk : (a0 a b : ℕ) (end : Answer) (s : Status) → a ≡ a0 → s ≡ probe_status end → FaultsAsSaid is_disk_fault a b end → DiskFaultHasCause a0 b s
-probe_disk a0 a b (Ok done) s same is said = subst (DiskFaultHasCause a0 b) (sym is) tt
 probe_disk a0 a b (Err (fault.Peer why)) s same is said = subst (DiskFaultHasCause a0 b) (sym is) tt
-probe_disk a0 a b (Err fault.ReadFault) s same is said = subst (DiskFaultHasCause a0 b) (sym is) tt
-probe_disk a0 a b (Err fault.WriteFault) s same is said = subst (DiskFaultHasCause a0 b) (sym is) tt
 probe_disk a0 a b (Err fault.DiskFault) s same is said = subst (DiskFaultHasCause a0 b) (sym is) (subst (λ (k : ℕ). Rose k b) same said)
-probe_disk a0 a b (Err fault.Memory) s same is said = subst (DiskFaultHasCause a0 b) (sym is) tt
+probe_disk a0 a b end s same is said = subst (DiskFaultHasCause a0 b) (sym is) tt

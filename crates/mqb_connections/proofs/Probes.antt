@@ -42,12 +42,11 @@ store_probes steady d f e m n now end held held_now taken taken_now r opened rea
 
 ended_faultless : (a b r q w v : ℕ) (end : Answer) → FaultsAsSaid is_disk_fault a b end → FaultsAsSaid is_read_fault r q end → FaultsAsSaid is_write_fault w v end
     → (Rose a b → ⊥) → (Rose r q → ⊥) → (Rose w v → ⊥) → IsFaultless (probe_status end)
-ended_faultless a b r q w v (Ok done) disk read wrote none heard written = tt
 ended_faultless a b r q w v (Err (fault.Peer why)) disk read wrote none heard written = tt
 ended_faultless a b r q w v (Err fault.ReadFault) disk read wrote none heard written = absurd (heard read)
 ended_faultless a b r q w v (Err fault.WriteFault) disk read wrote none heard written = absurd (written wrote)
 ended_faultless a b r q w v (Err fault.DiskFault) disk read wrote none heard written = absurd (none disk)
-ended_faultless a b r q w v (Err fault.Memory) disk read wrote none heard written = tt
+ended_faultless a b r q w v end disk read wrote none heard written = tt
 
 pub probe_completes : (d f e : View) (reads reads_now writes writes_now : ℕ) (end : Answer) (r : Status) → f.faults ≡ d.faults
     → FaultsAsSaid is_disk_fault f.faults e.faults end → FaultsAsSaid is_read_fault reads reads_now end → FaultsAsSaid is_write_fault writes writes_now end
@@ -59,28 +58,19 @@ probe_completes d f e reads reads_now writes writes_now end r same disk read wro
 -- Each fault has its cause.
 
 read_of : (a b : ℕ) (end : Answer) → FaultsAsSaid is_read_fault a b end → ReadFaultHasCause a b (probe_status end)
-read_of a b (Ok done) said = tt
 read_of a b (Err (fault.Peer why)) said = tt
 read_of a b (Err fault.ReadFault) said = said
-read_of a b (Err fault.WriteFault) said = tt
-read_of a b (Err fault.DiskFault) said = tt
-read_of a b (Err fault.Memory) said = tt
+read_of a b end said = tt
 
 write_of : (a b : ℕ) (end : Answer) → FaultsAsSaid is_write_fault a b end → WriteFaultHasCause a b (probe_status end)
-write_of a b (Ok done) said = tt
 write_of a b (Err (fault.Peer why)) said = tt
-write_of a b (Err fault.ReadFault) said = tt
 write_of a b (Err fault.WriteFault) said = said
-write_of a b (Err fault.DiskFault) said = tt
-write_of a b (Err fault.Memory) said = tt
+write_of a b end said = tt
 
 end_of : (end : Answer) → IsProbeEnd (probe_status end)
 end_of (Ok done) = tt
 end_of (Err (fault.Peer why)) = tt
-end_of (Err fault.ReadFault) = tt
-end_of (Err fault.WriteFault) = tt
-end_of (Err fault.DiskFault) = tt
-end_of (Err fault.Memory) = tt
+end_of end = tt
 
 pub probe_read : (a b : ℕ) (end : Answer) (r : Status) → r ≡ probe_status end → FaultsAsSaid is_read_fault a b end → ReadFaultHasCause a b r
 probe_read a b end r is said = subst (ReadFaultHasCause a b) (sym is) (read_of a b end said)

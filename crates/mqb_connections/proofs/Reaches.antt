@@ -31,27 +31,20 @@ use Rattle.mqb_connections.specs.Visits.{end_line}
 pub plain_reach : (end : Answer) → IsPlain (reach_status end)
 plain_reach (Ok done) = tt
 plain_reach (Err (fault.Peer why)) = tt
-plain_reach (Err fault.ReadFault) = tt
-plain_reach (Err fault.WriteFault) = tt
-plain_reach (Err fault.DiskFault) = tt
-plain_reach (Err fault.Memory) = tt
+plain_reach end = tt
 
 pub line_told : (end : Answer) (before after : Option (List ℕ)) (r : Status) → GoesOn end
     → Tells (end_line 1 end) (reach_status end) before after r → TellsReach end before after r
-line_told (Ok done) before after r goes told = inl told
 line_told (Err (fault.Peer why)) before after r goes told = inl told
-line_told (Err fault.ReadFault) before after r goes told = inl told
-line_told (Err fault.WriteFault) before after r goes told = inl told
 line_told (Err fault.DiskFault) before after r goes told = absurd goes
 line_told (Err fault.Memory) before after r goes told = absurd goes
+line_told end before after r goes told = inl told
 
 pub no_line : (end : Answer) (before after : Option (List ℕ)) → GoesOn end → after ≡ before → TellsReach end before after status.Memory
-no_line (Ok done) before after goes same = inr (refl, same)
 no_line (Err (fault.Peer why)) before after goes same = inr (refl, same)
-no_line (Err fault.ReadFault) before after goes same = inr (refl, same)
-no_line (Err fault.WriteFault) before after goes same = inr (refl, same)
 no_line (Err fault.DiskFault) before after goes same = absurd goes
 no_line (Err fault.Memory) before after goes same = absurd goes
+no_line end before after goes same = inr (refl, same)
 
 -- A connection that was served.
 pub served_reaches : (why : Errand) (named : Option (List ℕ)) (peer : ℕ) (steady : Option ℕ) (m n : ManagerState) (d e : View) (net : Nets) (before after : Option (List ℕ)) (end : Answer) (r : Status)
@@ -147,28 +140,20 @@ reach_as P (Err fault.Memory) before after r ended failed none told = subst P (s
 -- Each fault has its cause.
 
 disk_of : (a b : ℕ) (end : Answer) → FaultsAsSaid is_disk_fault a b end → DiskFaultHasCause a b (reach_status end)
-disk_of a b (Ok done) said = tt
 disk_of a b (Err (fault.Peer why)) said = tt
-disk_of a b (Err fault.ReadFault) said = tt
-disk_of a b (Err fault.WriteFault) said = tt
 disk_of a b (Err fault.DiskFault) said = said
-disk_of a b (Err fault.Memory) said = tt
+disk_of a b end said = tt
 
 net_of : (given : Type 0) (a b : ℕ) (end : Answer) → FaultsAsSaid is_lost a b end → NetFaultHasCause (given ⊎ Rose a b) (reach_status end)
-net_of given a b (Ok done) said = tt
 net_of given a b (Err (fault.Peer why)) said = tt
 net_of given a b (Err fault.ReadFault) said = inr said
 net_of given a b (Err fault.WriteFault) said = inr said
-net_of given a b (Err fault.DiskFault) said = tt
-net_of given a b (Err fault.Memory) said = tt
+net_of given a b end said = tt
 
 end_of : (end : Answer) → IsNetEnd (reach_status end)
 end_of (Ok done) = tt
 end_of (Err (fault.Peer why)) = tt
-end_of (Err fault.ReadFault) = tt
-end_of (Err fault.WriteFault) = tt
-end_of (Err fault.DiskFault) = tt
-end_of (Err fault.Memory) = tt
+end_of end = tt
 
 -- P holds of how a peer at an index is reached, where it holds of each end that it can have.
 reached_as : (P : Status → Type 0) (why : Errand) (named : Option (List ℕ)) (o steady : Option ℕ) (m : ManagerState) (d e : View) (net : Nets) (before after : Option (List ℕ)) (r : Status)
@@ -205,12 +190,11 @@ store_ends {why} {named} {host} {steady} {d} {e} {net} {before} {after} {r} (inr
 
 ended_faultless : (a b l m : ℕ) (end : Answer) → FaultsAsSaid is_disk_fault a b end → FaultsAsSaid is_lost l m end → (Rose a b → ⊥) → (Rose l m → ⊥)
     → IsFaultless (reach_status end)
-ended_faultless a b l m (Ok done) disk lost none kept = tt
 ended_faultless a b l m (Err (fault.Peer why)) disk lost none kept = tt
 ended_faultless a b l m (Err fault.ReadFault) disk lost none kept = absurd (kept lost)
 ended_faultless a b l m (Err fault.WriteFault) disk lost none kept = absurd (kept lost)
 ended_faultless a b l m (Err fault.DiskFault) disk lost none kept = absurd (none disk)
-ended_faultless a b l m (Err fault.Memory) disk lost none kept = tt
+ended_faultless a b l m end disk lost none kept = tt
 
 -- with no write fault, since the output did not fail
 abbrev IfWritten : (writes writes_now : ℕ) → Status → Type 0

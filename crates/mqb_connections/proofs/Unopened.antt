@@ -34,21 +34,13 @@ unopened_read a b d e _ failed = tt
 -- It is an end of these commands.
 
 pub unopened_net_end : (d e : View) (end : Status) → IsNotOpened d e end → IsNetEnd end
-unopened_net_end d e status.Done failed = tt
 unopened_net_end d e status.Usage failed = absurd failed
 unopened_net_end d e (status.Script line kind) failed = absurd failed
 unopened_net_end d e status.TooLong failed = absurd failed
 unopened_net_end d e status.TooManyLines failed = absurd failed
 unopened_net_end d e status.ReadFault failed = absurd failed
-unopened_net_end d e status.WriteFault failed = tt
-unopened_net_end d e status.DiskFault failed = tt
-unopened_net_end d e status.NetFault failed = tt
-unopened_net_end d e (status.BadStore at) failed = tt
-unopened_net_end d e status.NotEmpty failed = tt
-unopened_net_end d e (status.Peer why) failed = tt
 unopened_net_end d e status.NetFull failed = absurd failed
-unopened_net_end d e status.Memory failed = tt
-unopened_net_end d e status.Refused failed = tt
+unopened_net_end d e end failed = tt
 
 pub unopened_probe_end : (d e : View) (r : Status) → IsNotOpened d e r → IsProbeEnd r
 unopened_probe_end d e status.Usage failed = absurd failed
