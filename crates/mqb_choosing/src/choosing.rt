@@ -118,7 +118,8 @@ impl Choices {
         requires peer { peer < length contents.now.lists.peers }
         requires sendable { AreSendable contents.now.lists }
         ensures { OnOk result (Offers contents.now.lists self.old self.new
-            (candidates_to contents.now.lists (known self.old.session cursors.now owes.now) now peer)) }
+            (candidates_to contents.now.lists
+            (known self.old.session cursors.now owes.now) now peer)) }
     {
         let identity = &contents.peers()[peer as usize];
         self.offer_acks(alloc, contents, owes, identity, now)?;
@@ -180,8 +181,8 @@ pub fn choose(
         chosen_to contents.now.lists session cursors.now owes.now now peer) }
     ensures count { IfOk result (λ c. length c.choices ≡ length
         (chosen_to contents.now.lists session cursors.now owes.now now peer)) }
-    ensures session { IfOk result (λ c. c.session ≡
-        session_behind session (chosen_to contents.now.lists session cursors.now owes.now now peer)) }
+    ensures session { IfOk result (λ c. c.session ≡ session_behind session
+        (chosen_to contents.now.lists session cursors.now owes.now now peer)) }
     ensures bytes { IfOk result (λ c. c.bytes ≡ sum_by candidate_size
         (chosen_to contents.now.lists session cursors.now owes.now now peer)) }
     ensures room { IfOk result (λ c. c.bytes ≡ bytes_in contents.now.lists c.choices) }

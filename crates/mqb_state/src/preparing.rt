@@ -109,7 +109,8 @@ impl State {
         ensures lists { self.new.lists ≡ self.old.lists }
         ensures grown { IsGrown self.old.rooms self.new.rooms }
         ensures ok { IfOk result (λ p. IsSomeAnd (record_in entry.now)
-            (λ r. (fits self.old.lists r ≡ true) × IsPrepared self.new p (effect_of self.old.lists r))) }
+            (λ r. (fits self.old.lists r ≡ true) ×
+            IsPrepared self.new p (effect_of self.old.lists r))) }
         ensures few { IfOk result (λ p. IsSomeAnd (record_in entry.now)
             (λ r. messages p.changes ≤ 3 * named_count self.old.lists r)) }
         ensures unfit { result ≡ Err fault.Unfit → IsUnfit self.old.lists entry.now }

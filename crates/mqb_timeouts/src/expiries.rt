@@ -128,7 +128,8 @@ fn expire(
 ) -> Result<(), Memory>
     requires { IsSomeAnd (slice_get draft.old.effect.state.outs k) (λ r. index < length r.kept) }
     ensures ok { OnOk result (draft.new.effect ≡ joined draft.old.effect (with_line line
-        (meets (with_out (left_row index) draft.old.effect.state k) message.now REACH_TIMEOUT now))) }
+        (meets (with_out (left_row index) draft.old.effect.state k)
+        message.now REACH_TIMEOUT now))) }
     ensures start { draft.new.start ≡ draft.old.start }
     ensures grown { IsGrown draft.old.rooms draft.new.rooms }
     ensures held { OnOk result (draft.new.held ≤ draft.old.held + 2) }
