@@ -135,13 +135,6 @@ impl Manager {
 
     /// Lets the manager go; whatever it recorded stays on its disk. Where a manager ends by this call, how it ends is not proved again.
     pub fn close(self) {
-        let Manager {
-            store,
-            session: _,
-            cursors: _,
-            owes: _,
-            alloc: _,
-        } = self;
-        store.close();
+        self.store.close();
     }
 }
