@@ -41,8 +41,7 @@ impl Prepared {
 
     /// Lets go what was prepared. Where it ends by this call, how it ends is not proved again.
     pub fn discard(self) {
-        let Prepared { log, lines: _ } = self;
-        log.discard();
+        self.log.discard();
     }
 
     /// How many messages the changes hold: those that are new, and none that the state had.

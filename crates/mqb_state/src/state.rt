@@ -69,7 +69,6 @@ impl State {
 
     /// Lets the state go. Where a state ends by this call, how it ends is not proved again.
     pub fn close(self) {
-        let State { contents, alloc: _ } = self;
-        contents.close();
+        self.contents.close();
     }
 }

@@ -32,13 +32,6 @@ impl Model for Store {
 impl Store {
     /// Lets the store go; whatever was recorded stays on its disk. Where a store ends by this call, how it ends is not proved again.
     pub fn close(self) {
-        let Store {
-            state,
-            journal: _,
-            entry: _,
-            lines: _,
-            alloc: _,
-        } = self;
-        state.close();
+        self.state.close();
     }
 }
