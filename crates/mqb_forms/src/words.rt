@@ -1,4 +1,4 @@
-ghost use Rattle.std.specs.Prelude.{◌≡◌, ◌==◌, ◌≤◌, ◌^◌, min, length, map, take, IfOk, IfSome};
+ghost use Rattle.std.specs.Prelude.{◌≡◌, ◌==◌, ◌<◌, ◌≤◌, ◌^◌, min, length, map, take, IfOk, IfSome, None};
 ghost use Rattle.std.specs.List.{slice_split, list_all};
 ghost use Rattle.mqb_base.specs.Same.{same_bytes};
 ghost use Rattle.mqb_forms.specs.Words.{is_decimal, is_digit, value_of, number_in};
@@ -21,6 +21,7 @@ pub fn few_parts<'t>(text: &'t [u8], by: u8, room: &mut [&'t [u8]]) -> Option<us
     ensures within { IfSome result (λ count. count ≤ length room.new) }
     ensures parts { IfSome result (λ count. map (λ w. w.now) (take count room.new) ≡
         slice_split (λ b. b == by) text.now) }
+    ensures none { result ≡ None → length room.new < length (slice_split (λ b. b == by) text.now) }
 {
     let mut count = 0;
     for part in text.split(|byte| *byte == by) {
