@@ -6,7 +6,7 @@ use Rattle.std.specs.Prelude.{if◌then◌else◌, slice_get}
 use Rattle.mqb_base.specs.declared.ids.Guid.{Guid}
 use Rattle.mqb_model.specs.calls.pump.Candidates.{Candidate, candidates}
 use Rattle.mqb_model.specs.calls.pump.Choosing.{chosen, session_after, with_heads}
-use Rattle.mqb_model.specs.calls.pump.Pump.{PumpOutcome, packet_for, pump, pump_at, pump_linked, pump_owed, pump_ready, pump_refusal, pump_to, pump_with, sending_ack, sending_chosen}
+use Rattle.mqb_model.specs.calls.pump.Pump.{PumpOutcome, packet_for, pump_at, pump_linked, pump_owed, pump_ready, pump_refusal, pump_to, pump_with, sending_ack, sending_chosen}
 use Rattle.mqb_model.specs.declared.faults.PumpFault.{PumpFault}
 use Rattle.mqb_model.specs.declared.faults.PumpFault.TheVariants as fault
 use Rattle.mqb_model.specs.managers.Manager.{Manager, linked_peer}
