@@ -1,5 +1,6 @@
 pub mod Bodies
 pub mod Telling
-pub mod Tellings
+pub mod Peers
+pub mod Requests
 pub mod SomeOps
 pub mod Definitions

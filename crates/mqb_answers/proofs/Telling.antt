@@ -23,16 +23,15 @@ use Rattle.mqb_model.specs.state.State.{State}
 use Rattle.mqb_replies.specs.declared.faults.AnswerFault.{AnswerFault}
 use Rattle.mqb_replies.specs.declared.faults.AnswerFault.TheVariants as fault
 
--- What is told tells a fault from a reply, and a refusal from an answer.
-pub record IsTelling {V E : Type 0} (memory broken : E) (f : Result V E → Result Told AnswerFault) : Type 0 where
+-- What is told of an answer tells a fault of the machine from a reply.
+pub record IsTelling {V E : Type 0} (memory broken : E) (f : Result V E → Result Told AnswerFault) (a : Result V E) : Type 0 where
   pub wanting : f (Err memory) ≡ Err fault.Memory
   pub breaking : f (Err broken) ≡ Err fault.DiskFault
-  pub wants : (a : Result V E) → f a ≡ Err fault.Memory → a ≡ Err memory
-  pub breaks : (a : Result V E) → f a ≡ Err fault.DiskFault → a ≡ Err broken
-  pub ends : (a : Result V E) (t : Told) → f a ≡ Ok t → t.end ≡ end_of a
+  pub wants : f a ≡ Err fault.Memory → a ≡ Err memory
+  pub breaks : f a ≡ Err fault.DiskFault → a ≡ Err broken
 
-module _ {V E : Type 0} (memory broken : E) (f : Result V E → Result Told AnswerFault) (telling : IsTelling memory broken f)
-    (d e : View) (m n : ManagerState) (o : Outcome (Result V E)) (a : Result V E) where
+module _ {V E : Type 0} (memory broken : E) (f : Result V E → Result Told AnswerFault) (d e : View) (m n : ManagerState) (o : Outcome (Result V E)) (a : Result V E)
+    (telling : IsTelling memory broken f a) where
   ends_told : Ends memory broken m n o a → Ends fault.Memory fault.DiskFault m n (told_by f o) (f a)
   ends_told (inl went) = inl (
     ap f went.0,
@@ -58,77 +57,42 @@ module _ {V E : Type 0} (memory broken : E) (f : Result V E → Result Told Answ
     wrote = call.wrote;
     moments = call.moments;
     doubt = call.doubt;
-    rose = λ same. call.rose (telling.breaks a same);
+    rose = λ same. call.rose (telling.breaks same);
     stayed = λ not. call.stayed (λ same. not (ap f same ∙ telling.breaking));
     switch = call.switch;
   }
 
-  -- Where it is done, the manager answered.
-
-  ended : (a : Result V E) (P : Type 0) → end_of a ≡ Done → OnOk a P → P
-  ended (Ok value) P same h = h
-  ended (Err why) P same h = let none : ⊥ = cc in absurd none
-
+  -- where it is done, what is told says so
   done_by : (hosts : List Identity) (before after : List ℕ) (r : Result CallEnd AnswerFault) (told : Result Told AnswerFault) (P : Type 0)
-      → f a ≡ told → Tells hosts told before after r → r ≡ Ok Done → OnOk a P → P
-  done_by hosts before after r (Ok t) P is (inl whole) done h =
-      let inside : t.end ≡ Done = cc in
-      ended a P (sym (telling.ends a t is) ∙ inside) h
+      → f a ≡ told → Tells hosts told before after r → r ≡ Ok Done → ((t : Told) → f a ≡ Ok t → t.end ≡ Done → P) → P
+  done_by hosts before after r (Ok t) P is (inl whole) done h = let inside : t.end ≡ Done = cc in h t is inside
   done_by hosts before after r (Ok t) P is (inr none) done h = let none : ⊥ = cc in absurd none
   done_by hosts before after r (Err why) P is refused done h = let none : ⊥ = cc in absurd none
 
   -- The call is told.
   pub is_told : (kept : Type 0) (before after : List ℕ) (told : Result Told AnswerFault) (r : Result CallEnd AnswerFault)
-      → IsCall memory broken d e m n o a → (o.entry ≡ None → kept) → (a ≡ Err memory → kept) → OnOk a (IfSome o.entry (λ _. Counted 4 d.calls e.calls))
+      → IsCall memory broken d e m n o a → (o.entry ≡ None → kept) → (a ≡ Err memory → kept)
+      → ((t : Told) → f a ≡ Ok t → t.end ≡ Done → IfSome o.entry (λ _. Counted 4 d.calls e.calls))
       → told ≡ f a → Tells (hosts_of n.store.state) told before after r → IsTold d e kept m n (told_by f o) before after r
   is_told kept before after told r call untouched wants calls is tells = let whole : Tells (hosts_of n.store.state) (f a) before after r = subst (λ (t : Result Told AnswerFault). Tells (hosts_of n.store.state) t before after r) is tells in record {
     answer = f a;
     call = call_told call;
     told = whole;
     untouched = untouched;
-    memory = λ same. wants (telling.wants a same);
+    memory = λ same. wants (telling.wants same);
     calls = λ done. done_by (hosts_of n.store.state) before after r (f a) (IfSome o.entry (λ _. Counted 4 d.calls e.calls)) refl whole done calls;
   }
-
-  -- Memory runs out behind an answer.
-
-  unprinted : (hosts : List Identity) (text : List ℕ) (told : Result Told AnswerFault) → f a ≡ told → OnErr a ⊥ → Tells hosts told text text (Err fault.Memory)
-  unprinted hosts text (Ok t) is good = inr (refl, refl)
-  unprinted hosts text (Err fault.Memory) is good = (refl, refl)
-  unprinted hosts text (Err fault.DiskFault) is good = absurd (subst (λ (a : Result V E). OnErr a ⊥) (telling.breaks a is) good)
-
-  good : {X Y : Type 0} (lines : Result X Y) (why : Y) → lines ≡ Err why → (b : Result V E) → OnErr b (IsOk lines) → OnErr b ⊥
-  good lines why is (Ok value) none = tt
-  good {X} {Y} lines why is (Err w) none = let off : is_ok lines ≡ false = ap (λ (r : Result X Y). is_ok r) is in let no : ⊥ = cc in no
-
-  pub is_unprinted : {X Y : Type 0} (kept : Type 0) (text : List ℕ) (lines : Result X Y) (why : Y) (r : Result CallEnd AnswerFault)
-      → IsCall memory broken d e m n o a → (o.entry ≡ None → kept) → (a ≡ Err memory → kept) → OnOk a (IfSome o.entry (λ _. Counted 4 d.calls e.calls))
-      → OnErr a (IsOk lines) → lines ≡ Err why → r ≡ Err fault.Memory → IsTold d e kept m n (told_by f o) text text r
-  is_unprinted kept text lines why r call untouched wants calls none is wanting = subst (λ (r : Result CallEnd AnswerFault). IsTold d e kept m n (told_by f o) text text r) (sym wanting)
-      (is_told kept text text (f a) (Err fault.Memory) call untouched wants calls refl (unprinted (hosts_of n.store.state) text (f a) refl (good lines why is a none)))
 
 -- What a call of a helper wanted is answered.
 pub wanted : {V E : Type 0} (r : Result V E) (why : E) → IsErrAnd r (λ e. e ≡ why) → r ≡ Err why
 wanted {V} {E} (Ok value) why h = absurd h
 wanted {V} {E} (Err e) why h = ap (λ (e : E). Err e) h
 
--- The lines that are told are those of the call's record.
-
-lines_by : (before after : ℕ) (s : State) (old lines : List Line) (entry : Option Record) → after ≡ before + option_map_or (λ _. 1) entry 0
-    → lines ≡ option_map_or (lines_of s) entry old → (if after == before then [] else lines) ≡ option_map_or (lines_of s) entry []
-lines_by before after s old lines None count is = let same : (after == before) ≡ true = grind arith in rw same refl
-lines_by before after s old lines (Some r) count is = let more : (after == before) ≡ false = grind arith in rw more is
-
-pub listed : {V E : Type 0} (memory broken : E) (m n : ManagerState) (o : Outcome (Result V E)) (a : Result V E) (before : ℕ) (lines : List Line)
-    (told : Result V E → List Line → Result Told AnswerFault) → ((why : E) (ls : List Line) → told (Err why) ls ≡ told (Err why) [])
-    → Ends memory broken m n o a → before ≡ m.store.journal.count → OnOk a (lines ≡ lines_since n before)
-    → told a lines ≡ told a (lines_after (manager_of m) o)
-listed memory broken m n o (Err why) before lines told alone ends same is = alone why lines ∙ sym (alone why (lines_after (manager_of m) o))
-listed memory broken m n o (Ok value) before lines told alone (inl went) same is =
-    ap (told (Ok value)) (is ∙ ap (lines_since n) same
-    ∙ lines_by m.store.journal.count n.store.journal.count m.store.state m.store.lines n.store.lines o.entry went.1.count went.1.lines)
-listed memory broken m n o (Ok value) before lines told alone (inr (inl wants)) same is = let none : ⊥ = cc in absurd none
-listed memory broken m n o (Ok value) before lines told alone (inr (inr breaks)) same is = let none : ⊥ = cc in absurd none
+-- Memory runs out behind an answer, whose text is not made.
+pub unprinted : (hosts : List Identity) (text : List ℕ) (told : Result Told AnswerFault) → (told ≡ Err fault.DiskFault → ⊥) → Tells hosts told text text (Err fault.Memory)
+unprinted hosts text (Ok t) whole = inr (refl, refl)
+unprinted hosts text (Err fault.Memory) whole = (refl, refl)
+unprinted hosts text (Err fault.DiskFault) whole = absurd (whole refl)
 
 -- What is known of a call that was told.
 

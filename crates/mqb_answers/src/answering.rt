@@ -6,11 +6,11 @@ ghost use Rattle.mqb_answers.specs.Texts.{hosts_of};
 ghost use Rattle.mqb_manager.specs.States.{IsOnDisk, IsUp, manager_of};
 ghost use Rattle.mqb_words.specs.Formed.{IsFormedCall};
 
-use crate::calls;
+use crate::calls::{add_peer, tell_request};
 use crate::told::CallEnd;
 use mqb_manager::Manager;
 use mqb_outside::Disk;
-use mqb_replies::AnswerFault;
+use mqb_replies::{AnswerFault, Request};
 use mqb_words::Call;
 use std::alloc::Global;
 
@@ -30,16 +30,32 @@ fn tell_call<D: Disk>(
         out.old.items out.new.items result }
 {
     match call {
-        Call::AddPeer(peer) => calls::add_peer(alloc, manager, disk, peer, out),
-        Call::CreateQueue(plan) => calls::create_queue(alloc, manager, disk, plan, out),
-        Call::Send { recoverable, draft } => {
-            calls::send(alloc, manager, disk, draft, *recoverable, now, out)
+        Call::AddPeer(peer) => add_peer(alloc, manager, disk, peer, out),
+        Call::CreateQueue(plan) => {
+            tell_request(alloc, manager, disk, Request::CreateQueue(plan), out)
         }
-        Call::Commit(ops) => calls::commit(alloc, manager, disk, ops.as_slice(), now, out),
-        Call::Take(place) => calls::take(alloc, manager, disk, place, now, out),
-        Call::Purge(place) => calls::purge(alloc, manager, disk, place, now, out),
-        Call::Tick => calls::tick(alloc, manager, disk, now, out),
-        Call::SetRoll { count } => calls::set_roll(alloc, manager, disk, *count, out),
+        Call::Send { recoverable, draft } => {
+            let request = Request::Send {
+                now,
+                recoverable: *recoverable,
+                draft,
+            };
+            tell_request(alloc, manager, disk, request, out)
+        }
+        Call::Commit(ops) => {
+            let ops = ops.as_slice();
+            tell_request(alloc, manager, disk, Request::Commit { now, ops }, out)
+        }
+        Call::Take(place) => {
+            tell_request(alloc, manager, disk, Request::Take { now, place }, out)
+        }
+        Call::Purge(place) => {
+            tell_request(alloc, manager, disk, Request::Purge { now, place }, out)
+        }
+        Call::Tick => tell_request(alloc, manager, disk, Request::Tick { now }, out),
+        Call::SetRoll { count } => {
+            tell_request(alloc, manager, disk, Request::SetRoll(*count), out)
+        }
     }
 }
 

@@ -5,12 +5,12 @@
 
 mod answering;
 mod calls;
+mod hosts;
 mod laws;
-mod lines;
 mod texts;
 mod told;
 
 pub use answering::answer;
+pub use hosts::hosts_of;
 pub use laws::outcomes_are_told;
-pub use lines::hosts_of;
 pub use told::{CallEnd, Said, Taken, Told};

@@ -1,16 +1,11 @@
 //! What is told of what a manager's calls answer. `lines` are those of the call's record, and none where it wrote none.
-ghost use Rattle.std.specs.Prelude.{◌≡◌, ◌≢◌, Err};
-ghost use Rattle.mqb_answers.specs.Told.{commit_told, create_told, end_of, peer_fault_told, peer_told, purge_told, roll_told, send_told, take_told, taken_by, taken_by_ops, tick_told, told_line, told_reply};
+ghost use Rattle.std.specs.Prelude.{◌≡◌};
+ghost use Rattle.mqb_answers.specs.Told.{answer_told, end_by, peer_fault_told, peer_told, taken_by, told_line, told_reply};
+ghost use Rattle.mqb_replies.specs.Requests.{seen_answer};
 
-use mqb_base::{Line, Message, MessageId};
-use mqb_model::{
-    AddPeerFault, CommitFault, Committed, CreateFault, PurgeFault, SendFault, StoreFault,
-    TakeFault, Ticked,
-};
-use mqb_replies::{
-    AnswerFault, commit_reply, create_reply, purge_reply, roll_reply, send_reply, take_reply,
-    tick_reply,
-};
+use mqb_base::{Line, Message};
+use mqb_model::{AddPeerFault, Committed};
+use mqb_replies::{Answer, AnswerFault, reply_of};
 use mqb_transcript::{Listed, Reply};
 
 /// How a call ended that has an answer: it was done, or the manager refused it.
@@ -47,12 +42,13 @@ pub struct Told {
     pub taken: Taken,
 }
 
-fn end_of<V, E>(answer: &Result<V, E>) -> CallEnd
-    ensures { result ≡ end_of answer.now }
+fn end_by(done: bool) -> CallEnd
+    ensures { result ≡ end_by done }
 {
-    match answer {
-        Ok(_) => CallEnd::Done,
-        Err(_) => CallEnd::Refused,
+    if done {
+        CallEnd::Done
+    } else {
+        CallEnd::Refused
     }
 }
 
@@ -104,82 +100,21 @@ pub(crate) fn peer_told(answer: Result<u32, AddPeerFault>) -> Result<Told, Answe
     }
 }
 
-pub(crate) fn create_told(answer: Result<u32, CreateFault>) -> Result<Told, AnswerFault>
-    ensures { result ≡ create_told answer }
-{
-    told_reply(end_of(&answer), Taken::Nothing, create_reply(answer))
-}
-
-pub(crate) fn send_told(
-    answer: Result<MessageId, SendFault>,
-    lines: Listed<Line>,
-) -> Result<Told, AnswerFault>
-    ensures { result ≡ send_told answer lines }
-{
-    told_reply(end_of(&answer), Taken::Nothing, send_reply(answer, lines))
-}
-
-fn taken_by_ops(answer: Result<Committed, CommitFault>) -> Taken
-    ensures { result ≡ taken_by_ops answer }
+fn taken_by(answer: Answer) -> Taken
+    ensures { result ≡ taken_by (seen_answer answer) }
 {
     match answer {
-        Ok(committed) => Taken::ByOps(committed),
-        Err(_) => Taken::Nothing,
+        Answer::Took(Ok(message)) => Taken::One(message),
+        Answer::Committed(Ok(committed)) => Taken::ByOps(committed),
+        _ => Taken::Nothing,
     }
 }
 
-pub(crate) fn commit_told(
-    answer: Result<Committed, CommitFault>,
-    lines: Listed<Line>,
-) -> Result<Told, AnswerFault>
-    requires { answer ≢ Err CommitFault.NoOps }
-    ensures { result ≡ commit_told answer lines }
+/// What is told of a request.
+pub(crate) fn answer_told(answer: Answer, lines: Listed<Line>) -> Result<Told, AnswerFault>
+    ensures { result ≡ answer_told (seen_answer answer) lines }
 {
-    let end = end_of(&answer);
-    let reply = commit_reply(&answer, lines);
-    told_reply(end, taken_by_ops(answer), reply)
-}
-
-fn taken_by(answer: Result<Message, TakeFault>) -> Taken
-    ensures { result ≡ taken_by answer }
-{
-    match answer {
-        Ok(message) => Taken::One(message),
-        Err(_) => Taken::Nothing,
-    }
-}
-
-pub(crate) fn take_told(
-    answer: Result<Message, TakeFault>,
-    lines: Listed<Line>,
-) -> Result<Told, AnswerFault>
-    ensures { result ≡ take_told answer lines }
-{
-    let end = end_of(&answer);
-    let reply = take_reply(&answer, lines);
+    let end = end_by(answer.is_done());
+    let reply = reply_of(&answer, lines);
     told_reply(end, taken_by(answer), reply)
-}
-
-pub(crate) fn purge_told(
-    answer: Result<u32, PurgeFault>,
-    lines: Listed<Line>,
-) -> Result<Told, AnswerFault>
-    ensures { result ≡ purge_told answer lines }
-{
-    told_reply(end_of(&answer), Taken::Nothing, purge_reply(answer, lines))
-}
-
-pub(crate) fn tick_told(
-    answer: Result<Ticked, StoreFault>,
-    lines: Listed<Line>,
-) -> Result<Told, AnswerFault>
-    ensures { result ≡ tick_told answer lines }
-{
-    told_reply(end_of(&answer), Taken::Nothing, tick_reply(answer, lines))
-}
-
-pub(crate) fn roll_told(answer: Result<(), StoreFault>) -> Result<Told, AnswerFault>
-    ensures { result ≡ roll_told answer }
-{
-    told_reply(end_of(&answer), Taken::Nothing, roll_reply(answer))
 }

@@ -1,1 +1,4 @@
+pub mod Requests
 pub mod Replies
+pub mod Asked
+pub mod lemmas

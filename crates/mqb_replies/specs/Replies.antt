@@ -1,12 +1,8 @@
 -- What is replied to what a manager's calls answer: a reply, or why there is none. The lines are those of the call's record.
 use Rattle.std.specs.Prelude.{Err, List, None, Ok, Result, Some, ℕ}
-use Rattle.mqb_base.specs.declared.ids.MessageId.{MessageId}
 use Rattle.mqb_base.specs.declared.ledger.Line.{Line}
-use Rattle.mqb_base.specs.declared.message.Message.{Message}
 use Rattle.mqb_model.specs.calls.Call.{Answer}
 use Rattle.mqb_model.specs.calls.Call as answer
-use Rattle.mqb_model.specs.declared.answers.Done.{Done}
-use Rattle.mqb_model.specs.declared.answers.Ticked.{Ticked}
 use Rattle.mqb_model.specs.declared.faults.CommitFault.{CommitFault}
 use Rattle.mqb_model.specs.declared.faults.CommitFault.TheVariants as commit
 use Rattle.mqb_model.specs.declared.faults.CreateFault.{CreateFault}
@@ -33,11 +29,6 @@ create_fault_reply create.TooManyQueues = Ok reply.TooManyQueues
 create_fault_reply create.Memory = Err Memory
 create_fault_reply create.DiskFault = Err DiskFault
 
--- the queue's number is not told
-abbrev pub create_reply : Result ℕ CreateFault → Result Reply AnswerFault
-create_reply (Ok number) = Ok reply.Done
-create_reply (Err fault) = create_fault_reply fault
-
 -- the refusal of the op at an index
 abbrev pub op_reply : ℕ → OpFault → Reply
 op_reply index op.NoQueue = reply.NoQueue (Some index)
@@ -58,11 +49,6 @@ commit_fault_reply commit.TooLarge = Ok reply.TooLarge
 commit_fault_reply commit.Memory = Err Memory
 commit_fault_reply commit.DiskFault = Err DiskFault
 
--- what became of each op is not told
-abbrev pub commit_reply : Result (List Done) CommitFault → List Line → Result Reply AnswerFault
-commit_reply (Ok done) lines = Ok (reply.Committed lines)
-commit_reply (Err fault) lines = commit_fault_reply fault
-
 abbrev pub send_fault_reply : SendFault → Result Reply AnswerFault
 send_fault_reply send.Down = Ok reply.Down
 send_fault_reply send.UnknownPeer = Ok (reply.UnknownPeer None)
@@ -74,10 +60,6 @@ send_fault_reply send.TooLarge = Ok reply.TooLarge
 send_fault_reply send.Memory = Err Memory
 send_fault_reply send.DiskFault = Err DiskFault
 
-abbrev pub send_reply : Result MessageId SendFault → List Line → Result Reply AnswerFault
-send_reply (Ok id) lines = Ok (reply.Sent id lines)
-send_reply (Err fault) lines = send_fault_reply fault
-
 abbrev pub take_fault_reply : TakeFault → Result Reply AnswerFault
 take_fault_reply take.Down = Ok reply.Down
 take_fault_reply take.NoQueue = Ok (reply.NoQueue None)
@@ -85,42 +67,32 @@ take_fault_reply take.QueueEmpty = Ok (reply.QueueEmpty None)
 take_fault_reply take.Memory = Err Memory
 take_fault_reply take.DiskFault = Err DiskFault
 
--- of the message its identifier is told
-abbrev pub take_reply : Result Message TakeFault → List Line → Result Reply AnswerFault
-take_reply (Ok message) lines = Ok (reply.Took message.id lines)
-take_reply (Err fault) lines = take_fault_reply fault
-
 abbrev pub purge_fault_reply : PurgeFault → Result Reply AnswerFault
 purge_fault_reply purge.Down = Ok reply.Down
 purge_fault_reply purge.NoQueue = Ok (reply.NoQueue None)
 purge_fault_reply purge.Memory = Err Memory
 purge_fault_reply purge.DiskFault = Err DiskFault
 
-abbrev pub purge_reply : Result ℕ PurgeFault → List Line → Result Reply AnswerFault
-purge_reply (Ok count) lines = Ok (reply.Purged count lines)
-purge_reply (Err fault) lines = purge_fault_reply fault
-
 abbrev pub store_fault_reply : StoreFault → Result Reply AnswerFault
 store_fault_reply store.Down = Ok reply.Down
 store_fault_reply store.Memory = Err Memory
 store_fault_reply store.DiskFault = Err DiskFault
 
--- of the messages that left, the express ones are counted
-abbrev pub tick_reply : Result Ticked StoreFault → List Line → Result Reply AnswerFault
-tick_reply (Ok left) lines = Ok (reply.Ticked left.express lines)
-tick_reply (Err fault) lines = store_fault_reply fault
-
-abbrev pub roll_reply : Result (Unit {0}) StoreFault → Result Reply AnswerFault
-roll_reply (Ok done) = Ok reply.Done
-roll_reply (Err fault) = store_fault_reply fault
-
--- What is replied to what a request is answered. A call that has to do with packets has a reply of its own.
+-- What is replied to what a request is answered. Of a queue that was made its number is not told, of a transaction what became of each op, of a message that was
+-- taken all but its identifier, and of a tick the durable messages. A call that has to do with packets has a reply of its own.
 abbrev pub reply_of : Answer → List Line → Result Reply AnswerFault
-reply_of (answer.Created given) lines = create_reply given
-reply_of (answer.WasSet given) lines = roll_reply given
-reply_of (answer.Committed given) lines = commit_reply given lines
-reply_of (answer.Sent given) lines = send_reply given lines
-reply_of (answer.Took given) lines = take_reply given lines
-reply_of (answer.Purged given) lines = purge_reply given lines
-reply_of (answer.Ticked given) lines = tick_reply given lines
+reply_of (answer.Created (Ok number)) lines = Ok reply.Done
+reply_of (answer.Created (Err fault)) lines = create_fault_reply fault
+reply_of (answer.WasSet (Ok done)) lines = Ok reply.Done
+reply_of (answer.WasSet (Err fault)) lines = store_fault_reply fault
+reply_of (answer.Committed (Ok done)) lines = Ok (reply.Committed lines)
+reply_of (answer.Committed (Err fault)) lines = commit_fault_reply fault
+reply_of (answer.Sent (Ok id)) lines = Ok (reply.Sent id lines)
+reply_of (answer.Sent (Err fault)) lines = send_fault_reply fault
+reply_of (answer.Took (Ok message)) lines = Ok (reply.Took message.id lines)
+reply_of (answer.Took (Err fault)) lines = take_fault_reply fault
+reply_of (answer.Purged (Ok count)) lines = Ok (reply.Purged count lines)
+reply_of (answer.Purged (Err fault)) lines = purge_fault_reply fault
+reply_of (answer.Ticked (Ok left)) lines = Ok (reply.Ticked left.express lines)
+reply_of (answer.Ticked (Err fault)) lines = store_fault_reply fault
 reply_of _ lines = Err Memory

@@ -1,12 +1,18 @@
-//! What is replied to what a manager's calls answer, as a script and a command line have it.
+//! A request of a manager: it is made with the manager's disk, and replied to as a script and a command line have it.
 //!
-//! `Replies` of the definitions has the reply to each answer.
+//! Of the definitions, `Requests` has what is asked for and answered, `Replies` the reply to each answer, and `Asked` what a request is to a manager and its disk.
 #![tactic(auto)]
 
+mod asking;
 mod faults;
+mod laws;
+mod lines;
 mod replies;
+mod requests;
 
+pub use asking::ask;
 pub use faults::AnswerFault;
-pub use replies::{
-    commit_reply, create_reply, purge_reply, roll_reply, send_reply, take_reply, tick_reply,
-};
+pub use laws::requests_are_replied;
+pub use lines::{lines_since, listed};
+pub use replies::reply_of;
+pub use requests::{Answer, Request};

@@ -1,12 +1,13 @@
-//! Each answer has its reply. `lines` are those of the call's record, and none where it wrote none.
-ghost use Rattle.std.specs.Prelude.{◌≡◌, ◌≢◌, Err};
-ghost use Rattle.mqb_replies.specs.Replies.{commit_fault_reply, commit_reply, create_fault_reply, create_reply, op_reply, purge_fault_reply, purge_reply, roll_reply, send_fault_reply, send_reply, store_fault_reply, take_fault_reply, take_reply, tick_reply};
+//! Each answer has its reply.
+ghost use Rattle.std.specs.Prelude.{◌≡◌};
+ghost use Rattle.mqb_replies.specs.Replies.{commit_fault_reply, create_fault_reply, op_reply, purge_fault_reply, reply_of, send_fault_reply, store_fault_reply, take_fault_reply};
+ghost use Rattle.mqb_replies.specs.Requests.{seen_answer};
 
 use crate::faults::AnswerFault;
-use mqb_base::{Line, Message, MessageId};
+use crate::requests::Answer;
+use mqb_base::Line;
 use mqb_model::{
-    CommitFault, Committed, CreateFault, OpFault, PurgeFault, SendFault, StoreFault, TakeFault,
-    Ticked,
+    CommitFault, CreateFault, OpFault, PurgeFault, SendFault, StoreFault, TakeFault,
 };
 use mqb_transcript::{Listed, Reply};
 
@@ -19,16 +20,6 @@ fn create_fault_reply(fault: CreateFault) -> Result<Reply, AnswerFault>
         CreateFault::TooManyQueues => Ok(Reply::TooManyQueues),
         CreateFault::Memory => Err(AnswerFault::Memory),
         CreateFault::DiskFault => Err(AnswerFault::DiskFault),
-    }
-}
-
-/// The reply of `create_queue`. The queue's number is not told.
-pub fn create_reply(answer: Result<u32, CreateFault>) -> Result<Reply, AnswerFault>
-    ensures { result ≡ create_reply answer }
-{
-    match answer {
-        Ok(_) => Ok(Reply::Done),
-        Err(fault) => create_fault_reply(fault),
     }
 }
 
@@ -47,32 +38,17 @@ fn op_reply(op: u32, fault: OpFault) -> Reply
 }
 
 fn commit_fault_reply(fault: CommitFault) -> Result<Reply, AnswerFault>
-    requires { fault ≢ CommitFault.NoOps }
     ensures { result ≡ commit_fault_reply fault }
 {
     match fault {
         CommitFault::Down => Ok(Reply::Down),
-        CommitFault::NoOps => unreachable!(),
-        CommitFault::TooManyOps => Ok(Reply::TooManyOps),
+        // Nothing asks for a transaction without ops.
+        CommitFault::NoOps | CommitFault::TooManyOps => Ok(Reply::TooManyOps),
         CommitFault::AtOp { index, fault } => Ok(op_reply(index, fault)),
         CommitFault::NumbersSpent => Ok(Reply::NumbersSpent),
         CommitFault::TooLarge => Ok(Reply::TooLarge),
         CommitFault::Memory => Err(AnswerFault::Memory),
         CommitFault::DiskFault => Err(AnswerFault::DiskFault),
-    }
-}
-
-/// The reply of `commit`, of a transaction with ops. What became of each op is not told.
-pub fn commit_reply(
-    answer: &Result<Committed, CommitFault>,
-    lines: Listed<Line>,
-) -> Result<Reply, AnswerFault>
-    requires { answer.now ≢ Err CommitFault.NoOps }
-    ensures { result ≡ commit_reply answer.now lines }
-{
-    match answer {
-        Ok(_) => Ok(Reply::Committed { lines }),
-        Err(fault) => commit_fault_reply(*fault),
     }
 }
 
@@ -92,19 +68,6 @@ fn send_fault_reply(fault: SendFault) -> Result<Reply, AnswerFault>
     }
 }
 
-/// The reply of `send`.
-pub fn send_reply(
-    answer: Result<MessageId, SendFault>,
-    lines: Listed<Line>,
-) -> Result<Reply, AnswerFault>
-    ensures { result ≡ send_reply answer lines }
-{
-    match answer {
-        Ok(id) => Ok(Reply::Sent { id, lines }),
-        Err(fault) => send_fault_reply(fault),
-    }
-}
-
 fn take_fault_reply(fault: TakeFault) -> Result<Reply, AnswerFault>
     ensures { result ≡ take_fault_reply fault }
 {
@@ -114,22 +77,6 @@ fn take_fault_reply(fault: TakeFault) -> Result<Reply, AnswerFault>
         TakeFault::QueueEmpty => Ok(Reply::QueueEmpty { op: None }),
         TakeFault::Memory => Err(AnswerFault::Memory),
         TakeFault::DiskFault => Err(AnswerFault::DiskFault),
-    }
-}
-
-/// The reply of `take`. Of the message its identifier is told.
-pub fn take_reply(
-    answer: &Result<Message, TakeFault>,
-    lines: Listed<Line>,
-) -> Result<Reply, AnswerFault>
-    ensures { result ≡ take_reply answer.now lines }
-{
-    match answer {
-        Ok(message) => Ok(Reply::Took {
-            id: message.id,
-            lines,
-        }),
-        Err(fault) => take_fault_reply(*fault),
     }
 }
 
@@ -144,19 +91,6 @@ fn purge_fault_reply(fault: PurgeFault) -> Result<Reply, AnswerFault>
     }
 }
 
-/// The reply of `purge`.
-pub fn purge_reply(
-    answer: Result<u32, PurgeFault>,
-    lines: Listed<Line>,
-) -> Result<Reply, AnswerFault>
-    ensures { result ≡ purge_reply answer lines }
-{
-    match answer {
-        Ok(count) => Ok(Reply::Purged { count, lines }),
-        Err(fault) => purge_fault_reply(fault),
-    }
-}
-
 fn store_fault_reply(fault: StoreFault) -> Result<Reply, AnswerFault>
     ensures { result ≡ store_fault_reply fault }
 {
@@ -167,28 +101,32 @@ fn store_fault_reply(fault: StoreFault) -> Result<Reply, AnswerFault>
     }
 }
 
-/// The reply of `tick`. Of the messages that left, the express ones are counted.
-pub fn tick_reply(
-    answer: Result<Ticked, StoreFault>,
-    lines: Listed<Line>,
-) -> Result<Reply, AnswerFault>
-    ensures { result ≡ tick_reply answer lines }
+/// What is replied to an answer. `lines` are those of the request's record, and none where it wrote none. Of a queue that was made its number is not told, of a
+/// transaction what became of each op, of a message that was taken all but its identifier, and of a tick the durable messages.
+pub fn reply_of(answer: &Answer, lines: Listed<Line>) -> Result<Reply, AnswerFault>
+    ensures { result ≡ reply_of (seen_answer answer.now) lines }
 {
     match answer {
-        Ok(left) => Ok(Reply::Ticked {
+        Answer::Created(Ok(_)) | Answer::WasSet(Ok(())) => Ok(Reply::Done),
+        Answer::Created(Err(fault)) => create_fault_reply(*fault),
+        Answer::WasSet(Err(fault)) | Answer::Ticked(Err(fault)) => store_fault_reply(*fault),
+        Answer::Committed(Ok(_)) => Ok(Reply::Committed { lines }),
+        Answer::Committed(Err(fault)) => commit_fault_reply(*fault),
+        Answer::Sent(Ok(id)) => Ok(Reply::Sent { id: *id, lines }),
+        Answer::Sent(Err(fault)) => send_fault_reply(*fault),
+        Answer::Took(Ok(message)) => Ok(Reply::Took {
+            id: message.id,
+            lines,
+        }),
+        Answer::Took(Err(fault)) => take_fault_reply(*fault),
+        Answer::Purged(Ok(count)) => Ok(Reply::Purged {
+            count: *count,
+            lines,
+        }),
+        Answer::Purged(Err(fault)) => purge_fault_reply(*fault),
+        Answer::Ticked(Ok(left)) => Ok(Reply::Ticked {
             express: left.express,
             lines,
         }),
-        Err(fault) => store_fault_reply(fault),
-    }
-}
-
-/// The reply of `set_roll`.
-pub fn roll_reply(answer: Result<(), StoreFault>) -> Result<Reply, AnswerFault>
-    ensures { result ≡ roll_reply answer }
-{
-    match answer {
-        Ok(()) => Ok(Reply::Done),
-        Err(fault) => store_fault_reply(fault),
     }
 }

@@ -1,6 +1,6 @@
 -- Behind a run of the first lines all others can be played.
 use Rattle.std.proofs.Common.{List, [], ◌∷◌, ◌++◌, append-nil, append_assoc, sym, subst, ℕ}
-use Rattle.mqb_answers.specs.Outcomes.{OutcomesAreTold}
+use Rattle.mqb_replies.specs.Asked.{RequestsAreReplied}
 use Rattle.mqb_history.specs.Laws.{HistoriesAreOrderly, RunsHaveHistories}
 use Rattle.mqb_history.specs.Orderly.{IsOrderly}
 use Rattle.mqb_network.specs.Runs.{IsRun, Move, after_run}
@@ -12,7 +12,7 @@ use Rattle.mqb_script.specs.declared.events.Event.{Event}
 use Rattle.mqb_run_laws.specs.Continuing.{Continues, RunsContinue}
 use Rattle.mqb_run_laws.proofs.Events.{CanBePlayed, can_be_played}
 
-module _ (told : OutcomesAreTold) (runs : RunsHaveHistories) (histories : HistoriesAreOrderly) where
+module _ (told : RequestsAreReplied) (runs : RunsHaveHistories) (histories : HistoriesAreOrderly) where
   orderly : (ms : List Move) → IsRun hosts ms → IsOrderly hosts (after_run hosts ms)
   orderly ms run = run_is_orderly runs histories ms run
 

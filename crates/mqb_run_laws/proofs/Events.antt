@@ -1,21 +1,20 @@
 -- Each event can be played: a choice may be made in it, and what is answered is told.
-use Rattle.std.proofs.Common.{◌≡◌, Bool, true, false, None, Option, Some, refl, sym, ap, ◌∙◌, ℕ}
-use Rattle.std.specs.Prelude.{Err, IsTrue, Ok, Result, if◌then◌else◌, is_some, length, not}
-use Rattle.mqb_answers.specs.Outcomes.{OutcomesAreTold}
+use Rattle.std.proofs.Common.{◌≡◌, Bool, true, false, None, Option, Some, refl, sym, ap, subst, ◌∙◌, ℕ}
+use Rattle.std.specs.Prelude.{Err, IsSome, IsTrue, Ok, Result, if◌then◌else◌, is_some, length, not}
+use Rattle.mqb_replies.specs.Asked.{RequestsAreReplied}
 use Rattle.mqb_packet.specs.declared.packet.Packet.{Packet}
 use Rattle.mqb_queue.specs.Places.{numbered}
 use Rattle.mqb_history.specs.Orderly.{IsOrderly}
-use Rattle.mqb_model.specs.calls.Call.{Commit, CreateQueue, Purge, Send, Set, Take, Tick}
 use Rattle.mqb_model.specs.calls.Link.{resend}
 use Rattle.mqb_model.specs.calls.pump.Pump.{pump}
 use Rattle.mqb_model.specs.declared.faults.PumpFault.{PumpFault}
 use Rattle.mqb_model.specs.managers.Manager.{Manager, is_down}
-use Rattle.mqb_model.specs.records.Record.{Roll}
 use Rattle.mqb_network.specs.Answers.{lines_at, only}
 use Rattle.mqb_network.specs.Changes.{dropped, ended, succeeded_at}
 use Rattle.mqb_network.specs.Choices.{Choice, Lost, Well}
 use Rattle.mqb_network.specs.Connecting.{disconnect, resend_by}
 use Rattle.mqb_network.specs.Courses.{Course, course_from, moved}
+use Rattle.mqb_network.specs.Events as network_event
 use Rattle.mqb_network.specs.Delivering.{deliver_packet, delivery_reply, drop_packet, passed}
 use Rattle.mqb_network.specs.Network.{Network, Note, is_connected, manager_at}
 use Rattle.mqb_network.specs.Replies.{Delivery}
@@ -24,6 +23,8 @@ use Rattle.mqb_network.specs.Restarting.{opened}
 use Rattle.mqb_network.specs.Runs.{answer, may}
 use Rattle.mqb_network.specs.Sending.{flow, flow_by}
 use Rattle.mqb_runs.specs.Events.{event_of, window_of}
+use Rattle.mqb_runs.specs.Requests.{actor, request_of}
+use Rattle.mqb_runs.specs.lemmas.Asked.{asked_so}
 use Rattle.mqb_runs.specs.Hosts.{hosts}
 use Rattle.mqb_script.specs.Managers.{other}
 use Rattle.mqb_script.specs.declared.events.Event.{Event}
@@ -40,8 +41,7 @@ use Rattle.mqb_run_laws.proofs.Tellable.{IsTold}
 
 delivery_told : (d : Delivery) → IsTold (delivery_reply d)
 delivery_told network.Gone = (_, refl)
-delivery_told (network.Heard heard lines) = (_, refl)
-delivery_told (network.Unheard how) = (_, refl)
+delivery_told d = (_, refl)
 
 deliver_told : (note : Option Note) (p : Option Packet) (now : ℕ) (c : Course) → IsTold (deliver_packet note p now Well c).reply
 deliver_told (Some note) (Some p) now c = delivery_told (passed note p now Well c).delivery
@@ -85,7 +85,7 @@ opened_told n i = by (is_down (manager_at n i))
     by true = (reply.OpenedLost, refl)
     by false = (reply.Opened, refl)
 
-module _ (law : OutcomesAreTold) (c : Course) (orderly : IsOrderly hosts c) where
+module _ (law : RequestsAreReplied) (c : Course) (orderly : IsOrderly hosts c) where
   -- an event can be played
   pub record CanBePlayed (e : Event) : Type 0 where
     pub choice : Choice
@@ -99,13 +99,13 @@ module _ (law : OutcomesAreTold) (c : Course) (orderly : IsOrderly hosts c) wher
   abbrev at : Which → Manager
   at which = manager_at c.network (index_of which)
 
+  request_played : (e : Event) → IsSome (request_of e) → CanBePlayed e
+  request_played e some =
+      let so = asked_so e (request_of e) refl some in
+      goes_well e (subst (λ (a : network_event.Event). IsTrue (may c a Well)) (sym so.2) refl)
+      (subst (λ (a : network_event.Event). IsTold (answer c (record { event = a; choice = Well })).reply) (sym so.2) (answered law (manager_at c.network (index_of (actor e))) so.0))
+
   pub can_be_played : (e : Event) → CanBePlayed e
-  can_be_played (event.Queue manager plan) = goes_well (event.Queue manager plan) refl (answered law (at manager) (CreateQueue plan))
-  can_be_played (event.Commit manager now ops) = goes_well (event.Commit manager now ops) refl (answered law (at manager) (Commit now ops))
-  can_be_played (event.Send manager now recoverable parts) = goes_well (event.Send manager now recoverable parts) refl (answered law (at manager) (Send now recoverable parts))
-  can_be_played (event.Take manager now place) = goes_well (event.Take manager now place) refl (answered law (at manager) (Take now place))
-  can_be_played (event.Purge manager now place) = goes_well (event.Purge manager now place) refl (answered law (at manager) (Purge now place))
-  can_be_played (event.Tick manager now) = goes_well (event.Tick manager now) refl (answered law (at manager) (Tick now))
   can_be_played (event.Connect manager now alpha beta) = goes_well (event.Connect manager now alpha beta) refl
       (connect_told c orderly manager now (window_of manager alpha beta) (window_of (other manager) alpha beta))
   can_be_played event.Disconnect = goes_well event.Disconnect refl (disconnect_told 0 (course_from c.network))
@@ -120,4 +120,4 @@ module _ (law : OutcomesAreTold) (c : Course) (orderly : IsOrderly hosts c) wher
       by : (down : Bool) → is_down (at manager) ≡ down → CanBePlayed (event.Restart manager pick)
       by true is = record { choice = Lost; may_be = is; tells = opened_told (ended (index_of manager) c.network) (index_of manager) }
       by false is = goes_well (event.Restart manager pick) (ap not is) (opened_told (ended (index_of manager) c.network) (index_of manager))
-  can_be_played (event.Roll manager count) = goes_well (event.Roll manager count) refl (answered law (at manager) (Set (Roll count)))
+  can_be_played e = request_played e refl

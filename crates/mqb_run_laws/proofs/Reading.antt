@@ -71,29 +71,13 @@ past (b ∷ front) text h = let k = differs_and (b == 58) (lacks front) h in
 heard_part : (hosts : List Identity) (h : Heard) (rest : List ℕ) → part_read (spaced (heard_text hosts h ++ rest)) ≡ Quiet
 unfolding heard_text
 heard_part hosts heard.SetUp rest = refl
-heard_part hosts heard.Session rest = refl
-heard_part hosts (heard.Put sequence number) rest = refl
-heard_part hosts (heard.Refused sequence number class) rest = refl
-heard_part hosts (heard.Duplicate sequence number) rest = refl
-heard_part hosts (heard.Gap sequence number) rest = refl
-heard_part hosts (heard.Stale sequence number) rest = refl
-heard_part hosts heard.Stored rest = refl
-heard_part hosts (heard.Bounced class) rest = refl
-heard_part hosts (heard.ExpressPut id) rest = refl
-heard_part hosts (heard.ExpressBounced class id) rest = refl
-heard_part hosts (heard.OrderAcked ordinal number) rest = refl
-heard_part hosts heard.OldAck rest = refl
-heard_part hosts (heard.Final id class) rest = refl
-heard_part hosts heard.Discarded rest = refl
-heard_part hosts (heard.Closed cause) rest = refl
+heard_part hosts h rest = refl
 
 outcome_part : (hosts : List Identity) (o : Outcome) (rest : List ℕ) → part_read (spaced (outcome_text hosts o) ++ rest) ≡ outcome_sign o
 unfolding outcome_text
 outcome_part hosts (outcome.Heard h lines) rest = ap (λ text. part_read (spaced text)) (append_assoc (heard_text hosts h) (lines_text hosts lines) rest)
     ∙ heard_part hosts h (lines_text hosts lines ++ rest)
-outcome_part hosts outcome.Gone rest = refl
-outcome_part hosts outcome.Stopped rest = refl
-outcome_part hosts outcome.Failed rest = refl
+outcome_part hosts o rest = refl
 
 regrouped : (number told arrivals rest : List ℕ) → ((number ++ 58 ∷ 32 ∷ []) ++ told ++ arrivals) ++ rest ≡ number ++ 58 ∷ ((32 ∷ told) ++ (arrivals ++ rest))
 regrouped number told arrivals rest = simp append_assoc
@@ -122,63 +106,20 @@ alone text sign e = (parts_read text, ap (λ s. s ∷ parts_read text) e)
 heard_read : (hosts : List Identity) (h : Heard) (rest : List ℕ) → first_read (heard_text hosts h ++ rest) ≡ Quiet
 unfolding heard_text
 heard_read hosts heard.SetUp rest = refl
-heard_read hosts heard.Session rest = refl
-heard_read hosts (heard.Put sequence number) rest = refl
-heard_read hosts (heard.Refused sequence number class) rest = refl
-heard_read hosts (heard.Duplicate sequence number) rest = refl
-heard_read hosts (heard.Gap sequence number) rest = refl
-heard_read hosts (heard.Stale sequence number) rest = refl
-heard_read hosts heard.Stored rest = refl
-heard_read hosts (heard.Bounced class) rest = refl
-heard_read hosts (heard.ExpressPut id) rest = refl
-heard_read hosts (heard.ExpressBounced class id) rest = refl
-heard_read hosts (heard.OrderAcked ordinal number) rest = refl
-heard_read hosts heard.OldAck rest = refl
-heard_read hosts (heard.Final id class) rest = refl
-heard_read hosts heard.Discarded rest = refl
-heard_read hosts (heard.Closed cause) rest = refl
+heard_read hosts h rest = refl
 
 -- The signs of a reply are the first that its line gives.
 pub reply_read : (hosts : List Identity) (r : Reply) (rest : List ℕ) → HaveNoColon hosts → BeginsWith (shown_by r) (signs_read (reply_text hosts r ++ 10 ∷ rest))
 unfolding reply_text words_text
-reply_read hosts reply.Done rest none = alone (reply_text hosts reply.Done ++ 10 ∷ rest) Quiet refl
-reply_read hosts reply.Down rest none = alone (reply_text hosts reply.Down ++ 10 ∷ rest) Quiet refl
 reply_read hosts reply.Stopped rest none = alone (reply_text hosts reply.Stopped ++ 10 ∷ rest) (Broke choice.Stopped) refl
 reply_read hosts reply.Failed rest none = alone (reply_text hosts reply.Failed ++ 10 ∷ rest) (Broke choice.Failed) refl
-reply_read hosts reply.QueueThere rest none = alone (reply_text hosts reply.QueueThere ++ 10 ∷ rest) Quiet refl
-reply_read hosts reply.TooManyQueues rest none = alone (reply_text hosts reply.TooManyQueues ++ 10 ∷ rest) Quiet refl
-reply_read hosts (reply.Committed lines) rest none = alone (reply_text hosts (reply.Committed lines) ++ 10 ∷ rest) Quiet refl
-reply_read hosts reply.TooManyOps rest none = alone (reply_text hosts reply.TooManyOps ++ 10 ∷ rest) Quiet refl
-reply_read hosts reply.TooLarge rest none = alone (reply_text hosts reply.TooLarge ++ 10 ∷ rest) Quiet refl
-reply_read hosts reply.NumbersSpent rest none = alone (reply_text hosts reply.NumbersSpent ++ 10 ∷ rest) Quiet refl
-reply_read hosts (reply.NoQueue op) rest none = alone (reply_text hosts (reply.NoQueue op) ++ 10 ∷ rest) Quiet refl
-reply_read hosts (reply.NotTransactional op) rest none = alone (reply_text hosts (reply.NotTransactional op) ++ 10 ∷ rest) Quiet refl
-reply_read hosts (reply.QueueEmpty op) rest none = alone (reply_text hosts (reply.QueueEmpty op) ++ 10 ∷ rest) Quiet refl
-reply_read hosts (reply.UnknownPeer op) rest none = alone (reply_text hosts (reply.UnknownPeer op) ++ 10 ∷ rest) Quiet refl
-reply_read hosts (reply.QueueFull op) rest none = alone (reply_text hosts (reply.QueueFull op) ++ 10 ∷ rest) Quiet refl
-reply_read hosts (reply.SequenceSpent op) rest none = alone (reply_text hosts (reply.SequenceSpent op) ++ 10 ∷ rest) Quiet refl
-reply_read hosts (reply.Sent id lines) rest none = alone (reply_text hosts (reply.Sent id lines) ++ 10 ∷ rest) Quiet refl
-reply_read hosts reply.Transactional rest none = alone (reply_text hosts reply.Transactional ++ 10 ∷ rest) Quiet refl
-reply_read hosts (reply.Took id lines) rest none = alone (reply_text hosts (reply.Took id lines) ++ 10 ∷ rest) Quiet refl
-reply_read hosts (reply.Purged count lines) rest none = alone (reply_text hosts (reply.Purged count lines) ++ 10 ∷ rest) Quiet refl
-reply_read hosts (reply.Ticked express lines) rest none = alone (reply_text hosts (reply.Ticked express lines) ++ 10 ∷ rest) Quiet refl
-reply_read hosts (reply.Connected packets) rest none = alone (reply_text hosts (reply.Connected packets) ++ 10 ∷ rest) Quiet refl
-reply_read hosts reply.Linked rest none = alone (reply_text hosts reply.Linked ++ 10 ∷ rest) Quiet refl
-reply_read hosts reply.Disconnected rest none = alone (reply_text hosts reply.Disconnected ++ 10 ∷ rest) Quiet refl
-reply_read hosts reply.Unlinked rest none = alone (reply_text hosts reply.Unlinked ++ 10 ∷ rest) Quiet refl
-reply_read hosts (reply.Pumped packets) rest none = alone (reply_text hosts (reply.Pumped packets) ++ 10 ∷ rest) Quiet refl
-reply_read hosts reply.Spent rest none = alone (reply_text hosts reply.Spent ++ 10 ∷ rest) Quiet refl
-reply_read hosts reply.NoPacket rest none = alone (reply_text hosts reply.NoPacket ++ 10 ∷ rest) Quiet refl
-reply_read hosts reply.Gone rest none = alone (reply_text hosts reply.Gone ++ 10 ∷ rest) Quiet refl
 reply_read hosts (reply.Heard h lines) rest none = alone (reply_text hosts (reply.Heard h lines) ++ 10 ∷ rest) Quiet
     (ap first_read (append_assoc (heard_text hosts h) (lines_text hosts lines) (10 ∷ rest)) ∙ heard_read hosts h (lines_text hosts lines ++ 10 ∷ rest))
-reply_read hosts reply.Dropped rest none = alone (reply_text hosts reply.Dropped ++ 10 ∷ rest) Quiet refl
 reply_read hosts (reply.Flowed arrivals) rest none = let flow = flow_read hosts arrivals (10 ∷ rest) none in (
   flow.0,
   ap (λ signs. Quiet ∷ signs) (ap parts_read (append_assoc (codes "flowed") (arrivals_text hosts arrivals) (10 ∷ rest))
       ∙ past (codes "flowed") (arrivals_text hosts arrivals ++ 10 ∷ rest) refl ∙ flow.1),
 )
-reply_read hosts reply.Armed rest none = alone (reply_text hosts reply.Armed ++ 10 ∷ rest) Quiet refl
-reply_read hosts reply.Opened rest none = alone (reply_text hosts reply.Opened ++ 10 ∷ rest) Quiet refl
 reply_read hosts (reply.OpenedKept lines) rest none = alone (reply_text hosts (reply.OpenedKept lines) ++ 10 ∷ rest) Found refl
 reply_read hosts reply.OpenedLost rest none = alone (reply_text hosts reply.OpenedLost ++ 10 ∷ rest) Missed refl
+reply_read hosts r rest none = alone (reply_text hosts r ++ 10 ∷ rest) Quiet refl

@@ -1,3 +1,4 @@
+mod Asked
 mod Lasting
 mod Opening
 mod Pumping

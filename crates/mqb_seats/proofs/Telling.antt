@@ -39,17 +39,6 @@ use Rattle.mqb_seats.specs.declared.called.Failure.{Failure}
 use Rattle.mqb_seats.specs.declared.packets.Passed.{Passed}
 use Rattle.mqb_seats.specs.declared.packets.Passed.TheVariants as passed
 
--- A transaction with ops is not told to have none.
-
-pub has_ops : (d e : View) (m n : ManagerState) (ops : List Op) (now : ℕ) (r : Result (List Done) CommitFault) → IsCall commits.Memory commits.DiskFault d e m n (commit (manager_of m) ops now) r
-    → TransactionsHaveOps → 1 ≤ length ops → r ≡ Err commits.NoOps → ⊥
-has_ops d e m n ops now r call law some none = at call.ends
-  where
-    at : Ends commits.Memory commits.DiskFault m n (commit (manager_of m) ops now) r → ⊥
-    at (inl h) = law (manager_of m) ops now some (sym h.0 ∙ none)
-    at (inr (inl h)) = let same : ◌≡◌ {A = Result (List Done) CommitFault} (Err commits.Memory) (Err commits.NoOps) = sym h.0 ∙ none in let no : ⊥ = cc in no
-    at (inr (inr h)) = let same : ◌≡◌ {A = Result (List Done) CommitFault} (Err commits.DiskFault) (Err commits.NoOps) = sym h.0 ∙ none in let no : ⊥ = cc in no
-
 -- The manager that is held is valid.
 
 valid_by : UnreadIsValid → (m : ManagerState) (u : Bool) → IsValidManager (manager_of m) → IsValidManager (cond u (unread (manager_of m)) (manager_of m))
@@ -87,17 +76,6 @@ module _ (d e : View) (m n : ManagerState) (u stopped : Bool) (s : SeatState) (i
       seat_after : Bool → SeatState
       seat_after b = record { manager = n; unread = b }
 
-  -- its disk failed
-  pub call_broke : {V E : Type 0} (memory broken : E) (make : Manager → Outcome (Result V E)) (r : Result V E) (how : Failure) (says : Result V E → List Line → Result Reply AnswerFault)
-      → IsCall memory broken d e m n (make (manager_of m)) r → (memory ≡ broken → ⊥) → ((k : Manager) → (make k).answer ≡ Err broken → ⊥) → r ≡ Err broken → how ≡ how_by stopped
-      → IsCalled d e stopped s after (make (seated s)) says (Broke how)
-  call_broke memory broken make r how says call differ never failed stops = (
-    subst (λ (t : SeatState). IsMove d e s t (make (seated s)) (Some (failure_of how))) after_is
-        (subst (λ (k : SeatState). IsMove d e k (seat_of n) (make (seated k)) (Some (failure_of how))) seat_is
-        (broke memory broken d e m n (make (manager_of m)) r call manager_up differ (never (manager_of m)) failed (failure_of how))),
-    stops,
-  )
-
   -- however it ends, what the store has lasts
   pub call_lasts : {V E : Type 0} (memory broken : E) (make : Manager → Outcome (Result V E)) (r : Result V E) → IsCall memory broken d e m n (make (manager_of m)) r
       → (memory ≡ broken → ⊥) → ((k : Manager) → (make k).answer ≡ Err broken → ⊥) → ImagesOpenToOne → Lawful e → (c : List ℕ) → e.reads c → IsHeldOn d s → Lasts d e s after
@@ -105,34 +83,6 @@ module _ (d e : View) (m n : ManagerState) (u stopped : Bool) (s : SeatState) (i
       subst (Lasts d e s) after_is
       (subst (λ (k : SeatState). Lasts d e k (seat_of n)) seat_is
       (call_ends opened memory broken d e m n (make (manager_of m)) r call manager_up differ (never (manager_of m)) lawful c told (subst (IsHeldOn d) (sym seat_is) held)))
-
-  -- it was answered
-  pub call_told : {V E : Type 0} (memory broken : E) (make : Manager → Outcome (Result V E)) (r : Result V E) (reply : Reply) (lines : List Line)
-      (says : Result V E → List Line → Result Reply AnswerFault) → IsCall memory broken d e m n (make (manager_of m)) r
-      → says (Err memory) lines ≡ Err answer.Memory → says (Err broken) lines ≡ Err answer.DiskFault
-      → (before : ℕ) → before ≡ m.store.journal.count → lines ≡ cond (n.store.journal.count == before) [] n.store.lines → says r lines ≡ Ok reply
-      → (called : Called) → called ≡ Told reply (not (n.store.journal.count == before)) → IsCalled d e stopped s after (make (seated s)) says called
-  call_told {V} {E} memory broken make r reply lines says call wants fails before counted are told called is_told =
-      subst (IsCalled d e stopped s after (make (seated s)) says) (sym (is_told ∙ ap (λ (k : ℕ). Told reply (not (n.store.journal.count == k))) counted))
-      (let went = went_well memory broken d e m n (make (manager_of m)) r call manager_up
-      (λ same. clash answer.Memory reply (sym wants ∙ ap (λ (q : Result V E). says q lines) (sym same) ∙ told))
-      (λ same. clash answer.DiskFault reply (sym fails ∙ ap (λ (q : Result V E). says q lines) (sym same) ∙ told)) in
-      let given = are ∙ ap (λ (k : ℕ). cond (n.store.journal.count == k) [] n.store.lines) counted ∙ lines_told m n (make (manager_of m)) went.left in (
-        subst (λ (t : SeatState). IsMove d e s t (make (seated s)) None) after_is
-            (subst (λ (k : SeatState). IsMove d e k (seat_of n) (make (seated k)) None) seat_is went.move),
-        subst (λ (k : SeatState). says (make (seated k)).answer (lines_after (seated k) (make (seated k))) ≡ Ok reply) seat_is
-            (ap (λ (q : Result V E). says q (lines_after (manager_of m) (make (manager_of m)))) (sym went.answer)
-            ∙ ap (λ (ls : List Line). says r ls) (sym given) ∙ told),
-        subst (λ (k : SeatState). cond (not (n.store.journal.count == m.store.journal.count)) n.store.lines [] ≡ lines_after (seated k) (make (seated k))) seat_is
-            (turned (n.store.journal.count == m.store.journal.count) n.store.lines ∙ lines_told m n (make (manager_of m)) went.left),
-      ))
-    where
-      clash : (fault : AnswerFault) (reply : Reply) → ◌≡◌ {A = Result Reply AnswerFault} (Err fault) (Ok reply) → ⊥
-      clash fault reply same = let none : ⊥ = cc in none
-
-      turned : (b : Bool) (ls : List Line) → cond (not b) ls [] ≡ cond b [] ls
-      turned true ls = refl
-      turned false ls = refl
 
   -- it is a move, and answers as the definition does
   pub call_went : {V E : Type 0} (memory broken : E) (make : Manager → Outcome (Result V E)) (r : Result V E) → IsCall memory broken d e m n (make (manager_of m)) r

@@ -1,11 +1,10 @@
--- What became of a call of a manager with its disk.
-use Rattle.std.specs.Prelude.{[], ◌≡◌, Bool, List, None, Ok, Result, Some, if◌then◌else◌}
-use Rattle.mqb_base.specs.declared.ledger.Line.{Line}
+-- What became of a request of a manager with its disk.
+use Rattle.std.specs.Prelude.{[], ◌≡◌, Bool, None, Ok, Some, if◌then◌else◌}
 use Rattle.mqb_outside.specs.Disk.{View}
+use Rattle.mqb_model.specs.calls.Call.{Answer}
 use Rattle.mqb_model.specs.managers.Outcomes.{Outcome, lines_after}
 use Rattle.mqb_network.specs.Choices as network
-use Rattle.mqb_replies.specs.declared.faults.AnswerFault.{AnswerFault}
-use Rattle.mqb_transcript.specs.declared.replies.Reply.{Reply}
+use Rattle.mqb_replies.specs.Replies.{reply_of}
 use Rattle.mqb_moves.specs.Moves.{IsMove}
 use Rattle.mqb_moves.specs.Seats.{SeatState, seated}
 use Rattle.mqb_seats.specs.declared.called.Called.{Called}
@@ -22,13 +21,9 @@ failure_of Failed = network.Failed
 abbrev pub how_by : Bool → Failure
 how_by stopped = if stopped then Stopped else Failed
 
--- a reply that tells no lines
-abbrev pub alone : {A : Type 0} → (A → Result Reply AnswerFault) → A → List Line → Result Reply AnswerFault
-alone says answer lines = says answer
-
--- A call went well and is told so, with the lines of its record; or the disk failed in it.
-abbrev pub IsCalled : {A : Type 0} → View → View → Bool → SeatState → SeatState → Outcome A → (A → List Line → Result Reply AnswerFault) → Called → Type 0
-IsCalled d e stopped s t o says (Told reply recorded) = IsMove d e s t o None
-    × (says o.answer (lines_after (seated s) o) ≡ Ok reply)
+-- A request went well and is told so, with the lines of its record; or the disk failed in it.
+abbrev pub IsCalled : View → View → Bool → SeatState → SeatState → Outcome Answer → Called → Type 0
+IsCalled d e stopped s t o (Told reply recorded) = IsMove d e s t o None
+    × (reply_of o.answer (lines_after (seated s) o) ≡ Ok reply)
     × ((if recorded then t.manager.store.lines else []) ≡ lines_after (seated s) o)
-IsCalled d e stopped s t o says (Broke how) = IsMove d e s t o (Some (failure_of how)) × (how ≡ how_by stopped)
+IsCalled d e stopped s t o (Broke how) = IsMove d e s t o (Some (failure_of how)) × (how ≡ how_by stopped)

@@ -1,9 +1,7 @@
-ghost use Rattle.std.specs.Prelude.{◌≡◌, IfOk, Ok, false};
+ghost use Rattle.std.specs.Prelude.{◌≡◌};
 ghost use Rattle.mqb_seats.specs.Called.{how_by};
 
-use mqb_base::Memory;
 use mqb_outside::Power;
-use mqb_replies::AnswerFault;
 use mqb_transcript::Reply;
 
 /// How a disk failed in a call.
@@ -15,25 +13,13 @@ pub enum Failure {
     Failed,
 }
 
-/// What became of a call.
+/// What became of a request.
 #[derive(Debug, Drop)]
 pub enum Called {
     /// It was answered. Where it was recorded, the manager's lines are those of its record.
     Told { reply: Reply, recorded: bool },
     /// The disk failed in it, and the manager is down.
     Broke(Failure),
-}
-
-impl Called {
-    /// The manager is down.
-    pub(crate) fn down() -> Called
-        ensures { result ≡ Called.Told Reply.Down false }
-    {
-        Called::Told {
-            reply: Reply::Down,
-            recorded: false,
-        }
-    }
 }
 
 /// How a disk failed that has just failed.
@@ -44,15 +30,5 @@ pub(crate) fn how<P: Power>(disk: &P) -> Failure
         Failure::Stopped
     } else {
         Failure::Failed
-    }
-}
-
-/// The reply of a call whose disk did not fail.
-pub(crate) fn told(reply: Result<Reply, AnswerFault>) -> Result<Reply, Memory>
-    ensures { IfOk result (λ given. reply ≡ Ok given) }
-{
-    match reply {
-        Ok(reply) => Ok(reply),
-        Err(_) => Err(Memory),
     }
 }

@@ -1,14 +1,14 @@
-ghost use Rattle.std.specs.Prelude.{[], ◌==◌, ◌≡◌, IfOk, None, Some, false, if◌then◌else◌, not, option_copied, true};
+ghost use Rattle.std.specs.Prelude.{[], ◌≡◌, IfOk, None, Some, false, if◌then◌else◌, option_copied, true};
 ghost use Rattle.mqb_model.specs.managers.Manager.{is_down};
 ghost use Rattle.mqb_model.specs.managers.Valid.{IsValidManager};
 ghost use Rattle.mqb_moves.specs.Calling.{seat_of};
 ghost use Rattle.mqb_moves.specs.Seats.{seated};
 
-use crate::called::Called;
 use mqb_base::{Line, Memory};
 use mqb_model::unread_is_valid;
 use mqb_moves::Manager;
-use mqb_transcript::{Listed, Reply};
+use mqb_replies::listed;
+use mqb_transcript::Listed;
 use std::alloc::Global;
 use std::marker::Model;
 
@@ -26,23 +26,6 @@ impl Model for Seat {
     ghost Value = { SeatState };
 
     ghost view = { λ s. record { manager = s.manager; unread = s.unread } };
-}
-
-fn copy_of(line: &Line) -> Result<Line, Memory>
-    ensures { IfOk result (λ copy. copy ≡ line.now) }
-{
-    Ok(line.clone()?)
-}
-
-/// A copy of lines.
-fn listed(alloc: Global, lines: &[Line]) -> Result<Listed<Line>, Memory>
-    ensures { IfOk result (λ copy. copy ≡ lines.now) }
-{
-    let mut copy = Listed::new(alloc);
-    for line in lines {
-        copy.push(copy_of(line)?)?;
-    }
-    Ok(copy)
 }
 
 impl Seat {
@@ -115,26 +98,5 @@ impl Seat {
             return Ok(Listed::new(self.alloc));
         }
         listed(self.alloc, self.manager.lines())
-    }
-
-    /// The lines of what was recorded since there were so many records.
-    pub(crate) fn lines_behind(&self, before: u64) -> Result<Listed<Line>, Memory>
-        ensures { IfOk result (λ lines. lines ≡
-            (if self.now.manager.store.journal.count == before then [] else self.now.manager.store.lines)) }
-    {
-        if self.manager.lsn() == before {
-            return Ok(Listed::new(self.alloc));
-        }
-        listed(self.alloc, self.manager.lines())
-    }
-
-    /// A call is told by this reply, and recorded where there is one record more than before.
-    pub(crate) fn told(&self, before: u64, reply: Reply) -> Called
-        ensures { result ≡ Called.Told reply (not (self.now.manager.store.journal.count == before)) }
-    {
-        Called::Told {
-            reply,
-            recorded: self.manager.lsn() != before,
-        }
     }
 }

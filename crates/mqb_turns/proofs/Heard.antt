@@ -116,10 +116,7 @@ module _ (which : Which) (x : Side) (note : Note) (p : Packet) (now : ℕ) (rece
 
       left_is : (choice : Choice) → choice ≡ choice_behind choice idle_as
       left_is Well = refl
-      left_is (Fails b how) = refl
-      left_is Kept = refl
-      left_is Lost = refl
-      left_is Unread = refl
+      left_is choice = refl
 
   -- a call that failed or not
   abbrev by_failure : Option Failure → Choice → Course → Delivered

@@ -79,10 +79,8 @@ broke_so which s t b tr d e o how mv =
     ∙ ap (λ (m : Manager). ended (index_of which) (with_manager (network_at which (side s b tr)) (index_of which) m)) (sym mv.manager)
     ∙ ap (ended (index_of which)) (with_own which s t b tr)
 
-module _ {A : Type 0} (which : Which) (s t b : SeatState) (tr : TrafficState) (y : Side) (d e : View) (stopped : Bool) (make : Manager → Outcome A)
-    (says_so : A → List Line → network.Reply) (says : A → List Line → Result Reply AnswerFault) (tells : (a : A) (ls : List Line) → told (says_so a ls) ≡ says a ls)
-    (quiet : e.faults ≡ d.faults → (a : A) (ls : List Line) → FailsAsAnswered stopped d.faults e.faults (says_so a ls))
-    (whole : (make (seated s)).touches ≡ is_some (make (seated s)).entry) where
+module _ (which : Which) (s t b : SeatState) (tr : TrafficState) (y : Side) (d e : View) (stopped : Bool) (request : Request)
+    (whole : (requested (seated s) request).touches ≡ is_some (requested (seated s) request).entry) where
   abbrev n : Network
   n = network_at which (side s b tr)
 
@@ -92,29 +90,32 @@ module _ {A : Type 0} (which : Which) (s t b : SeatState) (tr : TrafficState) (y
   abbrev own : Manager
   own = manager_at n i
 
+  abbrev make : Manager → Outcome calls.Answer
+  make m = requested m request
+
   abbrev answers : Choice → Answer
-  answers choice = call i (make own) choice says_so (course_from n)
+  answers = answers_to which (side s b tr) (event.Asks i request)
 
   me : own ≡ seated s
   me = own_at which (side s b tr)
 
   abbrev said : Manager → Result Reply AnswerFault
-  said k = told (says_so (make k).answer (lines_after k (make k)))
+  said k = reply_of (make k).answer (lines_after k (make k))
 
-  told_turn : (reply : Reply) (recorded : Bool) (given : Reply) → IsCalled d e stopped s t (make (seated s)) says (Told reply recorded)
+  told_turn : (reply : Reply) (recorded : Bool) (given : Reply) → IsCalled d e stopped s t (make (seated s)) (Told reply recorded)
       → Settles which (side t b tr) y (Told reply recorded) given → IsTurn which (side s b tr) y d e stopped answers given
   told_turn reply recorded given (mv, is_told, lines) (given_is, noted) = record {
     choice = Well;
     may = refl;
-    reply = ap said me ∙ tells (make (seated s)).answer (lines_after (seated s) (make (seated s))) ∙ is_told ∙ ap Ok (sym given_is);
+    reply = ap said me ∙ is_told ∙ ap Ok (sym given_is);
     network = ap (λ (k : Manager). succeeded_at i (make k) n) me ∙ went_so which s t b tr d e (make (seated s)) mv (cond recorded t.manager.store.lines []) lines ∙ sym noted.0;
     sent = refl;
     held = λ held. subst (IsHeldOn e) (sym noted.1) (mv.held held);
     beside = subst (StaysStored b) (sym noted.2) (same_stores b);
-    faults = quiet mv.faults (make own).answer (lines_after own (make own));
+    faults = mv.faults;
   }
 
-  broke_turn : (how : HowItFailed) (given : Reply) → IsCalled d e stopped s t (make (seated s)) says (Broke how)
+  broke_turn : (how : HowItFailed) (given : Reply) → IsCalled d e stopped s t (make (seated s)) (Broke how)
       → Settles which (side t b tr) y (Broke how) given → IsTurn which (side s b tr) y d e stopped answers given
   broke_turn how given (mv, stops) (given_is, parted) = record {
     choice = Fails 0 f;
@@ -141,57 +142,10 @@ module _ {A : Type 0} (which : Which) (s t b : SeatState) (tr : TrafficState) (y
       fails = ap (λ (c : Bool). if c then Some f else None) touches
 
       reply_is : (answers (Fails 0 f)).reply ≡ network.DiskFailed f
-      reply_is = ap (λ (o : Option Failure). option_map_or network.DiskFailed o (says_so (make own).answer (lines_after own (make own)))) fails
+      reply_is = ap (λ (o : Option Failure). option_map_or network.DiskFailed o (network.Called (make own).answer (lines_after own (make own)))) fails
 
   -- whether it went well or the disk failed
-  pub call_turn : (called : Called) (given : Reply) → IsCalled d e stopped s t (make (seated s)) says called → Settles which (side t b tr) y called given
+  pub call_turn : (called : Called) (given : Reply) → IsCalled d e stopped s t (make (seated s)) called → Settles which (side t b tr) y called given
       → IsTurn which (side s b tr) y d e stopped answers given
   call_turn (Told reply recorded) given is_called settled = told_turn reply recorded given is_called settled
   call_turn (Broke how) given is_called settled = broke_turn how given is_called settled
-
--- A request is the call that it comes to.
-
-same_unless : {A : Type 0} (says : A → calls.Answer) (i : ℕ) (o : Outcome A) (failure : Option Failure) (c : Course) → called_unless i (answered says o) failure c ≡ called_unless i o failure c
-same_unless says i o None c = refl
-same_unless says i o (Some how) c = refl
-
-asked_so : {A : Type 0} (says : A → calls.Answer) (i : ℕ) (o : Outcome A) (choice : Choice) (c : Course)
-    → call i (answered says o) choice network.Called c ≡ call i o choice (λ a. network.Called (says a)) c
-asked_so {A} says i o choice c = ap₂ answer_by (ap replied (same choice))
-    (ap (λ f. called_unless i (answered says o) f c) (same choice) ∙ same_unless says i o (failure_in choice o) c)
-  where
-    answer_by : network.Reply → Course → Answer
-    answer_by given after = record { reply = given; after = after }
-
-    replied : Option Failure → network.Reply
-    replied f = option_map_or network.DiskFailed f (network.Called (says o.answer) (lines_after (manager_at c.network i) o))
-
-    same : (choice : Choice) → failure_in choice (answered says o) ≡ failure_in choice o
-    same Well = refl
-    same (Fails before how) = refl
-    same Kept = refl
-    same Lost = refl
-    same Unread = refl
-
--- a turn of answers is one of those that are the same for each choice
-pub turn_as : {which : Which} {x y : Side} {d e : View} {stopped : Bool} (answers others : Choice → Answer) {given : Reply} → ((choice : Choice) → answers choice ≡ others choice)
-    → IsTurn which x y d e stopped others given → IsTurn which x y d e stopped answers given
-turn_as {which} {x} {y} {d} {e} {stopped} answers others {given} same h = record {
-  choice = h.choice;
-  may = subst (λ (a : Answer). IsTrue (may_fail (length a.after.written) h.choice)) (sym (same Well)) h.may;
-  reply = ap (λ (a : Answer). told a.reply) (same h.choice) ∙ h.reply;
-  network = ap (λ (a : Answer). a.after.network) (same h.choice) ∙ h.network;
-  sent = ap (λ (a : Answer). a.after.sent) (same h.choice) ∙ h.sent;
-  held = h.held;
-  beside = h.beside;
-  faults = subst (λ (a : Answer). FailsAsAnswered stopped d.faults e.faults a.reply) (sym (same h.choice)) h.faults;
-}
-
--- a request is a turn where its call is
-pub asked_turn : {A : Type 0} {which : Which} {x y : Side} {d e : View} {stopped : Bool} {given : Reply} (says : A → calls.Answer) (request : Request) (made : Outcome A)
-    → requested (manager_at (network_at which x) (index_of which)) request ≡ answered says made
-    → IsTurn which x y d e stopped (λ choice. call (index_of which) made choice (λ a. network.Called (says a)) (course_from (network_at which x))) given
-    → IsTurn which x y d e stopped (answers_to which x (event.Asks (index_of which) request)) given
-asked_turn {A} {which} {x} says request made same h = turn_as (answers_to which x (event.Asks (index_of which) request)) _
-    (λ choice. ap (λ (o : Outcome calls.Answer). call (index_of which) o choice network.Called (course_from (network_at which x))) same
-    ∙ asked_so says (index_of which) made choice (course_from (network_at which x))) h

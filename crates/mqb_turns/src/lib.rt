@@ -3,15 +3,15 @@
 //! Each function takes the manager that acts, the other one, and their traffic; `specs/Sides.antt` has the network that these make.
 #![tactic(auto)]
 
+mod asking;
 mod between;
-mod calls;
 mod links;
 mod passing;
 mod sending;
 mod starting;
 
+pub use asking::ask;
 pub use between::{failure_reply, note, part, part_where, settle};
-pub use calls::{commit, purge, queue, roll, send, take, tick};
 pub use links::{disconnect, drop_packet, resend};
 pub use passing::pass;
 pub use sending::{numbers, pump, send_out};

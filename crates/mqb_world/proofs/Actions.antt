@@ -1,13 +1,15 @@
 -- The events of one manager, and those that call none, as steps of the network of a world.
-use Rattle.std.proofs.Common.{◌≡◌, ℕ, Bool, true, false, cond, List, [], ◌++◌, Option, None, Result, Ok, Err, length, refl, sym, ap, subst, ◌∙◌}
+use Rattle.std.proofs.Common.{◌≡◌, ◌≤◌, ◌&&◌, ℕ, Bool, true, false, cond, List, [], ◌++◌, Option, None, Some, Result, Ok, Err, length, refl, sym, ap, subst, ◌∙◌, arith}
 use Rattle.std.proofs.lemmas.List.{append-nil}
-use Rattle.std.specs.Prelude.{IfOk, map}
+use Rattle.std.proofs.lemmas.Bool.Decides.{nat_tests}
+use Rattle.std.specs.Prelude.{IfOk, IfSome, IsSome, is_some, map, nat_le}
 use Rattle.mqb_base.specs.declared.ledger.Line.{Line}
 use Rattle.mqb_deliveries.specs.Steps.{FallsShort, may_at}
 use Rattle.mqb_outside.specs.Disk.{Switch, View}
 use Rattle.mqb_outside.specs.declared.power.Mode.{Mode}
 use Rattle.mqb_outside.specs.declared.power.Pick.{Pick}
-use Rattle.mqb_model.specs.calls.Call.{Commit, CreateQueue, Purge, Request, Send, Set, Take, Tick, requested}
+use Rattle.mqb_model.specs.calls.Call.{Request, requested}
+use Rattle.mqb_model.specs.records.Applying.{is_setting}
 use Rattle.mqb_model.specs.records.Record.{Roll}
 use Rattle.mqb_model.specs.calls.pump.Pump.{PumpOutcome, pump}
 use Rattle.mqb_model.specs.declared.faults.PumpFault.{PumpFault}
@@ -30,7 +32,11 @@ use Rattle.mqb_posts.specs.Packets.{AreWritable}
 use Rattle.mqb_posts.specs.Posting.{HasFront, IsCutOff, IsWithin}
 use Rattle.mqb_posts.specs.declared.faults.PostFault.{PostFault}
 use Rattle.mqb_posts.specs.declared.faults.PostFault.TheVariants as post
+use Rattle.mqb_replies.specs.Requests.{IsFormed as IsFormedRequest}
 use Rattle.mqb_runs.specs.Events.{event_of}
+use Rattle.mqb_runs.specs.Requests.{actor, request_of}
+use Rattle.mqb_runs.specs.lemmas.Asked.{asked_so, none_some}
+use Rattle.mqb_script.specs.Formed.{IsFormed}
 use Rattle.mqb_script.specs.declared.events.Event.{Event}
 use Rattle.mqb_script.specs.declared.events.Event.TheVariants as event
 use Rattle.mqb_script.specs.declared.managers.Which.{Which}
@@ -59,88 +65,54 @@ none_written sent none = subst AreWritable (sym none) tt
 pub nothing_posted : (strings wanted : List (List ℕ)) → HasFront strings strings wanted
 nothing_posted strings wanted = record { front = []; rest = wanted; wanted_are = refl; added = sym (append-nil strings) }
 
--- Calls.
+-- Requests.
+
+-- what the network is asked for
+pub asked_of : (which : Which) (asked : Event) → IsCallOf which asked → (o : Option Request) → request_of asked ≡ o
+    → (request : Request) × (o ≡ Some request) × (event_of asked ≡ network.Asks (index_of which) request)
+asked_of which asked is o request_is =
+    let so = asked_so asked o request_is (subst (λ (q : Option Request). IsSome q) request_is is.0) in
+    (so.0, so.1, so.2 ∙ ap (λ (m : Which). network.Asks (index_of m) so.0) is.1)
+
+roll_so : (count : ℕ) → 1 ≤ count → count ≤ 65535 → is_setting (Roll count) ≡ true
+roll_so count low high =
+    let one : nat_le 1 count ≡ true = grind (arith, nat_tests, low) in
+    let most : nat_le count 65535 ≡ true = grind (arith, nat_tests, high) in
+    rw one (rw most refl)
+
+pub request_formed : (asked : Event) → IsFormed asked → IfSome (request_of asked) IsFormedRequest
+request_formed (event.Roll m count) formed = roll_so count formed.0 formed.1
+request_formed asked formed = tt
 
 may_of_call : (which : Which) (n : Network) (asked : Event) → IsCallOf which asked → (choice : Choice)
     → may_at n None (event_of asked) choice ≡ may_fail (length (step n None (event_of asked) Well).after.written) choice
-may_of_call which n (event.Queue m plan) is choice = refl
-may_of_call which n (event.Commit m now ops) is choice = refl
-may_of_call which n (event.Send m now recoverable parts) is choice = refl
-may_of_call which n (event.Take m now place) is choice = refl
-may_of_call which n (event.Purge m now place) is choice = refl
-may_of_call which n (event.Tick m now) is choice = refl
-may_of_call which n (event.Roll m count) is choice = refl
-may_of_call which n (event.Connect m now alpha beta) is choice = absurd is
-may_of_call which n event.Disconnect is choice = absurd is
-may_of_call which n (event.Pump m now) is choice = absurd is
-may_of_call which n (event.Deliver k now) is choice = absurd is
-may_of_call which n (event.Drop k) is choice = absurd is
-may_of_call which n (event.Flow m now) is choice = absurd is
-may_of_call which n (event.Resend m) is choice = absurd is
-may_of_call which n (event.Arm m call mode) is choice = absurd is
-may_of_call which n (event.Restart m pick) is choice = absurd is
+may_of_call which n asked is choice =
+    subst (λ (e : network.Event). may_at n None e choice ≡ may_fail (length (step n None e Well).after.written) choice) (sym (asked_of which asked is (request_of asked) refl).2) refl
 
-asked_none : (n : Network) (m : Which) (request : Request) (choice : Choice) → IsNoDelivery (step n None (network.Asks (index_of m) request) choice).reply
-asked_none n m request choice = let outcome = requested (manager_at n (index_of m)) request in
-    none_delivered (failure_in choice outcome) (answer.Called outcome.answer (lines_at (index_of m) outcome (course_from n))) tt
+asked_none : (n : Network) (i : ℕ) (request : Request) (choice : Choice) → IsNoDelivery (step n None (network.Asks i request) choice).reply
+asked_none n i request choice = let outcome = requested (manager_at n i) request in
+    none_delivered (failure_in choice outcome) (answer.Called outcome.answer (lines_at i outcome (course_from n))) tt
 
 call_none : (which : Which) (n : Network) (asked : Event) → IsCallOf which asked → (choice : Choice) → IsNoDelivery (step n None (event_of asked) choice).reply
-call_none which n (event.Queue m plan) is choice = asked_none n m (CreateQueue plan) choice
-call_none which n (event.Commit m now ops) is choice = asked_none n m (Commit now ops) choice
-call_none which n (event.Send m now recoverable parts) is choice = asked_none n m (Send now recoverable parts) choice
-call_none which n (event.Take m now place) is choice = asked_none n m (Take now place) choice
-call_none which n (event.Purge m now place) is choice = asked_none n m (Purge now place) choice
-call_none which n (event.Tick m now) is choice = asked_none n m (Tick now) choice
-call_none which n (event.Roll m count) is choice = asked_none n m (Set (Roll count)) choice
-call_none which n (event.Connect m now alpha beta) is choice = absurd is
-call_none which n event.Disconnect is choice = absurd is
-call_none which n (event.Pump m now) is choice = absurd is
-call_none which n (event.Deliver k now) is choice = absurd is
-call_none which n (event.Drop k) is choice = absurd is
-call_none which n (event.Flow m now) is choice = absurd is
-call_none which n (event.Resend m) is choice = absurd is
-call_none which n (event.Arm m call mode) is choice = absurd is
-call_none which n (event.Restart m pick) is choice = absurd is
+call_none which n asked is choice = let request = asked_of which asked is (request_of asked) refl in
+    subst (λ (e : network.Event). IsNoDelivery (step n None e choice).reply) (sym request.2) (asked_none n (index_of which) request.0 choice)
 
 call_says : (which : Which) (asked : Event) → IsCallOf which asked → (stopped : Bool) (how : Failure) → how ≡ failure_of (how_by stopped) → IsToldSo asked stopped how
-call_says which (event.Queue m plan) is stopped how so = so
-call_says which (event.Commit m now ops) is stopped how so = so
-call_says which (event.Send m now recoverable parts) is stopped how so = so
-call_says which (event.Take m now place) is stopped how so = so
-call_says which (event.Purge m now place) is stopped how so = so
-call_says which (event.Tick m now) is stopped how so = so
-call_says which (event.Roll m count) is stopped how so = so
-call_says which (event.Connect m now alpha beta) is stopped how so = absurd is
-call_says which event.Disconnect is stopped how so = absurd is
-call_says which (event.Pump m now) is stopped how so = absurd is
-call_says which (event.Deliver k now) is stopped how so = absurd is
-call_says which (event.Drop k) is stopped how so = absurd is
-call_says which (event.Flow m now) is stopped how so = absurd is
-call_says which (event.Resend m) is stopped how so = absurd is
-call_says which (event.Arm m call mode) is stopped how so = absurd is
-call_says which (event.Restart m pick) is stopped how so = absurd is
+call_says which (event.Restart m pick) is stopped how so = absurd (none_some is.0)
+call_says which asked is stopped how so = so
 
 same_self : (which : Which) → is_same which which ≡ true
 same_self Alpha = refl
 same_self Beta = refl
 
+called_by_own : (b : Bool) (which m : Which) → b ≡ true → m ≡ which → (b && is_same which m) ≡ true
+called_by_own true which m some is = ap (is_same which) is ∙ same_self which
+called_by_own false which m some is = some
+
 calls_own : (which : Which) (asked : Event) → IsCallOf which asked → calls_disk_of which asked ≡ true
-calls_own which (event.Queue m plan) is = ap (is_same which) is ∙ same_self which
-calls_own which (event.Commit m now ops) is = ap (is_same which) is ∙ same_self which
-calls_own which (event.Send m now recoverable parts) is = ap (is_same which) is ∙ same_self which
-calls_own which (event.Take m now place) is = ap (is_same which) is ∙ same_self which
-calls_own which (event.Purge m now place) is = ap (is_same which) is ∙ same_self which
-calls_own which (event.Tick m now) is = ap (is_same which) is ∙ same_self which
-calls_own which (event.Roll m count) is = ap (is_same which) is ∙ same_self which
-calls_own which (event.Connect m now alpha beta) is = absurd is
-calls_own which event.Disconnect is = absurd is
-calls_own which (event.Pump m now) is = absurd is
-calls_own which (event.Deliver k now) is = absurd is
-calls_own which (event.Drop k) is = absurd is
-calls_own which (event.Flow m now) is = absurd is
-calls_own which (event.Resend m) is = absurd is
-calls_own which (event.Arm m call mode) is = absurd is
-calls_own which (event.Restart m pick) is = absurd is
+calls_own which (event.Pump m now) is = absurd (none_some is.0)
+calls_own which (event.Restart m pick) is = absurd (none_some is.0)
+calls_own which asked is = called_by_own (is_some (request_of asked)) which (actor asked) is.0 is.1
 
 -- what is told of the disk of the one who acts
 alone_so : (which : Which) (asked : Event) (stopped : Bool) (before after : ℕ) (given : Reply) → calls_disk_of which asked ≡ true → FaultsGo asked stopped before after (failures_of given)
@@ -152,22 +124,9 @@ pub leaves_records : (asks : Switching) (given : Reply) (before after : ℕ) →
 leaves_records asks given before after leaves = subst (λ (s : Switching). RecordsGo s given before after) (sym leaves) tt
 
 call_leaves : (which : Which) (asked : Event) → IsCallOf which asked → switching which asked ≡ LeavesIt
-call_leaves which (event.Queue m plan) is = refl
-call_leaves which (event.Commit m now ops) is = refl
-call_leaves which (event.Send m now recoverable parts) is = refl
-call_leaves which (event.Take m now place) is = refl
-call_leaves which (event.Purge m now place) is = refl
-call_leaves which (event.Tick m now) is = refl
-call_leaves which (event.Roll m count) is = refl
-call_leaves which (event.Connect m now alpha beta) is = refl
-call_leaves which event.Disconnect is = refl
-call_leaves which (event.Pump m now) is = refl
-call_leaves which (event.Deliver k now) is = refl
-call_leaves which (event.Drop k) is = refl
-call_leaves which (event.Flow m now) is = refl
-call_leaves which (event.Resend m) is = refl
-call_leaves which (event.Arm m call mode) is = absurd is
-call_leaves which (event.Restart m pick) is = absurd is
+call_leaves which (event.Arm m call mode) is = absurd (none_some is.0)
+call_leaves which (event.Restart m pick) is = absurd (none_some is.0)
+call_leaves which asked is = refl
 
 module _ (which : Which) (x y : Side) (asked : Event) (strings : List (List ℕ)) (within : IsWithin strings) (given : Reply) where
   abbrev answers : Choice → Answer
@@ -252,9 +211,7 @@ start_faults which pick stopped before after n i choice = at choice
         → FaultsGo (event.Restart which pick) stopped before after (failures_in_told (told (step n None (network.Restart i) choice).reply))
     at Unread rose = (rose, refl)
     at Kept same = same
-    at Well same = opened_so (is_down (manager_at (ended i n) i)) same
-    at Lost same = opened_so (is_down (manager_at (ended i n) i)) same
-    at (Fails b how) same = opened_so (is_down (manager_at (ended i n) i)) same
+    at choice same = opened_so (is_down (manager_at (ended i n) i)) same
 
 pub start_acted : (which : Which) (x y : Side) (pick : Pick) (strings : List (List ℕ)) → IsWithin strings → (given : Reply) (d e : View) (stopped : Bool)
     → IsStarted which x y d e given → IsActed which x y d e stopped (event.Restart which pick) strings strings given
@@ -347,22 +304,13 @@ restart_is which m pick asked is of = is ∙ ap (λ (m : Which). event.Restart m
 pub is_call : (which : Which) (asked : Event) → (asked ≡ event.Disconnect → ⊥) → ((m : Which) → asked ≡ event.Resend m → ⊥) → ((k : ℕ) → asked ≡ event.Drop k → ⊥)
     → ((m : Which) (now : ℕ) → asked ≡ event.Pump m now → ⊥) → ((m : Which) (call : ℕ) (mode : Mode) → asked ≡ event.Arm m call mode → ⊥)
     → ((m : Which) (pick : Pick) → asked ≡ event.Restart m pick → ⊥) → IsOf which asked → IsCallOf which asked
-is_call which (event.Queue m plan) a b c d e f is = is
-is_call which (event.Commit m now ops) a b c d e f is = is
-is_call which (event.Send m now recoverable parts) a b c d e f is = is
-is_call which (event.Take m now place) a b c d e f is = is
-is_call which (event.Purge m now place) a b c d e f is = is
-is_call which (event.Tick m now) a b c d e f is = is
-is_call which (event.Roll m count) a b c d e f is = is
-is_call which (event.Connect m now alpha beta) a b c d e f is = is
 is_call which event.Disconnect a b c d e f is = absurd (a refl)
 is_call which (event.Pump m now) a b c d e f is = absurd (d m now refl)
-is_call which (event.Deliver k now) a b c d e f is = is
 is_call which (event.Drop k) a b c d e f is = absurd (c k refl)
-is_call which (event.Flow m now) a b c d e f is = is
 is_call which (event.Resend m) a b c d e f is = absurd (b m refl)
 is_call which (event.Arm m call mode) a b c d e f is = absurd (e m call mode refl)
 is_call which (event.Restart m pick) a b c d e f is = absurd (f m pick refl)
+is_call which asked a b c d e f is = is
 
 pub call_switch : (which : Which) (asked : Event) → IsCallOf which asked → (armed : Option (ℕ × Mode)) (s t : Switch) → t ≡ s → SwitchGoes (switching which asked) armed s t
 call_switch which asked is armed s t same = subst (λ (x : Switching). SwitchGoes x armed s t) (sym (call_leaves which asked is)) same

@@ -194,10 +194,7 @@ dropped_grown k n = at (numbered n.notes k)
 
 restart_grown : (i : ℕ) (n : Network) (choice : Choice) → IsGrown n (step n None (event.Restart i) choice).after.network
 restart_grown i n Well = ended_grown i n
-restart_grown i n Kept = ended_grown i n
-restart_grown i n Lost = ended_grown i n
-restart_grown i n Unread = ended_grown i n
-restart_grown i n (Fails b how) = ended_grown i n
+restart_grown i n choice = ended_grown i n
 
 deliver_grown : (o : Option Note) (q : Option Packet) (now : ℕ) (choice : Choice) (c : Course) → IsGrown c.network (deliver_packet o q now choice c).after.network
 deliver_grown (Some note) (Some p) now choice c = passed_grown note p now choice c

@@ -239,11 +239,9 @@ module _ (w v : WorldState) (d e f g : View) (s t : Bool) (strings strings_now :
 -- None went.
 
 tells_none : (notes : List Note) (i q : ℕ) (why : PumpFault) (given : Reply) → pump_fault_reply why ≡ Ok given → failures_in notes i q given ≡ []
-tells_none notes i q fault.Down given is = ap (failures_in notes i q) (sym (oks is))
-tells_none notes i q fault.NotLinked given is = ap (failures_in notes i q) (sym (oks is))
-tells_none notes i q fault.Spent given is = ap (failures_in notes i q) (sym (oks is))
 tells_none notes i q fault.Memory given is = absurd (let no : ⊥ = cc in no)
 tells_none notes i q fault.DiskFault given is = absurd (let no : ⊥ = cc in no)
+tells_none notes i q why given is = ap (failures_in notes i q) (sym (oks is))
 
 module _ (w v : WorldState) (d e f g : View) (s t : Bool) (strings strings_now : List (List ℕ)) (now : ℕ) (notes : List Note) where
   abbrev RefusedBy : Which → Reply → Type 0

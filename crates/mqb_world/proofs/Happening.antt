@@ -1,5 +1,6 @@
 -- An event of one manager, as the world of both sees it.
-use Rattle.std.proofs.Common.{◌≡◌, ℕ, Bool, false, cond, List, [], Option, None, refl, sym, ap, subst, ◌∙◌}
+use Rattle.std.proofs.Common.{◌≡◌, ◌&&◌, ℕ, Bool, true, false, cond, List, [], Option, None, refl, sym, ap, subst, ◌∙◌}
+use Rattle.std.specs.Prelude.{is_some}
 use Rattle.mqb_outside.specs.Disk.{Switch, View}
 use Rattle.mqb_outside.specs.declared.power.Mode.{Mode}
 use Rattle.mqb_moves.specs.lemmas.Stored.{stored_held}
@@ -15,8 +16,10 @@ use Rattle.mqb_traffic.specs.States.{TrafficState}
 use Rattle.mqb_transcript.specs.declared.replies.Reply.{Reply}
 use Rattle.mqb_turns.specs.Sides.{side}
 use Rattle.mqb_turns.specs.Starts.{records_of}
+use Rattle.mqb_runs.specs.lemmas.Asked.{none_some}
 use Rattle.mqb_world.specs.Acting.{Happens, IsActed, IsOf}
 use Rattle.mqb_world.specs.Disks.{Arms, FaultsGo, LeavesIt, Restarts, StaysAsLeft, SwitchGoes, Switching, calls_disk_of, failures_alone, failures_of, failures_told, is_same, switching}
+use Rattle.mqb_runs.specs.Requests.{actor, request_of}
 use Rattle.mqb_world.specs.Worlds.{WorldState}
 use Rattle.mqb_world.proofs.Actions.{leaves_records}
 
@@ -27,43 +30,25 @@ not_other Beta = refl
 not_own : (which m : Which) → m ≡ which → is_same (other which) m ≡ false
 not_own which m is = ap (is_same (other which)) is ∙ not_other which
 
+called_by_none : (b same : Bool) → same ≡ false → (b && same) ≡ false
+called_by_none true same is = is
+called_by_none false same is = refl
+
 -- The other manager's disk is not called.
 other_rests : (which : Which) (asked : Event) → IsOf which asked → calls_disk_of (other which) asked ≡ false
-other_rests which (event.Queue m plan) is = not_own which m is
-other_rests which (event.Commit m now ops) is = not_own which m is
-other_rests which (event.Send m now recoverable parts) is = not_own which m is
-other_rests which (event.Take m now place) is = not_own which m is
-other_rests which (event.Purge m now place) is = not_own which m is
-other_rests which (event.Tick m now) is = not_own which m is
-other_rests which (event.Roll m count) is = not_own which m is
 other_rests which (event.Pump m now) is = not_own which m is
 other_rests which (event.Restart m pick) is = not_own which m is
 other_rests which (event.Resend m) is = refl
 other_rests which (event.Arm m call mode) is = refl
 other_rests which event.Disconnect is = refl
 other_rests which (event.Drop k) is = refl
-other_rests which (event.Connect m now alpha beta) is = refl
-other_rests which (event.Deliver k now) is = refl
-other_rests which (event.Flow m now) is = refl
+other_rests which asked is = called_by_none (is_some (request_of asked)) (is_same (other which) (actor asked)) (not_own which (actor asked) is.1)
 
 -- what is told of disks is told of one
 told_alone : (notes : List Note) (who which : Which) (asked : Event) (given : Reply) → IsOf which asked → failures_told notes who asked given ≡ failures_alone who asked given
-told_alone notes who which (event.Queue m plan) given is = refl
-told_alone notes who which (event.Commit m now ops) given is = refl
-told_alone notes who which (event.Send m now recoverable parts) given is = refl
-told_alone notes who which (event.Take m now place) given is = refl
-told_alone notes who which (event.Purge m now place) given is = refl
-told_alone notes who which (event.Tick m now) given is = refl
-told_alone notes who which (event.Roll m count) given is = refl
-told_alone notes who which (event.Pump m now) given is = refl
-told_alone notes who which (event.Restart m pick) given is = refl
-told_alone notes who which (event.Resend m) given is = refl
-told_alone notes who which (event.Arm m call mode) given is = refl
-told_alone notes who which event.Disconnect given is = refl
-told_alone notes who which (event.Drop k) given is = refl
-told_alone notes who which (event.Connect m now alpha beta) given is = refl
-told_alone notes who which (event.Deliver k now) given is = absurd is
-told_alone notes who which (event.Flow m now) given is = absurd is
+told_alone notes who which (event.Deliver k now) given is = absurd (none_some is.0)
+told_alone notes who which (event.Flow m now) given is = absurd (none_some is.0)
+told_alone notes who which asked given is = refl
 
 told_of_other : (notes : List Note) (which : Which) (asked : Event) (given : Reply) → IsOf which asked → failures_told notes (other which) asked given ≡ []
 told_of_other notes which asked given is = told_alone notes (other which) which asked given is ∙ ap (λ (b : Bool). cond b (failures_of given) []) (other_rests which asked is)
@@ -72,20 +57,7 @@ told_of_other notes which asked given is = told_alone notes (other which) which 
 switch_rests : (which : Which) (asked : Event) → IsOf which asked → switching (other which) asked ≡ LeavesIt
 switch_rests which (event.Arm m call mode) is = ap (λ (b : Bool). cond b (Arms call mode) LeavesIt) (not_own which m is)
 switch_rests which (event.Restart m pick) is = ap (λ (b : Bool). cond b (Restarts pick) LeavesIt) (not_own which m is)
-switch_rests which (event.Queue m plan) is = refl
-switch_rests which (event.Commit m now ops) is = refl
-switch_rests which (event.Send m now recoverable parts) is = refl
-switch_rests which (event.Take m now place) is = refl
-switch_rests which (event.Purge m now place) is = refl
-switch_rests which (event.Tick m now) is = refl
-switch_rests which (event.Roll m count) is = refl
-switch_rests which (event.Pump m now) is = refl
-switch_rests which (event.Resend m) is = refl
-switch_rests which event.Disconnect is = refl
-switch_rests which (event.Drop k) is = refl
-switch_rests which (event.Connect m now alpha beta) is = refl
-switch_rests which (event.Deliver k now) is = refl
-switch_rests which (event.Flow m now) is = refl
+switch_rests which asked is = refl
 
 pub switch_stays : (which : Which) (asked : Event) → IsOf which asked → (armed : Option (ℕ × Mode)) (s : Switch) → SwitchGoes (switching (other which) asked) armed s s
 switch_stays which asked is armed s = subst (λ (x : Switching). SwitchGoes x armed s s) (sym (switch_rests which asked is)) refl

@@ -31,40 +31,22 @@ use Rattle.mqb_transcript.specs.declared.arrivals.Outcome.{Outcome}
 use Rattle.mqb_transcript.specs.declared.arrivals.Outcome.TheVariants as outcome
 use Rattle.mqb_transcript.specs.declared.replies.Reply.{Reply}
 use Rattle.mqb_transcript.specs.declared.replies.Reply.TheVariants as reply
-use Rattle.mqb_world.specs.Acting.{Happens, HappensAmong, IsOf, ShortAmong, actor}
+use Rattle.mqb_runs.specs.lemmas.Asked.{none_some}
+use Rattle.mqb_world.specs.Acting.{Happens, HappensAmong, IsOf, ShortAmong}
 use Rattle.mqb_world.specs.Ordered.{IsOrdered}
+use Rattle.mqb_runs.specs.Requests.{actor}
 use Rattle.mqb_world.specs.Sides.{AreUnlinked}
 use Rattle.mqb_world.specs.Disks.{FaultsGo, IsToldSo, failures_of}
 use Rattle.mqb_world.specs.Worlds.{WorldState, network_of}
 
 -- An event of one manager delivers no packet.
 none_of : (which : Which) (asked : Event) → IsOf which asked → (packets : List Packet) → packet_of packets (event_of asked) ≡ None
-none_of which (event.Queue m plan) is packets = refl
-none_of which (event.Commit m now ops) is packets = refl
-none_of which (event.Send m now recoverable parts) is packets = refl
-none_of which (event.Take m now place) is packets = refl
-none_of which (event.Purge m now place) is packets = refl
-none_of which (event.Tick m now) is packets = refl
-none_of which (event.Connect m now alpha beta) is packets = refl
-none_of which event.Disconnect is packets = refl
-none_of which (event.Pump m now) is packets = refl
-none_of which (event.Deliver k now) is packets = absurd is
-none_of which (event.Drop k) is packets = refl
-none_of which (event.Flow m now) is packets = refl
-none_of which (event.Resend m) is packets = refl
-none_of which (event.Arm m call mode) is packets = refl
-none_of which (event.Restart m pick) is packets = refl
-none_of which (event.Roll m count) is packets = refl
+none_of which (event.Deliver k now) is packets = absurd (none_some is.0)
+none_of which asked is packets = refl
 
 -- Which manager acts.
 pub acts_so : (asked : Event) → ((m : Which) (now alpha beta : ℕ) → asked ≡ event.Connect m now alpha beta → ⊥) → ((k now : ℕ) → asked ≡ event.Deliver k now → ⊥)
     → ((m : Which) (now : ℕ) → asked ≡ event.Flow m now → ⊥) → IsOf (actor asked) asked
-acts_so (event.Queue m plan) c d f = refl
-acts_so (event.Commit m now ops) c d f = refl
-acts_so (event.Send m now recoverable parts) c d f = refl
-acts_so (event.Take m now place) c d f = refl
-acts_so (event.Purge m now place) c d f = refl
-acts_so (event.Tick m now) c d f = refl
 acts_so (event.Connect m now alpha beta) c d f = absurd (c m now alpha beta refl)
 acts_so event.Disconnect c d f = tt
 acts_so (event.Pump m now) c d f = refl
@@ -74,7 +56,7 @@ acts_so (event.Flow m now) c d f = absurd (f m now refl)
 acts_so (event.Resend m) c d f = refl
 acts_so (event.Arm m call mode) c d f = refl
 acts_so (event.Restart m pick) c d f = refl
-acts_so (event.Roll m count) c d f = refl
+acts_so asked c d f = (refl, refl)
 
 -- What is told of a disk in a flow or a delivery.
 faults_as : (asked : Event) (stopped : Bool) → ((how : Failure) → how ≡ failure_of (how_by stopped) → IsToldSo asked stopped how) → (before after : ℕ) (hows : List Failure)

@@ -1,5 +1,5 @@
 -- The events of one manager alone, and those that call none.
-use Rattle.std.specs.Prelude.{◌≡◌, Bool, List, None, Option, Result, map, ℕ}
+use Rattle.std.specs.Prelude.{◌≡◌, Bool, IsSome, List, None, Option, Result, map, ℕ}
 use Rattle.mqb_outside.specs.Disk.{View}
 use Rattle.mqb_deliveries.specs.Steps.{FallsShort, IsStep}
 use Rattle.mqb_moves.specs.Holding.{StaysStored}
@@ -19,18 +19,12 @@ use Rattle.mqb_transcript.specs.declared.replies.Reply.{Reply}
 use Rattle.mqb_turns.specs.Sides.{Side, network_at}
 use Rattle.mqb_turns.specs.Starts.{records_of}
 use Rattle.mqb_world.specs.Disks.{FaultsGo, RecordsGo, failures_alone, failures_told, switching}
+use Rattle.mqb_runs.specs.Requests.{actor, request_of}
 use Rattle.mqb_world.specs.Worlds.{WorldState, network_of}
 
--- an event is one call of this manager with its disk
+-- an event is a request of this manager
 abbrev pub IsCallOf : Which → Event → Type 0
-IsCallOf which (event.Queue manager plan) = manager ≡ which
-IsCallOf which (event.Commit manager now ops) = manager ≡ which
-IsCallOf which (event.Send manager now recoverable parts) = manager ≡ which
-IsCallOf which (event.Take manager now place) = manager ≡ which
-IsCallOf which (event.Purge manager now place) = manager ≡ which
-IsCallOf which (event.Tick manager now) = manager ≡ which
-IsCallOf which (event.Roll manager count) = manager ≡ which
-IsCallOf which _ = ⊥
+IsCallOf which e = IsSome (request_of e) × (actor e ≡ which)
 
 -- it is of this manager alone, or of none
 abbrev pub IsOf : Which → Event → Type 0
@@ -41,21 +35,6 @@ IsOf which (event.Pump manager now) = manager ≡ which
 IsOf which (event.Arm manager call mode) = manager ≡ which
 IsOf which (event.Restart manager pick) = manager ≡ which
 IsOf which e = IsCallOf which e
-
--- the manager that acts in an event, or alpha where none does
-abbrev pub actor : Event → Which
-actor (event.Queue manager plan) = manager
-actor (event.Commit manager now ops) = manager
-actor (event.Send manager now recoverable parts) = manager
-actor (event.Take manager now place) = manager
-actor (event.Purge manager now place) = manager
-actor (event.Tick manager now) = manager
-actor (event.Resend manager) = manager
-actor (event.Pump manager now) = manager
-actor (event.Arm manager call mode) = manager
-actor (event.Restart manager pick) = manager
-actor (event.Roll manager count) = manager
-actor _ = Alpha
 
 -- What it makes of the two managers, the medium and the disk.
 pub record IsActed (which : Which) (x y : Side) (d e : View) (stopped : Bool) (asked : Event) (strings strings_now : List (List ℕ)) (given : Reply) : Type 0 where

@@ -1,5 +1,5 @@
 -- What becomes of the disk of a manager in an event.
-use Rattle.std.specs.Prelude.{[], ◌∷◌, ◌≡◌, Bool, List, Option, Some, false, if◌then◌else◌, true, ℕ}
+use Rattle.std.specs.Prelude.{[], ◌&&◌, ◌∷◌, ◌≡◌, Bool, List, Option, Some, false, if◌then◌else◌, is_some, true, ℕ}
 use Rattle.mqb_deliveries.specs.Failing.{failures_in, is_for}
 use Rattle.mqb_outside.specs.Disk.{Counted, Switch, View}
 use Rattle.mqb_outside.specs.declared.power.Mode.{Mode}
@@ -17,6 +17,7 @@ use Rattle.mqb_traffic.specs.Networks.{index_of}
 use Rattle.mqb_transcript.specs.declared.replies.Reply.{Reply}
 use Rattle.mqb_transcript.specs.declared.replies.Reply.TheVariants as reply
 use Rattle.mqb_turns.specs.Starts.{IsToldByRecords}
+use Rattle.mqb_runs.specs.Requests.{actor, request_of}
 
 -- one manager is the other one, or itself
 abbrev pub is_same : Which → Which → Bool
@@ -66,16 +67,9 @@ failures_of _ = []
 
 -- an event is one of this manager alone that may call its disk
 abbrev pub calls_disk_of : Which → Event → Bool
-calls_disk_of which (event.Queue manager plan) = is_same which manager
-calls_disk_of which (event.Commit manager now ops) = is_same which manager
-calls_disk_of which (event.Send manager now recoverable parts) = is_same which manager
-calls_disk_of which (event.Take manager now place) = is_same which manager
-calls_disk_of which (event.Purge manager now place) = is_same which manager
-calls_disk_of which (event.Tick manager now) = is_same which manager
 calls_disk_of which (event.Pump manager now) = is_same which manager
 calls_disk_of which (event.Restart manager pick) = is_same which manager
-calls_disk_of which (event.Roll manager count) = is_same which manager
-calls_disk_of which _ = false
+calls_disk_of which e = is_some (request_of e) && is_same which (actor e)
 
 -- how the disk of a manager failed in an event of one manager
 abbrev pub failures_alone : Which → Event → Reply → List Failure

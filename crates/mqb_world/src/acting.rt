@@ -1,29 +1,31 @@
 //! The events of one manager with its disk, and those that call none.
-ghost use Rattle.std.specs.Prelude.{◌≡◌, ◌≢◌, Err, IfOk, None, false, is_some, length, true};
+ghost use Rattle.std.specs.Option.{option_map};
+ghost use Rattle.std.specs.Prelude.{◌≡◌, Err, IfOk, None, false, is_some, length, true};
 ghost use Rattle.mqb_deliveries.specs.Steps.{FallsShort};
 ghost use Rattle.mqb_model.specs.managers.Manager.{is_down};
 ghost use Rattle.mqb_moves.specs.Holding.{StaysStored};
 ghost use Rattle.mqb_moves.specs.Seats.{IsHeldOn, seated};
 ghost use Rattle.mqb_network.specs.Choices.{Well};
 ghost use Rattle.mqb_posts.specs.Posting.{IsWithin};
+ghost use Rattle.mqb_replies.specs.Requests.{seen_request};
 ghost use Rattle.mqb_runs.specs.Events.{event_of};
 ghost use Rattle.mqb_script.specs.Formed.{IsFormed};
 ghost use Rattle.mqb_seats.specs.Lasting.{Lasts};
 ghost use Rattle.mqb_turns.specs.Sides.{network_at, side};
 ghost use Rattle.mqb_turns.specs.Turns.{IsQuiet, IsTurn, answers_to};
-ghost use Rattle.mqb_world.specs.Acting.{IsActed, IsCallOf, IsOf, actor};
+ghost use Rattle.mqb_world.specs.Acting.{IsActed, IsCallOf, IsOf};
 ghost use Rattle.mqb_world.specs.Disks.{StaysAsLeft, SwitchGoes, switching};
+ghost use Rattle.mqb_runs.specs.Requests.{actor, request_of};
 
 use mqb_base::Memory;
 use mqb_outside::{Medium, Power};
 use mqb_posts::PostFault;
+use mqb_replies::Request;
 use mqb_script::{Event, Which};
 use mqb_seats::Seat;
 use mqb_traffic::Traffic;
 use mqb_transcript::Reply;
-use mqb_turns::{
-    commit, disconnect, drop_packet, pump, purge, queue, resend, restart, roll, send, take, tick,
-};
+use mqb_turns::{ask, disconnect, drop_packet, pump, resend, restart};
 
 /// The manager that acts in an event, or alpha where none does.
 pub(crate) fn actor(event: &Event) -> Which
@@ -45,7 +47,47 @@ pub(crate) fn actor(event: &Event) -> Which
     }
 }
 
-/// An event that is one call of this manager.
+/// The request that an event is, where it is one.
+fn request_of(event: &Event) -> Option<Request<'_>>
+    ensures { option_map seen_request result ≡ request_of event.now }
+{
+    match event {
+        Event::Queue { manager: _, plan } => Some(Request::CreateQueue(plan)),
+        Event::Commit {
+            manager: _,
+            now,
+            ops,
+        } => Some(Request::Commit {
+            now: *now,
+            ops: ops.as_slice(),
+        }),
+        Event::Send {
+            manager: _,
+            now,
+            recoverable,
+            draft,
+        } => Some(Request::Send {
+            now: *now,
+            recoverable: *recoverable,
+            draft,
+        }),
+        Event::Take {
+            manager: _,
+            now,
+            place,
+        } => Some(Request::Take { now: *now, place }),
+        Event::Purge {
+            manager: _,
+            now,
+            place,
+        } => Some(Request::Purge { now: *now, place }),
+        Event::Tick { manager: _, now } => Some(Request::Tick { now: *now }),
+        Event::Roll { manager: _, count } => Some(Request::SetRoll(*count)),
+        _ => None,
+    }
+}
+
+/// An event that is a request of this manager.
 fn call_own<P: Power>(
     own: &mut Seat,
     other: &mut Seat,
@@ -65,32 +107,9 @@ fn call_own<P: Power>(
     ensures lasts { Lasts (P.view disk.old) (P.view disk.new) own.old own.new }
     ensures beside { StaysStored other.old other.new }
 {
-    match event {
-        Event::Queue { manager: _, plan } => queue(own, other, traffic, which, disk, plan),
-        Event::Roll { manager: _, count } => roll(own, other, traffic, which, disk, *count),
-        Event::Commit {
-            manager: _,
-            now,
-            ops,
-        } => commit(own, other, traffic, which, disk, ops.as_slice(), *now),
-        Event::Send {
-            manager: _,
-            now,
-            recoverable,
-            draft,
-        } => send(own, other, traffic, which, disk, draft, *recoverable, *now),
-        Event::Take {
-            manager: _,
-            now,
-            place,
-        } => take(own, other, traffic, which, disk, place, *now),
-        Event::Purge {
-            manager: _,
-            now,
-            place,
-        } => purge(own, other, traffic, which, disk, place, *now),
-        Event::Tick { manager: _, now } => tick(own, other, traffic, which, disk, *now),
-        _ => unreachable!(),
+    match request_of(event) {
+        Some(request) => ask(own, other, traffic, which, disk, request),
+        None => unreachable!(),
     }
 }
 

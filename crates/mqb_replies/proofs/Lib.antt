@@ -1,0 +1,3 @@
+pub mod Definitions
+mod Making
+mod Sayings
