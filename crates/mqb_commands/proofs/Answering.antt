@@ -215,20 +215,7 @@ module _ (asked : Call) (now : ℕ) (d f e : View) (kept : Type 0) (m n : Manage
 -- Where a disk fault comes from.
 pub has_cause : (before after : ℕ) (r : Status) → (r ≡ status.DiskFault → Rose before after) → DiskFaultHasCause before after r
 has_cause before after status.DiskFault rose = rose refl
-has_cause before after status.Done rose = tt
-has_cause before after status.Usage rose = tt
-has_cause before after (status.Script line kind) rose = tt
-has_cause before after status.TooLong rose = tt
-has_cause before after status.TooManyLines rose = tt
-has_cause before after status.ReadFault rose = tt
-has_cause before after status.WriteFault rose = tt
-has_cause before after status.NetFault rose = tt
-has_cause before after (status.BadStore at) rose = tt
-has_cause before after status.NotEmpty rose = tt
-has_cause before after (status.Peer why) rose = tt
-has_cause before after status.NetFull rose = tt
-has_cause before after status.Memory rose = tt
-has_cause before after status.Refused rose = tt
+has_cause before after r rose = tt
 
 pub fails_cause : (d e : View) (text : List ℕ) (r : Status) → FailsToOpen d e text r → DiskFaultHasCause d.faults e.faults r
 fails_cause d e text r fails = has_cause d.faults e.faults r (λ is. (subst (IsNotOpened d e) is fails.0).0)
@@ -243,18 +230,5 @@ rose_cause before after r rose = has_cause before after r (λ is. rose)
 -- a fault of opening is told
 pub opening_is_told : (before after : ℕ) (fault r : Status) (text : List ℕ) → cond (is_disk_fault fault) (Rose before after) (after ≡ before) → IsFaultLine fault text r
     → TellsFaults before after text r
-opening_is_told before after status.Done r text cause line = inl cause
-opening_is_told before after status.Usage r text cause line = inl cause
-opening_is_told before after (status.Script at kind) r text cause line = inl cause
-opening_is_told before after status.TooLong r text cause line = inl cause
-opening_is_told before after status.TooManyLines r text cause line = inl cause
-opening_is_told before after status.ReadFault r text cause line = inl cause
-opening_is_told before after status.WriteFault r text cause line = inl cause
 opening_is_told before after status.DiskFault r text cause line = inr line
-opening_is_told before after status.NetFault r text cause line = inl cause
-opening_is_told before after (status.BadStore at) r text cause line = inl cause
-opening_is_told before after status.NotEmpty r text cause line = inl cause
-opening_is_told before after (status.Peer why) r text cause line = inl cause
-opening_is_told before after status.NetFull r text cause line = inl cause
-opening_is_told before after status.Memory r text cause line = inl cause
-opening_is_told before after status.Refused r text cause line = inl cause
+opening_is_told before after fault r text cause line = inl cause

@@ -251,13 +251,9 @@ behind_then : (place other : ℕ) (rest x y z : List ℕ) (a b c : Option (List 
     → StopsBehind place rest y b c why → StopsBehind other rest z a c why
 behind_then place other rest x y z a b c (fault.Peer (peer.Bad at why)) same lines first second =
     (second.0 ∙ same, subst (λ (p : ℕ). BeginsBad p rest why) same second.1, subst (Took a c) lines (took_then a b c x y first second.2))
-behind_then place other rest x y z a b c (fault.Peer peer.PeerClosed) same lines first second = absurd second
-behind_then place other rest x y z a b c (fault.Peer (peer.Closed cause)) same lines first second = absurd second
-behind_then place other rest x y z a b c (fault.Peer peer.Spent) same lines first second = absurd second
-behind_then place other rest x y z a b c (fault.Peer peer.TooMuch) same lines first second = absurd second
-behind_then place other rest x y z a b c fault.ReadFault same lines first second = absurd second
 behind_then place other rest x y z a b c fault.WriteFault same lines first second = subst (TookFront a c) lines (front_then a b c x y first second)
 behind_then place other rest x y z a b c fault.Memory same lines first second = subst (TookFront a c) lines (front_then a b c x y first second)
+behind_then place other rest x y z a b c why same lines first second = absurd second
 
 pub stops_then : (f g : Framing) (bytes middle : List ℕ) (a b c : Option (List ℕ)) (why : ShowFault) → GoesOn f g bytes middle a b → Stops g middle b c why
     → Stops f bytes a c why
@@ -305,11 +301,6 @@ frame_stops f unread a b (fault.Peer (peer.Bad at kind)) is whole shown =
         subst (λ (o : Option (List ℕ)). Took a o []) (sym shown.2) (took_none a),
       );
     }
-frame_stops f unread a b (fault.Peer peer.PeerClosed) is whole shown = absurd shown
-frame_stops f unread a b (fault.Peer (peer.Closed cause)) is whole shown = absurd shown
-frame_stops f unread a b (fault.Peer peer.Spent) is whole shown = absurd shown
-frame_stops f unread a b (fault.Peer peer.TooMuch) is whole shown = absurd shown
-frame_stops f unread a b fault.ReadFault is whole shown = absurd shown
 frame_stops f unread a b fault.WriteFault is whole shown =
     let none : (f.held ++ []) ≡ f.held = append-nil f.held in
     record {
@@ -324,6 +315,7 @@ frame_stops f unread a b fault.Memory is whole shown = record {
   cut = record { whole = refl; each = tt };
   stops = front_same a b [] shown;
 }
+frame_stops f unread a b why is whole shown = absurd shown
 
 -- the bytes of a framer's packet and those that are unread are those that were there, less the packets
 pub goes_count : (f g : Framing) (bytes unread : List ℕ) (a b : Option (List ℕ)) → GoesOn f g bytes unread a b

@@ -150,13 +150,9 @@ by_stop : (place other : ℕ) (rest lines : List ℕ) (left before after : Optio
     → EndsWith other rest lines left before after (Err why)
 by_stop place other rest lines left before after (fault.Peer (peer.Bad at why)) same stops =
     ((stops.0 ∙ same, subst (λ (p : ℕ). BeginsBad p rest why) same stops.1), stops.2)
-by_stop place other rest lines left before after (fault.Peer peer.PeerClosed) same stops = absurd stops
-by_stop place other rest lines left before after (fault.Peer (peer.Closed cause)) same stops = absurd stops
-by_stop place other rest lines left before after (fault.Peer peer.Spent) same stops = absurd stops
-by_stop place other rest lines left before after (fault.Peer peer.TooMuch) same stops = absurd stops
-by_stop place other rest lines left before after fault.ReadFault same stops = absurd stops
 by_stop place other rest lines left before after fault.WriteFault same stops = stops
 by_stop place other rest lines left before after fault.Memory same stops = stops
+by_stop place other rest lines left before after why same stops = absurd stops
 
 pub ends_by_stop : (held left later before after then : Option (List ℕ)) (f : Framing) (count : ℕ) (piece : List ℕ) (why : ShowFault) → SoFar held left before after f count
     → Gave left later piece → count + length piece ≤ MAX_READ → Stops f piece after then why → ShowsAll held later before then (Err why)

@@ -13,17 +13,12 @@ use Rattle.mqb_replay.specs.declared.faults.ReplayFault.TheVariants as fault
 -- what ends a world is none
 pub world_cause : (f : WorldFault) (n : ℕ) → WriteCause n n (Err (world_fault f))
 world_cause world.NotEmpty n = refl
-world_cause world.DiskFault n = refl
-world_cause world.NetFull n = refl
-world_cause world.Memory n = refl
+world_cause f n = refl
 
 -- nor is a fault of the input
 pub script_cause : (f : ScriptFault) (n : ℕ) → WriteCause n n (Err (script_fault f))
 script_cause (script.Line number kind) n = refl
-script_cause script.TooLong n = refl
-script_cause script.TooManyLines n = refl
-script_cause script.ReadFault n = refl
-script_cause script.Memory n = refl
+script_cause f n = refl
 
 -- what was done before raised no count
 pub cause_then : (a b c : ℕ) (r : Result (Unit {0}) ReplayFault) → b ≡ a → WriteCause b c r → WriteCause a c r

@@ -42,13 +42,9 @@ not_read held rest b taken f reads = (reads.text, reads.gave, unread reads.text 
 -- a script was played
 ends_by : (text : List ℕ) (rest : Option (List ℕ)) (b a : Devices) (before after : Option (List ℕ)) (lines : List (ℕ × Event)) (r : Result (Unit {0}) ReplayFault)
     → IsScript text rest lines → Begins (PlaysWhole lines) b a before after r → Ends text rest b a before after r
-ends_by text rest b a before after lines (Ok done) is plays = (lines, is, plays)
-ends_by text rest b a before after lines (Err fault.WriteFault) is plays = (lines, is, plays)
-ends_by text rest b a before after lines (Err fault.NetFull) is plays = (lines, is, plays)
-ends_by text rest b a before after lines (Err fault.NotEmpty) is plays = (lines, is, plays)
-ends_by text rest b a before after lines (Err fault.DiskFault) is plays = (lines, is, plays)
 ends_by text rest b a before after lines (Err fault.Memory) is plays = inr (lines, is, plays)
 ends_by text rest b a before after lines (Err f) is plays = absurd plays.1
+ends_by text rest b a before after lines r is plays = (lines, is, plays)
 
 pub was_read : (held rest : Option (List ℕ)) (b a : Devices) (before after : Option (List ℕ)) (lines : List (ℕ × Event)) (r : Result (Unit {0}) ReplayFault) → ReadsScript held rest (Ok lines)
     → Begins (PlaysWhole lines) b a before after r → EndsSo held rest b a before after r
@@ -92,11 +88,8 @@ err_one : (f g : ReplayFault) → ◌≡◌ {A = Result (Unit {0}) ReplayFault} 
 err_one f g is = cc
 
 read_is : (f : ScriptFault) → script_fault f ≡ fault.ReadFault → f ≡ script.ReadFault
-read_is (script.Line number kind) is = absurd (let none : ⊥ = cc in none)
-read_is script.TooLong is = absurd (let none : ⊥ = cc in none)
-read_is script.TooManyLines is = absurd (let none : ⊥ = cc in none)
 read_is script.ReadFault is = refl
-read_is script.Memory is = absurd (let none : ⊥ = cc in none)
+read_is f is = absurd (let none : ⊥ = cc in none)
 
 -- the input failed where that is told
 pub read_cause : (f : ScriptFault) (a b : ℕ) → ReadCause a b (Err f) → ◌≡◌ {A = Result (Unit {0}) ReplayFault} (Err (script_fault f)) (Err fault.ReadFault) → Rose a b

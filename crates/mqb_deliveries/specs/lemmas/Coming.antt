@@ -147,9 +147,7 @@ never_below a below = let not : nat_lt a 0 ≡ false = grind (arith, nat_tests) 
 only_well : (l : Choice) → may_fail 0 l ≡ true → l ≡ Well
 only_well Well may = refl
 only_well (Fails a how) may = absurd (never_below a may)
-only_well Kept may = absurd (let no : ⊥ = cc in no)
-only_well Lost may = absurd (let no : ⊥ = cc in no)
-only_well Unread may = absurd (let no : ⊥ = cc in no)
+only_well l may = absurd (let no : ⊥ = cc in no)
 
 module _ (n n_now : Network) (i now : ℕ) (strings strings_now : List (List ℕ)) (given : Reply) (step : IsStep n None (Flow i now) n_now strings strings_now given)
     (quiet : (flow i now Well (course_from n)).after.written ≡ []) where
@@ -229,11 +227,9 @@ all_well now t [] well = well
 all_well now t (x ∷ given) well = all_well now (passed_on now t x) given (well_on now t x well)
 
 refused_tells : (notes : List Note) (i q : ℕ) (why : PumpFault) (given : Reply) → told (network.NotPumped why) ≡ Ok given → failures_in notes i q given ≡ []
-refused_tells notes i q pump_fault.Down given is = ap (failures_in notes i q) (sym (oks is))
-refused_tells notes i q pump_fault.NotLinked given is = ap (failures_in notes i q) (sym (oks is))
-refused_tells notes i q pump_fault.Spent given is = ap (failures_in notes i q) (sym (oks is))
 refused_tells notes i q pump_fault.Memory given is = absurd (let no : ⊥ = cc in no)
 refused_tells notes i q pump_fault.DiskFault given is = absurd (let no : ⊥ = cc in no)
+refused_tells notes i q why given is = ap (failures_in notes i q) (sym (oks is))
 
 pub flow_tells_none : (n : Network) (i now : ℕ) (given : Reply) → told (flow i now Well (course_from n)).reply ≡ Ok given
     → (notes : List Note) (q : ℕ) → failures_in notes i q given ≡ []

@@ -165,10 +165,7 @@ module _ (n : Network) (note : Note) (k : ℕ) (p : Packet) (now : ℕ) (is : nu
 
   left_is : (choice : Choice) → choice ≡ choice_behind choice idle_as
   left_is Well = refl
-  left_is (Fails b how) = refl
-  left_is Kept = refl
-  left_is Lost = refl
-  left_is Unread = refl
+  left_is choice = refl
 
   unheard_so : (choice : Choice) (sent : List Packet) (before : List Written) → delivered_at n k p now choice sent before ≡ unheard choice (course_in n sent before)
   unheard_so choice sent before = ap (λ (o : Option Note). option_map_or (λ y. passed y p now choice (course_in n sent before)) o (unheard choice (course_in n sent before))) is
@@ -205,9 +202,7 @@ never_underway n note is none = at note.dropped (sym (ap (λ (cs : List Connecti
 
 reply_so : (delivery : Delivery) → told (delivery_reply delivery) ≡ Ok (outcome_reply (outcome_of delivery))
 reply_so network.Gone = refl
-reply_so (network.Heard heard lines) = refl
-reply_so (network.Unheard Stopped) = refl
-reply_so (network.Unheard Failed) = refl
+reply_so delivery = refl
 
 module _ (n n_now : Network) (k : ℕ) (p : Packet) (now : ℕ) (given : Outcome) (strings : List (List ℕ)) (within : IsWithin strings) (some : IsSome (numbered n.notes k))
     (one : Delivers n n_now k p now given) where

@@ -85,23 +85,16 @@ works_by o false is (Fails x how) fails = (
     at : (c : Bool) → cond (c && false) (Some how) None ≡ None
     at true = refl
     at false = refl
-works_by o b is Kept fails = absurd fails
-works_by o b is Lost fails = absurd fails
-works_by o b is Unread fails = absurd fails
+works_by o b is x fails = absurd fails
 
 later_twice : (s t : ℕ) (l : Choice) → later (s + t) l ≡ later s (later t l)
 later_twice s t (Fails x how) = ap (λ (k : ℕ). Fails k how) (omega arith)
-later_twice s t Well = refl
-later_twice s t Kept = refl
-later_twice s t Lost = refl
-later_twice s t Unread = refl
+later_twice s t l = refl
 
 still_failing : (t : ℕ) (l : Choice) → IsFailing l → IsFailing (later t l)
 still_failing t Well fails = tt
 still_failing t (Fails x how) fails = tt
-still_failing t Kept fails = fails
-still_failing t Lost fails = fails
-still_failing t Unread fails = fails
+still_failing t l fails = fails
 
 module _ (c : Course) (now : ℕ) (given : List (ℕ × Packet)) (arrivals : List Arrival) (n n_now : Network) (flown : Flown c now given arrivals n) (k : ℕ) (p : Packet) (outcome : Outcome)
     (one : Delivers n n_now k p now outcome) where
@@ -254,10 +247,7 @@ flown_none c now = record {
   where
     never_later : (l : Choice) → later 0 l ≡ l
     never_later (Fails x how) = ap (λ (k : ℕ). Fails k how) (omega arith)
-    never_later Well = refl
-    never_later Kept = refl
-    never_later Lost = refl
-    never_later Unread = refl
+    never_later l = refl
 
 -- Packets that were ever sent, by their numbers.
 
