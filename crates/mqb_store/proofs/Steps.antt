@@ -24,11 +24,8 @@ use Rattle.mqb_store_laws.specs.Settling.{OnlySettles}
 
 -- the place that a fault tells
 place_in : {T : Type 0} → Result T OpenFault → ℕ
-place_in (Ok x) = 0
-place_in (Err opening.NotEmpty) = 0
 place_in (Err (opening.BadStore at)) = at
-place_in (Err opening.Memory) = 0
-place_in (Err opening.DiskFault) = 0
+place_in x = 0
 
 pub same_place : {T : Type 0} (at other : ℕ) → ◌≡◌ {A = Result T OpenFault} (Err (opening.BadStore at)) (Err (opening.BadStore other)) → at ≡ other
 unfolding place_in
@@ -102,10 +99,8 @@ unfolding fault_in
 same_fault {T} a b is = ap (fault_in {T = T}) is
 
 is_bad_place : OpenFault → Bool
-is_bad_place opening.NotEmpty = false
 is_bad_place (opening.BadStore at) = true
-is_bad_place opening.Memory = false
-is_bad_place opening.DiskFault = false
+is_bad_place x = false
 
 fault_place : OpenFault → ℕ
 fault_place fault = place_in {T = ℕ} (Err fault)
