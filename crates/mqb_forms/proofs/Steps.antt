@@ -42,7 +42,7 @@ stopped before kind word words is = rw is refl
 
 added : (whole : Result (List Op) LineKind) (place : ℕ) (words : List (Bor (List ℕ))) (before after : List Op) (d : Bor (List ℕ)) (read : Result Op LineKind)
     → IsReadTo whole place words before → place < length words → op_of (get_or words place d).now ≡ read
-    → behind before read ≡ Ok after → IsReadTo whole (place + 1) words after
+    → behind (λ op. op) before read ≡ Ok after → IsReadTo whole (place + 1) words after
 added whole place words before after d (Ok op) read within is more =
     let same : before ++ op ∷ [] ≡ after = cc in
     rw (← same) (read ∙ at_drop_more (λ rest. before_ops before (ops_of (map (λ word. word.now) rest))) words place d within
@@ -50,7 +50,7 @@ added whole place words before after d (Ok op) read within is more =
 added whole place words before after d (Err kind) read within is more = absurd cc
 
 pub ops_more : (whole : Result (List Op) LineKind) (place : ℕ) (words : List (Bor (List ℕ))) (before after : List Op) (d : Bor (List ℕ))
-    → IsReadTo whole place words before → place < length words → behind before (op_of (get_or words place d).now) ≡ Ok after
+    → IsReadTo whole place words before → place < length words → behind (λ op. op) before (op_of (get_or words place d).now) ≡ Ok after
     → IsReadTo whole (place + 1) words after
 ops_more whole place words before after d read within more = added whole place words before after d (op_of (get_or words place d).now) read within refl more
 

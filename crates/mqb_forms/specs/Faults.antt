@@ -17,10 +17,10 @@ IsFaultOf read fault = (kind : LineKind) → fault ≡ Faulty kind → read ≡ 
 abbrev pub Reads : {T : Type 0} → Result T LineKind → Result T LineFault → Type 0
 Reads read r = IfOk r (λ x. read ≡ Ok x) × IfErr r (IsFaultOf read)
 
--- what was read, behind what was read before it
-abbrev pub behind : {T : Type 0} → List T → Result T LineKind → Result (List T) LineKind
-behind before read = read >>= λ x. Ok (before ++ x ∷ [])
+-- the item of what was read, behind what was read before it
+abbrev pub behind : {S T : Type 0} → (S → T) → List T → Result S LineKind → Result (List T) LineKind
+behind item before read = read >>= λ x. Ok (before ++ item x ∷ [])
 
--- A call adds what the definition reads, or wants memory.
-abbrev pub Adds : {T : Type 0} → Result T LineKind → (before after : List T) → Result (Unit {0}) LineFault → Type 0
-Adds read before after r = OnOk r (behind before read ≡ Ok after) × IfErr r (IsFaultOf read)
+-- A call adds the item of what the definition reads, or wants memory.
+abbrev pub Adds : {S T : Type 0} → (S → T) → Result S LineKind → (before after : List T) → Result (Unit {0}) LineFault → Type 0
+Adds item read before after r = OnOk r (behind item before read ≡ Ok after) × IfErr r (IsFaultOf read)

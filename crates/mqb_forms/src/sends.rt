@@ -259,7 +259,8 @@ fn take_from(alloc: Global, fields: &[&[u8]]) -> Result<Op, LineFault>
 /// Adds the step that the fields of a word are.
 #[tactic(auto, unfolding(crate::specs::Sends::op_from))]
 fn add_from(ops: &mut Ops, alloc: Global, fields: &[&[u8]]) -> Result<(), LineFault>
-    ensures { Adds (op_from (map (λ field. field.now) fields.now)) ops.old ops.new result }
+    ensures { Adds (λ op. op) (op_from (map (λ field. field.now) fields.now))
+        ops.old ops.new result }
 {
     match fields {
         [word, rest @ ..] if is_word(word, b"take") => ops.push(take_from(alloc, rest)?)?,
@@ -271,7 +272,7 @@ fn add_from(ops: &mut Ops, alloc: Global, fields: &[&[u8]]) -> Result<(), LineFa
 /// Adds the step that a word of any number of fields is.
 #[tactic(auto, unfolding(crate::specs::Sends::op_of))]
 fn add_long(ops: &mut Ops, alloc: Global, word: &[u8]) -> Result<(), LineFault>
-    ensures { Adds (op_of word.now) ops.old ops.new result }
+    ensures { Adds (λ op. op) (op_of word.now) ops.old ops.new result }
 {
     let fields = parts(alloc, word, b',')?;
     add_from(ops, alloc, fields.as_slice())
@@ -280,7 +281,7 @@ fn add_long(ops: &mut Ops, alloc: Global, word: &[u8]) -> Result<(), LineFault>
 /// Adds the step that a word is.
 #[tactic(auto, unfolding(crate::specs::Sends::op_of))]
 fn add_op(ops: &mut Ops, alloc: Global, word: &[u8]) -> Result<(), LineFault>
-    ensures { Adds (op_of word.now) ops.old ops.new result }
+    ensures { Adds (λ op. op) (op_of word.now) ops.old ops.new result }
 {
     let mut room = [word; FEW];
     match few_parts(word, b',', &mut room) {

@@ -7,12 +7,13 @@ use Rattle.std.proofs.lemmas.List.Splits.{length-slice_split}
 use Rattle.mqb_outside.specs.Told.{Gave}
 use Rattle.mqb_fields.specs.Reading.{◌>>=◌}
 use Rattle.mqb_forms.specs.declared.faults.LineKind.{LineKind}
+use Rattle.mqb_forms.specs.Faults.{behind}
 use Rattle.mqb_script.specs.declared.faults.ScriptFault.{ScriptFault}
 use Rattle.mqb_script.specs.declared.faults.ScriptFault.TheVariants as fault
 use Rattle.mqb_script.specs.declared.events.Event.{Event}
 use Rattle.mqb_script.specs.Script.{lines_of, numbered, script_from}
 use Rattle.mqb_script.specs.Lines.{is_skipped, event_of}
-use Rattle.mqb_script.specs.Reading.{begun, behind, line_count, in_front, ReadsLine, IsScriptFault}
+use Rattle.mqb_script.specs.Reading.{begun, line_count, in_front, ReadsLine, IsScriptFault}
 
 pub in_front_nothing : (r : Result (List (ℕ × Event)) (ℕ × LineKind)) → r ≡ in_front [] r
 in_front_nothing (Ok more) = refl
@@ -27,7 +28,7 @@ pub skipped_line : (n : ℕ) (line : List ℕ) (before : List (ℕ × Event)) �
 skipped_line n line before is rest = rw is refl
 
 added : (n : ℕ) (read : Result Event LineKind) (before after : List (ℕ × Event)) (r : Result (List (ℕ × Event)) (ℕ × LineKind))
-    → behind before n read ≡ Ok after
+    → behind (λ event. (n, event)) before read ≡ Ok after
     → in_front before (numbered n read >>= λ event. r >>= λ events. Ok ((n, event) ∷ events)) ≡ in_front after r
 added n (Ok event) before after r is =
     let same : before ++ (n, event) ∷ [] ≡ after = cc in
@@ -35,7 +36,7 @@ added n (Ok event) before after r is =
 added n (Err kind) before after r is = absurd cc
 
 pub added_line : (n : ℕ) (line : List ℕ) (before after : List (ℕ × Event)) → is_skipped line ≡ false
-    → behind before n (event_of line) ≡ Ok after → ReadsLine n line before after
+    → behind (λ event. (n, event)) before (event_of line) ≡ Ok after → ReadsLine n line before after
 added_line n line before after kept is rest = rw kept (added n (event_of line) before after (script_from (n + 1) rest) is)
 
 faulty_line : (n : ℕ) (line : List ℕ) (first : ℕ × LineKind) (before : List (ℕ × Event)) (rest : List (List ℕ)) → is_skipped line ≡ false

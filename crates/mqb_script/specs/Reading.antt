@@ -1,10 +1,7 @@
-use Rattle.std.specs.Prelude.{◌≡◌, ℕ, ◌+◌, ◌<◌, ◌≤◌, List, [], ◌∷◌, ◌++◌, length, Option, Result, Ok, Err, IfSome, IfErr, OnOk}
+use Rattle.std.specs.Prelude.{◌≡◌, ℕ, ◌+◌, ◌<◌, ◌≤◌, List, [], ◌∷◌, ◌++◌, length, Option, Result, Ok, Err, IfSome}
 use Rattle.mqb_outside.specs.Told.{Gave}
 use Rattle.mqb_outside.specs.Faults.{Rose}
-use Rattle.mqb_fields.specs.Reading.{◌>>=◌}
 use Rattle.mqb_forms.specs.declared.faults.LineKind.{LineKind}
-use Rattle.mqb_forms.specs.declared.faults.LineFault.{LineFault}
-use Rattle.mqb_forms.specs.Faults.{IsFaultOf}
 use Rattle.mqb_script.specs.declared.faults.ScriptFault.{ScriptFault}
 use Rattle.mqb_script.specs.declared.faults.ScriptFault.TheVariants as fault
 use Rattle.mqb_script.specs.declared.events.Event.{Event}
@@ -81,11 +78,3 @@ in_front events (Err first) = Err first
 -- Line n was read behind the events of the lines before it.
 abbrev pub ReadsLine : ℕ → List ℕ → List (ℕ × Event) → List (ℕ × Event) → Type 0
 ReadsLine n line before after = (rest : List (List ℕ)) → in_front before (script_from n (line ∷ rest)) ≡ in_front after (script_from (n + 1) rest)
-
--- events, and behind them the one that was read, with the number of its line
-abbrev pub behind : List (ℕ × Event) → ℕ → Result Event LineKind → Result (List (ℕ × Event)) LineKind
-behind events n read = read >>= λ event. Ok (events ++ (n, event) ∷ [])
-
--- A call adds the event that the definition reads, or wants memory.
-abbrev pub Adds : ℕ → Result Event LineKind → (before after : List (ℕ × Event)) → Result (Unit {0}) LineFault → Type 0
-Adds n read before after r = OnOk r (behind before n read ≡ Ok after) × IfErr r (IsFaultOf read)

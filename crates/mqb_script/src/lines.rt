@@ -1,8 +1,7 @@
 ghost use Rattle.std.specs.Prelude.{◌≡◌, ◌≤◌, map, IfOk};
 ghost use Rattle.std.specs.List.{list_all};
-ghost use Rattle.mqb_forms.specs.Faults.{Reads};
+ghost use Rattle.mqb_forms.specs.Faults.{Adds, Reads};
 ghost use Rattle.mqb_forms.specs.Plans.{public_of, plan_of, how_of};
-ghost use Rattle.mqb_script.specs.Reading.{Adds};
 ghost use Rattle.mqb_script.specs.Lines.{words_of, is_skipped, is_printable, is_some_word, are_counted, event_of_words, event_of};
 ghost use Rattle.mqb_script.specs.Grammar.{at_of, queue_from, commit_from, sent_with, send_event, take_event, purge_from, tick_from, connect_from, disconnect_from, pump_from, deliver_from, drop_from, flow_from, resend_from, arm_from, restart_from, roll_from, event_from};
 
@@ -256,7 +255,7 @@ fn add_from(
     form: Form,
     words: &[&[u8]],
 ) -> Result<(), LineFault>
-    ensures { Adds number (event_from form (map (λ word. word.now) words.now))
+    ensures { Adds (λ event. (number, event)) (event_from form (map (λ word. word.now) words.now))
         script.old script.new result }
 {
     let event = match form {
@@ -306,7 +305,7 @@ fn add_words(
     number: u32,
     words: &[&[u8]],
 ) -> Result<(), LineFault>
-    ensures { Adds number (event_of_words (map (λ word. word.now) words.now))
+    ensures { Adds (λ event. (number, event)) (event_of_words (map (λ word. word.now) words.now))
         script.old script.new result }
 {
     let [word, words @ ..] = words else {
@@ -321,7 +320,8 @@ fn add_words(
 
 /// Adds the event of a line of any number of words.
 fn add_long(script: &mut Script, alloc: Global, number: u32, line: &[u8]) -> Result<(), LineFault>
-    ensures { Adds number (event_of_words (words_of line.now)) script.old script.new result }
+    ensures { Adds (λ event. (number, event)) (event_of_words (words_of line.now))
+        script.old script.new result }
 {
     let words = parts(alloc, line, b' ')?;
     add_words(script, alloc, number, words.as_slice())
@@ -345,7 +345,7 @@ pub(crate) fn add_event(
     number: u32,
     line: &[u8],
 ) -> Result<(), LineFault>
-    ensures { Adds number (event_of line.now) script.old script.new result }
+    ensures { Adds (λ event. (number, event)) (event_of line.now) script.old script.new result }
 {
     if !are_printable(line) {
         return Err(LineFault::Faulty(LineKind::Byte));
