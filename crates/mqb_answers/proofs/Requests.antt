@@ -1,7 +1,7 @@
 -- What is told of a request.
 use Rattle.std.proofs.Common.{◌≡◌, ◌+◌, ◌==◌, ℕ, Bool, true, false, cond, List, [], Option, None, Some, Result, Ok, Err, inl, inr, refl, sym, ap, subst, ◌∙◌, arith}
 use Rattle.std.specs.Option.{option_map_or}
-use Rattle.std.specs.Prelude.{IfSome, IsOk, is_ok}
+use Rattle.std.specs.Prelude.{IsOk, is_ok}
 use Rattle.mqb_answers.proofs.Telling.{IsTelling, is_told, unprinted}
 use Rattle.mqb_answers.specs.Calls.{IsTold, Tells}
 use Rattle.mqb_answers.specs.Outcomes.{asked_told}
@@ -19,7 +19,7 @@ use Rattle.mqb_model.specs.managers.Outcomes.{Outcome, lines_after}
 use Rattle.mqb_model.specs.records.Applying.{lines_of}
 use Rattle.mqb_model.specs.records.Record.{Record}
 use Rattle.mqb_model.specs.state.State.{State}
-use Rattle.mqb_outside.specs.Disk.{Counted, View}
+use Rattle.mqb_outside.specs.Disk.{View}
 use Rattle.mqb_replies.specs.Asked.{IsAsked, RequestsAreReplied, faulted, faulting, told_as}
 use Rattle.mqb_replies.specs.Replies.{reply_of}
 use Rattle.mqb_replies.specs.Requests.{is_done}

@@ -1,25 +1,18 @@
 -- A call that is told is a call.
-use Rattle.std.proofs.Common.{refl, sym, ap, subst, inl, inr, ◌∙◌, arith}
-use Rattle.std.specs.Option.{option_map_or}
+use Rattle.std.proofs.Common.{refl, sym, ap, subst, inl, inr, ◌∙◌}
 use Rattle.std.specs.Result.{IsErrAnd, IsOkAnd}
-use Rattle.std.specs.Prelude.{[], ◌+◌, ◌==◌, ◌≡◌, Err, IfOk, IfSome, IsOk, List, None, Ok, OnErr, OnOk, Option, Result, Some, false, if◌then◌else◌, is_ok, true, ℕ}
+use Rattle.std.specs.Prelude.{◌≡◌, Err, IfOk, IfSome, List, None, Ok, OnErr, Result, ℕ}
 use Rattle.mqb_answers.specs.Calls.{IsPrinted, IsTold, Tells}
-use Rattle.mqb_answers.specs.Lines.{lines_since}
 use Rattle.mqb_answers.specs.Outcomes.{told_by}
-use Rattle.mqb_answers.specs.Told.{end_of}
 use Rattle.mqb_answers.specs.declared.told.CallEnd.{CallEnd}
 use Rattle.mqb_answers.specs.declared.told.CallEnd.TheVariants.{Done}
 use Rattle.mqb_answers.specs.declared.told.Told.{Told}
 use Rattle.mqb_answers.specs.Texts.{hosts_of}
 use Rattle.mqb_base.specs.declared.ids.Identity.{Identity}
-use Rattle.mqb_base.specs.declared.ledger.Line.{Line}
 use Rattle.mqb_outside.specs.Disk.{Counted, View}
 use Rattle.mqb_manager.specs.Calls.{Ends, IsCall}
-use Rattle.mqb_manager.specs.States.{ManagerState, manager_of}
-use Rattle.mqb_model.specs.managers.Outcomes.{Outcome, lines_after}
-use Rattle.mqb_model.specs.records.Applying.{lines_of}
-use Rattle.mqb_model.specs.records.Record.{Record}
-use Rattle.mqb_model.specs.state.State.{State}
+use Rattle.mqb_manager.specs.States.{ManagerState}
+use Rattle.mqb_model.specs.managers.Outcomes.{Outcome}
 use Rattle.mqb_replies.specs.declared.faults.AnswerFault.{AnswerFault}
 use Rattle.mqb_replies.specs.declared.faults.AnswerFault.TheVariants as fault
 

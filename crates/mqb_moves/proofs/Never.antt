@@ -1,42 +1,21 @@
 -- What the definitions of a manager's calls answer is never that the disk failed.
-use Rattle.std.proofs.Common.{◌≡◌, ◌≤◌, ◌+◌, ◌==◌, arith, ℕ, Bool, true, false, cond, List, [], ◌∷◌, Option, None, Some, Result, Ok, Err, length, ap}
-use Rattle.std.proofs.lemmas.Bool.Decides.{nat_tests}
-use Rattle.std.specs.Option.{option_map_or, option_or}
-use Rattle.std.specs.Prelude.{◌&&◌, IfSome, nat_le, nat_lt, slice_get}
-use Rattle.mqb_base.specs.declared.draft.Op.{Op}
-use Rattle.mqb_base.specs.declared.draft.Parts.{Parts}
+use Rattle.std.proofs.Common.{◌≡◌, ℕ, Bool, true, false, cond, List, [], ◌∷◌, Option, None, Some, Result, Ok, Err}
+use Rattle.std.specs.Option.{option_map_or}
+use Rattle.std.specs.Prelude.{IfSome, slice_get}
 use Rattle.mqb_base.specs.declared.heads.TxHead.{TxHead}
 use Rattle.mqb_base.specs.declared.ids.Guid.{Guid}
-use Rattle.mqb_base.specs.declared.message.Lane.{Lane}
-use Rattle.mqb_base.specs.declared.message.Lane.TheVariants as lane
-use Rattle.mqb_base.specs.declared.message.Message.{Message}
-use Rattle.mqb_base.specs.declared.queues.EntryPlace.{EntryPlace}
-use Rattle.mqb_base.specs.declared.queues.Place.{Place}
-use Rattle.mqb_base.specs.declared.queues.QueuePlan.{QueuePlan}
 use Rattle.mqb_fate.specs.Asking.{is_ordinary}
-use Rattle.mqb_fields.specs.Reading.{◌>>=◌}
 use Rattle.mqb_orders.specs.declared.judging.Verdict.{Verdict}
 use Rattle.mqb_orders.specs.declared.judging.Verdict.TheVariants as verdict
-use Rattle.mqb_packet.specs.declared.packet.Headers.TheVariants as headers
 use Rattle.mqb_packet.specs.declared.packet.Packet.{Packet}
 use Rattle.mqb_packet.specs.declared.packet.Packet.TheVariants as packet
 use Rattle.mqb_packet.specs.declared.packet.UserPacket.{UserPacket}
-use Rattle.mqb_queue.specs.Lists.{count}
-use Rattle.mqb_queue.specs.Places.{Queue, lists_at, numbered, place_named}
 use Rattle.mqb_session.specs.Phases.{owed_by}
 use Rattle.mqb_session.specs.Sending.{is_ready}
 use Rattle.mqb_session.specs.State as one_end
 use Rattle.mqb_session.specs.declared.heads.HeadHeard.{HeadHeard}
 use Rattle.mqb_session.specs.declared.heads.HeadHeard.TheVariants as head
 use Rattle.mqb_setup.specs.declared.internal.Internal.{Internal}
-use Rattle.mqb_model.specs.calls.Commit.{Trial, at_op, commit, commit_tried, has_too_large, ops_refusal, trial_of, try_op, try_ops, whole_refusal}
-use Rattle.mqb_model.specs.calls.CreateQueue.{create_queue, create_refusal}
-use Rattle.mqb_model.specs.calls.Messages.{plain_message}
-use Rattle.mqb_model.specs.calls.Purge.{purge, purge_at, purging}
-use Rattle.mqb_model.specs.calls.Send.{message_fault, queue_fault, send, send_message, send_refusal, sending, target_fault}
-use Rattle.mqb_model.specs.calls.SetRoll.{set_roll, store_refusal}
-use Rattle.mqb_model.specs.calls.Take.{first_in, take_at, take_message, take_position, taking}
-use Rattle.mqb_model.specs.calls.Tick.{tick}
 use Rattle.mqb_model.specs.calls.hear.Hear.{hear, hear_acknowledgement, hear_behind, hear_linked, hear_user, listening}
 use Rattle.mqb_model.specs.calls.hear.Plain.{hear_express, hear_final, hear_in_order, hear_message, hear_plain, hear_recoverable, hear_stored}
 use Rattle.mqb_model.specs.calls.hear.Session.{Listening, ack_heard, discarded, user_heard}
@@ -44,27 +23,11 @@ use Rattle.mqb_model.specs.calls.hear.Streams.{acknowledged_in, hear_in_stream, 
 use Rattle.mqb_model.specs.calls.pump.Candidates.{Candidate, candidates}
 use Rattle.mqb_model.specs.calls.pump.Choosing.{chosen}
 use Rattle.mqb_model.specs.calls.pump.Pump.{pump, pump_at, pump_linked, pump_owed, pump_ready, pump_to, pump_with, sending_ack, sending_chosen}
-use Rattle.mqb_model.specs.declared.faults.CommitFault.{CommitFault}
-use Rattle.mqb_model.specs.declared.faults.CommitFault.TheVariants as commits
-use Rattle.mqb_model.specs.declared.faults.CreateFault.TheVariants as creates
 use Rattle.mqb_model.specs.declared.faults.HearFault.TheVariants as hears
-use Rattle.mqb_model.specs.declared.faults.OpFault.{OpFault}
 use Rattle.mqb_model.specs.declared.faults.PumpFault.TheVariants as pumps
-use Rattle.mqb_model.specs.declared.faults.PurgeFault.TheVariants as purges
-use Rattle.mqb_model.specs.declared.faults.SendFault.TheVariants as sends
-use Rattle.mqb_model.specs.declared.faults.StoreFault.TheVariants as stores
-use Rattle.mqb_model.specs.declared.faults.TakeFault.TheVariants as takes
-use Rattle.mqb_model.specs.declared.limits.TheConstants.{MAX_NUMBER, MAX_OPS, MAX_QUEUES}
-use Rattle.mqb_model.specs.declared.target.Target.{Target}
-use Rattle.mqb_model.specs.declared.target.Target.TheVariants.{AtPeer, Here, Nowhere}
 use Rattle.mqb_model.specs.managers.Manager.{Manager, is_down, linked_peer}
 use Rattle.mqb_model.specs.managers.Outcomes.{Outcome, answering, unless}
-use Rattle.mqb_model.specs.records.Packets.{is_too_large}
-use Rattle.mqb_model.specs.records.Peer.{queue_there}
-use Rattle.mqb_model.specs.rules.Takes.{message_at}
-use Rattle.mqb_model.specs.state.Resolving.{resolved}
-use Rattle.mqb_model.specs.state.State.{State}
-use Rattle.mqb_moves.specs.Never.{DefinitionsDoNotFail, TransactionsHaveOps}
+use Rattle.mqb_moves.specs.Never.{DefinitionsDoNotFail}
 
 -- an outcome that does not answer this fault
 abbrev Never : {V E : Type 0} → E → Outcome (Result V E) → Type 0
@@ -96,122 +59,6 @@ maybe : {X V E : Type 0} (fault : E) (o : Option X) (f : X → Outcome (Result V
     → Never fault (option_map_or f o none)
 maybe fault None f none some nothing = nothing
 maybe fault (Some x) f none some nothing = some x
-
--- The calls that write one record.
-
-three_pass : {E : Type 0} (fault : E) (a b c : Bool) (f g h : E) → (f ≡ fault → ⊥) → (g ≡ fault → ⊥) → (h ≡ fault → ⊥)
-    → Differs fault (cond a (Some f) (cond b (Some g) (cond c (Some h) None)))
-three_pass fault a b c f g h not_f not_g not_h = first fault a f (cond b (Some g) (cond c (Some h) None)) not_f
-    (first fault b g (cond c (Some h) None) not_g (first fault c h None not_h tt))
-
-two_pass : {E : Type 0} (fault : E) (a b : Bool) (f g : E) → (f ≡ fault → ⊥) → (g ≡ fault → ⊥) → Differs fault (cond a (Some f) (cond b (Some g) None))
-two_pass fault a b f g not_f not_g = first fault a f (cond b (Some g) None) not_f (first fault b g None not_g tt)
-
-queues : (m : Manager) (given : QueuePlan) → Never creates.DiskFault (create_queue m given)
-queues m given = refused creates.DiskFault m (create_refusal m given) _
-    (three_pass creates.DiskFault (is_down m) (queue_there m.state given) (nat_le MAX_QUEUES (length m.state.places.queues)) creates.Down creates.QueueThere creates.TooManyQueues
-    (λ e. let none : ⊥ = cc in none) (λ e. let none : ⊥ = cc in none) (λ e. let none : ⊥ = cc in none))
-    (oks _ creates.DiskFault)
-
-rolls : (m : Manager) (count : ℕ) → Never stores.DiskFault (set_roll m count)
-rolls m count = refused stores.DiskFault m (store_refusal m) _ (first stores.DiskFault (is_down m) stores.Down None (λ e. let none : ⊥ = cc in none) tt) (oks _ stores.DiskFault)
-
--- Transactions.
-
-ops_pass : (m : Manager) (ops : List Op) → Differs commits.DiskFault (ops_refusal m ops)
-ops_pass m ops = three_pass commits.DiskFault (is_down m) (length ops == 0) (nat_lt MAX_OPS (length ops)) commits.Down commits.NoOps commits.TooManyOps
-    (λ e. let none : ⊥ = cc in none) (λ e. let none : ⊥ = cc in none) (λ e. let none : ⊥ = cc in none)
-
-whole_passes : (t : Trial) → Differs commits.DiskFault (whole_refusal t)
-whole_passes t = two_pass commits.DiskFault (nat_lt (MAX_NUMBER + 1) t.sending.next_number) (has_too_large t.ops) commits.NumbersSpent commits.TooLarge
-    (λ e. let none : ⊥ = cc in none) (λ e. let none : ⊥ = cc in none)
-
-bound : (r : Result Trial OpFault) (index : ℕ) (next : Trial → Result Trial CommitFault) → ((t : Trial) → next t ≡ Err commits.DiskFault → ⊥)
-    → (at_op index r >>= next) ≡ Err commits.DiskFault → ⊥
-bound (Ok t) index next behind = behind t
-bound (Err why) index next behind = λ same. let none : ⊥ = cc in none
-
-tried : (now index : ℕ) (t : Trial) (ops : List Op) → try_ops now index t ops ≡ Err commits.DiskFault → ⊥
-tried now index t [] = oks t commits.DiskFault
-tried now index t (op ∷ ops) = bound (try_op t now op) index (λ next. try_ops now (index + 1) next ops) (λ next. tried now (index + 1) next ops)
-
-tried_never : (m : Manager) (now : ℕ) (r : Result Trial CommitFault) → (r ≡ Err commits.DiskFault → ⊥) → Never commits.DiskFault (commit_tried m now r)
-tried_never m now (Ok t) differs = refused commits.DiskFault m (whole_refusal t) _ (whole_passes t) (oks _ commits.DiskFault)
-tried_never m now (Err why) differs = λ same. differs (let again : ◌≡◌ {A = Result Trial CommitFault} (Err why) (Err commits.DiskFault) = ap Err (errs why commits.DiskFault same) in again)
-
-commits_never : (m : Manager) (ops : List Op) (now : ℕ) → Never commits.DiskFault (commit m ops now)
-commits_never m ops now = refused commits.DiskFault m (ops_refusal m ops) _ (ops_pass m ops)
-    (tried_never m now (try_ops now 0 (trial_of m.state) ops) (tried now 0 (trial_of m.state) ops))
-
--- Plain messages.
-
-queue_passes : (q : Queue) → Differs sends.DiskFault (queue_fault q)
-queue_passes q = two_pass sends.DiskFault q.plan.transactional (nat_le q.plan.quota (count q.lists)) sends.Transactional sends.QueueFull
-    (λ e. let none : ⊥ = cc in none) (λ e. let none : ⊥ = cc in none)
-
-maybe_passes : (o : Option Queue) → Differs sends.DiskFault (option_map_or queue_fault o (Some sends.NoQueue))
-maybe_passes None = λ e. let none : ⊥ = cc in none
-maybe_passes (Some q) = queue_passes q
-
-target_passes : (s : State) (t : Target) → Differs sends.DiskFault (target_fault s t)
-target_passes s (AtPeer k) = tt
-target_passes s Nowhere = λ e. let none : ⊥ = cc in none
-target_passes s (Here None) = λ e. let none : ⊥ = cc in none
-target_passes s (Here (Some number)) = maybe_passes (numbered s.places.queues number)
-
-message_passes : (s : State) (recoverable : Bool) (m : Message) → Differs sends.DiskFault (message_fault s recoverable m)
-message_passes s recoverable m = two_pass sends.DiskFault (recoverable && nat_lt MAX_NUMBER s.next_number) (is_too_large headers.Session m) sends.NumbersSpent sends.TooLarge
-    (λ e. let none : ⊥ = cc in none) (λ e. let none : ⊥ = cc in none)
-
-or_passes : {E : Type 0} (fault : E) (a b : Option E) → Differs fault a → Differs fault b → Differs fault (option_or a b)
-or_passes fault None b left right = right
-or_passes fault (Some f) b left right = left
-
-sent_never : (m : Manager) (recoverable : Bool) (message : Message) (now : ℕ) → Never sends.DiskFault (sending m recoverable message now)
-sent_never m true message now = oks _ sends.DiskFault
-sent_never m false message now = oks _ sends.DiskFault
-
-message_never : (m : Manager) (recoverable : Bool) (message : Message) (now : ℕ) → Never sends.DiskFault (send_message m recoverable message now)
-message_never m recoverable message now = refused sends.DiskFault m (send_refusal m recoverable message) _
-    (first sends.DiskFault (is_down m) sends.Down (option_or (target_fault m.state (resolved m.state message.destination)) (message_fault m.state recoverable message)) (λ e. let none : ⊥ = cc in none)
-    (or_passes sends.DiskFault (target_fault m.state (resolved m.state message.destination)) (message_fault m.state recoverable message)
-    (target_passes m.state (resolved m.state message.destination)) (message_passes m.state recoverable message)))
-    (sent_never m recoverable message now)
-
-sends_never : (m : Manager) (p : Parts) (recoverable : Bool) (now : ℕ) → Never sends.DiskFault (send m p recoverable now)
-sends_never m p recoverable now = message_never m recoverable (plain_message m.state recoverable now p) now
-
--- Messages that leave.
-
-taken_never : (m : Manager) (at : EntryPlace) (now : ℕ) (kind : Lane) (k : ℕ) (message : Message) → Never takes.DiskFault (taking m at now kind k message)
-taken_never m at now lane.Durable k message = oks message takes.DiskFault
-taken_never m at now lane.Express k message = oks message takes.DiskFault
-
-empty_never : (m : Manager) → Never {V = Message} takes.DiskFault (answering m (Err takes.QueueEmpty))
-empty_never m = λ same. let none : ⊥ = cc in none
-
-take_at_never : (m : Manager) (now : ℕ) (at : EntryPlace) → Never takes.DiskFault (take_at m now at)
-take_at_never m now at = maybe takes.DiskFault (first_in m.state at now) (take_position m at now) (answering m (Err takes.QueueEmpty))
-    (λ p. maybe takes.DiskFault (message_at p.lane m.state at p.index) (taking m at now p.lane p.index) (answering m (Err takes.QueueEmpty))
-    (λ message. taken_never m at now p.lane p.index message) (empty_never m))
-    (empty_never m)
-
-takes_never : (m : Manager) (p : Place) (now : ℕ) → Never takes.DiskFault (take_message m p now)
-takes_never m p now = refused takes.DiskFault m _ _ (first takes.DiskFault (is_down m) takes.Down None (λ e. let none : ⊥ = cc in none) tt)
-    (maybe takes.DiskFault (place_named m.state.places.queues p) (take_at m now) (answering m (Err takes.NoQueue)) (λ at. take_at_never m now at)
-    (λ same. let none : ⊥ = cc in none))
-
-purge_at_never : (m : Manager) (now : ℕ) (at : EntryPlace) → Never purges.DiskFault (purge_at m now at)
-purge_at_never m now at = maybe purges.DiskFault (lists_at m.state.places at) (purging m now at) (answering m (Err purges.NoQueue)) (λ l. oks _ purges.DiskFault)
-    (λ same. let none : ⊥ = cc in none)
-
-purges_never : (m : Manager) (p : Place) (now : ℕ) → Never purges.DiskFault (purge m p now)
-purges_never m p now = refused purges.DiskFault m _ _ (first purges.DiskFault (is_down m) purges.Down None (λ e. let none : ⊥ = cc in none) tt)
-    (maybe purges.DiskFault (place_named m.state.places.queues p) (purge_at m now) (answering m (Err purges.NoQueue)) (λ at. purge_at_never m now at)
-    (λ same. let none : ⊥ = cc in none))
-
-ticks_never : (m : Manager) (now : ℕ) → Never stores.DiskFault (tick m now)
-ticks_never m now = refused stores.DiskFault m (store_refusal m) _ (first stores.DiskFault (is_down m) stores.Down None (λ e. let none : ⊥ = cc in none) tt) (oks _ stores.DiskFault)
 
 -- Packets that are heard.
 
@@ -287,42 +134,8 @@ pumps_never m now = refused pumps.DiskFault m _ _ (first pumps.DiskFault (is_dow
     (λ session. owed_never m now session (owed_by session.phase now session))
     (λ same. let none : ⊥ = cc in none))
 
--- Transactions that have ops.
-
-some_pass : (m : Manager) (ops : List Op) → 1 ≤ length ops → Differs commits.NoOps (ops_refusal m ops)
-some_pass m ops some = let has : (length ops == 0) ≡ false = grind (arith, nat_tests) in rw has (two_pass commits.NoOps (is_down m) (nat_lt MAX_OPS (length ops)) commits.Down commits.TooManyOps
-    (λ e. let none : ⊥ = cc in none) (λ e. let none : ⊥ = cc in none))
-
-whole_with_ops : (t : Trial) → Differs commits.NoOps (whole_refusal t)
-whole_with_ops t = two_pass commits.NoOps (nat_lt (MAX_NUMBER + 1) t.sending.next_number) (has_too_large t.ops) commits.NumbersSpent commits.TooLarge
-    (λ e. let none : ⊥ = cc in none) (λ e. let none : ⊥ = cc in none)
-
-bound_with_ops : (r : Result Trial OpFault) (index : ℕ) (next : Trial → Result Trial CommitFault) → ((t : Trial) → next t ≡ Err commits.NoOps → ⊥)
-    → (at_op index r >>= next) ≡ Err commits.NoOps → ⊥
-bound_with_ops (Ok t) index next behind = behind t
-bound_with_ops (Err why) index next behind = λ same. let none : ⊥ = cc in none
-
-tried_with_ops : (now index : ℕ) (t : Trial) (ops : List Op) → try_ops now index t ops ≡ Err commits.NoOps → ⊥
-tried_with_ops now index t [] = oks t commits.NoOps
-tried_with_ops now index t (op ∷ ops) = bound_with_ops (try_op t now op) index (λ next. try_ops now (index + 1) next ops) (λ next. tried_with_ops now (index + 1) next ops)
-
-told_with_ops : (m : Manager) (now : ℕ) (r : Result Trial CommitFault) → (r ≡ Err commits.NoOps → ⊥) → Never commits.NoOps (commit_tried m now r)
-told_with_ops m now (Ok t) differs = refused commits.NoOps m (whole_refusal t) _ (whole_with_ops t) (oks _ commits.NoOps)
-told_with_ops m now (Err why) differs = λ same. differs (let again : ◌≡◌ {A = Result Trial CommitFault} (Err why) (Err commits.NoOps) = ap Err (errs why commits.NoOps same) in again)
-
-pub transactions_have_ops : TransactionsHaveOps
-transactions_have_ops m ops now some = refused commits.NoOps m (ops_refusal m ops) _ (some_pass m ops some)
-    (told_with_ops m now (try_ops now 0 (trial_of m.state) ops) (tried_with_ops now 0 (trial_of m.state) ops))
-
 pub definitions_do_not_fail : DefinitionsDoNotFail
 definitions_do_not_fail m = record {
-  queues = queues m;
-  rolls = rolls m;
-  commits = commits_never m;
-  sends = sends_never m;
-  takes = takes_never m;
-  purges = purges_never m;
-  ticks = ticks_never m;
   hears = hears_never m;
   pumps = pumps_never m;
 }

@@ -1,8 +1,8 @@
 ghost use Rattle.mqb_moves.specs.Counting.{PumpsAreCounted};
 ghost use Rattle.mqb_moves.specs.Downs.{DownRefusesAll};
-ghost use Rattle.mqb_moves.specs.Never.{DefinitionsDoNotFail, TransactionsHaveOps};
+ghost use Rattle.mqb_moves.specs.Never.{DefinitionsDoNotFail};
 
-/// No definition of a manager's call answers that its disk failed.
+/// What is heard and pumped never answers, by its definition, that the disk failed.
 pub fn definitions_do_not_fail()
     ensures { DefinitionsDoNotFail }
 {}
@@ -10,11 +10,6 @@ pub fn definitions_do_not_fail()
 /// A manager that is down refuses each call.
 pub fn down_refuses_all()
     ensures { DownRefusesAll }
-{}
-
-/// A transaction that has ops is not refused for having none.
-pub fn transactions_have_ops()
-    ensures { TransactionsHaveOps }
 {}
 
 /// A pump answers how many packets it gives out.

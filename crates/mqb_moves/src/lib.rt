@@ -4,7 +4,5 @@
 
 mod laws;
 
-pub use laws::{
-    definitions_do_not_fail, down_refuses_all, pumps_are_counted, transactions_have_ops,
-};
+pub use laws::{definitions_do_not_fail, down_refuses_all, pumps_are_counted};
 pub use mqb_manager::{Manager, OpenFault};

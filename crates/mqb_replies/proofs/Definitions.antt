@@ -14,13 +14,12 @@ use Rattle.mqb_queue.specs.Places.{Queue, lists_at, numbered, place_named}
 use Rattle.mqb_queue.specs.declared.first.Position.{Position}
 use Rattle.mqb_packet.specs.declared.packet.Headers.TheVariants as headers
 use Rattle.mqb_model.specs.calls.Call as calls
-use Rattle.mqb_model.specs.calls.Commit.{Trial, at_op, commit, commit_tried, has_too_large, trial_of, try_op, try_ops}
+use Rattle.mqb_model.specs.calls.Commit.{Trial, at_op, commit_tried, has_too_large, trial_of, try_op, try_ops}
 use Rattle.mqb_model.specs.calls.Messages.{plain_message}
 use Rattle.mqb_model.specs.calls.Purge.{purge_at, purging}
-use Rattle.mqb_model.specs.calls.Send.{message_fault, queue_fault, send, sending, target_fault}
-use Rattle.mqb_model.specs.calls.Take.{first_in, take_at, take_message, take_position, taking}
-use Rattle.mqb_model.specs.calls.Tick.{tick, ticking}
-use Rattle.mqb_model.specs.calls.Purge.{purge}
+use Rattle.mqb_model.specs.calls.Send.{message_fault, queue_fault, sending, target_fault}
+use Rattle.mqb_model.specs.calls.Take.{first_in, take_at, take_position, taking}
+use Rattle.mqb_model.specs.calls.Tick.{ticking}
 use Rattle.mqb_model.specs.declared.faults.CommitFault.{CommitFault}
 use Rattle.mqb_model.specs.declared.faults.CommitFault.TheVariants as commit_fault
 use Rattle.mqb_model.specs.declared.faults.CreateFault.TheVariants as create_fault
@@ -30,13 +29,13 @@ use Rattle.mqb_model.specs.declared.faults.SendFault.{SendFault}
 use Rattle.mqb_model.specs.declared.faults.SendFault.TheVariants as send_fault
 use Rattle.mqb_model.specs.declared.faults.StoreFault.TheVariants as store_fault
 use Rattle.mqb_model.specs.declared.faults.TakeFault.TheVariants as take_fault
-use Rattle.mqb_model.specs.declared.limits.TheConstants.{MAX_NUMBER, MAX_OPS, MAX_PEERS, MAX_QUEUES}
+use Rattle.mqb_model.specs.declared.limits.TheConstants.{MAX_NUMBER, MAX_OPS, MAX_QUEUES}
 use Rattle.mqb_model.specs.declared.target.Target.{Target}
 use Rattle.mqb_model.specs.declared.target.Target.TheVariants.{AtPeer, Here, Nowhere}
 use Rattle.mqb_model.specs.managers.Manager.{Manager, is_down}
-use Rattle.mqb_model.specs.managers.Outcomes.{answering, lines_after, recording, unless}
+use Rattle.mqb_model.specs.managers.Outcomes.{answering, recording, unless}
 use Rattle.mqb_model.specs.records.Packets.{is_too_large}
-use Rattle.mqb_model.specs.records.Peer.{next_queue, peer_there, queue_there}
+use Rattle.mqb_model.specs.records.Peer.{next_queue, queue_there}
 use Rattle.mqb_model.specs.records.Record as entry
 use Rattle.mqb_model.specs.rules.Takes.{message_at}
 use Rattle.mqb_model.specs.state.Resolving.{resolved}

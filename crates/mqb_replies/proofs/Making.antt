@@ -1,14 +1,14 @@
 -- A call that answers a request is the request, made.
-use Rattle.std.proofs.Common.{◌≡◌, true, None, Result, Ok, Err, ap, sym, inl, inr, ◌∙◌}
+use Rattle.std.proofs.Common.{◌≡◌, true, None, Result, Ok, Err, ap, subst, sym, inl, inr, ◌∙◌}
 use Rattle.std.specs.Prelude.{IfSome, OnOk, is_ok}
 use Rattle.mqb_manager.specs.Calls.{Ends, IsCall}
-use Rattle.mqb_manager.specs.States.{ManagerState}
-use Rattle.mqb_model.specs.calls.Call.{Answer, answered}
+use Rattle.mqb_manager.specs.States.{ManagerState, manager_of}
+use Rattle.mqb_model.specs.calls.Call.{Answer, answered, requested}
 use Rattle.mqb_model.specs.managers.Outcomes.{Outcome}
 use Rattle.mqb_outside.specs.Disk.{Counted, View}
 use Rattle.mqb_replies.specs.Asked.{IsAsked, faulted, faulting}
-use Rattle.mqb_replies.specs.Requests.{is_done}
-use Rattle.mqb_replies.specs.declared.faults.AnswerFault.{AnswerFault}
+use Rattle.mqb_replies.specs.Requests.{is_done, seen_request}
+use Rattle.mqb_replies.specs.declared.requests.Request as code
 use Rattle.mqb_replies.specs.declared.faults.AnswerFault.TheVariants as fault
 
 -- The faults of the machine that a call answers are told apart from its answers.
@@ -60,3 +60,8 @@ module _ {V E : Type 0} (memory broken : E) (says : Result V E → Answer) (sayi
     memory = λ same. wants (saying.wants r same);
     calls = λ done. done_by (IfSome o.entry (λ _. Counted 4 d.calls e.calls)) r (sym (saying.ends r) ∙ done) calls;
   }
+
+-- where the request is this one
+pub asked_as : {d e : View} {kept : Type 0} {m n : ManagerState} {a : Answer} (request same : code.Request) → request ≡ same
+    → IsAsked d e kept m n (requested (manager_of m) (seen_request same)) a → IsAsked d e kept m n (requested (manager_of m) (seen_request request)) a
+asked_as {d} {e} {kept} {m} {n} {a} request same is = subst (λ (q : code.Request). IsAsked d e kept m n (requested (manager_of m) (seen_request q)) a) (sym is)

@@ -1,5 +1,5 @@
 -- What each request is answered tells the faults of the machine apart.
-use Rattle.std.proofs.Common.{◌≡◌, List, Result, Ok, Err, refl, ℕ}
+use Rattle.std.proofs.Common.{◌≡◌, List, Result, Err, refl, ℕ}
 use Rattle.mqb_base.specs.declared.ids.MessageId.{MessageId}
 use Rattle.mqb_base.specs.declared.message.Message.{Message}
 use Rattle.mqb_model.specs.calls.Call as answer

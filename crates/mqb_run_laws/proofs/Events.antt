@@ -1,5 +1,5 @@
 -- Each event can be played: a choice may be made in it, and what is answered is told.
-use Rattle.std.proofs.Common.{◌≡◌, Bool, true, false, None, Option, Some, refl, sym, ap, subst, ◌∙◌, ℕ}
+use Rattle.std.proofs.Common.{◌≡◌, Bool, true, false, None, Option, Some, refl, sym, ap, subst, ℕ}
 use Rattle.std.specs.Prelude.{Err, IsSome, IsTrue, Ok, Result, if◌then◌else◌, is_some, length, not}
 use Rattle.mqb_replies.specs.Asked.{RequestsAreReplied}
 use Rattle.mqb_packet.specs.declared.packet.Packet.{Packet}

@@ -5,12 +5,6 @@ use Rattle.std.specs.Result.{result_and}
 use Rattle.mqb_base.specs.declared.ledger.Line.{Line}
 use Rattle.mqb_model.specs.calls.Call.{Answer, Request, answered, requested}
 use Rattle.mqb_model.specs.calls.Call as calls
-use Rattle.mqb_model.specs.declared.faults.CommitFault.TheVariants as commits
-use Rattle.mqb_model.specs.declared.faults.CreateFault.TheVariants as creates
-use Rattle.mqb_model.specs.declared.faults.PurgeFault.TheVariants as purges
-use Rattle.mqb_model.specs.declared.faults.SendFault.TheVariants as sends
-use Rattle.mqb_model.specs.declared.faults.StoreFault.TheVariants as stores
-use Rattle.mqb_model.specs.declared.faults.TakeFault.TheVariants as takes
 use Rattle.mqb_model.specs.laws.Validity.{RefusedIsSame}
 use Rattle.mqb_model.specs.managers.Manager.{Manager, is_down}
 use Rattle.mqb_model.specs.managers.Outcomes.{Outcome, answering, lines_after}

@@ -1,17 +1,12 @@
 -- What a call of the manager in a seat comes to.
-use Rattle.std.proofs.Common.{◌≡◌, ◌==◌, ◌≤◌, ℕ, length, inl, inr, Bool, true, false, cond, List, [], None, Some, Result, Ok, Err, refl, sym, ap, subst, ◌∙◌}
+use Rattle.std.proofs.Common.{◌≡◌, ◌==◌, ℕ, inl, inr, Bool, true, false, cond, List, [], None, Some, Result, Ok, Err, refl, sym, ap, subst, ◌∙◌}
 use Rattle.std.specs.Prelude.{not}
 use Rattle.mqb_base.specs.declared.heard.Heard.{Heard}
 use Rattle.mqb_base.specs.declared.ledger.Line.{Line}
 use Rattle.mqb_outside.specs.Disk.{Lawful, View}
-use Rattle.mqb_base.specs.declared.draft.Op.{Op}
-use Rattle.mqb_moves.specs.Calls.{Ends, IsCall}
+use Rattle.mqb_moves.specs.Calls.{IsCall}
 use Rattle.mqb_moves.specs.States.{ManagerState, manager_of}
-use Rattle.mqb_model.specs.calls.Commit.{commit}
 use Rattle.mqb_model.specs.calls.hear.Hear.{hear}
-use Rattle.mqb_model.specs.declared.answers.Done.{Done}
-use Rattle.mqb_model.specs.declared.faults.CommitFault.{CommitFault}
-use Rattle.mqb_model.specs.declared.faults.CommitFault.TheVariants as commits
 use Rattle.mqb_model.specs.declared.faults.HearFault.{HearFault}
 use Rattle.mqb_model.specs.declared.faults.HearFault.TheVariants as hears
 use Rattle.mqb_model.specs.laws.Validity.{UnreadIsValid}
@@ -22,19 +17,13 @@ use Rattle.mqb_model.specs.managers.Valid.{IsValidManager}
 use Rattle.mqb_moves.specs.Calling.{seat_of}
 use Rattle.mqb_moves.specs.lemmas.Calling.{broke, lines_told, went_well}
 use Rattle.mqb_moves.specs.Moves.{IsMove}
-use Rattle.mqb_moves.specs.Never.{TransactionsHaveOps}
 use Rattle.mqb_moves.specs.Seats.{IsHeldOn, SeatState, seated}
 use Rattle.mqb_store_laws.specs.Laws.{ImagesOpenToOne}
 use Rattle.mqb_packet.specs.declared.packet.Packet.{Packet}
-use Rattle.mqb_replies.specs.declared.faults.AnswerFault.{AnswerFault}
-use Rattle.mqb_replies.specs.declared.faults.AnswerFault.TheVariants as answer
-use Rattle.mqb_transcript.specs.declared.replies.Reply.{Reply}
 use Rattle.mqb_seats.proofs.Lasting.{call_ends}
-use Rattle.mqb_seats.specs.Called.{IsCalled, failure_of, how_by}
+use Rattle.mqb_seats.specs.Called.{failure_of}
 use Rattle.mqb_seats.specs.Lasting.{Lasts}
 use Rattle.mqb_seats.specs.Passed.{IsHeard, TellsHeard}
-use Rattle.mqb_seats.specs.declared.called.Called.{Called}
-use Rattle.mqb_seats.specs.declared.called.Called.TheVariants.{Broke, Told}
 use Rattle.mqb_seats.specs.declared.called.Failure.{Failure}
 use Rattle.mqb_seats.specs.declared.packets.Passed.{Passed}
 use Rattle.mqb_seats.specs.declared.packets.Passed.TheVariants as passed

@@ -1,10 +1,10 @@
 -- A call of one manager with its disk is a turn of the world.
-use Rattle.std.proofs.Common.{◌≡◌, ap₂, ℕ, Bool, true, cond, List, [], ◌++◌, Option, Some, None, Result, Ok, Err, refl, sym, ap, subst, ◌∙◌}
+use Rattle.std.proofs.Common.{◌≡◌, ℕ, Bool, true, cond, List, [], ◌++◌, Option, Some, None, Result, Ok, Err, refl, sym, ap, subst, ◌∙◌}
 use Rattle.std.specs.Option.{option_map_or}
-use Rattle.std.specs.Prelude.{IfOk, IsTrue, is_some, length, nat_lt, if◌then◌else◌}
+use Rattle.std.specs.Prelude.{IfOk, is_some, length, nat_lt, if◌then◌else◌}
 use Rattle.mqb_base.specs.declared.ledger.Line.{Line}
 use Rattle.mqb_outside.specs.Disk.{View}
-use Rattle.mqb_model.specs.calls.Call.{Request, answered, requested}
+use Rattle.mqb_model.specs.calls.Call.{Request, requested}
 use Rattle.mqb_model.specs.calls.Call as calls
 use Rattle.mqb_model.specs.managers.Manager.{Manager}
 use Rattle.mqb_model.specs.managers.Outcomes.{Outcome, failed, lines_after, succeeded}
@@ -15,12 +15,12 @@ use Rattle.mqb_seats.specs.Moves.{IsMove}
 use Rattle.mqb_seats.specs.Seats.{IsHeldOn, SeatState, seated}
 use Rattle.mqb_network.specs.Answers.{Answer, call}
 use Rattle.mqb_network.specs.Changes.{ended, failed_at, succeeded_at, with_lines}
-use Rattle.mqb_network.specs.Choices.{Choice, Failure, Fails, Kept, Lost, Unread, Well, failure_in}
-use Rattle.mqb_network.specs.Courses.{Course, called_unless, course_from, written_by}
+use Rattle.mqb_network.specs.Choices.{Choice, Failure, Fails, Well, failure_in}
+use Rattle.mqb_network.specs.Courses.{called_unless, course_from, written_by}
 use Rattle.mqb_network.specs.Events as event
 use Rattle.mqb_network.specs.Network.{Network, manager_at, with_manager}
-use Rattle.mqb_network.specs.Runs.{may_fail}
 use Rattle.mqb_network.specs.Replies as network
+use Rattle.mqb_replies.specs.Replies.{reply_of}
 use Rattle.mqb_replies.specs.declared.faults.AnswerFault.{AnswerFault}
 use Rattle.mqb_script.specs.declared.managers.Which.{Which}
 use Rattle.mqb_script.specs.declared.managers.Which.TheVariants.{Alpha, Beta}

@@ -19,7 +19,7 @@ use Rattle.mqb_moves.specs.Seats.{IsHeldOn, seated}
 use Rattle.mqb_network.specs.Answers.{Answer, lines_at}
 use Rattle.mqb_network.specs.Changes.{ended}
 use Rattle.mqb_network.specs.Courses.{course_from}
-use Rattle.mqb_network.specs.Choices.{Choice, Failure, Fails, Kept, Lost, Unread, Well, failure_in}
+use Rattle.mqb_network.specs.Choices.{Choice, Failure, Kept, Unread, Well, failure_in}
 use Rattle.mqb_network.specs.Events as network
 use Rattle.mqb_network.specs.Network.{Network, manager_at}
 use Rattle.mqb_network.specs.Replies as answer
