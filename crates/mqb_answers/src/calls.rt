@@ -59,7 +59,7 @@ pub(crate) fn tell_request<D: Disk>(
     requires formed { IsFormed (seen_request request) }
     requires on { IsUp manager.old → IsOnDisk (D.view disk.old) manager.old }
     ensures { IsTold (D.view disk.old) (D.view disk.new) (disk.new ≡ disk.old) manager.old
-        manager.new (asked_told (manager_of manager.old) (seen_request request))
+        manager.new (asked_told (manager_of manager.old) (seen_request request.entry))
         out.old.items out.new.items result }
 {
     requests_are_replied();

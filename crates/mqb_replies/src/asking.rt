@@ -13,7 +13,7 @@ pub fn ask<D: Disk>(manager: &mut Manager, disk: &mut D, request: Request<'_>) -
     requires formed { IsFormed (seen_request request) }
     requires on { IsUp manager.old → IsOnDisk (D.view disk.old) manager.old }
     ensures { IsAsked (D.view disk.old) (D.view disk.new) (disk.new ≡ disk.old) manager.old
-        manager.new (requested (manager_of manager.old) (seen_request request))
+        manager.new (requested (manager_of manager.old) (seen_request request.entry))
         (seen_answer result) }
 {
     match request {

@@ -22,7 +22,7 @@ impl Seat {
         requires held { IsHeldOn (P.view disk.old) self.old }
         ensures called { IfOk result (IsCalled (P.view disk.old) (P.view disk.new)
             (P.is_stopped disk.new) self.old self.new
-            (requested (seated self.old) (seen_request request))) }
+            (requested (seated self.old) (seen_request request.entry))) }
         ensures switch { (P.view disk.new).switch ≡ (P.view disk.old).switch }
         ensures lasts { Lasts (P.view disk.old) (P.view disk.new) self.old self.new }
     {

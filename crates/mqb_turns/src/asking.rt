@@ -32,7 +32,7 @@ pub fn ask<P: Power>(
     ensures turn { IfOk result (IsTurn which (side own.old other.old traffic.old)
         (side own.new other.new traffic.new) (P.view disk.old) (P.view disk.new)
         (P.is_stopped disk.new) (answers_to which (side own.old other.old traffic.old)
-        (event.Asks (index_of which) (seen_request request)))) }
+        (event.Asks (index_of which) (seen_request request.entry)))) }
     ensures switch { (P.view disk.new).switch ≡ (P.view disk.old).switch }
     ensures lasts { Lasts (P.view disk.old) (P.view disk.new) own.old own.new }
     ensures beside { StaysStored other.old other.new }
