@@ -87,4 +87,4 @@ pub fault_cause : (reads reads_now before mid after : ℕ) (b c : Option (List �
     → ((why ≡ fault.WriteFault → ⊥) → WriteFaultHasCause mid after r) → (why ≡ fault.WriteFault → after ≡ mid) → Stopped why b c r → WriteFaultHasCause before after r
 fault_cause reads reads_now before mid after b c fault.WriteFault r causes cause same stopped =
     subst (WriteFaultHasCause before after) (sym stopped.0) (subst (Rose before) (sym (same refl)) (causes.write refl))
-fault_cause reads reads_now before mid after b c x r causes cause same stopped =     quiet_cause reads reads_now before mid after x r (λ e. cc) causes cause
+fault_cause reads reads_now before mid after b c x r causes cause same stopped = quiet_cause reads reads_now before mid after x r (λ e. cc) causes cause

@@ -6,9 +6,7 @@ ghost use Rattle.mqb_replies.specs.Requests.{seen_answer};
 use crate::faults::AnswerFault;
 use crate::requests::Answer;
 use mqb_base::Line;
-use mqb_model::{
-    CommitFault, CreateFault, OpFault, PurgeFault, SendFault, StoreFault, TakeFault,
-};
+use mqb_model::{CommitFault, CreateFault, OpFault, PurgeFault, SendFault, StoreFault, TakeFault};
 use mqb_transcript::{Listed, Reply};
 
 fn create_fault_reply(fault: CreateFault) -> Result<Reply, AnswerFault>
