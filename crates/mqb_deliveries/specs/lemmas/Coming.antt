@@ -16,7 +16,7 @@ use Rattle.mqb_model.specs.declared.faults.PumpFault.{PumpFault}
 use Rattle.mqb_model.specs.declared.faults.PumpFault.TheVariants as pump_fault
 use Rattle.mqb_model.specs.managers.Outcomes.{failed}
 use Rattle.mqb_network.specs.Answers.{lines_at}
-use Rattle.mqb_network.specs.Choices.{Choice, Failure, Fails, Kept, Lost, Unread, Well, failure_in}
+use Rattle.mqb_network.specs.Choices.{Choice, Failure, Fails, Well, failure_in}
 use Rattle.mqb_network.specs.Changes.{ended, ended_by, note_by, noted, succeeded_at}
 use Rattle.mqb_network.specs.Connecting.{exchanged}
 use Rattle.mqb_network.specs.Courses.{Course, Written, called, called_unless, course_from, moved}

@@ -15,7 +15,7 @@ use Rattle.mqb_model.specs.managers.Outcomes.{answering, failed}
 use Rattle.mqb_turns.specs.Moves.{choice_of}
 use Rattle.mqb_network.specs.Answers.{Answer, lines_at, only}
 use Rattle.mqb_network.specs.Changes.{ended, ended_by}
-use Rattle.mqb_network.specs.Choices.{Choice, Failed, Failure, Fails, Kept, Lost, Stopped, Unread, Well, choice_behind, failure_in}
+use Rattle.mqb_network.specs.Choices.{Choice, Failed, Failure, Stopped, Well, choice_behind, failure_in}
 use Rattle.mqb_network.specs.Courses.{Course, Written, called, called_unless, moved}
 use Rattle.mqb_network.specs.Delivering.{Delivered, closes, deliver_packet, delivered, delivery_reply, heard_by, heard_with, passed, unheard}
 use Rattle.mqb_network.specs.Events.{Deliver}
@@ -202,6 +202,7 @@ never_underway n note is none = at note.dropped (sym (ap (λ (cs : List Connecti
 
 reply_so : (delivery : Delivery) → told (delivery_reply delivery) ≡ Ok (outcome_reply (outcome_of delivery))
 reply_so network.Gone = refl
+reply_so (network.Unheard Stopped) = refl
 reply_so delivery = refl
 
 module _ (n n_now : Network) (k : ℕ) (p : Packet) (now : ℕ) (given : Outcome) (strings : List (List ℕ)) (within : IsWithin strings) (some : IsSome (numbered n.notes k))

@@ -8,7 +8,7 @@ use Rattle.std.specs.Prelude.{◌&&◌, IsSome, drop, fold, if◌then◌else◌,
 use Rattle.mqb_model.specs.calls.hear.Hear.{hear}
 use Rattle.mqb_model.specs.calls.hear.Session.{HeardOutcome}
 use Rattle.mqb_model.specs.managers.Outcomes as managers
-use Rattle.mqb_network.specs.Choices.{Choice, Failure, Fails, Kept, Lost, Unread, Well, choice_behind, failure_in}
+use Rattle.mqb_network.specs.Choices.{Choice, Failure, Fails, Well, choice_behind, failure_in}
 use Rattle.mqb_network.specs.Changes.{ended}
 use Rattle.mqb_network.specs.Courses.{Course, Written, called, called_unless, moved, written_by}
 use Rattle.mqb_network.specs.Delivering.{Delivered, closes, heard_by, passed, unheard}
