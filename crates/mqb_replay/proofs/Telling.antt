@@ -43,7 +43,10 @@ not_read held rest b taken f reads = (reads.text, reads.gave, unread reads.text 
 ends_by : (text : List ℕ) (rest : Option (List ℕ)) (b a : Devices) (before after : Option (List ℕ)) (lines : List (ℕ × Event)) (r : Result (Unit {0}) ReplayFault)
     → IsScript text rest lines → Begins (PlaysWhole lines) b a before after r → Ends text rest b a before after r
 ends_by text rest b a before after lines (Err fault.Memory) is plays = inr (lines, is, plays)
-ends_by text rest b a before after lines (Err f) is plays = absurd plays.1
+ends_by text rest b a before after lines (Err (fault.Script number kind)) is plays = absurd plays.1
+ends_by text rest b a before after lines (Err fault.TooLong) is plays = absurd plays.1
+ends_by text rest b a before after lines (Err fault.TooManyLines) is plays = absurd plays.1
+ends_by text rest b a before after lines (Err fault.ReadFault) is plays = absurd plays.1
 ends_by text rest b a before after lines r is plays = (lines, is, plays)
 
 pub was_read : (held rest : Option (List ℕ)) (b a : Devices) (before after : Option (List ℕ)) (lines : List (ℕ × Event)) (r : Result (Unit {0}) ReplayFault) → ReadsScript held rest (Ok lines)
