@@ -47,7 +47,7 @@ connected packets = refl
 -- Packets.
 
 outcome_shown : (d : network.Delivery) → outcome_sign (outcome_of d) ≡ sign_of d
-outcome_shown network.Gone = refl
+outcome_shown (network.Unheard choice.Stopped) = refl
 outcome_shown d = refl
 
 arrivals_shown : (arrivals : List network.Arrival) → map (λ a. outcome_sign a.outcome) (map arrival_of arrivals) ≡ map (λ a. sign_of a.delivery) arrivals
@@ -55,7 +55,7 @@ arrivals_shown [] = refl
 arrivals_shown (a ∷ arrivals) = ap₂ (λ (s : Sign) (ss : List Sign). s ∷ ss) (outcome_shown a.delivery) (arrivals_shown arrivals)
 
 delivery_shown : (d : network.Delivery) → shown_by (delivery_reply d) ≡ sign_of d ∷ []
-delivery_shown network.Gone = refl
+delivery_shown (network.Unheard choice.Stopped) = refl
 delivery_shown d = refl
 
 -- Each answer.
@@ -71,6 +71,7 @@ answered (answer.Ticked (Err store.Down)) lines = refl
 answered a lines = refl
 
 each_told : (r : network.Reply) → told_signs (told r) ≡ signs_of r
+each_told (network.DiskFailed choice.Stopped) = refl
 each_told (network.Called answer lines) = answered answer lines
 each_told (network.Connected packets) = connected packets
 each_told (network.NotPumped fault) = unpumped fault
