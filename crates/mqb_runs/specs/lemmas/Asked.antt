@@ -21,7 +21,7 @@ asks (event.Arm m call mode) = tt
 asks (event.Restart m pick) = tt
 asks asked = refl
 
-pub none_some : {A : Type 0} → IsSome {A} None → ⊥
+pub none_some : IsSome {T = Request} None → ⊥
 none_some some = let none : ⊥ = cc in none
 
 pub asked_so : (asked : Event) (o : Option Request) → request_of asked ≡ o → IsSome o → (request : Request) × (o ≡ Some request) × (event_of asked ≡ network.Asks (index_of (actor asked)) request)
