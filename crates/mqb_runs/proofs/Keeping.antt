@@ -1,6 +1,6 @@
 -- Each run of the two managers keeps what is promised.
 use Rattle.std.proofs.Common.{subst}
-use Rattle.std.specs.Prelude.{[], ◌++◌, ◌∷◌, ◌≡◌, Bool, List, ℕ}
+use Rattle.std.specs.Prelude.{[], ◌++◌, ◌∷◌, Bool, List, ℕ}
 use Rattle.mqb_network.specs.Courses.{Course}
 use Rattle.mqb_network.specs.Doubts.{settled}
 use Rattle.mqb_network.specs.Laws.{LedgerIsWritten}
