@@ -1,11 +1,11 @@
 -- A connection of the two managers is told: where it begins, four packets set it up.
-use Rattle.std.proofs.Common.{◌≡◌, ◌+◌, ◌-◌, ◌==◌, ◌||◌, Bool, true, false, List, [], ◌∷◌, None, Option, Some, length, refl, sym, ap, subst, ◌∙◌, zero, suc, arith, ℕ}
+use Rattle.std.proofs.Common.{◌≡◌, ◌+◌, ◌-◌, ◌==◌, ◌||◌, Bool, true, false, List, [], ◌∷◌, None, Option, Some, length, refl, sym, ap, ◌∙◌, zero, suc, arith, ℕ}
 use Rattle.std.proofs.lemmas.Bool.Decides.{nat_tests}
 use Rattle.std.specs.List.{list_any}
-use Rattle.std.specs.Prelude.{Ok, if◌then◌else◌, is_some, slice_get, unwrap_or}
+use Rattle.std.specs.Prelude.{if◌then◌else◌, is_some, slice_get, unwrap_or}
 use Rattle.mqb_base.specs.declared.ids.Identity.{Identity}
 use Rattle.mqb_deliveries.specs.Peers.{KnowEachOther}
-use Rattle.mqb_deliveries.specs.lemmas.SettingUp.{apart_as, sets_up}
+use Rattle.mqb_deliveries.specs.lemmas.SettingUp.{sets_up}
 use Rattle.mqb_history.specs.Orderly.{IsOrderly}
 use Rattle.mqb_model.specs.managers.Manager.{Manager, is_down}
 use Rattle.mqb_network.specs.Answers.{only}
@@ -14,13 +14,12 @@ use Rattle.mqb_network.specs.Courses.{Course, course_from}
 use Rattle.mqb_network.specs.Network.{Connection, Network, is_connected, is_end, manager_at, nobody}
 use Rattle.mqb_network.specs.Replies as network
 use Rattle.mqb_network.specs.Sending.{numbers_behind}
-use Rattle.mqb_runs.specs.Hosts.{alpha, beta, hosts}
+use Rattle.mqb_runs.specs.Hosts.{hosts}
 use Rattle.mqb_script.specs.Managers.{other}
 use Rattle.mqb_script.specs.declared.managers.Which.{Which}
 use Rattle.mqb_script.specs.declared.managers.Which.TheVariants.{Alpha, Beta}
 use Rattle.mqb_session.specs.State as one_end
 use Rattle.mqb_traffic.specs.Networks.{index_of}
-use Rattle.mqb_transcript.specs.declared.replies.Reply.{Reply}
 use Rattle.mqb_transcript.specs.declared.replies.Reply.TheVariants as reply
 use Rattle.mqb_runs.specs.Passes.{course_in}
 use Rattle.mqb_runs.specs.Replies.{told}

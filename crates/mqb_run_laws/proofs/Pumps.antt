@@ -14,13 +14,12 @@ use Rattle.mqb_session.specs.declared.heads.Kind.TheVariants as kind
 use Rattle.mqb_setup.specs.declared.internal.Internal.{Internal}
 use Rattle.mqb_model.specs.calls.pump.Candidates.{Candidate, candidates}
 use Rattle.mqb_model.specs.calls.pump.Choosing.{chosen}
-use Rattle.mqb_model.specs.calls.pump.Pump.{PumpOutcome, pump, pump_at, pump_linked, pump_owed, pump_ready, pump_to, pump_with, sending_ack, sending_chosen, sending_one}
+use Rattle.mqb_model.specs.calls.pump.Pump.{pump, pump_at, pump_linked, pump_owed, pump_ready, pump_to, pump_with, sending_ack, sending_chosen, sending_one}
 use Rattle.mqb_model.specs.declared.faults.PumpFault.{PumpFault}
 use Rattle.mqb_model.specs.declared.faults.PumpFault.TheVariants as fault
 use Rattle.mqb_model.specs.managers.Manager.{Manager, is_down, linked_peer}
 use Rattle.mqb_model.specs.managers.Outcomes.{answering, unless}
-use Rattle.mqb_network.specs.Replies as network
-use Rattle.mqb_network.specs.Sending.{numbers_behind, pumped}
+use Rattle.mqb_network.specs.Sending.{pumped}
 use Rattle.mqb_runs.specs.Pumped.{pump_fault_reply}
 use Rattle.mqb_transcript.specs.declared.replies.Reply.{Reply}
 use Rattle.mqb_transcript.specs.declared.replies.Reply.TheVariants as reply

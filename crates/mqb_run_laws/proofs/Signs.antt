@@ -15,6 +15,7 @@ use Rattle.mqb_model.specs.declared.faults.PurgeFault.TheVariants as purge
 use Rattle.mqb_model.specs.declared.faults.SendFault.TheVariants as send
 use Rattle.mqb_model.specs.declared.faults.StoreFault.TheVariants as store
 use Rattle.mqb_model.specs.declared.faults.TakeFault.TheVariants as take
+use Rattle.mqb_network.specs.Choices as choice
 use Rattle.mqb_network.specs.Replies as network
 use Rattle.mqb_replies.specs.Replies.{op_reply, reply_of}
 use Rattle.mqb_replies.specs.declared.faults.AnswerFault.{AnswerFault}
