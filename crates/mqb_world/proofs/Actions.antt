@@ -68,11 +68,19 @@ nothing_posted strings wanted = record { front = []; rest = wanted; wanted_are =
 -- Requests.
 
 -- what the network is asked for
-pub asked_of : (which : Which) (asked : Event) → IsCallOf which asked → (o : Option Request) → request_of asked ≡ o
+asked_of : (which : Which) (asked : Event) → IsCallOf which asked → (o : Option Request) → request_of asked ≡ o
     → (request : Request) × (o ≡ Some request) × (event_of asked ≡ network.Asks (index_of which) request)
 asked_of which asked is o request_is =
     let so = asked_so asked o request_is (subst (λ (q : Option Request). IsSome q) request_is is.0) in
     (so.0, so.1, so.2 ∙ ap (λ (m : Which). network.Asks (index_of m) so.0) is.1)
+
+some_same : (a b : Request) → ◌≡◌ {A = Option Request} (Some a) (Some b) → a ≡ b
+some_same a b same = cc
+
+pub asks_so : (which : Which) (asked : Event) (request : Request) → IsCallOf which asked → request_of asked ≡ Some request → event_of asked ≡ network.Asks (index_of which) request
+asks_so which asked request is request_is =
+    let so = asked_of which asked is (Some request) request_is in
+    so.2 ∙ ap (network.Asks (index_of which)) (sym (some_same request so.0 so.1))
 
 roll_so : (count : ℕ) → 1 ≤ count → count ≤ 65535 → is_setting (Roll count) ≡ true
 roll_so count low high =
