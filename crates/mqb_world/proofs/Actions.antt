@@ -1,16 +1,13 @@
 -- The events of one manager, and those that call none, as steps of the network of a world.
-use Rattle.std.proofs.Common.{◌≡◌, ◌≤◌, ◌&&◌, ℕ, Bool, true, false, cond, List, [], ◌++◌, Option, None, Some, Result, Ok, Err, length, refl, sym, ap, subst, ◌∙◌, arith}
+use Rattle.std.proofs.Common.{◌≡◌, ◌&&◌, ℕ, Bool, true, false, cond, List, [], ◌++◌, Option, None, Some, Result, Ok, Err, length, refl, sym, ap, subst, ◌∙◌}
 use Rattle.std.proofs.lemmas.List.{append-nil}
-use Rattle.std.proofs.lemmas.Bool.Decides.{nat_tests}
-use Rattle.std.specs.Prelude.{IfOk, IfSome, IsSome, is_some, map, nat_le}
+use Rattle.std.specs.Prelude.{IfOk, IsSome, is_some, map}
 use Rattle.mqb_base.specs.declared.ledger.Line.{Line}
 use Rattle.mqb_deliveries.specs.Steps.{FallsShort, may_at}
 use Rattle.mqb_outside.specs.Disk.{Switch, View}
 use Rattle.mqb_outside.specs.declared.power.Mode.{Mode}
 use Rattle.mqb_outside.specs.declared.power.Pick.{Pick}
 use Rattle.mqb_model.specs.calls.Call.{Request, requested}
-use Rattle.mqb_model.specs.records.Applying.{is_setting}
-use Rattle.mqb_model.specs.records.Record.{Roll}
 use Rattle.mqb_model.specs.calls.pump.Pump.{PumpOutcome, pump}
 use Rattle.mqb_model.specs.declared.faults.PumpFault.{PumpFault}
 use Rattle.mqb_model.specs.managers.Manager.{Manager, is_down}
@@ -32,11 +29,9 @@ use Rattle.mqb_posts.specs.Packets.{AreWritable}
 use Rattle.mqb_posts.specs.Posting.{HasFront, IsCutOff, IsWithin}
 use Rattle.mqb_posts.specs.declared.faults.PostFault.{PostFault}
 use Rattle.mqb_posts.specs.declared.faults.PostFault.TheVariants as post
-use Rattle.mqb_replies.specs.Requests.{IsFormed as IsFormedRequest}
 use Rattle.mqb_runs.specs.Events.{event_of}
 use Rattle.mqb_runs.specs.Requests.{actor, request_of}
 use Rattle.mqb_runs.specs.lemmas.Asked.{asked_so, none_some}
-use Rattle.mqb_script.specs.Formed.{IsFormed}
 use Rattle.mqb_script.specs.declared.events.Event.{Event}
 use Rattle.mqb_script.specs.declared.events.Event.TheVariants as event
 use Rattle.mqb_script.specs.declared.managers.Which.{Which}
@@ -81,16 +76,6 @@ pub asks_so : (which : Which) (asked : Event) (request : Request) → IsCallOf w
 asks_so which asked request is request_is =
     let so = asked_of which asked is (Some request) request_is in
     so.2 ∙ ap (network.Asks (index_of which)) (sym (some_same request so.0 so.1))
-
-roll_so : (count : ℕ) → 1 ≤ count → count ≤ 65535 → is_setting (Roll count) ≡ true
-roll_so count low high =
-    let one : nat_le 1 count ≡ true = grind (arith, nat_tests, low) in
-    let most : nat_le count 65535 ≡ true = grind (arith, nat_tests, high) in
-    rw one (rw most refl)
-
-pub request_formed : (asked : Event) → IsFormed asked → IfSome (request_of asked) IsFormedRequest
-request_formed (event.Roll m count) formed = roll_so count formed.0 formed.1
-request_formed asked formed = tt
 
 may_of_call : (which : Which) (n : Network) (asked : Event) → IsCallOf which asked → (choice : Choice)
     → may_at n None (event_of asked) choice ≡ may_fail (length (step n None (event_of asked) Well).after.written) choice
