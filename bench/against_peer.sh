@@ -3,10 +3,11 @@
 # Prints a line a load, and the greatest ratio. MQB names another program than ./mqb --where does; ONLY=WORD takes the loads whose names have that word.
 # What is wanted: 3 at most for what is put and taken, 2 at `trial`, `show` and `list`, 2.5 at the three replays of commits; 163,840 messages at most 4.6 times
 # 40,960, and 81,920 with priorities or due messages, purged, swept or expired, at most 2.4 times 40,960; an empty replay at most 20 milliseconds in all.
-# Seen on a busy machine, in two runs of two rounds, whose tenths of a second vary by a half: 40,960 messages put and taken by 64 1.9 and 2.5 times, taken one by one 3.4 and 4.2; 163,840 2.4 and 2.5, and 2.5
-# and 4.0, which is 3.6 and 5.2, and 4.2 and 4.9 times 40,960; `trial 10000` 4.1 and 3.4, the replays 3.0 and 4.2, 2.2 and 4.0, and 3.2 and 3.0, `show` 1.9 and 2.1, `list` 2.2 and 1.0, and an empty replay 1 millisecond.
-# By instructions, which do not vary, `trial 1500` has 288 million, and the program before it 306. With the program before, 81,920 purged, swept and expired were 1.7, 1.2 and 2.1 times 40,960. Of priorities in turn and due
-# messages none: a list whose members leave in the middle still grows with the square.
+# Seen on a busy machine (load 10 to 16 on four processors), one or two rounds, whose tenths of a second vary by a half; the program was built of this text unproved, so its ratios are of that. 40,960 messages put and taken by 64 1.9 and 4.0 times,
+# taken one by one 4.3 and 4.1; 163,840 2.7 and 1.9, and 4.3 and 6.5, which is 3.9 and 4.1, and 4.2 and 3.5 times 40,960; `trial 10000` 4.7 and 4.3, the replays 4.1 and 3.1, 3.7 and 3.6, and 3.8 and 4.0, `show` 1.5 and 1.8, `list` 6.2 and 2.1, and an empty replay 1 millisecond.
+# The release before gaps (GapBuffer): 2.9, 2.2, 2.2 and 3.8, `trial` 3.9, the replays 2.9, 3.2 and 2.2, `show` 1.4, `list` 1.9; 81,920 purged, swept and expired 2.1, 2.1 and 1.7 times 40,960.
+# By instructions, which do not vary, `trial 1500` has 313 million, that release 267, the other program 102. 81,920 with priorities in turn are 5.7 times 40,960 (14.9 and 2.6 seconds), and 8,192 with a front that is due 3.0 times
+# 4,096 by instructions: a message that is put back makes each pass of its list begin anew, and a take is tried, taken back and done.
 # It stands outside the gate.
 set -e
 top=$(cd "$(dirname "$0")/.." && pwd)
