@@ -7,9 +7,9 @@ brought over and taken: each message once, in the order of the commits. It print
 was not (`made`), and nothing was done (`not`); `part` is an `init` that left a file which is no store. Of connections: all that waited on both sides was acknowledged
 (`whole`), something was decided that its sender had not heard of (`ahead`), or neither (`short`).
 
-Seen, of 300 kills each, by the released program whose sum begins with 91d03e07, on a machine with three times as many busy programs as processors (said, made, not): peer 128, 5, 167; create 116, 16,
-168; send 110, 17, 173; commit 115, 18, 167; take 127, 11, 162; purge 142, 18, 140; tick 109, 19, 172; roll 103, 10, 187; init 214, 18, 26, and 42 part; (whole, ahead, short): serve 21, 260, 19; attend 79,
-148, 73; probe 97, 140, 63; push 109, 115, 76; fetch 93, 134, 73, and the 9,000 messages of these five came once each, in order. Two runs side by side took 13 minutes. The program before it, 21bffc63, stood 1,000 of each.
+Seen, of 300 kills each, by the released program whose sum begins with d60eebe1, on a machine with five times as many busy programs as processors (said, made, not): peer 100, 26, 174; create 102, 18,
+180; send 103, 22, 175; commit 98, 23, 179; take 60, 14, 226; purge 100, 17, 183; tick 143, 23, 134; roll 103, 25, 172; init 209, 21, 19, and 51 part; (whole, ahead, short): serve 26, 233, 41; attend 22,
+255, 23; probe 91, 163, 46; push 165, 68, 67; fetch 177, 55, 68, and the 9,000 messages of these five came once each, in order. Two runs side by side took 10 minutes. The program 21bffc63, before it, stood 1,000 of each.
 
 It stands outside the gate. Its port must be free: 1801, or MQB_PORT. MQB names another program than `./mqb --where` does.
 """
