@@ -95,8 +95,13 @@ class Host:
         counts["links cut"] += 1
 
     def heal(self):
+        """The link goes up; its port takes no state until the system has seen that, which a busy one may do late."""
         said("ip", "link", "set", f"{self.net}-h", "up")
-        said("bridge", "link", "set", "dev", f"{self.net}-h", "state", "3")
+        for _ in range(100):
+            if subprocess.run(("bridge", "link", "set", "dev", f"{self.net}-h", "state", "3"), capture_output=True).returncode == 0:
+                return
+            time.sleep(0.1)
+        raise SystemExit(f"the link of {self.host} did not come up")
 
     def unlink(self):
         for words in (("ip", "link", "del", f"{self.net}-h"), ("ip", "netns", "del", self.net)):
