@@ -6,9 +6,9 @@ programs or a commit is killed by signal 9, and a link goes down or loses all pa
 At the end nothing more is done, and what waits must come: each order that was committed was handled by beta once, in the order of its sender's commits, was answered once, and its answer
 was handled once at its sender, in order; each row is acknowledged, and no queue has a message. `handle` counts what it was given again. A commit that was killed is looked for with `list`.
 
-Seen, in 32 minutes of seed 5, by the released program whose sum begins with 91d03e07, on a machine with some three times as many busy programs as processors: 41 loops, 20 of their programs and 70 commits were
-killed, 16 links cut, and of 1,668 orders each was handled and answered once, and each answer handled once; 10 were handed to `handle` again. No commit found the store in use, no loop stopped for
-good, and all was through 15 seconds behind the last commit. The stores had 0.6, 1.3 and 0.7 million bytes at the end. The program before it, 21bffc63, went 60 minutes so (seed 3), with 3,109 orders. A day was not run.
+Seen, in 11 minutes of seed 7, by the released program whose sum begins with d60eebe1, on a machine with some three times as many busy programs as processors: 14 loops, 7 of their programs and 27 commits were
+killed, 6 links cut, and of 610 orders each was handled and answered once, and each answer handled once; none was handed to `handle` again. No commit found the store in use, no loop stopped for
+good, and all was through 17 seconds behind the last commit. The program 91d03e07, before it, went 32 minutes so (seed 5), with 1,668 orders, and 21bffc63 60 minutes (seed 3), with 3,109. A day was not run.
 
 It wants root, for the hosts. It stands outside the gate. Port 1801, or MQB_PORT, is that of each host. MQB names another program than `./mqb --where` does.
 """
