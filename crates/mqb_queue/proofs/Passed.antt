@@ -1,11 +1,11 @@
 -- How far the messages of each level have ended, as messages come and go.
-use Rattle.std.proofs.Common.{◌≡◌, ℕ, zero, suc, ◌<◌, ◌≤◌, ◌+◌, ◌-◌, ◌^◌, Bool, true, false, cond, eqb, leb, ltb, ◌&&◌, List, [], ◌∷◌, ◌++◌, length, map, take, drop, get_or, set, replicate, refl, sym, ap, ◌∙◌, subst, arith}
-use Rattle.std.specs.List.{All, remove, position, slice_get}
+use Rattle.std.proofs.Common.{◌≡◌, ℕ, zero, suc, ◌<◌, ◌≤◌, ◌+◌, ◌-◌, ◌^◌, Bool, true, false, cond, eqb, leb, ltb, ◌&&◌, List, [], ◌∷◌, ◌++◌, length, map, take, drop, get_or, set, refl, sym, ap, ◌∙◌, subst, arith}
+use Rattle.std.specs.List.{All, insert, remove, position, slice_get}
 use Rattle.std.specs.Prelude.{None, Option, Some, not, option_map}
-use Rattle.std.proofs.lemmas.Bool.{true≢false, eqb-true, eq-eqb, leb-true, leb-false, le-leb, ltb-true, ltb-false}
-use Rattle.std.proofs.lemmas.List.{take-append-le, take-take, length-take-le, length-append, length-set, take_all, get_or-set_same, get_or-set_other}
+use Rattle.std.proofs.lemmas.Bool.{true≢false, eqb-true, eq-eqb, leb-true, leb-false, le-leb, ltb-true, ltb-false, lt-ltb}
+use Rattle.std.proofs.lemmas.List.{take-append-le, take-take, length-take-le, length-append, length-set, take_all, get_or-set_same, get_or-set_other, get_or-take}
 use Rattle.std.proofs.lemmas.List.Edits.{length-remove}
-use Rattle.std.proofs.lemmas.List.Elements.{All-nil, All-cons, All-take, All-more, All-weaker}
+use Rattle.std.proofs.lemmas.List.Elements.{All-nil, All-cons, All-head, All-tail, All-take, All-more, All-weaker}
 use Rattle.std.proofs.lemmas.Option.{none-some, same_Some, slice_get-map, slice_get_within, slice_get-get_or, get_or_from_slice_get}
 use Rattle.mqb_base.specs.declared.message.Message.{Message}
 use Rattle.mqb_base.specs.declared.ids.MessageId.{MessageId}
@@ -114,19 +114,99 @@ passed_set passes k p xs h mine j q is = at (eqb j k) refl
         get_or-set_other passes k j p p (λ same. true≢false (sym (eq-eqb j k same) ∙ e)) in
         h j q (slice_get-get_or passes j p there ∙ ap Some (sym other ∙ got))
 
--- the passes of no messages
-pub passed_none : (n : ℕ) (p : Pass) (xs : List Message) → p.index ≡ 0 → ArePassed (replicate n p) xs
-passed_none n p xs start k q is =
-    let at_start : q.index ≡ 0 = ap (λ (r : Pass). r.index) (sym (only n k is)) ∙ start in
-    record {
-      within = omega (arith, at_start);
-      ended = subst (λ (j : ℕ). All (HasEnded k q.bound) (take j xs)) (sym at_start) (All-nil (HasEnded k q.bound));
-    }
+-- what holds of all but one, and of that one, holds of all
+all_back : {X : Type 0} (P : X → Type 0) (ys : List X) (at : ℕ) (d : X) → at < length ys → All P (remove ys at) → P (get_or ys at d) → All P ys
+all_back P [] at d there all mine = absurd (omega (arith, there))
+all_back P (y ∷ ys) zero d there all mine = All-cons P y ys mine all
+all_back P (y ∷ ys) (suc at) d there all mine =
+    All-cons P y ys (All-head P y (remove ys at) all) (all_back P ys at d (omega (arith, there)) (All-tail P y (remove ys at) all) mine)
+
+-- one that joined leaves again
+pub removed_again : {X : Type 0} (xs : List X) (at : ℕ) (x : X) → at ≤ length xs → remove (insert xs at x) at ≡ xs
+removed_again xs zero x there = refl
+removed_again [] (suc at) x there = absurd (omega (arith, there))
+removed_again (y ∷ xs) (suc at) x there = ap (λ (ys : List _). y ∷ ys) (removed_again xs at x (omega (arith, there)))
+
+-- what stands before the place of one that left
+before_removed : {X : Type 0} (i at : ℕ) (xs : List X) → i ≤ at → at < length xs → take i (remove xs at) ≡ take i xs
+before_removed i at xs before there =
+    let l : length (take at xs) ≡ at = length-take-le at xs (omega (arith, there)) in
+    take-append-le i (take at xs) (drop (suc at) xs) (omega (arith, l, before)) ∙ take-take i at xs before
+
+-- a message joined that stands before the index of a pass
+
+pub passed_up_to : (k at : ℕ) (p : Pass) (xs : List Message) → at < length xs → at < p.index → IsPassed k p (remove xs at)
+    → IsPassed k (record p { index = at }) xs
+passed_up_to k at p xs there behind h = record {
+  within = omega (arith, there);
+  ended = subst (λ (ms : List Message). All (HasEnded k p.bound) ms)
+      (take-take at p.index (remove xs at) (omega (arith, behind)) ∙ before_removed at at xs (omega arith) there)
+      (All-take (HasEnded k p.bound) at (take p.index (remove xs at)) h.ended);
+}
+
+pub passed_over : (k at : ℕ) (p : Pass) (m : Message) (xs : List Message) → slice_get xs at ≡ Some m → at < p.index → HasEnded k p.bound m
+    → IsPassed k p (remove xs at) → IsPassed k (record p { index = p.index + 1 }) xs
+passed_over k at p m xs is behind mine h = record {
+  within = omega (arith, len, h.within);
+  ended = all_back (HasEnded k p.bound) (take (p.index + 1) xs) at m (omega (arith, front, behind))
+      (subst (λ (ms : List Message). All (HasEnded k p.bound) ms)
+      (ap (λ (j : ℕ). take j (remove xs at)) one ∙ take_remove at (p.index + 1) xs (omega (arith, behind))) h.ended)
+      (subst (HasEnded k p.bound) (sym (get_or-take (p.index + 1) xs at m (omega (arith, behind)) ∙ get_or_from_slice_get xs at m m is)) mine);
+}
   where
-    only : (n j : ℕ) → slice_get (replicate n p) j ≡ Some q → p ≡ q
-    only zero j h = absurd (none-some q h)
-    only (suc n) zero h = same_Some p q h
-    only (suc n) (suc j) h = only n j h
+    len : length (remove xs at) + 1 ≡ length xs
+    len = length-remove xs at (slice_get_within xs at m is)
+
+    front : length (take (p.index + 1) xs) ≡ p.index + 1
+    front = length-take-le (p.index + 1) xs (omega (arith, len, h.within))
+
+    one : p.index ≡ p.index + 1 - 1
+    one = omega arith
+
+-- the passes before a level are those of the list with the message, the others those of the list without it
+abbrev pub AreRaised : ℕ → List Pass → List Message → List Message → Type 0
+AreRaised k passes old new = (j : ℕ) (p : Pass) → slice_get passes j ≡ Some p → IsPassed j p (cond (ltb j k) new old)
+
+pub none_raised : (passes : List Pass) (old new : List Message) → ArePassed passes old → AreRaised 0 passes old new
+none_raised passes old new h j p is = at (ltb j 0) refl
+  where
+    at : (b : Bool) → ltb j 0 ≡ b → IsPassed j p (cond b new old)
+    at true e = absurd (omega (arith, ltb-true j 0 e))
+    at false e = h j p is
+
+pub all_raised : (k : ℕ) (passes : List Pass) (old new : List Message) → length passes ≤ k → AreRaised k passes old new → ArePassed passes new
+all_raised k passes old new few h j p is =
+    subst (λ (b : Bool). IsPassed j p (cond b new old)) (lt-ltb j k (omega (arith, few, slice_get_within passes j p is))) (h j p is)
+
+pub one_raised : (k : ℕ) (passes : List Pass) (q : Pass) (old new : List Message) → AreRaised k passes old new → IsPassed k q new
+    → AreRaised (k + 1) (set passes k q) old new
+one_raised k passes q old new h mine j p is = at (eqb j k) refl
+  where
+    there : j < length passes
+    there = let len : length (set passes k q) ≡ length passes = length-set passes k q in omega (arith, slice_get_within (set passes k q) j p is, len)
+
+    got : get_or (set passes k q) j q ≡ p
+    got = get_or_from_slice_get (set passes k q) j p q is
+
+    at : (b : Bool) → eqb j k ≡ b → IsPassed j p (cond (ltb j (k + 1)) new old)
+    at true e =
+        let same : j ≡ k = eqb-true j k e in
+        let mine_is : get_or (set passes k q) j q ≡ q = subst (λ (i : ℕ). get_or (set passes i q) j q ≡ q) same (get_or-set_same passes j q q there) in
+        subst (λ (b : Bool). IsPassed j p (cond b new old)) (sym (lt-ltb j (k + 1) (omega (arith, same))))
+        (subst (λ (i : ℕ). IsPassed i p new) (sym same) (subst (λ (r : Pass). IsPassed k r new) (sym mine_is ∙ got) mine))
+    at false e =
+        let other : get_or (set passes k q) j q ≡ get_or passes j q = get_or-set_other passes k j q q (λ same. true≢false (sym (eq-eqb j k same) ∙ e)) in
+        subst (λ (b : Bool). IsPassed j p (cond b new old)) (by (ltb j k) refl) (h j p (slice_get-get_or passes j q there ∙ ap Some (sym other ∙ got)))
+      where
+        by : (b : Bool) → ltb j k ≡ b → ltb j k ≡ ltb j (k + 1)
+        by true is = is ∙ sym (lt-ltb j (k + 1) (omega (arith, ltb-true j k is)))
+        by false is =
+            let behind : j ≡ k → ⊥ = λ same. true≢false (sym (eq-eqb j k same) ∙ e) in
+            is ∙ sym (past (ltb j (k + 1)) refl behind (ltb-false j k is))
+          where
+            past : (b : Bool) → ltb j (k + 1) ≡ b → (j ≡ k → ⊥) → k ≤ j → ltb j (k + 1) ≡ false
+            past false f behind le = f
+            past true f behind le = absurd (behind (omega (arith, ltb-true j (k + 1) f, le)))
 
 -- a pass goes on
 

@@ -3,7 +3,7 @@ ghost use Rattle.mqb_queue.specs.First.{first_index, is_wanted};
 
 use crate::choice::Choice;
 use crate::counts::{LEVELS, bound_of, count_less, count_more};
-use crate::passes::{NO_PASSES, Pass, go_on, shift};
+use crate::passes::{NO_PASSES, Pass, go_on, raise, shift};
 use crate::search::first_index;
 use mqb_base::{Memory, Message};
 use mqb_deque::{GapBuffer, SplitSlice};
@@ -105,8 +105,9 @@ impl MessageList {
     {
         self.top = self.top.max(message.priority);
         count_more(&mut self.counts, message.priority, self.messages.room());
-        self.passes = NO_PASSES;
         self.messages.insert(at, message);
+        let messages = self.messages.as_split();
+        raise(&mut self.passes, &messages, at);
     }
 
     /// Takes out the message at a place.

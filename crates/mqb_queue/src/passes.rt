@@ -1,4 +1,4 @@
-ghost use Rattle.std.specs.Prelude.{◌≡◌, ◌<◌, ◌≤◌, length, map, IfSome};
+ghost use Rattle.std.specs.Prelude.{◌≡◌, ◌<◌, ◌≤◌, ◌^◌, length, map, remove, IfSome};
 ghost use Rattle.mqb_queue.specs.Levels.{Counted, at_level, level};
 ghost use Rattle.mqb_queue.specs.Passes.{ArePassed, HasEnded, IsPassed, end_of, shifted};
 
@@ -43,6 +43,37 @@ pub(crate) fn shift(passes: &mut [Pass; LEVELS], at: usize)
 {
     for k in 0..LEVELS {
         passes[k] = shifted(passes[k], at);
+    }
+}
+
+/// The pass of a level once a message joined that stands at an index.
+fn raised(mut pass: Pass, k: usize, messages: &SplitSlice<'_, Message>, at: usize) -> Pass
+    requires place { at < length messages.now }
+    requires few { length messages.now < 2 ^ 64 }
+    requires passed { IsPassed k pass (remove messages.now at) }
+    ensures { IsPassed k result messages.now }
+{
+    if pass.index <= at {
+        return pass;
+    }
+    let message = messages.at(at);
+    if level(message.priority) == k && pass.bound < end_of(message) {
+        pass.index = at;
+    } else {
+        pass.index += 1;
+    }
+    pass
+}
+
+/// A message joined that stands at an index.
+pub(crate) fn raise(passes: &mut [Pass; LEVELS], messages: &SplitSlice<'_, Message>, at: usize)
+    requires place { at < length messages.now }
+    requires few { length messages.now < 2 ^ 64 }
+    requires passed { ArePassed passes.old (remove messages.now at) }
+    ensures { ArePassed passes.new messages.now }
+{
+    for k in 0..LEVELS {
+        passes[k] = raised(passes[k], k, messages, at);
     }
 }
 
