@@ -125,7 +125,7 @@ restart_read n i Unread m = refl
 
 each_read : RefusalsChangeNothing → (known : List Identity) (c : Course) → IsOrderly known c → (e : Event) → IsRead c e
 each_read law known c o (event.Asks i request) = by_once c (event.Asks i request) (call_shown c.network i (requested (manager_at c.network i) request) reply.Called
-    ((law (manager_at c.network i)).request_touches request) (λ given lines. refl))
+    ((law (manager_at c.network i)).request_whole request).touches (λ given lines. refl))
 each_read law known c o (event.Connect a b now window_a window_b) = unwritten c (event.Connect a b now window_a window_b)
     (always_well (records_in c (event.Connect a b now window_a window_b)) (connect_empty known c o a b now window_a window_b))
 each_read law known c o (event.Disconnect i) = unwritten c (event.Disconnect i) (always_well (records_in c (event.Disconnect i))

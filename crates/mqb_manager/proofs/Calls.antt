@@ -4,6 +4,7 @@ use Rattle.std.specs.Prelude.{◌≡◌, ◌≤◌, Err, IfSome, IsOk, IsSome, I
 use Rattle.mqb_outside.specs.Disk.{Lawful, View}
 use Rattle.mqb_entries.specs.SpelledEntries.{Fits, spelled}
 use Rattle.mqb_entries.specs.declared.entry.Entry.{Entry}
+use Rattle.mqb_model.specs.calls.Call as request
 use Rattle.mqb_model.specs.declared.limits.TheConstants.{MAX_RECORD}
 use Rattle.mqb_model.specs.laws.Durable as model_laws
 use Rattle.mqb_model.specs.laws.Fitting.{IsFitting}
@@ -185,6 +186,10 @@ fit_in s (Some r) there fit = fit
 pub can_write : (s : State) (entry : Option Entry) → IfSome entry CanPut → IfSome (change_in entry) (λ r. fits s r ≡ true) → IfSome entry (CanWrite s)
 can_write s None put fit = tt
 can_write s (Some form) put fit = record { put = put.put; small = put.small; fits = fit_in s (record_in form) put.is_record fit }
+
+-- a manager stays valid by a call where it does by the request for it
+pub by_request : {A : Type 0} (m : Manager) (says : A → request.Answer) (o : Outcome A) → StaysValid m (request.answered says o) → StaysValid m o
+by_request m says o h = record { succeeds = h.succeeds; fails = h.fails }
 
 -- a call of a valid manager can be written
 pub ready_by : {V E : Type 0} (value : V) (d : View) (m : ManagerState) (entry : Option Entry) (b : Beside) (o : Outcome (Result V E))

@@ -7,6 +7,8 @@ use Rattle.mqb_outside.specs.Disk.{Lawful, View}
 use Rattle.mqb_entries.specs.SpelledEntries.{Fits, spelled}
 use Rattle.mqb_entries.specs.declared.entry.Entry.TheVariants as form
 use Rattle.mqb_fields.specs.Reading.{◌>>=◌}
+use Rattle.mqb_model.specs.calls.Call as answer
+use Rattle.mqb_model.specs.calls.Call.{Commit}
 use Rattle.mqb_model.specs.calls.Commit.{Trial, at_op, commit, commit_tried, has_too_large, trial_of, try_op, try_ops, whole_refusal}
 use Rattle.mqb_model.specs.declared.answers.Done.{Done}
 use Rattle.mqb_model.specs.declared.faults.CommitFault.{CommitFault}
@@ -33,7 +35,7 @@ use Rattle.mqb_trying.specs.Trying as trying
 use Rattle.mqb_manager.specs.Calls.{IsCall}
 use Rattle.mqb_manager.specs.States.{IsOnDisk, IsUp, ManagerState, manager_of}
 use Rattle.mqb_manager.specs.Writing.{IsReady, answered, outcome_by}
-use Rattle.mqb_manager.proofs.Calls.{ready_by, refused_call, unmade_call}
+use Rattle.mqb_manager.proofs.Calls.{by_request, ready_by, refused_call, unmade_call}
 use Rattle.mqb_manager.proofs.Conditions.{up_from}
 
 -- What it comes to where the manager is up.
@@ -146,7 +148,7 @@ module _ (ops : List Op) (now : ℕ) (p : Planned) where
   commit_ready d m fit keep leave valid on up drafted trial put small = let k = manager_of m in
       ready_by p.done d m (Some (form.Commit now p.ops)) Nothing (commit k ops now) (commit_is k p.done refl up trial)
       (up_from m up) on (record { put = put; small = small; is_record = is_record (tried m.store.state now ops) trial })
-      ((fit k).commits ops now) ((keep k valid).commits ops now drafted) ((leave k valid).commits ops now)
+      ((fit k).requests (Commit now ops) tt) (by_request k answer.Committed (commit k ops now) ((keep k valid).requests (Commit now ops) drafted)) ((leave k valid).requests (Commit now ops) tt)
 
 -- Where it went well the disk was called for its record.
 pub counted_answered : {V E : Type 0} (value : V) (memory broken : E) (o : Option Record) (P : Type 0) (w : Result (Unit {0}) WriteFault)

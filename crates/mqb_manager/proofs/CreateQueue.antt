@@ -9,6 +9,8 @@ use Rattle.mqb_entries.specs.SpelledEntries.{spelled}
 use Rattle.mqb_entries.specs.declared.entry.Entry.TheVariants as form
 use Rattle.mqb_entries.specs.declared.entry.QueueView.{QueueView}
 use Rattle.mqb_fields.specs.Writing.{bytes_of}
+use Rattle.mqb_model.specs.calls.Call as answer
+use Rattle.mqb_model.specs.calls.Call.{CreateQueue}
 use Rattle.mqb_model.specs.calls.CreateQueue.{create_queue, create_refusal}
 use Rattle.mqb_outside.specs.Disk.{Lawful, View}
 use Rattle.mqb_model.specs.declared.faults.CreateFault.{CreateFault}
@@ -28,7 +30,7 @@ use Rattle.mqb_store.specs.Writing.{change_in}
 use Rattle.mqb_manager.specs.Writing.{IsReady, outcome_by}
 use Rattle.mqb_manager.specs.Calls.{IsCall}
 use Rattle.mqb_manager.specs.States.{IsOnDisk, IsUp, ManagerState, manager_of}
-use Rattle.mqb_manager.proofs.Calls.{first_refused, ready_by, refused_call, unless_none, unless_some}
+use Rattle.mqb_manager.proofs.Calls.{by_request, first_refused, ready_by, refused_call, unless_none, unless_some}
 use Rattle.mqb_manager.proofs.Conditions.{first_not, up_from}
 use Rattle.mqb_manager.proofs.AddPeer.{spelled_name_short}
 
@@ -91,4 +93,4 @@ pub create_queue_ready : (d : View) (m : ManagerState) (plan : QueuePlan) (v : Q
 create_queue_ready d m plan v number fit keep leave valid on none shown numbered next small = let k = manager_of m in
     ready_by number d m (Some (form.CreateQueue v)) Nothing (create_queue k plan) (create_queue_is k plan v number none shown numbered next)
     (up_from m (first_not (is_down k) fault.Down _ none)) on (record { put = tt; small = small; is_record = refl })
-    ((fit k).queues plan) ((keep k valid).queues plan) ((leave k valid).queues plan)
+    ((fit k).requests (CreateQueue plan) tt) (by_request k answer.Created (create_queue k plan) ((keep k valid).requests (CreateQueue plan) tt)) ((leave k valid).requests (CreateQueue plan) tt)

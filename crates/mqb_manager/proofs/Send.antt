@@ -12,6 +12,8 @@ use Rattle.mqb_packet.specs.declared.packet.Headers.TheVariants as headers
 use Rattle.mqb_queue.specs.Lists.{count}
 use Rattle.mqb_queue.specs.Places.{Queue, numbered}
 use Rattle.mqb_model.specs.calls.Messages.{plain_message}
+use Rattle.mqb_model.specs.calls.Call as answer
+use Rattle.mqb_model.specs.calls.Call.{Send}
 use Rattle.mqb_model.specs.calls.Send.{message_fault, queue_fault, send, send_refusal, sending, target_fault}
 use Rattle.mqb_model.specs.declared.faults.SendFault.{SendFault}
 use Rattle.mqb_model.specs.declared.faults.SendFault.TheVariants as fault
@@ -35,7 +37,7 @@ use Rattle.mqb_plans.specs.Plans.{ComesTo, Plan, RefusesSend}
 use Rattle.mqb_manager.specs.Calls.{IsCall}
 use Rattle.mqb_manager.specs.States.{IsOnDisk, IsUp, ManagerState, manager_of}
 use Rattle.mqb_manager.specs.Writing.{IsReady, answered, outcome_by}
-use Rattle.mqb_manager.proofs.Calls.{change_is, ok_answered, put_by, ready_by, refused_call, unmade_call}
+use Rattle.mqb_manager.proofs.Calls.{by_request, change_is, ok_answered, put_by, ready_by, refused_call, unmade_call}
 use Rattle.mqb_manager.proofs.Conditions.{up_from}
 
 -- No message is refused since a disk failed.
@@ -113,7 +115,7 @@ module _ (p : Parts) (recoverable : Bool) (now : ℕ) where
   send_ready d m s plan id form fit keep leave valid on up at drafted comes shown put small = let k = manager_of m in
       ready_by id d m form plan.beside (send k p recoverable now) (send_is m s plan id form up at comes shown)
       (up_from m up) on (put_by form plan.written shown put small)
-      ((fit k).sends p recoverable now) ((keep k valid).sends p recoverable now drafted) ((leave k valid).sends p recoverable now drafted)
+      ((fit k).requests (Send now recoverable p) tt) (by_request k answer.Sent (send k p recoverable now) ((keep k valid).requests (Send now recoverable p) drafted)) ((leave k valid).requests (Send now recoverable p) drafted)
 
 -- Where nothing is recorded there was no entry.
 

@@ -10,6 +10,8 @@ use Rattle.mqb_model.specs.laws.Fitting.{RecordsFit}
 use Rattle.mqb_model.specs.laws.Keeping.{CallsKeepValid}
 use Rattle.mqb_model.specs.managers.Valid.{IsValidManager}
 use Rattle.mqb_model.specs.records.Applying.{is_roll}
+use Rattle.mqb_model.specs.calls.Call as answer
+use Rattle.mqb_model.specs.calls.Call.{Set}
 use Rattle.mqb_model.specs.calls.SetRoll.{set_roll, store_refusal}
 use Rattle.mqb_model.specs.declared.faults.StoreFault.TheVariants as fault
 use Rattle.mqb_model.specs.managers.Beside.{Nothing}
@@ -20,7 +22,7 @@ use Rattle.mqb_store.specs.Writing.{change_in}
 use Rattle.mqb_manager.specs.Writing.{IsReady, outcome_by}
 use Rattle.mqb_manager.specs.Calls.{IsCall}
 use Rattle.mqb_manager.specs.States.{IsOnDisk, IsUp, ManagerState, manager_of}
-use Rattle.mqb_manager.proofs.Calls.{ready_by, refused_call, unless_none, unless_some}
+use Rattle.mqb_manager.proofs.Calls.{by_request, ready_by, refused_call, unless_none, unless_some}
 use Rattle.mqb_manager.proofs.Conditions.{up_from}
 
 not_down : (m : Manager) → is_down m ≡ false → store_refusal m ≡ None
@@ -46,4 +48,4 @@ pub set_roll_ready : (d : View) (m : ManagerState) (count : ℕ) → RecordsFit 
 set_roll_ready d m count fit keep leave valid on up roll = let k = manager_of m in
     ready_by tt d m (Some (form.Roll count)) Nothing (set_roll k count) (set_roll_is k count up)
     (up_from m up) on (record { put = roll_full count roll; small = omega arith; is_record = refl })
-    ((fit k).sets (entry.Roll count) roll) ((keep k valid).sets (entry.Roll count) roll) ((leave k valid).sets (entry.Roll count))
+    ((fit k).requests (Set (entry.Roll count)) roll) (by_request k answer.WasSet (set_roll k count) ((keep k valid).requests (Set (entry.Roll count)) roll)) ((leave k valid).requests (Set (entry.Roll count)) tt)

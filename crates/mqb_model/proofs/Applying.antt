@@ -29,7 +29,7 @@ use Rattle.mqb_queue.specs.Places.{lists_at}
 use Rattle.mqb_model.specs.Lists.{with_changed, with_first_changed}
 use Rattle.mqb_model.specs.declared.limits.TheConstants.{MAX_NUMBER, MAX_QUEUES}
 use Rattle.mqb_model.specs.declared.target.Target.{Target}
-use Rattle.mqb_model.specs.declared.target.Target.TheVariants.{AtPeer, Here, Nowhere}
+use Rattle.mqb_model.specs.declared.target.Target.TheVariants.{AtPeer}
 use Rattle.mqb_model.specs.laws.Durable.{DurableIsApplied, DurableIsFitted, durable_effect}
 use Rattle.mqb_model.specs.records.Arrived.{arrived_fits, is_from_peer, part_fits, part_made}
 use Rattle.mqb_model.specs.records.Commit.{commit_effect, commit_fits, join_fits, joins_fit, op_taken, send_made, sends_fit, sends_numbered, sends_of, take_fits, takes_fit, takes_made}

@@ -16,7 +16,7 @@ use Rattle.mqb_base.specs.declared.heads.TxHead.{TxHead}
 use Rattle.mqb_base.specs.declared.ids.Guid.{Guid}
 use Rattle.mqb_base.specs.declared.message.Message.{Message}
 use Rattle.mqb_base.specs.declared.queue_names.QueueName.{QueueName}
-use Rattle.mqb_base.specs.declared.queue_names.QueueName.TheVariants.{Direct, Machine, Private, Public}
+use Rattle.mqb_base.specs.declared.queue_names.QueueName.TheVariants.{Public}
 use Rattle.mqb_base.specs.declared.queues.EntryPlace.TheVariants as place
 use Rattle.mqb_fate.specs.Asking.{is_ordinary, is_transactional}
 use Rattle.mqb_orders.specs.KeptLists.{released}

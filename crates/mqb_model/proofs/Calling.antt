@@ -30,7 +30,7 @@ use Rattle.mqb_model.specs.state.Resolving.{peer_known}
 use Rattle.mqb_model.specs.state.State.{State}
 use Rattle.mqb_model.specs.state.Valid.{IsCarried}
 use Rattle.mqb_model.proofs.Adding.{added_peer_is_valid, made_queue_is_valid}
-use Rattle.mqb_model.proofs.Fitting.{some_fit}
+use Rattle.mqb_model.proofs.Fitting.{peer_goes, queue_goes}
 use Rattle.mqb_model.proofs.Linking.{bear, may_bear}
 use Rattle.mqb_model.proofs.Standing.{refused_is_same, set_is_valid, stays}
 
@@ -232,16 +232,14 @@ added m peer named f up v = record {
     waiting = waiting_stay m.state.plain
 
 -- A valid manager stays valid by these calls.
-pub record SomeKeepValid (m : Manager) : Type 0 where
-  pub peers : (peer : Identity) → IsName peer.host → IsValidManager (succeeded m (add_peer m peer))
-  pub queues : (plan : QueuePlan) → IsValidManager (succeeded m (create_queue m plan))
-  pub sets : (setting : Setting) → is_setting setting ≡ true → IsValidManager (succeeded m (set_to m setting))
 
-pub some_keep_valid : (m : Manager) → IsValidManager m → SomeKeepValid m
-some_keep_valid m v = record {
-  peers = λ peer named. unless_valid m (add_peer_refusal m peer) (recording m (entry.Peer peer) (Ok (length m.state.peers))) v
-      (λ e. added m peer named (fits_where m (add_peer_refusal m peer) (entry.Peer peer) (Ok (length m.state.peers)) e ((some_fit m).peers peer)) (up_where (is_down m) _ _ e) v);
-  queues = λ plan. unless_valid m (create_refusal m plan) (recording m (entry.CreateQueue (next_queue m.state) plan) (Ok (next_queue m.state))) v
-      (λ e. made m (next_queue m.state) plan (fits_where m (create_refusal m plan) (entry.CreateQueue (next_queue m.state) plan) (Ok (next_queue m.state)) e ((some_fit m).queues plan)) (up_where (is_down m) _ _ e) v);
-  sets = λ setting f. unless_valid m (store_refusal m) (recording m (entry.Set setting) (Ok tt)) v (λ e. set m setting f (up_where (is_down m) _ _ e) v);
-}
+pub peer_valid : (m : Manager) (peer : Identity) → IsName peer.host → IsValidManager m → IsValidManager (succeeded m (add_peer m peer))
+peer_valid m peer named v = unless_valid m (add_peer_refusal m peer) (recording m (entry.Peer peer) (Ok (length m.state.peers))) v
+    (λ e. added m peer named (fits_where m (add_peer_refusal m peer) (entry.Peer peer) (Ok (length m.state.peers)) e (peer_goes m peer)) (up_where (is_down m) _ _ e) v)
+
+pub queue_valid : (m : Manager) (plan : QueuePlan) → IsValidManager m → IsValidManager (succeeded m (create_queue m plan))
+queue_valid m plan v = unless_valid m (create_refusal m plan) (recording m (entry.CreateQueue (next_queue m.state) plan) (Ok (next_queue m.state))) v
+    (λ e. made m (next_queue m.state) plan (fits_where m (create_refusal m plan) (entry.CreateQueue (next_queue m.state) plan) (Ok (next_queue m.state)) e (queue_goes m plan)) (up_where (is_down m) _ _ e) v)
+
+pub setting_valid : (m : Manager) (setting : Setting) → is_setting setting ≡ true → IsValidManager m → IsValidManager (succeeded m (set_to m setting))
+setting_valid m setting f v = unless_valid m (store_refusal m) (recording m (entry.Set setting) (Ok tt)) v (λ e. set m setting f (up_where (is_down m) _ _ e) v)

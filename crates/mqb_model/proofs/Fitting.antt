@@ -53,7 +53,7 @@ below n limit h = grind (arith, nat_tests)
 itself : (n : ℕ) → (n == n) ≡ true
 itself n = grind (arith, nat_tests)
 
-peer_goes : (m : Manager) (peer : Identity) → IsFitting m (add_peer m peer)
+pub peer_goes : (m : Manager) (peer : Identity) → IsFitting m (add_peer m peer)
 peer_goes m peer = at (is_down m) (peer_there m.state peer) refl (nat_le MAX_PEERS (length m.state.peers)) refl
   where
     at : (down there : Bool) → peer_there m.state peer ≡ there → (many : Bool) → nat_le MAX_PEERS (length m.state.peers) ≡ many
@@ -64,7 +64,7 @@ peer_goes m peer = at (is_down m) (peer_there m.state peer) refl (nat_le MAX_PEE
     at false false e true f = tt
     at false false e false f = ap (λ b. not b && nat_lt (length m.state.peers) MAX_PEERS) e ∙ below (length m.state.peers) MAX_PEERS f
 
-queue_goes : (m : Manager) (given : QueuePlan) → IsFitting m (create_queue m given)
+pub queue_goes : (m : Manager) (given : QueuePlan) → IsFitting m (create_queue m given)
 queue_goes m given = at (is_down m) (queue_there m.state given) refl (nat_le MAX_QUEUES (length m.state.places.queues)) refl
   where
     at : (down there : Bool) → queue_there m.state given ≡ there → (many : Bool) → nat_le MAX_QUEUES (length m.state.places.queues) ≡ many
@@ -79,6 +79,9 @@ queue_goes m given = at (is_down m) (queue_there m.state given) refl (nat_le MAX
 unless_fits : {V E : Type 0} (m : Manager) (refusal : Option E) (outcome : Outcome (Result V E)) → IsFitting m outcome → IsFitting m (unless m refusal outcome)
 unless_fits m (Some fault) outcome h = tt
 unless_fits m None outcome h = h
+
+pub set_fits : (m : Manager) (setting : Setting) → is_setting setting ≡ true → IsFitting m (set_to m setting)
+set_fits m setting h = unless_fits m (store_refusal m) (recording m (entry.Set setting) (Ok tt)) h
 
 purging_fits : (m : Manager) (now : ℕ) (at : EntryPlace) → IsFitting m (purge_at m now at)
 purging_fits m now at = by (lists_at m.state.places at) refl
@@ -137,7 +140,7 @@ sent_fits s now p led left small = all (same_guid s.identity.guid s.identity.gui
         (and ((((a && b) && true) && true) && true) f
         (and (((a && b) && true) && true) true (and ((a && b) && true) true (and (a && b) true (and a b ha hb) refl) refl) refl) hf) hg) hh
 
-send_goes : (m : Manager) (p : Parts) (recoverable : Bool) (now : ℕ) → IsFitting m (send m p recoverable now)
+pub send_goes : (m : Manager) (p : Parts) (recoverable : Bool) (now : ℕ) → IsFitting m (send m p recoverable now)
 send_goes m p false now = let message = plain_message m.state false now p in
     unless_fits m (send_refusal m false message) (changing m (beside.SendsExpress now message) (Ok message.id)) tt
 send_goes m p true now = at (is_down m) (target_fault m.state (resolved m.state p.destination)) refl (nat_lt MAX_NUMBER m.state.next_number) refl
@@ -162,25 +165,13 @@ place_taken : (m : Manager) (now : ℕ) (o : Option EntryPlace) → IsFitting m 
 place_taken m now None = tt
 place_taken m now (Some at) = taking_fits m now at
 
--- The records of these calls of any manager fit.
-pub record SomeFit (m : Manager) : Type 0 where
-  pub peers : (peer : Identity) → IsFitting m (add_peer m peer)
-  pub queues : (given : QueuePlan) → IsFitting m (create_queue m given)
-  pub sets : (setting : Setting) → is_setting setting ≡ true → IsFitting m (set_to m setting)
-  pub sends : (p : Parts) (recoverable : Bool) (now : ℕ) → IsFitting m (send m p recoverable now)
-  pub takes : (p : Place) (now : ℕ) → IsFitting m (take_message m p now)
-  pub purges : (p : Place) (now : ℕ) → IsFitting m (purge m p now)
-  pub ticks : (now : ℕ) → IsFitting m (tick m now)
+pub take_fits : (m : Manager) (p : Place) (now : ℕ) → IsFitting m (take_message m p now)
+take_fits m p now = unless_fits m (take_refusal m) (option_map_or (take_at m now) (place_named m.state.places.queues p) (answering m (Err take_fault.NoQueue)))
+    (place_taken m now (place_named m.state.places.queues p))
 
-pub some_fit : (m : Manager) → SomeFit m
-some_fit m = record {
-  peers = peer_goes m;
-  queues = queue_goes m;
-  sets = λ setting h. unless_fits m (store_refusal m) (recording m (entry.Set setting) (Ok tt)) h;
-  sends = send_goes m;
-  takes = λ p now. unless_fits m (take_refusal m) (option_map_or (take_at m now) (place_named m.state.places.queues p) (answering m (Err take_fault.NoQueue)))
-      (place_taken m now (place_named m.state.places.queues p));
-  purges = λ p now. unless_fits m (purge_refusal m) (option_map_or (purge_at m now) (place_named m.state.places.queues p) (answering m (Err purge_fault.NoQueue)))
-      (place_fits m now (place_named m.state.places.queues p));
-  ticks = λ now. unless_fits m (store_refusal m) (ticking m now) (ticking_fits m now (durable_due m.state now == 0));
-}
+pub purge_fits : (m : Manager) (p : Place) (now : ℕ) → IsFitting m (purge m p now)
+purge_fits m p now = unless_fits m (purge_refusal m) (option_map_or (purge_at m now) (place_named m.state.places.queues p) (answering m (Err purge_fault.NoQueue)))
+    (place_fits m now (place_named m.state.places.queues p))
+
+pub tick_fits : (m : Manager) (now : ℕ) → IsFitting m (tick m now)
+tick_fits m now = unless_fits m (store_refusal m) (ticking m now) (ticking_fits m now (durable_due m.state now == 0))

@@ -16,7 +16,7 @@ use Rattle.mqb_base.specs.declared.message.Delivery.TheVariants as delivery
 use Rattle.mqb_base.specs.declared.message.Lane.TheVariants as lane
 use Rattle.mqb_base.specs.declared.message.Message.{Message}
 use Rattle.mqb_base.specs.declared.queue_names.QueueName.{QueueName}
-use Rattle.mqb_base.specs.declared.queue_names.QueueName.TheVariants.{Direct, Machine, Private, Public}
+use Rattle.mqb_base.specs.declared.queue_names.QueueName.TheVariants.{Public}
 use Rattle.mqb_fate.specs.Asking.{is_ordinary, is_transactional}
 use Rattle.mqb_fate.specs.Orders.{is_final_class, names_order_layer}
 use Rattle.mqb_fate.specs.declared.orders.OrderAck.{OrderAck}

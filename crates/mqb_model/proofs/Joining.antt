@@ -11,7 +11,7 @@ use Rattle.mqb_base.specs.declared.ids.Guid.{Guid}
 use Rattle.mqb_base.specs.declared.ids.Identity.{Identity}
 use Rattle.mqb_base.specs.declared.message.Message.{Message}
 use Rattle.mqb_base.specs.declared.queue_names.QueueName.{QueueName}
-use Rattle.mqb_base.specs.declared.queue_names.QueueName.TheVariants.{Direct, Machine, Private, Public}
+use Rattle.mqb_base.specs.declared.queue_names.QueueName.TheVariants.{Direct, Private, Public}
 use Rattle.mqb_fate.specs.Asking.{is_transactional}
 use Rattle.mqb_orders.specs.Rows.{Row, leads_to}
 use Rattle.mqb_orders.specs.declared.kept.Kept.{Kept}

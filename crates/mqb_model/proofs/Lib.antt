@@ -10,6 +10,7 @@ mod Holding
 mod Leaving
 mod Ticking
 mod Applying
+mod Entered
 mod Fitting
 mod Standing
 mod Members
@@ -51,5 +52,6 @@ mod Cores
 mod Trying
 mod Transacting
 mod Sent
+mod Requests
 pub mod Packets
 pub mod Entries

@@ -19,7 +19,7 @@ use Rattle.mqb_model.specs.calls.pump.Candidates.{Candidate, acks, candidates, o
 use Rattle.mqb_model.specs.calls.pump.Choosing.{candidate_size, chosen, is_within, may_follow, session_after}
 use Rattle.mqb_model.specs.calls.pump.Pump.{greatest_sent, mark_for, marks_for, number_of_row}
 use Rattle.mqb_model.specs.declared.limits.TheConstants.{MAX_PACKETS}
-use Rattle.mqb_model.specs.managers.Beside.{OfExpress, OfRecoverable, OfRow, Origin, Owed}
+use Rattle.mqb_model.specs.managers.Beside.{OfExpress, OfRecoverable, OfRow, Origin}
 use Rattle.mqb_model.specs.managers.Manager.{Rest}
 use Rattle.mqb_model.specs.records.Offered.{mark_raised, offered_fits, raises_offer, with_offered}
 use Rattle.mqb_model.specs.rules.Numbers.{express_after}

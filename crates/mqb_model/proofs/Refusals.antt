@@ -1,11 +1,11 @@
 -- A call that is refused changes nothing, and the disk is called exactly where a record is written.
-use Rattle.mqb_model.specs.calls.Call.{Commit, CreateQueue, Purge, Request, Send, Set, Take, Tick, requested}
+use Rattle.mqb_model.specs.calls.Call.{Answer, Request, answered, is_refusal, requested}
 use Rattle.mqb_base.specs.declared.draft.Op.{Op}
 use Rattle.mqb_base.specs.declared.draft.Parts.{Parts}
 use Rattle.mqb_base.specs.declared.queues.Place.{Place}
 use Rattle.mqb_base.specs.declared.queues.QueuePlan.{QueuePlan}
 use Rattle.mqb_model.specs.records.Record.{Setting}
-use Rattle.std.proofs.Common.{refl}
+use Rattle.std.proofs.Common.{refl, ap, sym, ◌∙◌}
 use Rattle.mqb_base.specs.declared.heads.TxHead.{TxHead}
 use Rattle.mqb_base.specs.declared.heard.Heard.{Heard}
 use Rattle.mqb_base.specs.declared.ids.Guid.{Guid}
@@ -26,7 +26,7 @@ use Rattle.mqb_setup.specs.declared.internal.Internal.{Internal}
 use Rattle.mqb_model.specs.declared.faults.CommitFault.{CommitFault}
 use Rattle.std.specs.List.{list_any}
 use Rattle.std.specs.Option.{option_map_or}
-use Rattle.std.specs.Prelude.{◌==◌, ◌&&◌, ◌∷◌, [], Bool, Err, List, None, Ok, Option, Result, Some, cond, false, length, not, slice_get, true, ℕ, ◌≡◌, is_some}
+use Rattle.std.specs.Prelude.{◌==◌, ◌&&◌, ◌∷◌, ◌≡◌, [], Bool, Err, IfErr, List, None, Ok, Option, Result, Some, cond, false, is_err, length, not, slice_get, true, ℕ}
 use Rattle.mqb_base.specs.declared.heard.Heard.TheVariants as heard
 use Rattle.mqb_base.specs.declared.message.Lane.{Lane}
 use Rattle.mqb_base.specs.declared.message.Lane.TheVariants as lane
@@ -58,7 +58,7 @@ use Rattle.mqb_model.specs.declared.faults.PumpFault.{PumpFault}
 use Rattle.mqb_model.specs.declared.faults.PumpFault.TheVariants as pump_fault
 use Rattle.mqb_model.specs.declared.faults.PurgeFault.TheVariants as purge_fault
 use Rattle.mqb_model.specs.declared.faults.TakeFault.TheVariants as take_fault
-use Rattle.mqb_model.specs.laws.Refusals.{IsWhole, RefusalsChangeNothing}
+use Rattle.mqb_model.specs.laws.Refusals.{CallsAreWhole, IsWhole, IsWholeRequest}
 use Rattle.mqb_model.specs.managers.Manager.{Manager, linked_peer}
 use Rattle.mqb_model.specs.managers.Outcomes.{Outcome, answering, recording, unless}
 use Rattle.mqb_model.specs.records.Finals.{is_final}
@@ -208,57 +208,51 @@ session_goes m now session = owed_goes m now session (owed_by session.phase now 
 
 -- each call
 
-created_whole : (m : Manager) (given : QueuePlan) → IsWhole m (create_queue m given)
+pub created_whole : (m : Manager) (given : QueuePlan) → IsWhole m (create_queue m given)
 created_whole m given = whole_unless m (create_refusal m given) (recording m (entry.CreateQueue (next_queue m.state) given) (Ok (next_queue m.state)))
     (record { refused = tt; touches = refl })
 
-setting_whole : (m : Manager) (setting : Setting) → IsWhole m (set_to m setting)
+pub setting_whole : (m : Manager) (setting : Setting) → IsWhole m (set_to m setting)
 setting_whole m setting = whole_unless m (store_refusal m) (recording m (entry.Set setting) (Ok tt)) (record { refused = tt; touches = refl })
 
-committed_whole : (m : Manager) (ops : List Op) (now : ℕ) → IsWhole m (commit m ops now)
+pub committed_whole : (m : Manager) (ops : List Op) (now : ℕ) → IsWhole m (commit m ops now)
 committed_whole m ops now = whole_unless m (ops_refusal m ops) (commit_tried m now (try_ops now 0 (trial_of m.state) ops))
     (commit_goes m now (try_ops now 0 (trial_of m.state) ops))
 
-sent_whole : (m : Manager) (p : Parts) (recoverable : Bool) (now : ℕ) → IsWhole m (send m p recoverable now)
+pub sent_whole : (m : Manager) (p : Parts) (recoverable : Bool) (now : ℕ) → IsWhole m (send m p recoverable now)
 sent_whole m p recoverable now = let message = plain_message m.state recoverable now p in
     whole_unless m (send_refusal m recoverable message) (sending m recoverable message now) (sending_goes m recoverable message now)
 
-taken_whole : (m : Manager) (p : Place) (now : ℕ) → IsWhole m (take_message m p now)
+pub taken_whole : (m : Manager) (p : Place) (now : ℕ) → IsWhole m (take_message m p now)
 taken_whole m p now = whole_unless m (take_refusal m) (option_map_or (take_at m now) (place_named m.state.places.queues p) (answering m (Err take_fault.NoQueue)))
     (whole_or m (take_at m now) (place_named m.state.places.queues p) (answering m (Err take_fault.NoQueue)) (take_goes m now) (refusing m take_fault.NoQueue))
 
-purged_whole : (m : Manager) (p : Place) (now : ℕ) → IsWhole m (purge m p now)
+pub purged_whole : (m : Manager) (p : Place) (now : ℕ) → IsWhole m (purge m p now)
 purged_whole m p now = whole_unless m (purge_refusal m) (option_map_or (purge_at m now) (place_named m.state.places.queues p) (answering m (Err purge_fault.NoQueue)))
     (whole_or m (purge_at m now) (place_named m.state.places.queues p) (answering m (Err purge_fault.NoQueue)) (purge_goes m now) (refusing m purge_fault.NoQueue))
 
-ticked_whole : (m : Manager) (now : ℕ) → IsWhole m (tick m now)
+pub ticked_whole : (m : Manager) (now : ℕ) → IsWhole m (tick m now)
 ticked_whole m now = whole_unless m (store_refusal m) (ticking m now) (record { refused = tt; touches = refl })
 
--- and each request
-requests_touch : (m : Manager) (given : Request) → (requested m given).touches ≡ is_some (requested m given).entry
-requests_touch m (CreateQueue plan) = (created_whole m plan).touches
-requests_touch m (Set setting) = (setting_whole m setting).touches
-requests_touch m (Commit now ops) = (committed_whole m ops now).touches
-requests_touch m (Send now recoverable parts) = (sent_whole m parts recoverable now).touches
-requests_touch m (Take now place) = (taken_whole m place now).touches
-requests_touch m (Purge now place) = (purged_whole m place now).touches
-requests_touch m (Tick now) = (ticked_whole m now).touches
+-- A request is whole where the call is that it makes.
+pub request_whole : {V E : Type 0} (m : Manager) (says : Result V E → Answer) (outcome : Outcome (Result V E))
+    → ((r : Result V E) → is_refusal (says r) ≡ is_err r) → IsWhole m outcome → IsWholeRequest m (answered says outcome)
+request_whole m says outcome shown h = record { refused = λ is. at outcome.answer refl h.refused (sym (shown outcome.answer) ∙ is); touches = h.touches }
+  where
+    at : (r : Result _ _) → outcome.answer ≡ r → IfErr r (λ fault. outcome ≡ answering m (Err fault)) → is_err r ≡ true
+        → answered says outcome ≡ answering m (says outcome.answer)
+    at (Ok value) e same is = absurd (let none : ⊥ = cc in none)
+    at (Err why) e same is = ap (answered says) same ∙ ap (λ r. answering m (says r)) (sym e)
 
-pub refusals_change_nothing : RefusalsChangeNothing
-refusals_change_nothing m = record {
+-- All calls are, where each request is.
+pub calls_are_whole : (m : Manager) → ((given : Request) → IsWholeRequest m (requested m given)) → CallsAreWhole m
+calls_are_whole m requests = record {
   add_peer_whole = λ peer. whole_unless m (add_peer_refusal m peer) (recording m (entry.Peer peer) (Ok (length m.state.peers)))
       (record { refused = tt; touches = refl });
-  create_queue_whole = created_whole m;
-  set_whole = setting_whole m;
-  commit_whole = committed_whole m;
-  send_whole = sent_whole m;
-  take_whole = taken_whole m;
-  purge_whole = purged_whole m;
-  tick_whole = ticked_whole m;
+  request_whole = requests;
   link_whole = λ end window. whole_unless m (link_refusal m end window) (linking m end window) (record { refused = tt; touches = refl });
   hear_whole = λ p now. whole_unless m (hear_refusal m) (option_map_or (hear_linked m now p) m.rest.session (answering m (Err hear_fault.NotLinked)))
       (whole_or m (hear_linked m now p) m.rest.session (answering m (Err hear_fault.NotLinked)) (linked_goes m now p) (refusing m hear_fault.NotLinked));
   pump_whole = λ now. whole_unless m (pump_refusal m) (option_map_or (pump_linked m now) m.rest.session (answering m (Err pump_fault.NotLinked)))
       (whole_or m (pump_linked m now) m.rest.session (answering m (Err pump_fault.NotLinked)) (session_goes m now) (refusing m pump_fault.NotLinked));
-  request_touches = requests_touch m;
 }

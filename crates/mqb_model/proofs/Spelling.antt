@@ -1,72 +1,37 @@
--- A record that a call makes has a spelling.
+-- The records of transactions and sends have a spelling.
 use Rattle.std.proofs.Common.{refl, length, arith, length-append}
 use Rattle.std.proofs.lemmas.Bool.Decides.{nat_tests}
 use Rattle.std.specs.List.{list_any}
 use Rattle.std.specs.Option.{option_map_or}
-use Rattle.std.specs.Prelude.{◌+◌, ◌==◌, ◌||◌, ◌∷◌, ◌≡◌, ◌≤◌, [], Bool, Err, IfOk, IfSome, List, None, Ok, Option, Result, Some, cond, false, nat_le, nat_lt, not, slice_get, true, ℕ}
+use Rattle.std.specs.Prelude.{◌+◌, ◌==◌, ◌||◌, ◌∷◌, ◌≡◌, ◌≤◌, [], Bool, Err, IfOk, List, None, Ok, Option, Result, Some, cond, false, nat_le, nat_lt, not, slice_get, true, ℕ}
 use Rattle.mqb_base.specs.declared.draft.Op.{Op}
 use Rattle.mqb_base.specs.declared.draft.Op.TheVariants as asked
-use Rattle.mqb_base.specs.declared.message.Lane.{Lane}
-use Rattle.mqb_base.specs.declared.message.Lane.TheVariants as lane
+use Rattle.mqb_base.specs.declared.draft.Parts.{Parts}
 use Rattle.mqb_base.specs.declared.message.Message.{Message}
-use Rattle.mqb_base.specs.declared.queues.EntryPlace.{EntryPlace}
 use Rattle.mqb_fields.specs.Reading.{◌>>=◌}
 use Rattle.mqb_packet.specs.declared.packet.Headers.TheVariants as headers
 use Rattle.mqb_queue.specs.Lists.{count}
-use Rattle.mqb_queue.specs.Places.{Queue, lists_at, numbered, place_named}
-use Rattle.mqb_model.specs.calls.AddPeer.{add_peer_refusal}
+use Rattle.mqb_queue.specs.Places.{Queue, numbered}
 use Rattle.mqb_model.specs.calls.Commit.{Trial, at_op, commit, commit_tried, first_free, send_into, send_to, take_first, take_from, take_of, trial_of, try_op, try_ops, with_joined, with_put, with_take}
-use Rattle.mqb_model.specs.calls.CreateQueue.{create_refusal}
 use Rattle.mqb_model.specs.calls.Messages.{message_for, plain_message}
-use Rattle.mqb_model.specs.calls.Purge.{purge_at, purge_refusal, purging}
-use Rattle.mqb_model.specs.calls.Send.{send_refusal, sending}
-use Rattle.mqb_model.specs.calls.SetRoll.{store_refusal}
-use Rattle.mqb_model.specs.calls.Take.{first_in, take_at, take_position, take_refusal, taking}
-use Rattle.mqb_model.specs.calls.Tick.{ticking}
+use Rattle.mqb_model.specs.calls.Send.{send, send_refusal, sending}
 use Rattle.mqb_model.specs.declared.faults.CommitFault.{CommitFault}
 use Rattle.mqb_model.specs.declared.faults.CommitFault.TheVariants as commit_fault
 use Rattle.mqb_model.specs.declared.faults.OpFault.{OpFault}
 use Rattle.mqb_model.specs.declared.faults.OpFault.TheVariants as op_fault
-use Rattle.mqb_model.specs.declared.faults.PurgeFault.TheVariants as purge_fault
-use Rattle.mqb_model.specs.declared.faults.TakeFault.TheVariants as take_fault
 use Rattle.mqb_model.specs.declared.limits.TheConstants.{MAX_NUMBER, MAX_OPS, MAX_RECORD}
 use Rattle.mqb_model.specs.declared.target.Target.{Target}
 use Rattle.mqb_model.specs.declared.target.Target.TheVariants.{AtPeer, Here, Nowhere}
-use Rattle.mqb_model.specs.laws.Fitting.{IsSpelled, RecordsAreSpelled}
+use Rattle.mqb_model.specs.laws.Fitting.{IsSpelled}
 use Rattle.mqb_model.specs.managers.Manager.{Manager, is_down}
-use Rattle.mqb_model.specs.managers.Outcomes.{Outcome, answering, recording, unless}
+use Rattle.mqb_model.specs.managers.Outcomes.{recording, unless}
 use Rattle.mqb_model.specs.records.Commit.{sends_of}
 use Rattle.mqb_model.specs.records.Counting.{IsSpellable, commit_size}
 use Rattle.mqb_model.specs.records.Packets.{is_too_large}
-use Rattle.mqb_model.specs.records.Peer.{next_queue}
 use Rattle.mqb_model.specs.records.Record as entry
-use Rattle.mqb_model.specs.records.Record.{Record, RecordOp}
 use Rattle.mqb_model.specs.rules.Sequences.{may_join, sequence_for}
-use Rattle.mqb_model.specs.rules.Takes.{message_at}
-use Rattle.mqb_model.specs.rules.Timeouts.{durable_due}
 use Rattle.mqb_model.specs.state.Resolving.{queue_named, resolved}
-use Rattle.mqb_model.proofs.Heard.{hear_sound}
-use Rattle.mqb_model.proofs.Pumping.{pump_sound}
-
-unless_spelled : {V E : Type 0} (m : Manager) (refusal : Option E) (outcome : Outcome (Result V E)) → IsSpelled outcome → IsSpelled (unless m refusal outcome)
-unless_spelled m (Some fault) outcome h = tt
-unless_spelled m None outcome h = h
-
-spelled_or : {X A : Type 0} (f : X → Outcome A) (o : Option X) (other : Outcome A) → ((x : X) → IsSpelled (f x)) → IsSpelled other → IsSpelled (option_map_or f o other)
-spelled_or f None other some none = none
-spelled_or f (Some x) other some none = some x
-
-either_spelled : (b : Bool) (r : Record) → IsSpellable r → IfSome (cond b None (Some r)) IsSpellable
-either_spelled true r h = tt
-either_spelled false r h = h
-
-taking_spelled : (m : Manager) (at : EntryPlace) (now : ℕ) (kind : Lane) (k : ℕ) (message : Message) → IsSpelled (taking m at now kind k message)
-taking_spelled m at now lane.Durable k message = tt
-taking_spelled m at now lane.Express k message = tt
-
-sending_spelled : (m : Manager) (recoverable : Bool) (message : Message) (now : ℕ) → IsSpelled (sending m recoverable message now)
-sending_spelled m true message now = tt
-sending_spelled m false message now = tt
+use Rattle.mqb_model.proofs.Entered.{unless_has}
 
 -- Each op that is tried adds one to a transaction.
 
@@ -137,7 +102,7 @@ ops_add now index t (op ∷ ops) = at (try_op t now op) (op_adds t now op) (λ n
 
 -- Commits.
 
-commit_spelled : (m : Manager) (ops : List Op) (now : ℕ) → IsSpelled (commit m ops now)
+pub commit_spelled : (m : Manager) (ops : List Op) (now : ℕ) → IsSpelled (commit m ops now)
 commit_spelled m ops now = at (is_down m) (length ops == 0) refl (nat_lt MAX_OPS (length ops)) refl
   where
     not_zero : (n : ℕ) → (n == 0) ≡ false → 1 ≤ n
@@ -166,22 +131,7 @@ commit_spelled m ops now = at (is_down m) (length ops == 0) refl (nat_lt MAX_OPS
     at false false e true f = tt
     at false false e false f = tried (not_zero (length ops) e) (at_most (length ops) MAX_OPS f) (try_ops now 0 (trial_of m.state) ops) (ops_add now 0 (trial_of m.state) ops)
 
-pub records_are_spelled : RecordsAreSpelled
-records_are_spelled m = record {
-  peers = λ peer. unless_spelled m (add_peer_refusal m peer) (recording m (entry.Peer peer) (Ok (length m.state.peers))) tt;
-  queues = λ plan. unless_spelled m (create_refusal m plan) (recording m (entry.CreateQueue (next_queue m.state) plan) (Ok (next_queue m.state))) tt;
-  sets = λ setting h. unless_spelled m (store_refusal m) (recording m (entry.Set setting) (Ok tt)) h;
-  commits = commit_spelled m;
-  sends = λ p recoverable now. unless_spelled m (send_refusal m recoverable (plain_message m.state recoverable now p)) (sending m recoverable (plain_message m.state recoverable now p) now)
-      (sending_spelled m recoverable (plain_message m.state recoverable now p) now);
-  takes = λ p now. unless_spelled m (take_refusal m) (option_map_or (take_at m now) (place_named m.state.places.queues p) (answering m (Err take_fault.NoQueue)))
-      (spelled_or (take_at m now) (place_named m.state.places.queues p) (answering m (Err take_fault.NoQueue))
-      (λ at. spelled_or (take_position m at now) (first_in m.state at now) (answering m (Err take_fault.QueueEmpty))
-      (λ p. spelled_or (taking m at now p.lane p.index) (message_at p.lane m.state at p.index) (answering m (Err take_fault.QueueEmpty)) (taking_spelled m at now p.lane p.index) tt) tt) tt);
-  purges = λ p now. unless_spelled m (purge_refusal m) (option_map_or (purge_at m now) (place_named m.state.places.queues p) (answering m (Err purge_fault.NoQueue)))
-      (spelled_or (purge_at m now) (place_named m.state.places.queues p) (answering m (Err purge_fault.NoQueue))
-      (λ at. spelled_or (purging m now at) (lists_at m.state.places at) (answering m (Err purge_fault.NoQueue)) (λ l. either_spelled (length l.durable == 0) (entry.Purged now at) tt) tt) tt);
-  ticks = λ now. unless_spelled m (store_refusal m) (ticking m now) (either_spelled (durable_due m.state now == 0) (entry.Ticked now) tt);
-  hears = λ v p now r. (hear_sound m p now v r).spelled;
-  pumps = λ v now. (pump_sound m now v).spelled;
-}
+-- So has that of a send.
+pub send_spelled : (m : Manager) (p : Parts) (recoverable : Bool) (now : ℕ) → IsSpelled (send m p recoverable now)
+send_spelled m p true now = let message = plain_message m.state true now p in unless_has IsSpellable m (send_refusal m true message) (sending m true message now) tt
+send_spelled m p false now = let message = plain_message m.state false now p in unless_has IsSpellable m (send_refusal m false message) (sending m false message now) tt

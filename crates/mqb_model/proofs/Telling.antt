@@ -1,10 +1,10 @@
--- A record that a call makes tells of messages that can be carried.
+-- The records of sends and transactions tell of messages that can be carried.
 use Rattle.std.proofs.Common.{refl, sym, subst, arith}
 use Rattle.std.proofs.lemmas.Bool.Decides.{nat_tests}
 use Rattle.std.proofs.lemmas.List.Elements.{All-from_recursion, filter_map-append, recursion_from_All}
 use Rattle.std.specs.List.{AllByRecursion, list_any}
 use Rattle.std.specs.Option.{option_map_or, option_or}
-use Rattle.std.specs.Prelude.{◌+◌, ◌++◌, ◌==◌, ◌||◌, ◌∷◌, ◌≡◌, ◌≤◌, [], All, Bool, Err, IfOk, IfSome, IsTrue, List, None, Ok, Option, Result, Some, cond, false, length, nat_le, nat_lt, not, slice_get, true, ℕ}
+use Rattle.std.specs.Prelude.{◌+◌, ◌++◌, ◌||◌, ◌∷◌, ◌≡◌, ◌≤◌, [], All, Bool, Err, IfOk, IsTrue, List, None, Ok, Option, Result, Some, cond, false, length, nat_le, nat_lt, not, slice_get, true, ℕ}
 use Rattle.mqb_base.specs.Messages.{IsWellFormed}
 use Rattle.mqb_base.specs.QueueNames.{absent_or_queue, names_queue}
 use Rattle.mqb_base.specs.declared.draft.DraftFault.{DraftFault}
@@ -13,74 +13,43 @@ use Rattle.mqb_base.specs.declared.draft.Op.{Op}
 use Rattle.mqb_base.specs.declared.draft.Op.TheVariants as asked
 use Rattle.mqb_base.specs.declared.draft.Parts.{Parts}
 use Rattle.mqb_base.specs.declared.ids.MessageId.{MessageId}
-use Rattle.mqb_base.specs.declared.message.Lane.{Lane}
-use Rattle.mqb_base.specs.declared.message.Lane.TheVariants as lane
 use Rattle.mqb_base.specs.declared.message.Message.{Message}
 use Rattle.mqb_base.specs.declared.message.TheConstants.{MAX_LABEL, MAX_PRIORITY}
 use Rattle.mqb_base.specs.declared.bits.TheConstants.{MAX_ACK, MAX_JOURNAL}
-use Rattle.mqb_base.specs.declared.queues.EntryPlace.{EntryPlace}
 use Rattle.mqb_packet.specs.declared.packet.Headers.TheVariants as headers
 use Rattle.mqb_fields.specs.Reading.{◌>>=◌}
 use Rattle.mqb_queue.specs.Lists.{count}
-use Rattle.mqb_queue.specs.Places.{Queue, lists_at, numbered, place_named}
-use Rattle.mqb_model.specs.calls.AddPeer.{add_peer_refusal}
+use Rattle.mqb_queue.specs.Places.{Queue, numbered}
 use Rattle.mqb_model.specs.calls.Commit.{Trial, at_op, commit, commit_tried, first_free, ops_refusal, send_into, send_to, take_first, take_from, take_of, trial_of, try_op, try_ops, with_joined, with_put, with_take}
-use Rattle.mqb_model.specs.calls.CreateQueue.{create_refusal}
 use Rattle.mqb_model.specs.calls.Messages.{message_for, plain_message}
-use Rattle.mqb_model.specs.calls.Purge.{purge_at, purge_refusal, purging}
 use Rattle.mqb_model.specs.calls.Send.{plain_entry, send, send_refusal, target_fault}
-use Rattle.mqb_model.specs.calls.SetRoll.{store_refusal}
-use Rattle.mqb_model.specs.calls.Take.{first_in, take_at, take_position, take_refusal, taking}
-use Rattle.mqb_model.specs.calls.Tick.{ticking}
 use Rattle.mqb_model.specs.declared.faults.CommitFault.{CommitFault}
 use Rattle.mqb_model.specs.declared.faults.CommitFault.TheVariants as commit_fault
 use Rattle.mqb_model.specs.declared.faults.OpFault.{OpFault}
 use Rattle.mqb_model.specs.declared.faults.OpFault.TheVariants as op_fault
-use Rattle.mqb_model.specs.declared.faults.PurgeFault.TheVariants as purge_fault
 use Rattle.mqb_model.specs.declared.faults.SendFault.{SendFault}
 use Rattle.mqb_model.specs.declared.faults.SendFault.TheVariants as send_fault
-use Rattle.mqb_model.specs.declared.faults.TakeFault.TheVariants as take_fault
 use Rattle.mqb_model.specs.declared.limits.TheConstants.{MAX_NUMBER, MAX_RECORD}
 use Rattle.mqb_model.specs.declared.target.Target.{Target}
 use Rattle.mqb_model.specs.declared.target.Target.TheVariants.{AtPeer, Here, Nowhere}
-use Rattle.mqb_model.specs.laws.Fitting.{IsAsRead, IsDrafted, IsDraftedOp, RecordsAreRead}
+use Rattle.mqb_model.specs.laws.Fitting.{IsAsRead, IsDrafted, IsDraftedOp}
 use Rattle.mqb_model.specs.records.Carrying.{IsRead, IsRecorded}
 use Rattle.mqb_model.specs.managers.Beside as beside
 use Rattle.mqb_model.specs.managers.Manager.{Manager, is_down}
-use Rattle.mqb_model.specs.managers.Outcomes.{Outcome, answering, changing, recording, unless}
+use Rattle.mqb_model.specs.managers.Outcomes.{changing, recording, unless}
 use Rattle.mqb_model.specs.records.Commit.{sends_of, sent_in}
 use Rattle.mqb_model.specs.records.Counting.{commit_size}
 use Rattle.mqb_model.specs.records.Packets.{in_transaction, is_too_large, packet_to}
-use Rattle.mqb_model.specs.records.Peer.{next_queue}
 use Rattle.mqb_model.specs.records.Record as entry
-use Rattle.mqb_model.specs.records.Record.{Record, RecordOp}
+use Rattle.mqb_model.specs.records.Record.{RecordOp}
 use Rattle.mqb_model.specs.rules.Sequences.{may_join, sequence_for}
-use Rattle.mqb_model.specs.rules.Takes.{message_at}
-use Rattle.mqb_model.specs.rules.Timeouts.{durable_due}
 use Rattle.mqb_model.specs.state.Resolving.{queue_named, resolved}
 use Rattle.mqb_model.specs.state.State.{State}
 use Rattle.mqb_model.specs.state.Valid.{IsNamed}
-use Rattle.mqb_model.proofs.Heard.{hear_sound}
-use Rattle.mqb_model.proofs.Pumping.{pump_sound}
+use Rattle.mqb_model.proofs.Entered.{unless_has}
 use Rattle.mqb_model.proofs.Departing.{tx_bare}
 use Rattle.mqb_model.proofs.Followed.{bare_small}
 use Rattle.mqb_model.proofs.Members.{all_append}
-
-unless_read : {V E : Type 0} (m : Manager) (refusal : Option E) (outcome : Outcome (Result V E)) → IsAsRead outcome → IsAsRead (unless m refusal outcome)
-unless_read m (Some fault) outcome h = tt
-unless_read m None outcome h = h
-
-read_or : {X A : Type 0} (f : X → Outcome A) (o : Option X) (other : Outcome A) → ((x : X) → IsAsRead (f x)) → IsAsRead other → IsAsRead (option_map_or f o other)
-read_or f None other some none = none
-read_or f (Some x) other some none = some x
-
-either_read : (b : Bool) (r : Record) → IsRead r → IfSome (cond b None (Some r)) IsRead
-either_read true r h = tt
-either_read false r h = h
-
-taking_read : (m : Manager) (at : EntryPlace) (now : ℕ) (kind : Lane) (k : ℕ) (message : Message) → IsAsRead (taking m at now kind k message)
-taking_read m at now lane.Durable k message = tt
-taking_read m at now lane.Express k message = tt
 
 -- What a sender chooses is well formed.
 
@@ -141,9 +110,9 @@ sent_read m now p d small = let well = chosen p d in record {
   size = bare_small (plain_message m.state true now p) small;
 }
 
-send_read : (m : Manager) (p : Parts) (recoverable : Bool) (now : ℕ) → IsDrafted p → IsAsRead (send m p recoverable now)
+pub send_read : (m : Manager) (p : Parts) (recoverable : Bool) (now : ℕ) → IsDrafted p → IsAsRead (send m p recoverable now)
 send_read m p false now d = let message = plain_message m.state false now p in
-    unless_read m (send_refusal m false message) (changing m (beside.SendsExpress now message) (Ok message.id)) tt
+    unless_has IsRead m (send_refusal m false message) (changing m (beside.SendsExpress now message) (Ok message.id)) tt
 send_read m p true now d = at (is_down m) (target_fault m.state (resolved m.state p.destination)) (nat_lt MAX_NUMBER m.state.next_number)
     (is_too_large headers.Session (plain_message m.state true now p)) refl
   where
@@ -256,8 +225,8 @@ all_small (m ∷ ms) b f = at (is_too_large headers.TxAndSession m) refl f (all_
     at true e f more = absurd (let none : ⊥ = cc in none)
     at false e f more = (tx_bare m (record { well_formed = (b.0).0; named = (b.0).1; size = e }), more f)
 
-commit_read : (m : Manager) (ops : List Op) (now : ℕ) → All IsDraftedOp ops → IsAsRead (commit m ops now)
-commit_read m ops now d = unless_read m (ops_refusal m ops) (commit_tried m now (try_ops now 0 (trial_of m.state) ops))
+pub commit_read : (m : Manager) (ops : List Op) (now : ℕ) → All IsDraftedOp ops → IsAsRead (commit m ops now)
+commit_read m ops now d = unless_has IsRead m (ops_refusal m ops) (commit_tried m now (try_ops now 0 (trial_of m.state) ops))
     (tried (try_ops now 0 (trial_of m.state) ops) (ops_borne now 0 (trial_of m.state) ops (recursion_from_All IsDraftedOp ops d) tt))
   where
     whole : (t : Trial) → Borne t.ops → (spent large long : Bool) → list_any (is_too_large headers.TxAndSession) (sends_of t.ops) ≡ large
@@ -271,22 +240,3 @@ commit_read m ops now d = unless_read m (ops_refusal m ops) (commit_tried m now 
     tried (Err why) b = tt
     tried (Ok t) b = whole t b (nat_lt (MAX_NUMBER + 1) t.sending.next_number) (list_any (is_too_large headers.TxAndSession) (sends_of t.ops))
         (nat_lt MAX_RECORD (commit_size t.ops)) refl
-
-pub records_are_read : RecordsAreRead
-records_are_read m = record {
-  peers = λ peer named. unless_read m (add_peer_refusal m peer) (recording m (entry.Peer peer) (Ok (length m.state.peers))) named;
-  queues = λ plan. unless_read m (create_refusal m plan) (recording m (entry.CreateQueue (next_queue m.state) plan) (Ok (next_queue m.state))) tt;
-  sets = λ setting. unless_read m (store_refusal m) (recording m (entry.Set setting) (Ok tt)) tt;
-  commits = commit_read m;
-  sends = send_read m;
-  takes = λ p now. unless_read m (take_refusal m) (option_map_or (take_at m now) (place_named m.state.places.queues p) (answering m (Err take_fault.NoQueue)))
-      (read_or (take_at m now) (place_named m.state.places.queues p) (answering m (Err take_fault.NoQueue))
-      (λ at. read_or (take_position m at now) (first_in m.state at now) (answering m (Err take_fault.QueueEmpty))
-      (λ p. read_or (taking m at now p.lane p.index) (message_at p.lane m.state at p.index) (answering m (Err take_fault.QueueEmpty)) (taking_read m at now p.lane p.index) tt) tt) tt);
-  purges = λ p now. unless_read m (purge_refusal m) (option_map_or (purge_at m now) (place_named m.state.places.queues p) (answering m (Err purge_fault.NoQueue)))
-      (read_or (purge_at m now) (place_named m.state.places.queues p) (answering m (Err purge_fault.NoQueue))
-      (λ at. read_or (purging m now at) (lists_at m.state.places at) (answering m (Err purge_fault.NoQueue)) (λ l. either_read (length l.durable == 0) (entry.Purged now at) tt) tt) tt);
-  ticks = λ now. unless_read m (store_refusal m) (ticking m now) (either_read (durable_due m.state now == 0) (entry.Ticked now) tt);
-  hears = λ v p now r. (hear_sound m p now v r).written.read;
-  pumps = λ v now. (pump_sound m now v).written.read;
-}

@@ -26,7 +26,7 @@ use Rattle.mqb_queue.specs.Lists.{Lists, put}
 use Rattle.mqb_queue.specs.Lists as places
 use Rattle.mqb_queue.specs.Places.{Places, Queue, changed_at, numbered}
 use Rattle.mqb_model.specs.declared.target.Target.{Target}
-use Rattle.mqb_model.specs.declared.target.Target.TheVariants.{AtPeer, Here, Nowhere}
+use Rattle.mqb_model.specs.declared.target.Target.TheVariants.{Here}
 use Rattle.mqb_model.specs.records.Commit.{take_fits}
 use Rattle.mqb_model.specs.rules.Arrivals.{is_recorded, refusal_by}
 use Rattle.mqb_model.specs.rules.Effects.{Effect, joined}

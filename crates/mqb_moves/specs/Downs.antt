@@ -1,16 +1,7 @@
 -- A manager that is down refuses each call.
-use Rattle.std.specs.Prelude.{◌≡◌, Bool, Err, List, true, ℕ}
-use Rattle.mqb_base.specs.declared.draft.Op.{Op}
-use Rattle.mqb_base.specs.declared.draft.Parts.{Parts}
-use Rattle.mqb_base.specs.declared.queues.Place.{Place}
-use Rattle.mqb_base.specs.declared.queues.QueuePlan.{QueuePlan}
-use Rattle.mqb_model.specs.calls.Commit.{commit}
-use Rattle.mqb_model.specs.calls.CreateQueue.{create_queue}
-use Rattle.mqb_model.specs.calls.Purge.{purge}
-use Rattle.mqb_model.specs.calls.Send.{send}
-use Rattle.mqb_model.specs.calls.SetRoll.{set_roll}
-use Rattle.mqb_model.specs.calls.Take.{take_message}
-use Rattle.mqb_model.specs.calls.Tick.{tick}
+use Rattle.std.specs.Prelude.{◌≡◌, Err, true, ℕ}
+use Rattle.mqb_model.specs.calls.Call as answer
+use Rattle.mqb_model.specs.calls.Call.{Answer, Commit, CreateQueue, Purge, Request, Send, Set, Take, Tick, requested}
 use Rattle.mqb_model.specs.calls.hear.Hear.{hear}
 use Rattle.mqb_model.specs.calls.pump.Pump.{pump}
 use Rattle.mqb_model.specs.declared.faults.CommitFault.TheVariants as commits
@@ -25,15 +16,19 @@ use Rattle.mqb_model.specs.managers.Manager.{Manager, is_down}
 use Rattle.mqb_model.specs.managers.Outcomes.{answering}
 use Rattle.mqb_packet.specs.declared.packet.Packet.{Packet}
 
+-- its answer to a request
+abbrev pub down_answer : Request → Answer
+down_answer (CreateQueue plan) = answer.Created (Err creates.Down)
+down_answer (Set setting) = answer.WasSet (Err stores.Down)
+down_answer (Commit now ops) = answer.Committed (Err commits.Down)
+down_answer (Send now recoverable parts) = answer.Sent (Err sends.Down)
+down_answer (Take now place) = answer.Took (Err takes.Down)
+down_answer (Purge now place) = answer.Purged (Err purges.Down)
+down_answer (Tick now) = answer.Ticked (Err stores.Down)
+
 -- each call of it
 pub record RefusesAll (m : Manager) : Type 0 where
-  pub queues : (given : QueuePlan) → create_queue m given ≡ answering m (Err creates.Down)
-  pub rolls : (count : ℕ) → set_roll m count ≡ answering m (Err stores.Down)
-  pub commits : (ops : List Op) (now : ℕ) → commit m ops now ≡ answering m (Err commits.Down)
-  pub sends : (p : Parts) (recoverable : Bool) (now : ℕ) → send m p recoverable now ≡ answering m (Err sends.Down)
-  pub takes : (p : Place) (now : ℕ) → take_message m p now ≡ answering m (Err takes.Down)
-  pub purges : (p : Place) (now : ℕ) → purge m p now ≡ answering m (Err purges.Down)
-  pub ticks : (now : ℕ) → tick m now ≡ answering m (Err stores.Down)
+  pub requests : (request : Request) → requested m request ≡ answering m (down_answer request)
   pub hears : (p : Packet) (now : ℕ) → hear m p now ≡ answering m (Err hears.Down)
   pub pumps : (now : ℕ) → pump m now ≡ answering m (Err pumps.Down)
 

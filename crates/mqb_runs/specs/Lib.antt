@@ -1,6 +1,6 @@
 pub mod Hosts
-pub mod Events
 pub mod Requests
+pub mod Events
 pub mod Runs
 pub mod Texts
 pub mod Guarantees

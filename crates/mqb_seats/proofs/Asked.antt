@@ -3,15 +3,14 @@ use Rattle.std.proofs.Common.{◌≡◌, ◌==◌, ℕ, Bool, true, false, cond,
 use Rattle.std.specs.Prelude.{IsOk, not}
 use Rattle.std.specs.Result.{result_and}
 use Rattle.mqb_base.specs.declared.ledger.Line.{Line}
-use Rattle.mqb_model.specs.calls.Call.{Answer, Request, answered, requested}
+use Rattle.mqb_model.specs.calls.Call.{Answer, Request, requested}
 use Rattle.mqb_model.specs.calls.Call as calls
 use Rattle.mqb_model.specs.laws.Validity.{RefusedIsSame}
 use Rattle.mqb_model.specs.managers.Manager.{Manager, is_down}
-use Rattle.mqb_model.specs.managers.Outcomes.{Outcome, answering, lines_after}
+use Rattle.mqb_model.specs.managers.Outcomes.{Outcome, lines_after}
 use Rattle.mqb_model.specs.managers.Valid.{IsValidManager}
-use Rattle.mqb_model.specs.records.Record.{Roll}
 use Rattle.mqb_moves.specs.Calls.{IsCall}
-use Rattle.mqb_moves.specs.Downs.{DownRefusesAll, RefusesAll}
+use Rattle.mqb_moves.specs.Downs.{DownRefusesAll, down_answer}
 use Rattle.mqb_moves.specs.Moves.{IsMove}
 use Rattle.mqb_moves.specs.Seats.{IsHeldOn, SeatState, seated}
 use Rattle.mqb_moves.specs.States.{ManagerState, manager_of}
@@ -33,22 +32,16 @@ use Rattle.mqb_seats.specs.declared.called.Failure.{Failure}
 
 -- A manager that is down refuses each request.
 
-refused_down : (m : Manager) → RefusesAll m → (request : Request) → (a : Answer) × (requested m request ≡ answering m a) × ((lines : List Line) → reply_of a lines ≡ Ok reply.Down)
-refused_down m law (calls.CreateQueue plan) = (_, ap (answered calls.Created) (law.queues plan), λ lines. refl)
-refused_down m law (calls.Set (Roll count)) = (_, ap (answered calls.WasSet) (law.rolls count), λ lines. refl)
-refused_down m law (calls.Commit now ops) = (_, ap (answered calls.Committed) (law.commits ops now), λ lines. refl)
-refused_down m law (calls.Send now recoverable parts) = (_, ap (answered calls.Sent) (law.sends parts recoverable now), λ lines. refl)
-refused_down m law (calls.Take now place) = (_, ap (answered calls.Took) (law.takes place now), λ lines. refl)
-refused_down m law (calls.Purge now place) = (_, ap (answered calls.Purged) (law.purges place now), λ lines. refl)
-refused_down m law (calls.Tick now) = (_, ap (answered calls.Ticked) (law.ticks now), λ lines. refl)
+down_replied : (request : Request) (lines : List Line) → reply_of (down_answer request) lines ≡ Ok reply.Down
+down_replied (calls.CreateQueue plan) lines = refl
+down_replied request lines = refl
 
 pub down_called : DownRefusesAll → RefusedIsSame → (d : View) (stopped : Bool) (s : SeatState) → IsValidManager (seated s) → is_down (seated s) ≡ true → (request : Request)
     → IsCalled d d stopped s s (requested (seated s) request) (Told reply.Down false)
 down_called downs same d stopped s valid down request =
-    let given = refused_down (seated s) (downs (seated s) down) request in
-    subst (λ (o : Outcome Answer). IsCalled d d stopped s s o (Told reply.Down false)) (sym given.1) (
+    subst (λ (o : Outcome Answer). IsCalled d d stopped s s o (Told reply.Down false)) (sym ((downs (seated s) down).requests request)) (
       record { manager = sym (same (seated s) true valid); record_failed = λ some. some; held = λ held. held; faults = refl; switch = refl },
-      given.2 [],
+      down_replied request [],
       refl,
     )
 

@@ -22,6 +22,7 @@ use Rattle.mqb_packet.specs.Spelled.{Spells, packet_in}
 use Rattle.mqb_packet.specs.declared.packet.Packet.{Packet}
 use Rattle.mqb_packet.specs.declared.packet.Packet.TheVariants as packet
 use Rattle.mqb_packet.specs.declared.packet.UserPacket.{UserPacket}
+use Rattle.mqb_model.specs.calls.Call.{Commit}
 use Rattle.mqb_model.specs.calls.Commit.{Trial, commit, commit_tried, trial_of, try_ops, whole_refusal}
 use Rattle.mqb_model.specs.declared.faults.CommitFault.{CommitFault}
 use Rattle.mqb_model.specs.laws.Fitting.{IsFitting, IsSpelled, RecordsAreSpelled, RecordsFit}
@@ -59,10 +60,10 @@ module _ (s : State) (now : ℕ) (ops : List Op) (t : Trial) (few : count_refusa
       ∙ ap (λ (w : Option CommitFault). unless m w (recording m (entry.Commit now t.ops) (Ok t.done))) whole
 
   pub fits_is : RecordsFit → fits s (entry.Commit now t.ops) ≡ true
-  fits_is law = subst (IsFitting m) commit_is ((law m).commits ops now)
+  fits_is law = subst (IsFitting m) commit_is ((law m).requests (Commit now ops) tt)
 
   pub spellable : RecordsAreSpelled → IsSpellable (entry.Commit now t.ops)
-  spellable law = subst IsSpelled commit_is ((law m).commits ops now)
+  spellable law = subst IsSpelled commit_is ((law m).requests (Commit now ops) tt)
 
 -- How long it is.
 

@@ -1,5 +1,5 @@
 -- The calls of a manager that knows its peers, and what each of them comes to.
-use Rattle.std.specs.Prelude.{Bool, List, Result, ℕ}
+use Rattle.std.specs.Prelude.{Bool, List, Result, false, is_err, ℕ}
 use Rattle.mqb_base.specs.declared.draft.Op.{Op}
 use Rattle.mqb_base.specs.declared.draft.Parts.{Parts}
 use Rattle.mqb_base.specs.declared.heard.Heard as arrivals
@@ -61,6 +61,19 @@ pub data Answer : Type 0 where
   Resent : Answer
   Pumped : Result ℕ PumpFault → Answer
   Heard : Result arrivals.Heard HearFault → Answer
+
+-- whether it says why the call was refused
+abbrev pub is_refusal : Answer → Bool
+is_refusal (Created r) = is_err r
+is_refusal (WasSet r) = is_err r
+is_refusal (Committed r) = is_err r
+is_refusal (Sent r) = is_err r
+is_refusal (Took r) = is_err r
+is_refusal (Purged r) = is_err r
+is_refusal (Ticked r) = is_err r
+is_refusal Resent = false
+is_refusal (Pumped r) = is_err r
+is_refusal (Heard r) = is_err r
 
 -- an outcome, with its answer as one of these
 abbrev pub answered : {A : Type 0} → (A → Answer) → Outcome A → Outcome Answer

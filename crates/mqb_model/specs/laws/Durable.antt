@@ -1,5 +1,5 @@
 -- A store decides the same whatever express messages and marks stand beside it, and what is done beside a record leaves it.
-use Rattle.std.specs.Prelude.{◌≡◌, Bool, List, false, fold, true, ℕ}
+use Rattle.std.specs.Prelude.{◌≡◌, List, false, fold, true, ℕ}
 use Rattle.mqb_base.specs.declared.class.Class.{Class}
 use Rattle.mqb_base.specs.declared.heads.TxHead.{TxHead}
 use Rattle.mqb_base.specs.declared.ids.Identity.{Identity}
@@ -10,23 +10,14 @@ use Rattle.mqb_base.specs.declared.queues.EntryPlace.{EntryPlace}
 use Rattle.mqb_base.specs.declared.queues.QueuePlan.{QueuePlan}
 use Rattle.mqb_entries.specs.declared.members.Mark.{Mark}
 use Rattle.mqb_packet.specs.declared.packet.UserPacket.{UserPacket}
-use Rattle.mqb_base.specs.declared.draft.Op.{Op}
-use Rattle.mqb_base.specs.declared.draft.Parts.{Parts}
-use Rattle.mqb_base.specs.declared.queues.Place.{Place}
 use Rattle.mqb_packet.specs.declared.packet.Packet.{Packet}
 use Rattle.mqb_model.specs.calls.AddPeer.{add_peer}
-use Rattle.mqb_model.specs.calls.Commit.{commit}
-use Rattle.mqb_model.specs.calls.CreateQueue.{create_queue}
+use Rattle.mqb_model.specs.calls.Call.{Request, requested}
 use Rattle.mqb_model.specs.calls.Link.{link, resend, unlink}
-use Rattle.mqb_model.specs.calls.Purge.{purge}
-use Rattle.mqb_model.specs.calls.Send.{send}
-use Rattle.mqb_model.specs.calls.SetRoll.{set_to}
-use Rattle.mqb_model.specs.calls.Take.{take_message}
-use Rattle.mqb_model.specs.calls.Tick.{tick}
 use Rattle.mqb_model.specs.calls.hear.Hear.{IsReadable, hear}
 use Rattle.mqb_model.specs.calls.pump.Pump.{pump}
 use Rattle.mqb_model.specs.declared.answers.Role.{Role}
-use Rattle.mqb_model.specs.laws.Fitting.{IsDrafted}
+use Rattle.mqb_model.specs.laws.Fitting.{IsDraftedSend}
 use Rattle.mqb_model.specs.managers.Manager.{Manager}
 use Rattle.mqb_model.specs.managers.Outcomes.{Outcome, recorded, state_after}
 use Rattle.mqb_model.specs.managers.Valid.{IsValidManager}
@@ -35,7 +26,7 @@ use Rattle.mqb_model.specs.records.Decisions.{message_decided, message_stored}
 use Rattle.mqb_model.specs.records.Offered.{offered_effect}
 use Rattle.mqb_model.specs.records.Peer.{with_new_queue, with_peer}
 use Rattle.mqb_model.specs.records.Plain.{plain_effect}
-use Rattle.mqb_model.specs.records.Record.{Record, Setting}
+use Rattle.mqb_model.specs.records.Record.{Record}
 use Rattle.mqb_model.specs.records.Releases.{message_released}
 use Rattle.mqb_model.specs.rules.Effects.{Effect, begun}
 use Rattle.mqb_model.specs.rules.Notices.{meets}
@@ -99,13 +90,7 @@ LeavesStore m outcome = durable (state_after m outcome) ≡ durable (recorded m.
 -- Each call of a manager does.
 pub record EachLeavesStore (m : Manager) : Type 0 where
   pub peers : (peer : Identity) → LeavesStore m (add_peer m peer)
-  pub queues : (given : QueuePlan) → LeavesStore m (create_queue m given)
-  pub sets : (setting : Setting) → LeavesStore m (set_to m setting)
-  pub commits : (ops : List Op) (now : ℕ) → LeavesStore m (commit m ops now)
-  pub sends : (p : Parts) (recoverable : Bool) (now : ℕ) → IsDrafted p → LeavesStore m (send m p recoverable now)
-  pub takes : (p : Place) (now : ℕ) → LeavesStore m (take_message m p now)
-  pub purges : (p : Place) (now : ℕ) → LeavesStore m (purge m p now)
-  pub ticks : (now : ℕ) → LeavesStore m (tick m now)
+  pub requests : (given : Request) → IsDraftedSend given → LeavesStore m (requested m given)
   pub links : (end : Role) (window : ℕ) → LeavesStore m (link m end window)
   pub unlinks : LeavesStore m (unlink m)
   pub resends : LeavesStore m (resend m)

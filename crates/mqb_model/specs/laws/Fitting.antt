@@ -1,23 +1,14 @@
 -- A record that a call makes fits, and has a spelling.
-use Rattle.std.specs.Prelude.{◌≡◌, All, Bool, IfSome, List, None, true, ℕ}
+use Rattle.std.specs.Prelude.{◌≡◌, All, IfSome, None, true, ℕ}
 use Rattle.mqb_base.specs.Drafts.{draft_fault}
 use Rattle.mqb_base.specs.declared.draft.Op.{Op}
 use Rattle.mqb_base.specs.declared.draft.Op.TheVariants as asked
 use Rattle.mqb_base.specs.declared.draft.Parts.{Parts}
 use Rattle.mqb_base.specs.declared.ids.Identity.{Identity}
-use Rattle.mqb_base.specs.declared.queues.Place.{Place}
-use Rattle.mqb_base.specs.declared.queues.QueuePlan.{QueuePlan}
 use Rattle.mqb_names.specs.Values.{IsName, IsQueueName}
 use Rattle.mqb_packet.specs.declared.packet.Packet.{Packet}
 use Rattle.mqb_model.specs.calls.AddPeer.{add_peer}
-use Rattle.mqb_model.specs.calls.Call.{Commit, Request, Send, Set}
-use Rattle.mqb_model.specs.calls.Commit.{commit}
-use Rattle.mqb_model.specs.calls.CreateQueue.{create_queue}
-use Rattle.mqb_model.specs.calls.Purge.{purge}
-use Rattle.mqb_model.specs.calls.Send.{send}
-use Rattle.mqb_model.specs.calls.SetRoll.{set_to}
-use Rattle.mqb_model.specs.calls.Take.{take_message}
-use Rattle.mqb_model.specs.calls.Tick.{tick}
+use Rattle.mqb_model.specs.calls.Call.{Commit, Request, Send, Set, requested}
 use Rattle.mqb_model.specs.calls.hear.Hear.{IsReadable, hear}
 use Rattle.mqb_model.specs.calls.pump.Pump.{pump}
 use Rattle.mqb_model.specs.managers.Manager.{Manager}
@@ -26,7 +17,38 @@ use Rattle.mqb_model.specs.managers.Valid.{IsValidManager}
 use Rattle.mqb_model.specs.records.Applying.{fits, is_setting}
 use Rattle.mqb_model.specs.records.Carrying.{IsRead}
 use Rattle.mqb_model.specs.records.Counting.{IsSpellable}
-use Rattle.mqb_model.specs.records.Record.{Setting}
+
+-- what a sender chooses makes a message, and its names are names
+pub record IsDrafted (p : Parts) : Type 0 where
+  pub sound : draft_fault p ≡ None
+  pub destination : IsQueueName p.destination
+  pub admin : IfSome p.admin IsQueueName
+  pub response : IfSome p.response IsQueueName
+
+-- so does an op of a transaction
+abbrev pub IsDraftedOp : Op → Type 0
+IsDraftedOp (asked.Send p) = IsDrafted p
+IsDraftedOp (asked.Take name) = Unit {0}
+
+-- What the laws ask of a request: its setting is one,
+abbrev pub IsSettable : Request → Type 0
+IsSettable (Set setting) = is_setting setting ≡ true
+IsSettable _ = Unit {0}
+
+-- its message is drafted,
+abbrev pub IsDraftedSend : Request → Type 0
+IsDraftedSend (Send now recoverable p) = IsDrafted p
+IsDraftedSend _ = Unit {0}
+
+-- its ops or its message are,
+abbrev pub HasDrafts : Request → Type 0
+HasDrafts (Commit now ops) = All IsDraftedOp ops
+HasDrafts given = IsDraftedSend given
+
+-- and all of this
+abbrev pub IsDraftedRequest : Request → Type 0
+IsDraftedRequest (Set setting) = is_setting setting ≡ true
+IsDraftedRequest given = HasDrafts given
 
 -- the record of a call fits, where there is one
 abbrev pub IsFitting : {A : Type 0} → Manager → Outcome A → Type 0
@@ -35,13 +57,7 @@ IsFitting m outcome = IfSome outcome.entry (λ r. fits m.state r ≡ true)
 -- The records of all calls do: those of hear and pump where the manager is valid.
 pub record RecordsOf (m : Manager) : Type 0 where
   pub peers : (peer : Identity) → IsFitting m (add_peer m peer)
-  pub queues : (given : QueuePlan) → IsFitting m (create_queue m given)
-  pub sets : (setting : Setting) → is_setting setting ≡ true → IsFitting m (set_to m setting)
-  pub commits : (ops : List Op) (now : ℕ) → IsFitting m (commit m ops now)
-  pub sends : (p : Parts) (recoverable : Bool) (now : ℕ) → IsFitting m (send m p recoverable now)
-  pub takes : (p : Place) (now : ℕ) → IsFitting m (take_message m p now)
-  pub purges : (p : Place) (now : ℕ) → IsFitting m (purge m p now)
-  pub ticks : (now : ℕ) → IsFitting m (tick m now)
+  pub requests : (given : Request) → IsSettable given → IsFitting m (requested m given)
   pub hears : IsValidManager m → (p : Packet) (now : ℕ) → IsReadable p → IsFitting m (hear m p now)
   pub pumps : IsValidManager m → (now : ℕ) → IsFitting m (pump m now)
 
@@ -56,38 +72,13 @@ IsSpelled outcome = IfSome outcome.entry IsSpellable
 -- The records of all calls have.
 pub record SpelledRecords (m : Manager) : Type 0 where
   pub peers : (peer : Identity) → IsSpelled (add_peer m peer)
-  pub queues : (given : QueuePlan) → IsSpelled (create_queue m given)
-  pub sets : (setting : Setting) → is_setting setting ≡ true → IsSpelled (set_to m setting)
-  pub commits : (ops : List Op) (now : ℕ) → IsSpelled (commit m ops now)
-  pub sends : (p : Parts) (recoverable : Bool) (now : ℕ) → IsSpelled (send m p recoverable now)
-  pub takes : (p : Place) (now : ℕ) → IsSpelled (take_message m p now)
-  pub purges : (p : Place) (now : ℕ) → IsSpelled (purge m p now)
-  pub ticks : (now : ℕ) → IsSpelled (tick m now)
+  pub requests : (given : Request) → IsSettable given → IsSpelled (requested m given)
   pub hears : IsValidManager m → (p : Packet) (now : ℕ) → IsReadable p → IsSpelled (hear m p now)
   pub pumps : IsValidManager m → (now : ℕ) → IsSpelled (pump m now)
 
 -- of every manager
 abbrev pub RecordsAreSpelled : Type 0
 RecordsAreSpelled = (m : Manager) → SpelledRecords m
-
--- what a sender chooses makes a message, and its names are names
-pub record IsDrafted (p : Parts) : Type 0 where
-  pub sound : draft_fault p ≡ None
-  pub destination : IsQueueName p.destination
-  pub admin : IfSome p.admin IsQueueName
-  pub response : IfSome p.response IsQueueName
-
--- so does an op of a transaction
-abbrev pub IsDraftedOp : Op → Type 0
-IsDraftedOp (asked.Send p) = IsDrafted p
-IsDraftedOp (asked.Take name) = Unit {0}
-
--- and a request: its ops or its message are drafted, or its setting is one
-abbrev pub IsDraftedRequest : Request → Type 0
-IsDraftedRequest (Set setting) = is_setting setting ≡ true
-IsDraftedRequest (Commit now ops) = All IsDraftedOp ops
-IsDraftedRequest (Send now recoverable p) = IsDrafted p
-IsDraftedRequest _ = Unit {0}
 
 -- the record of a call is as one that was read, where there is one
 abbrev pub IsAsRead : {A : Type 0} → Outcome A → Type 0
@@ -96,13 +87,7 @@ IsAsRead outcome = IfSome outcome.entry IsRead
 -- The records of all calls are.
 pub record ReadRecords (m : Manager) : Type 0 where
   pub peers : (peer : Identity) → IsName peer.host → IsAsRead (add_peer m peer)
-  pub queues : (given : QueuePlan) → IsAsRead (create_queue m given)
-  pub sets : (setting : Setting) → IsAsRead (set_to m setting)
-  pub commits : (ops : List Op) (now : ℕ) → All IsDraftedOp ops → IsAsRead (commit m ops now)
-  pub sends : (p : Parts) (recoverable : Bool) (now : ℕ) → IsDrafted p → IsAsRead (send m p recoverable now)
-  pub takes : (p : Place) (now : ℕ) → IsAsRead (take_message m p now)
-  pub purges : (p : Place) (now : ℕ) → IsAsRead (purge m p now)
-  pub ticks : (now : ℕ) → IsAsRead (tick m now)
+  pub requests : (given : Request) → HasDrafts given → IsAsRead (requested m given)
   pub hears : IsValidManager m → (p : Packet) (now : ℕ) → IsReadable p → IsAsRead (hear m p now)
   pub pumps : IsValidManager m → (now : ℕ) → IsAsRead (pump m now)
 

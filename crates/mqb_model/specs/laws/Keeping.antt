@@ -1,11 +1,8 @@
 -- A valid state stays valid by a record that fits, and a valid manager by each call.
-use Rattle.std.specs.Prelude.{◌≡◌, All, Bool, List, true, ℕ}
-use Rattle.mqb_base.specs.declared.draft.Op.{Op}
-use Rattle.mqb_base.specs.declared.draft.Parts.{Parts}
+use Rattle.std.specs.Prelude.{◌≡◌, All, List, true, ℕ}
 use Rattle.mqb_base.specs.declared.ids.Identity.{Identity}
 use Rattle.mqb_base.specs.declared.ids.MessageId.{MessageId}
 use Rattle.mqb_base.specs.declared.queues.EntryPlace.{EntryPlace}
-use Rattle.mqb_base.specs.declared.queues.Place.{Place}
 use Rattle.mqb_base.specs.declared.queues.QueuePlan.{QueuePlan}
 use Rattle.mqb_entries.specs.declared.members.Mark.{Mark}
 use Rattle.mqb_names.specs.Values.{IsName}
@@ -13,27 +10,20 @@ use Rattle.mqb_packet.specs.declared.packet.Packet.{Packet}
 use Rattle.mqb_packet.specs.declared.packet.UserPacket.{UserPacket}
 use Rattle.mqb_model.specs.calls.AddPeer.{add_peer}
 use Rattle.mqb_model.specs.calls.Call.{Request, requested}
-use Rattle.mqb_model.specs.calls.Commit.{commit}
-use Rattle.mqb_model.specs.calls.CreateQueue.{create_queue}
 use Rattle.mqb_model.specs.calls.Link.{link}
-use Rattle.mqb_model.specs.calls.Purge.{purge}
-use Rattle.mqb_model.specs.calls.Send.{send}
-use Rattle.mqb_model.specs.calls.SetRoll.{set_to}
-use Rattle.mqb_model.specs.calls.Take.{take_message}
-use Rattle.mqb_model.specs.calls.Tick.{tick}
 use Rattle.mqb_model.specs.calls.hear.Hear.{IsReadable, hear}
 use Rattle.mqb_model.specs.calls.pump.Pump.{pump}
 use Rattle.mqb_model.specs.declared.answers.Role.{Role}
-use Rattle.mqb_model.specs.laws.Fitting.{IsDrafted, IsDraftedOp, IsDraftedRequest}
+use Rattle.mqb_model.specs.laws.Fitting.{IsDraftedRequest}
 use Rattle.mqb_model.specs.managers.Manager.{Manager}
 use Rattle.mqb_model.specs.managers.Outcomes.{Outcome, failed, succeeded}
 use Rattle.mqb_model.specs.managers.Restarts.{restarted}
 use Rattle.mqb_model.specs.managers.Valid.{IsValidManager}
-use Rattle.mqb_model.specs.records.Applying.{apply, fits, is_setting}
+use Rattle.mqb_model.specs.records.Applying.{apply, fits}
 use Rattle.mqb_model.specs.records.Carrying.{IsRead, IsRecorded, IsRecordedPart}
 use Rattle.mqb_model.specs.records.Record as entry
 use Rattle.mqb_model.specs.records.Commit.{sends_of}
-use Rattle.mqb_model.specs.records.Record.{Part, Record, RecordOp, Setting}
+use Rattle.mqb_model.specs.records.Record.{Part, Record, RecordOp}
 use Rattle.mqb_model.specs.state.State.{State}
 use Rattle.mqb_model.specs.state.Valid.{IsValidState}
 
@@ -99,16 +89,9 @@ pub record StaysValid {A : Type 0} (m : Manager) (outcome : Outcome A) : Type 0 
 -- It is after each call.
 pub record EachKeepsValid (m : Manager) : Type 0 where
   pub peers : (peer : Identity) → IsName peer.host → StaysValid m (add_peer m peer)
-  pub queues : (plan : QueuePlan) → StaysValid m (create_queue m plan)
-  pub sets : (setting : Setting) → is_setting setting ≡ true → StaysValid m (set_to m setting)
-  pub commits : (ops : List Op) (now : ℕ) → All IsDraftedOp ops → StaysValid m (commit m ops now)
-  pub sends : (p : Parts) (recoverable : Bool) (now : ℕ) → IsDrafted p → StaysValid m (send m p recoverable now)
-  pub takes : (p : Place) (now : ℕ) → StaysValid m (take_message m p now)
-  pub purges : (p : Place) (now : ℕ) → StaysValid m (purge m p now)
-  pub ticks : (now : ℕ) → StaysValid m (tick m now)
+  pub requests : (given : Request) → IsDraftedRequest given → StaysValid m (requested m given)
   pub hears : (p : Packet) (now : ℕ) → IsReadable p → StaysValid m (hear m p now)
   pub pumps : (now : ℕ) → StaysValid m (pump m now)
-  pub requests : (given : Request) → IsDraftedRequest given → StaysValid m (requested m given)
 
 -- each valid one does
 abbrev pub CallsKeepValid : Type 0

@@ -1,4 +1,4 @@
-use Rattle.mqb_model.proofs.Telling as law
+use Rattle.mqb_model.proofs.Calls as law
 use Rattle.mqb_model.proofs.laws.records_are_read.Goals as goal
 
 pub returns : goal.returns

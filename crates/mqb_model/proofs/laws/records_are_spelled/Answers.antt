@@ -1,4 +1,4 @@
-use Rattle.mqb_model.proofs.Spelling as law
+use Rattle.mqb_model.proofs.Calls as law
 use Rattle.mqb_model.proofs.laws.records_are_spelled.Goals as goal
 
 pub returns : goal.returns

@@ -1,4 +1,5 @@
 use Rattle.std.proofs.lemmas.Result.{IfOk-weaker}
+use Rattle.mqb_model.specs.calls.Call.{Purge}
 use Rattle.mqb_model.specs.calls.Purge.{purge}
 use Rattle.mqb_plans.specs.Answers.{purge_plan}
 use Rattle.mqb_plans.proofs.Planned.{writes}
@@ -6,4 +7,4 @@ use Rattle.mqb_plans.proofs.purging.plan_purge.Goals as goal
 
 pub returns-clause-writable : goal.returns-clause-writable
 returns-clause-writable c = IfOk-weaker c.purge.result _ _ (λ t made. writes c.args.contents.now.lists (λ m. purge m c.args.place.now c.args.now) (purge_plan t) t.count made
-    (λ m. (c.records_fit.ensures m).purges c.args.place.now c.args.now) (λ m. (c.records_are_read.ensures m).purges c.args.place.now c.args.now)) c.purge.ensures.planned
+    (λ m. (c.records_fit.ensures m).requests (Purge c.args.now c.args.place.now) tt) (λ m. (c.records_are_read.ensures m).requests (Purge c.args.now c.args.place.now) tt)) c.purge.ensures.planned

@@ -1,4 +1,5 @@
 use Rattle.std.proofs.lemmas.Result.{IfOk-weaker}
+use Rattle.mqb_model.specs.calls.Call.{Send}
 use Rattle.mqb_model.specs.calls.Send.{send}
 use Rattle.mqb_plans.specs.Answers.{send_plan}
 use Rattle.mqb_plans.proofs.Planned.{writes}
@@ -6,4 +7,4 @@ use Rattle.mqb_plans.proofs.sending.plan_send.Goals as goal
 
 pub returns-clause-writable : goal.returns-clause-writable
 returns-clause-writable c = IfOk-weaker c.send.result _ _ (λ t made. writes c.args.contents.now.lists (λ m. send m c.args.draft.now c.args.recoverable c.args.now) (send_plan t) t.id made
-    (λ m. (c.records_fit.ensures m).sends c.args.draft.now c.args.recoverable c.args.now) (λ m. (c.records_are_read.ensures m).sends c.args.draft.now c.args.recoverable c.args.now c.draft_fits.ensures)) c.send.ensures.planned
+    (λ m. (c.records_fit.ensures m).requests (Send c.args.now c.args.recoverable c.args.draft.now) tt) (λ m. (c.records_are_read.ensures m).requests (Send c.args.now c.args.recoverable c.args.draft.now) c.draft_fits.ensures)) c.send.ensures.planned
