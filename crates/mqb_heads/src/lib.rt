@@ -12,6 +12,7 @@ mod laws;
 mod properties;
 mod transaction;
 mod user;
+mod values;
 mod writing;
 
 pub use base::{BaseHead, MAX_PACKET, MIN_PACKET, put_base, read_base};
@@ -23,3 +24,4 @@ pub use mqb_fields::{HeadFault, HeadKind};
 pub use properties::{PropsHead, props_len, put_props, read_props};
 pub use transaction::{put_tx, read_tx};
 pub use user::{UserHead, put_user, read_user, user_len};
+pub use values::{id_fits, message_fits};

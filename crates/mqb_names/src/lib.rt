@@ -12,6 +12,7 @@ mod printed_lengths;
 mod printing;
 mod reading;
 mod texts;
+mod values;
 mod wire;
 mod wire_reading;
 mod wire_writing;
@@ -20,6 +21,9 @@ pub use faults::{NameFault, NameKind};
 pub use laws::{one_printed_form, printed_is_read, spelling_is_read, wire_is_read};
 pub use printing::{write_guid, write_name};
 pub use reading::read_name;
+pub use values::{
+    bytes_fit, guid_fits, host_fits, name_fits, queue_fits, queue_fits_if, units_fit, word_fits,
+};
 pub use wire::{MAX_DIRECT_UNITS, NameView, WireFault};
 pub use wire_reading::read_wire_name;
 pub use wire_writing::{put_wire_name, wire_len};
