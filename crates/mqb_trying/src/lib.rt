@@ -13,7 +13,6 @@ mod spelling;
 mod takes;
 mod trial;
 mod trying;
-mod values;
 
 pub use trial::Trial;
 pub use trying::try_ops;

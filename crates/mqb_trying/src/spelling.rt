@@ -13,8 +13,9 @@ ghost use Rattle.mqb_trying.specs.Trying.{is_large};
 
 use crate::notes::{Notes, PlannedOp};
 use crate::trial::{SpelledOp, Trial};
-use crate::values::{guid_fits, message_fits, word_fits};
 use mqb_base::{Guid, Memory, Message};
+use mqb_heads::message_fits;
+use mqb_names::{guid_fits, word_fits};
 use mqb_packet::{Carriage, PutFault, plain_is_read, plain_size, put_message};
 use std::alloc::Global;
 
