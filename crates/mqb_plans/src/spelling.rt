@@ -11,9 +11,10 @@ ghost use Rattle.mqb_packet.specs.declared.packet.Headers.TheVariants.{Bare};
 ghost use Rattle.mqb_packet.specs.declared.packet.Packet.TheVariants as packet;
 ghost use Rattle.mqb_plans.specs.Sending.{packet_of};
 
-use crate::values::{guid_fits, message_fits, word_fits};
 use mqb_base::{Guid, Memory, Message};
 use mqb_entries::{Entry, PacketSlice};
+use mqb_heads::message_fits;
+use mqb_names::{guid_fits, word_fits};
 use mqb_packet::{Carriage, PutFault, plain_is_read, plain_size, put_message};
 use std::alloc::Global;
 use std::marker::Model;
