@@ -3,14 +3,11 @@ ghost use Rattle.std.specs.Prelude.{◌<◌, ◌^◌};
 ghost use Rattle.mqb_setup.specs.Widths.{IsEstablish, IsGuid, IsInternal, IsParameters, IsSessionHead};
 
 use mqb_base::{Guid, SessionHead};
+use mqb_names::word_fits;
 use mqb_setup::{Establish, Internal, Parameters};
 
 fn half_fits(half: u16)
     ensures { half < 2 ^ 16 }
-{}
-
-fn word_fits(word: u32)
-    ensures { word < 2 ^ 32 }
 {}
 
 fn guid_fits(guid: Guid)
@@ -19,7 +16,7 @@ fn guid_fits(guid: Guid)
     let _bytes = guid.0;
 }
 
-fn head_fits(head: &SessionHead)
+pub(crate) fn head_fits(head: &SessionHead)
     ensures { IsSessionHead head.now }
 {
     half_fits(head.ack);
