@@ -11,7 +11,7 @@ ghost use Rattle.mqb_snapshot.specs.Spelled.{IsSized, header_of, spelled_message
 ghost use Rattle.mqb_snapshot.specs.Values.{AreHeld, IsHeld};
 
 use crate::tail::Tail;
-use crate::typed::message_fits;
+use crate::typed::held_fits;
 use mqb_base::{Bytes, Delivery, Guid, Memory, Message, QueueName, Units};
 use mqb_deque::SplitSlice;
 use mqb_heads::BaseHead;
@@ -134,7 +134,7 @@ impl Tail {
         ensures front { self.new.front ≡ self.old.front }
         ensures typed { IsHeld message.now }
     {
-        message_fits(message);
+        held_fits(message);
         self.flag(matches!(message.delivery, Delivery::Transactional))?;
         self.packet(alloc, message)?;
         Ok(())

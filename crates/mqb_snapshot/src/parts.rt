@@ -6,8 +6,9 @@ ghost use Rattle.mqb_snapshot.specs.Spelled.{IsSized, counted, spelled_identity,
 ghost use Rattle.mqb_snapshot.specs.Values.{IsCounted, IsHeld, IsIdentity, IsIn, IsOut, IsPlan};
 
 use crate::tail::Tail;
-use crate::typed::{destination_fits, identity_fits, in_row_fits, plan_fits, word_fits};
+use crate::typed::{identity_fits, in_row_fits, plan_fits};
 use mqb_base::{Identity, Memory, QueuePlan};
+use mqb_names::{queue_fits, word_fits};
 use mqb_orders::{InRow, Kept, KeptList, OutRow};
 use std::alloc::Global;
 
@@ -85,7 +86,7 @@ impl Tail {
         ensures front { self.new.front ≡ self.old.front }
         ensures typed { OnOk result (IsOut (row_of row.now)) }
     {
-        destination_fits(&row.destination);
+        queue_fits(&row.destination);
         word_fits(row.sequence.stamp);
         self.u32(row.peer)?;
         self.destination(&row.destination)?;
