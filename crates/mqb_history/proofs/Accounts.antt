@@ -162,8 +162,8 @@ asked_sent now ops m h = (ap (λ (x : Message). x.class) h.message, ap (λ (x : 
 
 record_may : (s : State) (call : Call) (r : Record) → RecordOf s call r → IsMade s r → MayStill s.identity.guid s.next_number r
 record_may s call (entry.Peer peer) h made = made
-record_may s call (entry.Commit now ops) h made = record { numbered = made.numbered; sent = all_weaker (IsOfOps h.now h.ops) IsSent (asked_sent h.now h.ops) (sends_of ops) h.asked; high = h.high }
-record_may s call (entry.Plain now p) h made = ((ap (λ (x : Message). x.class) h.message, ap (λ (x : Message). is_express x.delivery) h.message), ap (λ (x : Message). x.id) h.message, h.high)
+record_may s call (entry.Commit now ops) h made = record { numbered = made.numbered; sent = all_weaker (IsOfOps h.now h.ops) IsSent (asked_sent h.now h.ops) (sends_of ops) h.asked; high = let low = made.left in omega (arith, low) }
+record_may s call (entry.Plain now p) h made = ((ap (λ (x : Message). x.class) h.message, ap (λ (x : Message). is_express x.delivery) h.message), ap (λ (x : Message). x.id) h.message, let low = made.left in omega (arith, low))
 record_may s call r h made = tt
 
 -- the packet of a call that hears one was sent

@@ -61,15 +61,16 @@ use Rattle.mqb_history.proofs.Heeding.{IsHonestCall, hears_honest}
 use Rattle.mqb_history.proofs.Honest.{HasTrueDoubt, IsHonestly, IsRightAt, IsTrulySent, at_doubt, calling_doubts, calling_packets, calling_right, calling_written, doubt_on, joined, packets_on, parted_doubt_true, parted_right, quiet_right, recorded_right, sent_later, still_right, stored_right, written_more, written_still, wrote_right}
 use Rattle.mqb_history.proofs.Keeping.{IsClosed}
 use Rattle.mqb_history.proofs.Later.{CameRightly, LeadsFrom, IsAckedTruly, IsNote, IsTold, IsUnused, Known, Later, Unused, Vacant, change_later}
-use Rattle.mqb_history.proofs.Lists.{get_within, none_some, not_true, split_and, within_get}
+use Rattle.mqb_history.proofs.Lists.{get_within, if_some, none_some, not_true, split_and, within_get}
 use Rattle.mqb_history.proofs.Named.{IsRightBeside}
 use Rattle.mqb_history.proofs.Naming.{IsSafe, Knows}
 use Rattle.mqb_history.proofs.Numbering.{AreCounted}
 use Rattle.mqb_history.proofs.Ordering.{ended_notes}
 use Rattle.mqb_history.proofs.Orderly.{formatted_itself, map_get}
 use Rattle.mqb_history.proofs.Recalling.{applied_knows}
-use Rattle.mqb_history.proofs.Refusing.{IsIdle, down_is_idle}
-use Rattle.mqb_history.proofs.Serving.{IsWork, calls_work, if_some}
+use Rattle.mqb_history.proofs.Refusing.{down_is_idle}
+use Rattle.mqb_history.proofs.Requests.{IsIdle}
+use Rattle.mqb_history.proofs.Serving.{IsWork, calls_work}
 use Rattle.mqb_history.proofs.Spelling.{GoesRightly, IsRightPacket, PumpsRightly, SpellsRow, pumps_right}
 use Rattle.mqb_history.proofs.Trusting.{true_moved}
 use Rattle.mqb_history.proofs.Undecided.{IsKnown, committed_one, known_one, one_manager}

@@ -1,92 +1,56 @@
 -- What each call of a manager keeps: whether it is linked, and who it is and who its peers are.
-use Rattle.std.proofs.Common.{arith, refl}
-use Rattle.std.proofs.lemmas.Bool.Decides.{nat_tests}
-use Rattle.std.specs.Prelude.{◌+◌, ◌≤◌, nat_lt}
-use Rattle.mqb_base.specs.declared.draft.Parts.{Parts}
-use Rattle.mqb_packet.specs.declared.packet.Headers.TheVariants as headers
+use Rattle.std.proofs.Common.{ap, refl, sym, ◌∙◌}
 use Rattle.mqb_model.specs.calls.Call as calls
-use Rattle.mqb_model.specs.declared.faults.CommitFault.TheVariants as commit_fault
-use Rattle.mqb_model.specs.declared.faults.SendFault.{SendFault}
-use Rattle.mqb_model.specs.declared.faults.SendFault.TheVariants as send_fault
-use Rattle.mqb_model.specs.declared.limits.TheConstants.{MAX_NUMBER}
-use Rattle.mqb_model.specs.records.Packets.{is_too_large}
-use Rattle.mqb_model.specs.state.Resolving.{resolved}
 use Rattle.mqb_base.specs.declared.heads.TxHead.{TxHead}
 use Rattle.mqb_base.specs.declared.heard.Heard.{Heard}
 use Rattle.mqb_base.specs.declared.ids.Guid.{Guid}
 use Rattle.mqb_base.specs.declared.ids.Identity.{Identity}
 use Rattle.mqb_base.specs.declared.message.Message.{Message}
-use Rattle.mqb_base.specs.declared.queues.EntryPlace.{EntryPlace}
 use Rattle.mqb_fate.specs.declared.orders.OrderAck.{OrderAck}
 use Rattle.mqb_orders.specs.declared.judging.Verdict.{Verdict}
 use Rattle.mqb_orders.specs.declared.judging.Verdict.TheVariants as verdict
 use Rattle.mqb_packet.specs.declared.packet.Packet.{Packet}
 use Rattle.mqb_packet.specs.declared.packet.Packet.TheVariants as packet
 use Rattle.mqb_packet.specs.declared.packet.UserPacket.{UserPacket}
-use Rattle.mqb_queue.specs.declared.first.Position.{Position}
 use Rattle.mqb_session.specs.State as one_end
 use Rattle.mqb_session.specs.declared.heads.HeadHeard.{HeadHeard}
 use Rattle.mqb_session.specs.declared.heads.HeadHeard.TheVariants as head
 use Rattle.mqb_setup.specs.declared.internal.Internal.{Internal}
-use Rattle.mqb_model.specs.declared.faults.CommitFault.{CommitFault}
 use Rattle.std.specs.List.{list_any}
-use Rattle.std.specs.Option.{option_map_or, option_or}
-use Rattle.std.specs.Prelude.{◌==◌, ◌&&◌, ◌∷◌, [], Bool, Err, List, None, Ok, Option, Result, Some, cond, false, length, not, slice_get, true, ℕ}
+use Rattle.std.specs.Option.{option_map_or}
+use Rattle.std.specs.Prelude.{[], ◌&&◌, ◌==◌, ◌∷◌, ◌≡◌, Bool, Err, IfSome, List, None, Ok, Option, Result, Some, cond, false, is_some, length, not, slice_get, true, ℕ}
 use Rattle.mqb_base.specs.declared.heard.Heard.TheVariants as heard
-use Rattle.mqb_base.specs.declared.message.Lane.{Lane}
-use Rattle.mqb_base.specs.declared.message.Lane.TheVariants as lane
 use Rattle.mqb_fate.specs.Asking.{is_ordinary}
 use Rattle.mqb_orders.specs.Judging.{verdict_of}
-use Rattle.mqb_queue.specs.Places.{lists_at, place_named}
 use Rattle.mqb_session.specs.Phases.{owed_by}
 use Rattle.mqb_session.specs.Sending.{is_ready, is_spent, stamped}
 use Rattle.mqb_session.specs.declared.heads.Kind.TheVariants as kind
-use Rattle.mqb_model.specs.calls.Commit.{Trial, commit_tried, has_too_large, ops_refusal, trial_of, try_ops, whole_refusal}
-use Rattle.mqb_model.specs.calls.CreateQueue.{create_refusal}
-use Rattle.mqb_model.specs.calls.Messages.{plain_message}
-use Rattle.mqb_model.specs.calls.Purge.{purge_at, purge_refusal, purging}
-use Rattle.mqb_model.specs.calls.Send.{message_fault, send_refusal, sending, target_fault}
-use Rattle.mqb_model.specs.calls.SetRoll.{store_refusal}
-use Rattle.mqb_model.specs.calls.Take.{first_in, take_at, take_position, take_refusal, taking}
-use Rattle.mqb_model.specs.calls.Tick.{ticking}
 use Rattle.mqb_model.specs.calls.hear.Hear.{hear_acknowledgement, hear_behind, hear_linked, hear_refusal, hear_user, listening}
-use Rattle.mqb_model.specs.calls.hear.Plain.{hear_arriving, hear_express, hear_final, hear_in_order, hear_message, hear_plain, hear_recoverable, hear_stored}
-use Rattle.mqb_model.specs.calls.hear.Session.{Listening, ack_heard, discarded, heard_as, peer_heard, user_heard}
+use Rattle.mqb_model.specs.calls.hear.Plain.{express_answer, hear_arriving, hear_express, hear_final, hear_in_order, hear_message, hear_plain, hear_recoverable, hear_stored}
+use Rattle.mqb_model.specs.calls.hear.Session.{Listening, ack_heard, discarded, heard_as, numbers_released, peer_heard, user_heard}
 use Rattle.mqb_model.specs.calls.hear.Streams.{acknowledged_in, duplicate_heard, has_sequence, hear_duplicate, hear_in_stream, hear_order_ack, index_for, judged, order_acked, owing, raises}
 use Rattle.mqb_model.specs.calls.pump.Candidates.{Candidate, candidates}
 use Rattle.mqb_model.specs.calls.pump.Choosing.{chosen}
-use Rattle.mqb_model.specs.calls.pump.Pump.{pump_at, pump_linked, pump_owed, pump_refusal, pump_to, pump_with, sending_ack, sending_chosen, sending_one}
+use Rattle.mqb_model.specs.calls.pump.Pump.{marks_for, pump_at, pump_linked, pump_owed, pump_refusal, pump_to, pump_with, sending_ack, sending_chosen, sending_one}
 use Rattle.mqb_model.specs.declared.faults.HearFault.TheVariants as hear_fault
 use Rattle.mqb_model.specs.declared.faults.PumpFault.{PumpFault}
 use Rattle.mqb_model.specs.declared.faults.PumpFault.TheVariants as pump_fault
-use Rattle.mqb_model.specs.declared.faults.PurgeFault.TheVariants as purge_fault
-use Rattle.mqb_model.specs.declared.faults.TakeFault.TheVariants as take_fault
-use Rattle.mqb_model.specs.managers.Manager.{Manager, is_down, linked_peer}
-use Rattle.mqb_model.specs.managers.Outcomes.{Outcome, answering, recording, unless}
+use Rattle.mqb_model.specs.managers.Manager.{Manager, linked_peer}
+use Rattle.mqb_model.specs.managers.Outcomes.{Outcome, answering, recorded, state_after, unless}
 use Rattle.mqb_model.specs.records.Finals.{is_final}
-use Rattle.mqb_model.specs.records.Peer.{next_queue}
 use Rattle.mqb_model.specs.records.Record as entry
-use Rattle.mqb_model.specs.records.Record.{Nothing, Part}
+use Rattle.mqb_model.specs.records.Record.{Nothing, Record}
 use Rattle.mqb_model.specs.rules.Arrivals.{refusal_of}
-use Rattle.mqb_model.specs.rules.Takes.{message_at}
 use Rattle.mqb_model.specs.state.Places.{is_express}
 use Rattle.mqb_model.specs.state.Resolving.{is_for_order_layer}
 use Rattle.mqb_model.specs.state.Rows.{in_row}
-use Rattle.std.specs.Prelude.{IfSome, ◌≡◌, is_some}
 use Rattle.mqb_model.specs.calls.Link.{rewound}
-use Rattle.mqb_model.specs.calls.hear.Session.{numbers_released}
-use Rattle.mqb_model.specs.calls.pump.Pump.{marks_for}
-use Rattle.mqb_model.specs.managers.Outcomes.{recorded, state_after}
-use Rattle.mqb_model.specs.records.Record.{Record}
-use Rattle.mqb_model.specs.rules.Timeouts.{durable_due}
-use Rattle.mqb_queue.specs.Lists.{Lists}
-use Rattle.std.proofs.Common.{sym, ap, ◌∙◌}
-use Rattle.mqb_model.specs.calls.Call.{Answer, Asks, Call, Commit, CreateQueue, Hear, Pump, Purge, Resend, Send, Set, Take, Tick, answered, outcome_of}
+use Rattle.mqb_model.specs.calls.Call.{Answer, Asks, Call, Hear, Pump, Request, Resend, answered, outcome_of, requested}
 use Rattle.mqb_history.specs.Made.{IsFrom, IsMade, IsOfRows}
 use Rattle.mqb_history.proofs.Opening.{AreOfRows, candidates_open, chosen_all}
-use Rattle.mqb_history.proofs.Trying.{IfTried, ops_tried}
-use Rattle.mqb_model.specs.calls.hear.Plain.{express_answer}
 use Rattle.mqb_history.proofs.Applying.{beside_rows, recorded_manager}
+use Rattle.mqb_history.proofs.Lists.{if_some}
+use Rattle.mqb_history.proofs.Requests.{RecordFor, request_laws}
 use Rattle.mqb_history.proofs.Staying.{IsSameManager, manager_then}
 use Rattle.mqb_model.specs.state.State.{State}
 
@@ -103,19 +67,6 @@ pub record IsModestLinked {A : Type 0} (heard_packet : Option Packet) (s : State
 unless_modest : {V E : Type 0} {a : Option Packet} (m : Manager) (refusal : Option E) (outcome : Outcome (Result V E)) → IsModest a m outcome → IsModest a m (unless m refusal outcome)
 unless_modest m (Some fault) outcome h = record { session = refl; entry = tt }
 unless_modest m None outcome h = h
-
--- a call that is not refused
-unless_when : {V E : Type 0} {a : Option Packet} (m : Manager) (refusal : Option E) (outcome : Outcome (Result V E)) → (refusal ≡ None → IsModest a m outcome) → IsModest a m (unless m refusal outcome)
-unless_when m (Some fault) outcome h = record { session = refl; entry = tt }
-unless_when m None outcome h = h refl
-
-or_modest : {X V E : Type 0} {a : Option Packet} (m : Manager) (f : X → Outcome (Result V E)) (o : Option X) (other : Outcome (Result V E))
-    → ((x : X) → IsModest a m (f x)) → IsModest a m other → IsModest a m (option_map_or f o other)
-or_modest m f None other some none = none
-or_modest m f (Some x) other some none = some x
-
-refusing : {V E : Type 0} {a : Option Packet} (m : Manager) (fault : E) → IsModest {A = Result V E} a m (answering m (Err fault))
-refusing m fault = record { session = refl; entry = tt }
 
 or_linked : {X V E : Type 0} {a : Option Packet} (s : State) (f : X → Outcome (Result V E)) (o : Option X) (other : Outcome (Result V E))
     → ((x : X) → IsModestLinked a s (f x)) → IsModestLinked a s other → IsModestLinked a s (option_map_or f o other)
@@ -136,67 +87,16 @@ none_or : (a : Option Packet) (s : State) (b : Bool) (r : Record) → IsMade s r
 none_or a s true r h g = tt
 none_or a s false r h g = (h, g)
 
--- Calls on a store.
+-- Requests, and a resend.
 
--- a transaction that is not refused has its numbers
-numbers_left : (t : Trial) → whole_refusal t ≡ None → t.sending.next_number ≤ MAX_NUMBER + 1
-numbers_left t e = at (nat_lt (MAX_NUMBER + 1) t.sending.next_number) refl e
-  where
-    low : nat_lt (MAX_NUMBER + 1) t.sending.next_number ≡ false → t.sending.next_number ≤ MAX_NUMBER + 1
-    low f = grind (arith, nat_tests)
-
-    at : (b : Bool) → nat_lt (MAX_NUMBER + 1) t.sending.next_number ≡ b → cond b (Some commit_fault.NumbersSpent) (cond (has_too_large t.ops) (Some commit_fault.TooLarge) None) ≡ None
-        → t.sending.next_number ≤ MAX_NUMBER + 1
-    at true f g = absurd (let none : ⊥ = cc in none)
-    at false f g = low f
-
-commit_modest : (m : Manager) (now : ℕ) (tried : Result Trial CommitFault) → IfTried m.state tried → IsModest None m (commit_tried m now tried)
-commit_modest m now (Err fault) h = record { session = refl; entry = tt }
-commit_modest m now (Ok t) h = unless_when m (whole_refusal t) (recording m (entry.Commit now t.ops) (Ok t.done)) (λ e. record {
-  session = refl;
-  entry = (record { numbered = h.numbered; left = let low = numbers_left t e in let next = h.next in omega (arith, low, next) }, tt);
-})
-
--- a plain message that is not refused has a number
-number_left_so : (m : Manager) (message : Message) → send_refusal m true message ≡ None → m.state.next_number ≤ MAX_NUMBER
-number_left_so m message e = at (is_down m) (target_fault m.state (resolved m.state message.destination)) e
-  where
-    low : nat_lt MAX_NUMBER m.state.next_number ≡ false → m.state.next_number ≤ MAX_NUMBER
-    low f = grind (arith, nat_tests)
-
-    left : (b : Bool) → nat_lt MAX_NUMBER m.state.next_number ≡ b
-        → cond b (Some send_fault.NumbersSpent) (cond (is_too_large headers.Session message) (Some send_fault.TooLarge) None) ≡ None → m.state.next_number ≤ MAX_NUMBER
-    left true f g = absurd (let none : ⊥ = cc in none)
-    left false f g = low f
-
-    at : (down : Bool) (o : Option SendFault) → cond down (Some send_fault.Down) (option_or o (message_fault m.state true message)) ≡ None → m.state.next_number ≤ MAX_NUMBER
-    at true o f = absurd (let none : ⊥ = cc in none)
-    at false (Some why) f = absurd (let none : ⊥ = cc in none)
-    at false None f = left (nat_lt MAX_NUMBER m.state.next_number) refl f
-
-sending_modest : (m : Manager) (recoverable : Bool) (now : ℕ) (p : Parts) → send_refusal m recoverable (plain_message m.state recoverable now p) ≡ None
-    → IsModest None m (sending m recoverable (plain_message m.state recoverable now p) now)
-sending_modest m true now p e = record { session = refl; entry = (record { id = refl; left = number_left_so m (plain_message m.state true now p) e; ordinary = refl }, tt) }
-sending_modest m false now p e = record { session = refl; entry = tt }
-
-taking_modest : (m : Manager) (at : EntryPlace) (now : ℕ) (kind : Lane) (k : ℕ) (message : Message) → IsModest None m (taking m at now kind k message)
-taking_modest m at now lane.Durable k message = record { session = refl; entry = (tt, tt) }
-taking_modest m at now lane.Express k message = record { session = refl; entry = tt }
-
-position_modest : (m : Manager) (at : EntryPlace) (now : ℕ) (p : Position) → IsModest None m (take_position m at now p)
-position_modest m at now p = or_modest m (taking m at now p.lane p.index) (message_at p.lane m.state at p.index)
-    (answering m (Err take_fault.QueueEmpty)) (taking_modest m at now p.lane p.index) (refusing m take_fault.QueueEmpty)
-
-take_modest : (m : Manager) (now : ℕ) (at : EntryPlace) → IsModest None m (take_at m now at)
-take_modest m now at = or_modest m (take_position m at now) (first_in m.state at now) (answering m (Err take_fault.QueueEmpty))
-    (position_modest m at now) (refusing m take_fault.QueueEmpty)
-
-purging_modest : (m : Manager) (now : ℕ) (at : EntryPlace) (l : Lists) → IsModest None m (purging m now at l)
-purging_modest m now at l = record { session = refl; entry = none_or None m.state (length l.durable == 0) (entry.Purged now at) tt tt }
-
-purge_modest : (m : Manager) (now : ℕ) (at : EntryPlace) → IsModest None m (purge_at m now at)
-purge_modest m now at = or_modest m (purging m now at) (lists_at m.state.places at) (answering m (Err purge_fault.NoQueue))
-    (purging_modest m now at) (refusing m purge_fault.NoQueue)
+-- the record of a request is made, and decides nothing
+request_made : (s : State) (given : Request) (r : Record) → RecordFor s given r → IsMade s r × IsFrom None r
+request_made s given (entry.Peer peer) h = absurd h
+request_made s given (entry.Commit now ops) h = (h.0, tt)
+request_made s given (entry.Plain now p) h = (h.0, tt)
+request_made s given (entry.Offered marks) h = absurd h
+request_made s given (entry.Arrived now numbers part) h = absurd h
+request_made s given r h = (tt, tt)
 
 resend_modest : (m : Manager) → IsModest None m (outcome_of m Resend)
 resend_modest m = record { session = at m.rest.session; entry = tt }
@@ -339,21 +239,10 @@ packet_heard (Hear now p) = Some p
 packet_heard _ = None
 
 pub calls_are_modest : (m : Manager) (call : Call) → IsModest (packet_heard call) m (outcome_of m call)
-calls_are_modest m (Asks (CreateQueue plan)) = without_answer calls.Created None m _ (unless_modest m (create_refusal m plan)
-    (recording m (entry.CreateQueue (next_queue m.state) plan) (Ok (next_queue m.state))) (record { session = refl; entry = (tt, tt) }))
-calls_are_modest m (Asks (Set setting)) = without_answer calls.WasSet None m _ (unless_modest m (store_refusal m) (recording m (entry.Set setting) (Ok tt)) (record { session = refl; entry = (tt, tt) }))
-calls_are_modest m (Asks (Commit now ops)) = without_answer calls.Committed None m _ (unless_modest m (ops_refusal m ops) (commit_tried m now (try_ops now 0 (trial_of m.state) ops))
-    (commit_modest m now (try_ops now 0 (trial_of m.state) ops) (ops_tried m.state ops now)))
-calls_are_modest m (Asks (Send now recoverable p)) = let message = plain_message m.state recoverable now p in
-    without_answer calls.Sent None m _ (unless_when m (send_refusal m recoverable message) (sending m recoverable message now) (sending_modest m recoverable now p))
-calls_are_modest m (Asks (Take now p)) = without_answer calls.Took None m _ (unless_modest m (take_refusal m)
-    (option_map_or (take_at m now) (place_named m.state.places.queues p) (answering m (Err take_fault.NoQueue)))
-    (or_modest m (take_at m now) (place_named m.state.places.queues p) (answering m (Err take_fault.NoQueue)) (take_modest m now) (refusing m take_fault.NoQueue)))
-calls_are_modest m (Asks (Purge now p)) = without_answer calls.Purged None m _ (unless_modest m (purge_refusal m)
-    (option_map_or (purge_at m now) (place_named m.state.places.queues p) (answering m (Err purge_fault.NoQueue)))
-    (or_modest m (purge_at m now) (place_named m.state.places.queues p) (answering m (Err purge_fault.NoQueue)) (purge_modest m now) (refusing m purge_fault.NoQueue)))
-calls_are_modest m (Asks (Tick now)) = without_answer calls.Ticked None m _ (unless_modest m (store_refusal m) (ticking m now)
-    (record { session = refl; entry = none_or None m.state (durable_due m.state now == 0) (entry.Ticked now) tt tt }))
+calls_are_modest m (Asks given) = let h = request_laws m given in record {
+  session = ap is_some h.session;
+  entry = if_some (RecordFor m.state given) (λ r. IsMade m.state r × IsFrom None r) (requested m given).entry (request_made m.state given) h.entry;
+}
 calls_are_modest m Resend = resend_modest m
 calls_are_modest m (Pump now) = without_answer calls.Pumped None m _ (unless_modest m (pump_refusal m)
     (option_map_or (pump_linked m now) m.rest.session (answering m (Err pump_fault.NotLinked)))

@@ -37,9 +37,8 @@ use Rattle.mqb_history.specs.Stored.{IsStorageOf, IsStoredIn, TellStorage, Waits
 use Rattle.mqb_history.proofs.Between.{AreEnds, all_in, any_in, ends_turn, first_end, from_sender, in_any, one_end_of, sent_in}
 use Rattle.mqb_history.proofs.Flowing.{Flows, flows_more, released_stored, source_hears, target_hears}
 use Rattle.mqb_history.proofs.Heard.{Hears, IsReleasable, IsSound, Stores, linked_hears, stored_told}
-use Rattle.mqb_history.proofs.Lists.{equal_numbers, get_in, none_some, some_is, split_and}
+use Rattle.mqb_history.proofs.Lists.{equal_numbers, get_in, if_some, none_some, some_is, split_and}
 use Rattle.mqb_history.proofs.Ordering.{with_at}
-use Rattle.mqb_history.proofs.Serving.{if_some}
 use Rattle.mqb_history.proofs.Storing.{FlowsIn, KeepsStorage, ReleasesStored, call_waits, called_rests, failing_keeps, well_keeps}
 use Rattle.mqb_history.proofs.Unreleased.{IsOfOwn, Waits}
 

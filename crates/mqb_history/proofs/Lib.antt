@@ -3,6 +3,7 @@ mod Staying
 mod Applying
 mod Trying
 mod Opening
+mod Requests
 mod Calling
 mod Refusing
 mod Connections

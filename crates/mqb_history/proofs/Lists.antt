@@ -4,7 +4,7 @@ use Rattle.std.proofs.Common.{inl, inr, refl, ap, sym, subst, ◌∙◌, arith}
 use Rattle.std.proofs.lemmas.Bool.Decides.{nat_tests}
 use Rattle.std.specs.List.{AllByRecursion}
 use Rattle.std.specs.Option.{option_map_or}
-use Rattle.std.specs.Prelude.{[], ◌&&◌, ◌+◌, ◌++◌, ◌-◌, ◌<◌, ◌==◌, ◌||◌, ◌∷◌, ◌≡◌, Bool, List, None, Option, Some, cond, false, filter, length, map, not, option_map, slice_get, slice_set, suc, true, zero, ℕ}
+use Rattle.std.specs.Prelude.{[], ◌&&◌, ◌+◌, ◌++◌, ◌-◌, ◌<◌, ◌==◌, ◌||◌, ◌∷◌, ◌≡◌, Bool, IfSome, List, None, Option, Some, cond, false, filter, length, map, not, option_map, slice_get, slice_set, suc, true, zero, ℕ}
 use Rattle.mqb_model.specs.Lists.{with_changed}
 use Rattle.mqb_queue.specs.Places.{numbered}
 
@@ -13,6 +13,10 @@ some_is x y e = cc
 
 pub none_some : {X : Type 0} {x : X} → None ≡ Some x → ⊥
 none_some e = let none : ⊥ = cc in none
+
+pub if_some : {X : Type 0} (P Q : X → Type 0) (o : Option X) → ((x : X) → P x → Q x) → IfSome o P → IfSome o Q
+if_some P Q None f h = tt
+if_some P Q (Some x) f h = f x h
 
 -- a member where another was written
 pub set_get : {X : Type 0} (Q : Option X → Type 0) (xs : List X) (i j : ℕ) (y : X) → Q (slice_get xs j) → (i ≡ j → i < length xs → Q (Some y))

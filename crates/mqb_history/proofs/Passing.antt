@@ -26,12 +26,12 @@ use Rattle.mqb_history.proofs.Between.{AreEnds, all_in, connection_in, elsewhere
 use Rattle.mqb_history.proofs.Connections.{none_found}
 use Rattle.mqb_history.proofs.Flowing.{Flows, flows_more, source_pumps, target_pumps}
 use Rattle.mqb_history.proofs.Hearing.{session_of}
-use Rattle.mqb_history.proofs.Lists.{append_nothing, apart_numbers, clash, equal_numbers, same_number, some_is, true_not_false}
+use Rattle.mqb_history.proofs.Lists.{append_nothing, apart_numbers, clash, equal_numbers, if_some, same_number, some_is, true_not_false}
 use Rattle.mqb_history.proofs.Ordering.{with_at}
 use Rattle.mqb_packet.specs.declared.packet.UserPacket.{UserPacket}
 use Rattle.mqb_history.proofs.Pumped.{AreMarks, CountsOf, users_of}
 use Rattle.mqb_history.proofs.Pumping.{IsOfMarks, Pumps, linked_pumped}
-use Rattle.mqb_history.proofs.Serving.{Works, if_some, same_works, works_keep}
+use Rattle.mqb_history.proofs.Serving.{Works, same_works, works_keep}
 use Rattle.mqb_history.proofs.Storing.{AnyMark, FlowsIn, KeepsStorage, ReleasesStored, Rests, doubt_after, failing_keeps, some_releases_more, up_doubt, with_release}
 use Rattle.mqb_history.proofs.Unreleased.{IsOfOwn, Waits, weaker_waits}
 

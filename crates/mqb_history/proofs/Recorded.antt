@@ -1,12 +1,9 @@
 -- Which record each call makes, and what it sends or hears beside it.
-use Rattle.std.proofs.Common.{refl, ap, arith}
-use Rattle.std.proofs.lemmas.Bool.Decides.{nat_tests}
-use Rattle.std.specs.List.{AllByRecursion, list_any}
-use Rattle.std.specs.Option.{option_map_or, option_or}
-use Rattle.std.specs.Prelude.{[], ◌&&◌, ◌+◌, ◌==◌, ◌∷◌, ◌≡◌, ◌≤◌, Bool, Err, IfSome, List, None, Ok, Option, Result, Some, cond, false, length, nat_lt, not, slice_get, true, unwrap_or, ℕ}
+use Rattle.std.proofs.Common.{refl}
+use Rattle.std.specs.List.{list_any}
+use Rattle.std.specs.Option.{option_map_or}
+use Rattle.std.specs.Prelude.{[], ◌&&◌, ◌==◌, ◌∷◌, ◌≡◌, Bool, Err, IfSome, List, None, Ok, Option, Result, Some, cond, false, length, not, slice_get, true, unwrap_or, ℕ}
 use Rattle.mqb_base.specs.Same.{same_guid}
-use Rattle.mqb_base.specs.declared.draft.Op.{Op}
-use Rattle.mqb_base.specs.declared.draft.Parts.{Parts}
 use Rattle.mqb_base.specs.declared.heads.SessionHead.{SessionHead}
 use Rattle.mqb_base.specs.declared.heads.TxHead.{TxHead}
 use Rattle.mqb_base.specs.declared.heard.Cause.{Cause}
@@ -14,21 +11,16 @@ use Rattle.mqb_base.specs.declared.heard.Cause.TheVariants as cause
 use Rattle.mqb_base.specs.declared.heard.Heard.{Heard}
 use Rattle.mqb_base.specs.declared.heard.Heard.TheVariants as heard
 use Rattle.mqb_base.specs.declared.ids.Guid.{Guid}
-use Rattle.mqb_base.specs.declared.message.Lane.{Lane}
-use Rattle.mqb_base.specs.declared.message.Lane.TheVariants as lane
 use Rattle.mqb_base.specs.declared.message.Message.{Message}
-use Rattle.mqb_base.specs.declared.queues.EntryPlace.{EntryPlace}
 use Rattle.mqb_fate.specs.Asking.{is_ordinary}
 use Rattle.mqb_fate.specs.Orders.{acked_by, is_final_class}
 use Rattle.mqb_fate.specs.declared.orders.OrderAck.{OrderAck}
 use Rattle.mqb_orders.specs.Judging.{verdict_of}
 use Rattle.mqb_orders.specs.declared.judging.Verdict.{Verdict}
 use Rattle.mqb_orders.specs.declared.judging.Verdict.TheVariants as verdict
-use Rattle.mqb_packet.specs.declared.packet.Headers.TheVariants as headers
 use Rattle.mqb_packet.specs.declared.packet.Packet.{Packet}
 use Rattle.mqb_packet.specs.declared.packet.Packet.TheVariants as packet
 use Rattle.mqb_packet.specs.declared.packet.UserPacket.{UserPacket}
-use Rattle.mqb_queue.specs.Places.{lists_at, place_named}
 use Rattle.mqb_session.specs.Hearing.{acknowledged, closing, counted, head_in, is_bad_ack, order_of}
 use Rattle.mqb_session.specs.Phases.{owed_by}
 use Rattle.mqb_session.specs.Sending.{is_ready, is_spent}
@@ -41,13 +33,6 @@ use Rattle.mqb_setup.specs.declared.internal.Internal.{Internal}
 use Rattle.mqb_history.specs.Changes.{is_of_packets}
 use Rattle.mqb_base.specs.declared.class.Class.{Class}
 use Rattle.mqb_model.specs.calls.Call as calls
-use Rattle.mqb_model.specs.calls.Commit.{Trial, commit_tried, has_too_large, ops_refusal, trial_of, try_ops, whole_refusal}
-use Rattle.mqb_model.specs.calls.CreateQueue.{create_refusal}
-use Rattle.mqb_model.specs.calls.Messages.{plain_message}
-use Rattle.mqb_model.specs.calls.Purge.{purge_at, purge_refusal, purging}
-use Rattle.mqb_model.specs.calls.Send.{message_fault, send_refusal, sending, target_fault}
-use Rattle.mqb_model.specs.calls.SetRoll.{store_refusal}
-use Rattle.mqb_model.specs.calls.Take.{first_in, take_at, take_position, take_refusal, taking}
 use Rattle.mqb_model.specs.calls.hear.Hear.{hear_acknowledgement, hear_behind, hear_linked, hear_refusal, hear_user, listening}
 use Rattle.mqb_model.specs.calls.hear.Plain.{hear_arriving, hear_express, hear_final, hear_in_order, hear_message, hear_plain, hear_recoverable, hear_stored}
 use Rattle.mqb_model.specs.calls.hear.Session.{HeardOutcome, Listening, ack_heard, discarded, heard_as, is_foreign, is_from, no_head, numbers_released, peer_heard, user_heard}
@@ -55,37 +40,28 @@ use Rattle.mqb_model.specs.calls.hear.Streams.{acknowledged_in, duplicate_heard,
 use Rattle.mqb_model.specs.calls.pump.Candidates.{Candidate, candidates}
 use Rattle.mqb_model.specs.calls.pump.Choosing.{chosen}
 use Rattle.mqb_model.specs.calls.pump.Pump.{marks_for, pump_at, pump_linked, pump_owed, pump_refusal, pump_to, pump_with, sending_chosen}
-use Rattle.mqb_model.specs.declared.answers.Done.{Done}
-use Rattle.mqb_model.specs.declared.faults.CommitFault.{CommitFault}
-use Rattle.mqb_model.specs.declared.faults.CommitFault.TheVariants as commit_fault
-use Rattle.mqb_model.specs.declared.faults.SendFault.{SendFault}
-use Rattle.mqb_model.specs.declared.faults.SendFault.TheVariants as send_fault
 use Rattle.mqb_model.specs.declared.faults.PumpFault.{PumpFault}
 use Rattle.mqb_model.specs.declared.faults.PumpFault.TheVariants as pump_fault
 use Rattle.mqb_model.specs.declared.faults.HearFault.TheVariants as hear_fault
-use Rattle.mqb_model.specs.declared.limits.TheConstants.{FIRST_EXPRESS, MAX_NUMBER}
 use Rattle.mqb_model.specs.managers.Beside.{Beside}
 use Rattle.mqb_model.specs.managers.Beside as beside
-use Rattle.mqb_model.specs.managers.Manager.{Manager, is_down, linked_peer}
-use Rattle.mqb_model.specs.managers.Outcomes.{Outcome, answering, recording, unless}
+use Rattle.mqb_model.specs.managers.Manager.{Manager, linked_peer}
+use Rattle.mqb_model.specs.managers.Outcomes.{Outcome, answering, unless}
 use Rattle.mqb_model.specs.records.Commit.{sends_of}
 use Rattle.mqb_model.specs.records.Finals.{is_final}
-use Rattle.mqb_model.specs.records.Packets.{is_recoverable, is_too_large}
+use Rattle.mqb_model.specs.records.Packets.{is_recoverable}
 use Rattle.mqb_model.specs.records.Record.{Part, Record}
 use Rattle.mqb_model.specs.records.Record as entry
 use Rattle.mqb_model.specs.rules.Arrivals.{refusal_of}
-use Rattle.mqb_model.specs.rules.Takes.{message_at}
-use Rattle.mqb_model.specs.rules.Timeouts.{durable_due}
 use Rattle.mqb_model.specs.state.Places.{is_express}
-use Rattle.mqb_model.specs.state.Resolving.{is_for_order_layer, resolved}
+use Rattle.mqb_model.specs.state.Resolving.{is_for_order_layer}
 use Rattle.mqb_model.specs.state.Rows.{in_row}
 use Rattle.mqb_model.specs.state.State.{State}
 use Rattle.mqb_history.specs.Acked.{is_order_ack}
-use Rattle.mqb_model.specs.calls.Call.{Answer, Asks, Call, Commit, CreateQueue, Hear, Pump, Purge, Resend, Send, Set, Take, Tick, answered, outcome_of}
-use Rattle.mqb_history.proofs.Asking.{IfAsked, IsOfOps, ops_asked}
-use Rattle.mqb_history.proofs.Lists.{clash, none_some, split_and}
+use Rattle.mqb_model.specs.calls.Call.{Answer, Asks, Call, Hear, Pump, Request, Resend, answered, outcome_of, requested}
+use Rattle.mqb_history.proofs.Lists.{clash, if_some, none_some, split_and}
 use Rattle.mqb_history.proofs.Names.{same_guid_is}
-use Rattle.mqb_history.proofs.Trying.{IfTried, ops_tried}
+use Rattle.mqb_history.proofs.Requests.{BesideFor, IsCommitOf, IsPlainOf, IsSentBeside, RecordFor, request_laws}
 
 -- a plain packet
 abbrev pub IsPlainPacket : UserPacket → Type 0
@@ -111,22 +87,6 @@ PartOf own x (entry.Stored p) = (x ≡ packet.User p) × (p.to ≡ own) × IsPla
 PartOf own x (entry.OrderAcknowledged ordinal number) = IsAckHeard own x ordinal number
 PartOf own x (entry.Final p) = (x ≡ packet.User p) × (p.to ≡ own) × IsPlainPacket p × (is_final_class p.message.class ≡ true)
 
--- the call makes a transaction, what that sends is asked for, and its numbers are durable ones
-pub record IsCommitOf (s : State) (call : Call) (sends : List Message) : Type 0 where
-  pub now : ℕ
-  pub ops : List Op
-  pub call_is : call ≡ Asks (Commit now ops)
-  pub asked : AllByRecursion (IsOfOps now ops) sends
-  pub high : s.next_number + length sends ≤ FIRST_EXPRESS
-
--- the call sends a message, under the next number, which is a durable one
-pub record IsPlainOf (s : State) (call : Call) (m : Message) : Type 0 where
-  pub now : ℕ
-  pub parts : Parts
-  pub call_is : call ≡ Asks (Send now true parts)
-  pub message : m ≡ plain_message s true now parts
-  pub high : s.next_number + 1 ≤ FIRST_EXPRESS
-
 -- the call hears a packet, of which this is the part
 pub record IsPartOf (s : State) (call : Call) (part : Part) : Type 0 where
   pub now : ℕ
@@ -138,20 +98,13 @@ pub record IsPartOf (s : State) (call : Call) (part : Part) : Type 0 where
 abbrev pub RecordOf : State → Call → Record → Type 0
 RecordOf s call (entry.Identity identity) = ⊥
 RecordOf s call (entry.Peer peer) = ⊥
-RecordOf s call (entry.Commit at made) = IsCommitOf s call (sends_of made)
+RecordOf s call (entry.Commit at made) = IsCommitOf call (sends_of made)
 RecordOf s call (entry.Plain at p) = IsPlainOf s call p.message
 RecordOf s call (entry.Arrived at numbers part) = IsPartOf s call part
 RecordOf s call (entry.Taken at from id) = is_of_packets call ≡ false
 RecordOf s call (entry.Purged at from) = is_of_packets call ≡ false
 RecordOf s call (entry.Ticked at) = is_of_packets call ≡ false
 RecordOf s call _ = Unit {0}
-
--- the call sends a message beside its record, under the next express number
-pub record IsSentBeside (s : State) (call : Call) (m : Message) : Type 0 where
-  pub now : ℕ
-  pub parts : Parts
-  pub call_is : call ≡ Asks (Send now false parts)
-  pub message : m ≡ plain_message s false now parts
 
 -- the call hears the packet of a message beside its record, which is refused as it says
 pub record IsHeardBeside (s : State) (call : Call) (m : Message) (refusal : Option Class) : Type 0 where
@@ -191,64 +144,23 @@ some_unless : (s : State) (call : Call) (b : Bool) (r : Record) → RecordOf s c
 some_unless s call true r h = tt
 some_unless s call false r h = h
 
--- Calls on a store.
+-- Requests.
 
-commit_of : (m : Manager) (now : ℕ) (ops : List Op) (r : Result Trial CommitFault) → IfAsked now ops r → IfTried m.state r → IsOutcomeOf m.state (Asks (Commit now ops)) (commit_tried m now r)
-commit_of m now ops (Err why) asked tried = nothing_of m (Asks (Commit now ops)) (Err why) tt
-commit_of m now ops (Ok t) asked tried = by (nat_lt (MAX_NUMBER + 1) t.sending.next_number) refl
-  where
-    outcome : Outcome (Result (List Done) CommitFault)
-    outcome = recording m (entry.Commit now t.ops) (Ok t.done)
+request_record : (s : State) (given : Request) (r : Record) → RecordFor s given r → RecordOf s (Asks given) r
+request_record s given (entry.Identity identity) h = absurd h
+request_record s given (entry.Peer peer) h = absurd h
+request_record s given (entry.Commit now ops) h = h.1
+request_record s given (entry.Plain now p) h = h.1
+request_record s given (entry.Arrived now numbers part) h = absurd h
+request_record s given (entry.Taken now from id) h = refl
+request_record s given (entry.Purged now from) h = refl
+request_record s given (entry.Ticked now) h = refl
+request_record s given r h = tt
 
-    whole : t.sending.next_number ≤ FIRST_EXPRESS → IsOutcomeOf m.state (Asks (Commit now ops)) outcome
-    whole le = record { entry = record { now = now; ops = ops; call_is = refl; asked = asked; high = let e = tried.next in omega (arith, e, le) }; beside = tt }
-
-    by : (b : Bool) → nat_lt (MAX_NUMBER + 1) t.sending.next_number ≡ b → IsOutcomeOf m.state (Asks (Commit now ops)) (unless m (whole_refusal t) outcome)
-    by false e = unless_of m (Asks (Commit now ops)) (whole_refusal t) outcome tt (whole (grind (arith, nat_tests)))
-    by true e = refused (whole_refusal t) (spent e)
-      where
-        spent : nat_lt (MAX_NUMBER + 1) t.sending.next_number ≡ true → whole_refusal t ≡ Some commit_fault.NumbersSpent
-        spent f = ap (λ z. cond z (Some commit_fault.NumbersSpent) (cond (has_too_large t.ops) (Some commit_fault.TooLarge) None)) f
-
-        refused : (o : Option CommitFault) → o ≡ Some commit_fault.NumbersSpent → IsOutcomeOf m.state (Asks (Commit now ops)) (unless m o outcome)
-        refused (Some why) f = nothing_of m (Asks (Commit now ops)) (Err why) tt
-        refused None f = absurd (let none : ⊥ = cc in none)
-
--- a message for which no reason is found bears a durable number
-send_high : (s : State) (a b : Option SendFault) → option_or a b ≡ None → b ≡ None
-send_high s None b e = e
-send_high s (Some why) b e = absurd (let none : ⊥ = cc in none)
-
-send_of : (m : Manager) (now : ℕ) (recoverable : Bool) (parts : Parts) → IsOutcomeOf m.state (Asks (Send now recoverable parts))
-    (unless m (send_refusal m recoverable (plain_message m.state recoverable now parts)) (sending m recoverable (plain_message m.state recoverable now parts) now))
-send_of m now true parts = by (send_refusal m true message) refl
-  where
-    message : Message
-    message = plain_message m.state true now parts
-
-    not_spent : send_refusal m true message ≡ None → nat_lt MAX_NUMBER m.state.next_number ≡ false
-    not_spent e = down (is_down m) e
-      where
-        rest : Option SendFault
-        rest = cond (is_too_large headers.Session message) (Some send_fault.TooLarge) None
-
-        reasons : (b : Bool) → cond b (Some send_fault.NumbersSpent) rest ≡ None → b ≡ false
-        reasons true f = absurd (let none : ⊥ = cc in none)
-        reasons false f = refl
-
-        down : (d : Bool) → cond d (Some send_fault.Down) (option_or (target_fault m.state (resolved m.state message.destination)) (message_fault m.state true message)) ≡ None → nat_lt MAX_NUMBER m.state.next_number ≡ false
-        down true f = absurd (let none : ⊥ = cc in none)
-        down false f = reasons (nat_lt MAX_NUMBER m.state.next_number) (send_high m.state (target_fault m.state (resolved m.state message.destination)) (message_fault m.state true message) f)
-
-    by : (o : Option SendFault) → send_refusal m true message ≡ o → IsOutcomeOf m.state (Asks (Send now true parts)) (unless m o (sending m true message now))
-    by (Some why) e = nothing_of m (Asks (Send now true parts)) (Err why) tt
-    by None e = record { entry = record { now = now; parts = parts; call_is = refl; message = refl; high = let low = not_spent e in grind (arith, nat_tests) }; beside = tt }
-send_of m now false parts = unless_of m (Asks (Send now false parts)) (send_refusal m false (plain_message m.state false now parts)) _ tt (record { entry = tt; beside = record { now = now; parts = parts; call_is = refl; message = refl } })
-
-taking_of : (m : Manager) (call : Call) (at : EntryPlace) (now : ℕ) (kind : Lane) (k : ℕ) (message : Message) → RecordOf m.state call (entry.Taken now at message.id) → BesideOf m.state call beside.Nothing
-    → BesideOf m.state call (beside.TakesExpress now at k) → IsOutcomeOf m.state call (taking m at now kind k message)
-taking_of m call at now lane.Durable k message h g b = record { entry = h; beside = g }
-taking_of m call at now lane.Express k message h g b = record { entry = tt; beside = b }
+request_beside : (s : State) (given : Request) (b : Beside) → BesideFor s given b → BesideOf s (Asks given) b
+request_beside s given (beside.SendsExpress now m) h = h
+request_beside s given (beside.HearsExpress peer number now m refusal) h = absurd h
+request_beside s given b h = tt
 
 -- Hearing.
 
@@ -419,19 +331,10 @@ same_of : {A : Type 0} (says : A → Answer) (s : State) (call : Call) (outcome 
 same_of says s call outcome h = record { entry = h.entry; beside = h.beside }
 
 pub calls_are_of : (m : Manager) (call : Call) → IsOutcomeOf m.state call (outcome_of m call)
-calls_are_of m (Asks (CreateQueue plan)) = same_of calls.Created m.state (Asks (CreateQueue plan)) _ (unless_of m (Asks (CreateQueue plan)) (create_refusal m plan) _ tt (record { entry = tt; beside = tt }))
-calls_are_of m (Asks (Set setting)) = same_of calls.WasSet m.state (Asks (Set setting)) _ (unless_of m (Asks (Set setting)) (store_refusal m) _ tt (record { entry = tt; beside = tt }))
-calls_are_of m (Asks (Commit now ops)) = same_of calls.Committed m.state (Asks (Commit now ops)) _ (unless_of m (Asks (Commit now ops)) (ops_refusal m ops) _ tt
-    (commit_of m now ops (try_ops now 0 (trial_of m.state) ops) (ops_asked m.state ops now) (ops_tried m.state ops now)))
-calls_are_of m (Asks (Send now recoverable parts)) = same_of calls.Sent m.state (Asks (Send now recoverable parts)) _ (send_of m now recoverable parts)
-calls_are_of m (Asks (Take now p)) = same_of calls.Took m.state (Asks (Take now p)) _ (unless_of m (Asks (Take now p)) (take_refusal m) _ tt (or_of m.state (Asks (Take now p)) (take_at m now) (place_named m.state.places.queues p) _
-    (λ at. or_of m.state (Asks (Take now p)) (take_position m at now) (first_in m.state at now) _ (λ q. or_of m.state (Asks (Take now p)) (taking m at now q.lane q.index) (message_at q.lane m.state at q.index) _
-    (λ x. taking_of m (Asks (Take now p)) at now q.lane q.index x refl tt tt) (nothing_of m (Asks (Take now p)) _ tt)) (nothing_of m (Asks (Take now p)) _ tt)) (nothing_of m (Asks (Take now p)) _ tt)))
-calls_are_of m (Asks (Purge now p)) = same_of calls.Purged m.state (Asks (Purge now p)) _ (unless_of m (Asks (Purge now p)) (purge_refusal m) _ tt (or_of m.state (Asks (Purge now p)) (purge_at m now) (place_named m.state.places.queues p) _
-    (λ at. or_of m.state (Asks (Purge now p)) (purging m now at) (lists_at m.state.places at) _
-    (λ l. record { entry = some_unless m.state (Asks (Purge now p)) (length l.durable == 0) (entry.Purged now at) refl; beside = tt }) (nothing_of m (Asks (Purge now p)) _ tt)) (nothing_of m (Asks (Purge now p)) _ tt)))
-calls_are_of m (Asks (Tick now)) = same_of calls.Ticked m.state (Asks (Tick now)) _ (unless_of m (Asks (Tick now)) (store_refusal m) _ tt
-    (record { entry = some_unless m.state (Asks (Tick now)) (durable_due m.state now == 0) (entry.Ticked now) refl; beside = tt }))
+calls_are_of m (Asks given) = let h = request_laws m given in record {
+  entry = if_some (RecordFor m.state given) (RecordOf m.state (Asks given)) (requested m given).entry (request_record m.state given) h.entry;
+  beside = request_beside m.state given (requested m given).beside h.beside;
+}
 calls_are_of m Resend = record { entry = tt; beside = tt }
 calls_are_of m (Pump now) = same_of calls.Pumped m.state (Pump now) _ (unless_of m (Pump now) (pump_refusal m) _ tt
     (or_of m.state (Pump now) (pump_linked m now) m.rest.session _ (pump_of m now) (nothing_of m (Pump now) (Err pump_fault.NotLinked) tt)))

@@ -1,41 +1,33 @@
 -- Calls that have nothing to do with packets, and packets that are heard, keep what is stored.
-use Rattle.std.proofs.Common.{refl, ap, sym, subst}
+use Rattle.std.proofs.Common.{refl, ap, sym, subst, ◌∙◌}
 use Rattle.std.specs.Option.{option_map_or}
-use Rattle.std.specs.Prelude.{◌++◌, ◌==◌, ◌≡◌, Bool, Err, IfSome, List, None, Ok, Option, Result, Some, cond, false, is_some, length, true, ℕ}
+use Rattle.std.specs.Prelude.{◌++◌, ◌≡◌, IfSome, List, None, Option, Some, false, is_some, ℕ}
 use Rattle.mqb_base.specs.declared.ids.Guid.{Guid}
 use Rattle.mqb_base.specs.declared.ids.MessageId.{MessageId}
 use Rattle.mqb_base.specs.declared.message.Lane.{Lane}
-use Rattle.mqb_base.specs.declared.message.Lane.TheVariants as lane
 use Rattle.mqb_base.specs.declared.message.Message.{Message}
-use Rattle.mqb_base.specs.declared.queues.EntryPlace.{EntryPlace}
 use Rattle.mqb_packet.specs.declared.packet.Packet.{Packet}
-use Rattle.mqb_queue.specs.Places.{lists_at, place_named}
 use Rattle.mqb_session.specs.State as one_end
-use Rattle.mqb_model.specs.calls.Call as calls
-use Rattle.mqb_model.specs.calls.Commit.{commit_tried, ops_refusal, trial_of, try_ops, whole_refusal}
-use Rattle.mqb_model.specs.calls.CreateQueue.{create_refusal}
 use Rattle.mqb_model.specs.calls.Link.{rewound}
-use Rattle.mqb_model.specs.calls.Messages.{plain_message}
-use Rattle.mqb_model.specs.calls.Purge.{purge_at, purge_refusal, purging}
-use Rattle.mqb_model.specs.calls.Send.{send_refusal, sending}
-use Rattle.mqb_model.specs.calls.SetRoll.{store_refusal}
-use Rattle.mqb_model.specs.calls.Take.{first_in, take_at, take_position, take_refusal, taking}
+use Rattle.mqb_model.specs.managers.Beside.{Beside}
+use Rattle.mqb_model.specs.managers.Beside as beside
 use Rattle.mqb_model.specs.managers.Manager.{Manager, linked_peer}
-use Rattle.mqb_model.specs.managers.Outcomes.{Outcome, answering, succeeded, unless}
+use Rattle.mqb_model.specs.managers.Outcomes.{Outcome, succeeded}
 use Rattle.mqb_model.specs.records.Record.{Record}
 use Rattle.mqb_model.specs.records.Record as entry
-use Rattle.mqb_model.specs.rules.Takes.{message_at}
+use Rattle.mqb_model.specs.state.Places.{is_express}
 use Rattle.mqb_model.specs.state.State.{State}
 use Rattle.mqb_network.specs.Choices.{Failure}
 use Rattle.mqb_network.specs.Courses.{Course, Written, written_by}
 use Rattle.mqb_network.specs.Network.{Network, manager_at, with_manager}
-use Rattle.mqb_model.specs.calls.Call.{Answer, Asks, Call, Commit, CreateQueue, Hear, Pump, Purge, Resend, Send, Set, Take, Tick, answered, outcome_of}
+use Rattle.mqb_model.specs.calls.Call.{Answer, Asks, Call, Hear, Pump, Request, Resend, answered, outcome_of, requested}
 use Rattle.mqb_history.specs.Changes.{calling, is_of_packets}
 use Rattle.mqb_history.specs.Orderly.{AreAllDisjoint}
 use Rattle.mqb_history.proofs.Between.{from_sender}
 use Rattle.mqb_history.proofs.Flowing.{Flows, flows_more, source_works, target_works}
-use Rattle.mqb_history.proofs.Lists.{clash}
+use Rattle.mqb_history.proofs.Lists.{clash, if_some}
 use Rattle.mqb_history.proofs.Ordering.{with_at}
+use Rattle.mqb_history.proofs.Requests.{BesideFor, RecordFor, request_laws}
 use Rattle.mqb_history.proofs.Storing.{FlowsIn, KeepsStorage, ReleasesStored, call_waits, called_rests, failing_keeps, well_keeps}
 use Rattle.mqb_history.proofs.Unreleased.{IsOfOwn, IsPlainBeside, Waits}
 
@@ -51,35 +43,20 @@ pub record Works {A : Type 0} (own : Guid) (m : Manager) (outcome : Outcome A) :
   pub entry : IfSome outcome.entry (IsWork own)
   pub beside : IsPlainBeside outcome.beside
 
-nothing_works : {A : Type 0} (own : Guid) (m : Manager) (answer : A) → Works own m (answering m answer)
-nothing_works own m answer = record { session = refl; entry = tt; beside = tt }
-
-unless_works : {V E : Type 0} (own : Guid) (m : Manager) (refusal : Option E) (outcome : Outcome (Result V E)) → Works own m outcome → Works own m (unless m refusal outcome)
-unless_works own m (Some fault) outcome h = nothing_works own m (Err fault)
-unless_works own m None outcome h = h
-
-or_works : {X A : Type 0} (own : Guid) (m : Manager) (f : X → Outcome A) (o : Option X) (other : A) → ((x : X) → Works own m (f x)) → Works own m (option_map_or f o (answering m other))
-or_works own m f None other some = nothing_works own m other
-or_works own m f (Some x) other some = some x
-
 pub same_works : {A : Type 0} (says : A → Answer) (own : Guid) (m : Manager) (outcome : Outcome A) → Works own m outcome → Works own m (answered says outcome)
 same_works says own m outcome h = record { session = h.session; entry = h.entry; beside = h.beside }
 
-some_or : (own : Guid) (b : Bool) (r : Record) → IsWork own r → IfSome (cond b None (Some r)) (IsWork own)
-some_or own true r h = tt
-some_or own false r h = h
+-- what a request records, and what it does beside that
+request_works : (own : Guid) (s : State) (given : Request) (r : Record) → s.identity.guid ≡ own → RecordFor s given r → IsWork own r
+request_works own s given (entry.Plain now p) e h = ap (λ (x : MessageId). x.qm) h.0.id ∙ e
+request_works own s given (entry.Arrived now numbers part) e h = absurd h
+request_works own s given r e h = tt
 
-send_works : (own : Guid) (m : Manager) (recoverable : Bool) (now : ℕ) (p : _) → m.state.identity.guid ≡ own → Works own m (sending m recoverable (plain_message m.state recoverable now p) now)
-send_works own m true now p e = record { session = refl; entry = e; beside = tt }
-send_works own m false now p e = record { session = refl; entry = tt; beside = refl }
-
-take_works : (own : Guid) (m : Manager) (at : EntryPlace) (now : ℕ) (kind : Lane) (k : ℕ) (message : Message) → Works own m (taking m at now kind k message)
-take_works own m at now lane.Durable k message = record { session = refl; entry = tt; beside = tt }
-take_works own m at now lane.Express k message = record { session = refl; entry = tt; beside = tt }
-
-commit_works : (own : Guid) (m : Manager) (now : ℕ) (tried : Result _ _) → Works own m (commit_tried m now tried)
-commit_works own m now (Err why) = nothing_works own m (Err why)
-commit_works own m now (Ok t) = unless_works own m (whole_refusal t) _ (record { session = refl; entry = tt; beside = tt })
+request_beside : (s : State) (given : Request) (b : Beside) → BesideFor s given b → IsPlainBeside b
+request_beside s given (beside.SendsExpress now m) h = ap (λ (x : Message). is_express x.delivery) h.message
+request_beside s given (beside.HearsExpress peer number now m refusal) h = absurd h
+request_beside s given (beside.NotesSent peer sent) h = absurd h
+request_beside s given b h = tt
 
 resend_works : (own : Guid) (m : Manager) → Works own m (outcome_of m Resend)
 resend_works own m = record { session = at m.rest.session refl; entry = tt; beside = tt }
@@ -89,15 +66,11 @@ resend_works own m = record { session = at m.rest.session refl; entry = tt; besi
     at (Some session) e = refl
 
 pub calls_work : (own : Guid) (m : Manager) (call : Call) → m.state.identity.guid ≡ own → is_of_packets call ≡ false → Works own m (outcome_of m call)
-calls_work own m (Asks (CreateQueue plan)) e f = same_works calls.Created own m _ (unless_works own m (create_refusal m plan) _ (record { session = refl; entry = tt; beside = tt }))
-calls_work own m (Asks (Set setting)) e f = same_works calls.WasSet own m _ (unless_works own m (store_refusal m) _ (record { session = refl; entry = tt; beside = tt }))
-calls_work own m (Asks (Commit now ops)) e f = same_works calls.Committed own m _ (unless_works own m (ops_refusal m ops) _ (commit_works own m now (try_ops now 0 (trial_of m.state) ops)))
-calls_work own m (Asks (Send now recoverable p)) e f = same_works calls.Sent own m _ (unless_works own m (send_refusal m recoverable (plain_message m.state recoverable now p)) _ (send_works own m recoverable now p e))
-calls_work own m (Asks (Take now p)) e f = same_works calls.Took own m _ (unless_works own m (take_refusal m) _ (or_works own m (take_at m now) (place_named m.state.places.queues p) _
-    (λ at. or_works own m (take_position m at now) (first_in m.state at now) _ (λ q. or_works own m (taking m at now q.lane q.index) (message_at q.lane m.state at q.index) _ (take_works own m at now q.lane q.index)))))
-calls_work own m (Asks (Purge now p)) e f = same_works calls.Purged own m _ (unless_works own m (purge_refusal m) _ (or_works own m (purge_at m now) (place_named m.state.places.queues p) _
-    (λ at. or_works own m (purging m now at) (lists_at m.state.places at) _ (λ l. record { session = refl; entry = some_or own (length l.durable == 0) (entry.Purged now at) tt; beside = tt }))))
-calls_work own m (Asks (Tick now)) e f = same_works calls.Ticked own m _ (unless_works own m (store_refusal m) _ (record { session = refl; entry = some_or own _ (entry.Ticked now) tt; beside = tt }))
+calls_work own m (Asks given) e f = let h = request_laws m given in record {
+  session = h.session;
+  entry = if_some (RecordFor m.state given) (IsWork own) (requested m given).entry (λ r g. request_works own m.state given r e g) h.entry;
+  beside = request_beside m.state given (requested m given).beside h.beside;
+}
 calls_work own m Resend e f = resend_works own m
 calls_work own m (Pump now) e f = absurd (clash f)
 calls_work own m (Hear now p) e f = absurd (clash f)
@@ -109,10 +82,6 @@ work_own own r h = tt
 work_stored : (own : Guid) (ws : List Written) (s : State) (r : Record) → IsWork own r → ReleasesStored ws s r
 work_stored own ws s (entry.Arrived now numbers part) h = absurd h
 work_stored own ws s r h = tt
-
-pub if_some : {X : Type 0} (P Q : X → Type 0) (o : Option X) → ((x : X) → P x → Q x) → IfSome o P → IfSome o Q
-if_some P Q None f h = tt
-if_some P Q (Some x) f h = f x h
 
 -- Flows go on where one of two managers makes a call.
 pub flows_call : (c : Course) (x : ℕ) (call : Call) (i j d : ℕ) → ((own : Guid) → (manager_at c.network x).state.identity.guid ≡ own → Works own (manager_at c.network x) (outcome_of (manager_at c.network x) call))
