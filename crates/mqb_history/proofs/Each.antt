@@ -20,7 +20,7 @@ use Rattle.mqb_model.specs.calls.Call.{Call, Hear, Pump, outcome_of}
 use Rattle.mqb_history.specs.Changes.{Calls, Change, Drops, Ends, Fails, Finds, Hears, Links, Pumps, Restarts, calling, changed, given_out, hearing}
 use Rattle.mqb_history.proofs.Beginning.{linked_condition}
 use Rattle.mqb_history.proofs.Ending.{parted_at, parted_condition}
-use Rattle.mqb_history.proofs.Lists.{all_append, all_weaker}
+use Rattle.mqb_history.proofs.Lists.{all_append, all_weaker, if_some}
 use Rattle.mqb_history.proofs.Ordering.{with_at}
 use Rattle.mqb_history.proofs.Orderly.{map_get}
 use Rattle.mqb_history.proofs.Written.{noted_managers}
@@ -40,15 +40,11 @@ OfChange Q c (Pumps i now failure) = OfCall Q c i (Pump now)
 OfChange Q c (Hears k now failure) = (note : Note) (p : Packet) → numbered c.network.notes k ≡ Some note → numbered c.sent k ≡ Some p → OfCall Q c note.receiver (Hear now p)
 OfChange Q c _ = Unit {0}
 
-some_weaker : {X : Type 0} (P Q : X → Type 0) → ((x : X) → P x → Q x) → (o : Option X) → IfSome o P → IfSome o Q
-some_weaker P Q weaker None h = tt
-some_weaker P Q weaker (Some x) h = weaker x h
-
 -- less is known
 pub each_weaker : (P Q : ℕ → Record → Type 0) → ((i : ℕ) (r : Record) → P i r → Q i r) → (c : Course) → EachRecord P c → EachRecord Q c
 each_weaker P Q weaker c h = record {
   written = all_weaker (λ (w : Written). P w.by w.entry) (λ w. Q w.by w.entry) (λ w g. weaker w.by w.entry g) c.written h.written;
-  doubts = λ i. some_weaker (P i) (Q i) (weaker i) (doubt_of (manager_at c.network i).condition) (h.doubts i);
+  doubts = λ i. if_some (P i) (Q i) (doubt_of (manager_at c.network i).condition) (weaker i) (h.doubts i);
 }
 
 module _ (Q : ℕ → Record → Type 0) where

@@ -30,7 +30,7 @@ use Rattle.mqb_queue.specs.Places.{Queue, lists_at, numbered}
 use Rattle.mqb_history.proofs.Committing.{in_append, in_end}
 use Rattle.mqb_history.proofs.Fates.{Frame, IsFair, IsFairExpress, IsFailureOf, IsMetBy, IsMissOf, IsTold, IsWaiting, Keeps, ListsFair, PlainFair, WaitsFairly, from_get, keeps_more, late_fate, purged_fate, received_fate, swept_fate}
 use Rattle.mqb_history.proofs.Fairly.{dropped_fair, meets_keeps, plain_keeps, put_keeps, without_keeps}
-use Rattle.mqb_history.proofs.Lists.{all_append, all_weaker}
+use Rattle.mqb_history.proofs.Lists.{all_append, all_weaker, if_some}
 use Rattle.mqb_history.proofs.Staying.{after_purge_rows, after_take_rows, lapsed_one, swept_one}
 
 -- the lines before an effect are known, and its own
@@ -117,13 +117,9 @@ get_all P [] k h = tt
 get_all P (x ∷ xs) zero h = h.0
 get_all P (x ∷ xs) (suc k) h = get_all P xs k h.1
 
-some_weaker : {X : Type 0} (P Q : X → Type 0) → ((x : X) → P x → Q x) → (o : Option X) → IfSome o P → IfSome o Q
-some_weaker P Q weaker None h = tt
-some_weaker P Q weaker (Some x) h = weaker x h
-
 lists_fair : (kind : Lane) (T : Line → Type 0) (l : Lists) (k : ℕ) → ListsFair T l → IfSome (slice_get (messages_in kind l) k) (LaneFair kind T)
-lists_fair lane.Durable T l k h = some_weaker (IsFair T) (LaneFair lane.Durable T) (λ m g. (g, λ other. absurd (let none : ⊥ = cc in none))) (slice_get l.durable k) (get_all (IsFair T) l.durable k h.durable)
-lists_fair lane.Express T l k h = some_weaker (IsFairExpress T) (LaneFair lane.Express T) (λ m g. (g.0, λ same. g.1)) (slice_get l.express k) (get_all (IsFairExpress T) l.express k h.express)
+lists_fair lane.Durable T l k h = if_some (IsFair T) (LaneFair lane.Durable T) (slice_get l.durable k) (λ m g. (g, λ other. absurd (let none : ⊥ = cc in none))) (get_all (IsFair T) l.durable k h.durable)
+lists_fair lane.Express T l k h = if_some (IsFairExpress T) (LaneFair lane.Express T) (slice_get l.express k) (λ m g. (g.0, λ same. g.1)) (get_all (IsFairExpress T) l.express k h.express)
 
 placed_fair : (kind : Lane) (f : Frame) (T : Line → Type 0) (s : State) (at : EntryPlace) (k : ℕ) → Keeps f T s → IfSome (message_at kind s at k) (LaneFair kind T)
 placed_fair kind f T s at k h = by (lists_at s.places at) (lists_have (ListsFair T) s.places at h.places)
@@ -218,10 +214,10 @@ record LapsesFairly (kind : Lane) (f : Frame) (T : Line → Type 0) (goes : ℕ 
 
 plain_at_fair : (kind : Lane) (f : Frame) (T : Line → Type 0) (goes : ℕ → ℕ) (next k index : ℕ) (p : PlainLists) → PlainFair f T goes next k p
     → IfSome (slice_get (outgoing_in kind p) index) (λ o. LapsesFairly kind f T goes next k o.message)
-plain_at_fair lane.Durable f T goes next k index p h = some_weaker (WaitsFairly f T goes next k) (λ o. LapsesFairly lane.Durable f T goes next k o.message)
-    (λ o g. record { fair = (g.0, λ other. absurd (let none : ⊥ = cc in none)); waits = λ same. g.1 }) (slice_get p.recoverable index) (get_all (WaitsFairly f T goes next k) p.recoverable index h.recoverable)
-plain_at_fair lane.Express f T goes next k index p h = some_weaker (λ (o : Outgoing). IsFairExpress T o.message) (λ o. LapsesFairly lane.Express f T goes next k o.message)
-    (λ o g. record { fair = (g.0, λ same. g.1); waits = λ other. absurd (let none : ⊥ = cc in none) }) (slice_get p.express index) (get_all (λ (o : Outgoing). IsFairExpress T o.message) p.express index h.express)
+plain_at_fair lane.Durable f T goes next k index p h = if_some (WaitsFairly f T goes next k) (λ o. LapsesFairly lane.Durable f T goes next k o.message) (slice_get p.recoverable index)
+    (λ o g. record { fair = (g.0, λ other. absurd (let none : ⊥ = cc in none)); waits = λ same. g.1 }) (get_all (WaitsFairly f T goes next k) p.recoverable index h.recoverable)
+plain_at_fair lane.Express f T goes next k index p h = if_some (λ (o : Outgoing). IsFairExpress T o.message) (λ o. LapsesFairly lane.Express f T goes next k o.message) (slice_get p.express index)
+    (λ o g. record { fair = (g.0, λ same. g.1); waits = λ other. absurd (let none : ⊥ = cc in none) }) (get_all (λ (o : Outgoing). IsFairExpress T o.message) p.express index h.express)
 
 has_waited : (f : Frame) (goes : ℕ → ℕ) (next k : ℕ) (m : Message) → IsWaiting f goes next k m → HasWaited f next m.id
 has_waited f goes next k m h = record { source = h.source; below = h.below; known = h.known }
