@@ -16,8 +16,7 @@ use Rattle.mqb_model.specs.declared.answers.Done as done
 use Rattle.mqb_model.specs.declared.answers.Done.TheVariants as done_as
 use Rattle.mqb_model.specs.declared.faults.AddPeerFault.{AddPeerFault}
 use Rattle.mqb_model.specs.declared.faults.AddPeerFault.TheVariants as fault
-use Rattle.mqb_replies.specs.Replies.{reply_of}
-use Rattle.mqb_replies.specs.Requests.{is_done}
+use Rattle.mqb_replies.specs.Requests.{is_done, reply_of}
 use Rattle.mqb_replies.specs.declared.faults.AnswerFault.{AnswerFault}
 use Rattle.mqb_replies.specs.declared.faults.AnswerFault.TheVariants.{DiskFault, Memory}
 use Rattle.mqb_transcript.specs.declared.replies.Reply.{Reply}

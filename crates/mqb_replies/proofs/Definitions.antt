@@ -41,7 +41,7 @@ use Rattle.mqb_model.specs.rules.Takes.{message_at}
 use Rattle.mqb_model.specs.state.Resolving.{resolved}
 use Rattle.mqb_model.specs.state.State.{State}
 use Rattle.mqb_replies.specs.Asked.{RequestsAreReplied}
-use Rattle.mqb_replies.specs.Replies.{reply_of}
+use Rattle.mqb_replies.specs.Requests.{reply_of}
 
 -- Queues and settings.
 

@@ -8,8 +8,7 @@ use Rattle.mqb_model.specs.calls.Call.{Answer, Request, requested}
 use Rattle.mqb_model.specs.managers.Manager.{Manager}
 use Rattle.mqb_model.specs.managers.Outcomes.{Outcome}
 use Rattle.mqb_outside.specs.Disk.{Counted, View}
-use Rattle.mqb_replies.specs.Replies.{reply_of}
-use Rattle.mqb_replies.specs.Requests.{is_done}
+use Rattle.mqb_replies.specs.Requests.{is_done, reply_of}
 use Rattle.mqb_replies.specs.declared.faults.AnswerFault.{AnswerFault}
 use Rattle.mqb_replies.specs.declared.faults.AnswerFault.TheVariants as fault
 

@@ -1,4 +1,4 @@
-pub mod Requests
 pub mod Replies
+pub mod Requests
 pub mod Asked
 pub mod lemmas

@@ -1,8 +1,5 @@
--- What is replied to what a manager's calls answer: a reply, or why there is none. The lines are those of the call's record.
-use Rattle.std.specs.Prelude.{Err, List, None, Ok, Result, Some, ℕ}
-use Rattle.mqb_base.specs.declared.ledger.Line.{Line}
-use Rattle.mqb_model.specs.calls.Call.{Answer}
-use Rattle.mqb_model.specs.calls.Call as answer
+-- What is replied where a manager refuses a call: a reply, or why there is none.
+use Rattle.std.specs.Prelude.{Err, None, Ok, Result, Some, ℕ}
 use Rattle.mqb_model.specs.declared.faults.CommitFault.{CommitFault}
 use Rattle.mqb_model.specs.declared.faults.CommitFault.TheVariants as commit
 use Rattle.mqb_model.specs.declared.faults.CreateFault.{CreateFault}
@@ -77,22 +74,3 @@ abbrev pub store_fault_reply : StoreFault → Result Reply AnswerFault
 store_fault_reply store.Down = Ok reply.Down
 store_fault_reply store.Memory = Err Memory
 store_fault_reply store.DiskFault = Err DiskFault
-
--- What is replied to what a request is answered. Of a queue that was made its number is not told, of a transaction what became of each op, of a message that was
--- taken all but its identifier, and of a tick the durable messages. A call that has to do with packets has a reply of its own.
-abbrev pub reply_of : Answer → List Line → Result Reply AnswerFault
-reply_of (answer.Created (Ok number)) lines = Ok reply.Done
-reply_of (answer.Created (Err fault)) lines = create_fault_reply fault
-reply_of (answer.WasSet (Ok done)) lines = Ok reply.Done
-reply_of (answer.WasSet (Err fault)) lines = store_fault_reply fault
-reply_of (answer.Committed (Ok done)) lines = Ok (reply.Committed lines)
-reply_of (answer.Committed (Err fault)) lines = commit_fault_reply fault
-reply_of (answer.Sent (Ok id)) lines = Ok (reply.Sent id lines)
-reply_of (answer.Sent (Err fault)) lines = send_fault_reply fault
-reply_of (answer.Took (Ok message)) lines = Ok (reply.Took message.id lines)
-reply_of (answer.Took (Err fault)) lines = take_fault_reply fault
-reply_of (answer.Purged (Ok count)) lines = Ok (reply.Purged count lines)
-reply_of (answer.Purged (Err fault)) lines = purge_fault_reply fault
-reply_of (answer.Ticked (Ok left)) lines = Ok (reply.Ticked left.express lines)
-reply_of (answer.Ticked (Err fault)) lines = store_fault_reply fault
-reply_of _ lines = Err Memory

@@ -1,18 +1,16 @@
 //! A request of a manager: it is made with the manager's disk, and replied to as a script and a command line have it.
 //!
-//! Of the definitions, `Requests` has what is asked for and answered, `Replies` the reply to each answer, and `Asked` what a request is to a manager and its disk.
+//! Of the definitions, `Requests` has what is asked for, answered and replied, `Replies` the reply to each refusal, and `Asked` what a request is to a
+//! manager and its disk.
 #![tactic(auto)]
 
-mod asking;
 mod faults;
 mod laws;
 mod lines;
 mod replies;
 mod requests;
 
-pub use asking::ask;
 pub use faults::AnswerFault;
 pub use laws::requests_are_replied;
 pub use lines::{lines_since, listed};
-pub use replies::reply_of;
-pub use requests::{Answer, Request};
+pub use requests::{Answer, Request, ask, reply_of};

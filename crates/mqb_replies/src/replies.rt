@@ -1,15 +1,12 @@
-//! Each answer has its reply.
+//! Each refusal has its reply.
 ghost use Rattle.std.specs.Prelude.{◌≡◌};
-ghost use Rattle.mqb_replies.specs.Replies.{commit_fault_reply, create_fault_reply, op_reply, purge_fault_reply, reply_of, send_fault_reply, store_fault_reply, take_fault_reply};
-ghost use Rattle.mqb_replies.specs.Requests.{seen_answer};
+ghost use Rattle.mqb_replies.specs.Replies.{commit_fault_reply, create_fault_reply, op_reply, purge_fault_reply, send_fault_reply, store_fault_reply, take_fault_reply};
 
 use crate::faults::AnswerFault;
-use crate::requests::Answer;
-use mqb_base::Line;
 use mqb_model::{CommitFault, CreateFault, OpFault, PurgeFault, SendFault, StoreFault, TakeFault};
-use mqb_transcript::{Listed, Reply};
+use mqb_transcript::Reply;
 
-fn create_fault_reply(fault: CreateFault) -> Result<Reply, AnswerFault>
+pub(crate) fn create_fault_reply(fault: CreateFault) -> Result<Reply, AnswerFault>
     ensures { result ≡ create_fault_reply fault }
 {
     match fault {
@@ -35,7 +32,7 @@ fn op_reply(op: u32, fault: OpFault) -> Reply
     }
 }
 
-fn commit_fault_reply(fault: CommitFault) -> Result<Reply, AnswerFault>
+pub(crate) fn commit_fault_reply(fault: CommitFault) -> Result<Reply, AnswerFault>
     ensures { result ≡ commit_fault_reply fault }
 {
     match fault {
@@ -50,7 +47,7 @@ fn commit_fault_reply(fault: CommitFault) -> Result<Reply, AnswerFault>
     }
 }
 
-fn send_fault_reply(fault: SendFault) -> Result<Reply, AnswerFault>
+pub(crate) fn send_fault_reply(fault: SendFault) -> Result<Reply, AnswerFault>
     ensures { result ≡ send_fault_reply fault }
 {
     match fault {
@@ -66,7 +63,7 @@ fn send_fault_reply(fault: SendFault) -> Result<Reply, AnswerFault>
     }
 }
 
-fn take_fault_reply(fault: TakeFault) -> Result<Reply, AnswerFault>
+pub(crate) fn take_fault_reply(fault: TakeFault) -> Result<Reply, AnswerFault>
     ensures { result ≡ take_fault_reply fault }
 {
     match fault {
@@ -78,7 +75,7 @@ fn take_fault_reply(fault: TakeFault) -> Result<Reply, AnswerFault>
     }
 }
 
-fn purge_fault_reply(fault: PurgeFault) -> Result<Reply, AnswerFault>
+pub(crate) fn purge_fault_reply(fault: PurgeFault) -> Result<Reply, AnswerFault>
     ensures { result ≡ purge_fault_reply fault }
 {
     match fault {
@@ -89,42 +86,12 @@ fn purge_fault_reply(fault: PurgeFault) -> Result<Reply, AnswerFault>
     }
 }
 
-fn store_fault_reply(fault: StoreFault) -> Result<Reply, AnswerFault>
+pub(crate) fn store_fault_reply(fault: StoreFault) -> Result<Reply, AnswerFault>
     ensures { result ≡ store_fault_reply fault }
 {
     match fault {
         StoreFault::Down => Ok(Reply::Down),
         StoreFault::Memory => Err(AnswerFault::Memory),
         StoreFault::DiskFault => Err(AnswerFault::DiskFault),
-    }
-}
-
-/// What is replied to an answer. `lines` are those of the request's record, and none where it wrote none. Of a queue that was made its number is not told, of a
-/// transaction what became of each op, of a message that was taken all but its identifier, and of a tick the durable messages.
-pub fn reply_of(answer: &Answer, lines: Listed<Line>) -> Result<Reply, AnswerFault>
-    ensures { result ≡ reply_of (seen_answer answer.now) lines }
-{
-    match answer {
-        Answer::Created(Ok(_)) | Answer::WasSet(Ok(())) => Ok(Reply::Done),
-        Answer::Created(Err(fault)) => create_fault_reply(*fault),
-        Answer::WasSet(Err(fault)) | Answer::Ticked(Err(fault)) => store_fault_reply(*fault),
-        Answer::Committed(Ok(_)) => Ok(Reply::Committed { lines }),
-        Answer::Committed(Err(fault)) => commit_fault_reply(*fault),
-        Answer::Sent(Ok(id)) => Ok(Reply::Sent { id: *id, lines }),
-        Answer::Sent(Err(fault)) => send_fault_reply(*fault),
-        Answer::Took(Ok(message)) => Ok(Reply::Took {
-            id: message.id,
-            lines,
-        }),
-        Answer::Took(Err(fault)) => take_fault_reply(*fault),
-        Answer::Purged(Ok(count)) => Ok(Reply::Purged {
-            count: *count,
-            lines,
-        }),
-        Answer::Purged(Err(fault)) => purge_fault_reply(*fault),
-        Answer::Ticked(Ok(left)) => Ok(Reply::Ticked {
-            express: left.express,
-            lines,
-        }),
     }
 }

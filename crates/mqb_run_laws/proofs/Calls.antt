@@ -6,7 +6,7 @@ use Rattle.mqb_model.specs.managers.Manager.{Manager}
 use Rattle.mqb_model.specs.managers.Outcomes.{lines_after}
 use Rattle.mqb_network.specs.Replies as network
 use Rattle.mqb_replies.specs.Asked.{RequestsAreReplied}
-use Rattle.mqb_replies.specs.Replies.{reply_of}
+use Rattle.mqb_replies.specs.Requests.{reply_of}
 use Rattle.mqb_replies.specs.declared.faults.AnswerFault.{AnswerFault}
 use Rattle.mqb_transcript.specs.declared.replies.Reply.{Reply}
 use Rattle.mqb_run_laws.proofs.Tellable.{IsTold}

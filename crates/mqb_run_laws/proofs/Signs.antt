@@ -17,7 +17,8 @@ use Rattle.mqb_model.specs.declared.faults.StoreFault.TheVariants as store
 use Rattle.mqb_model.specs.declared.faults.TakeFault.TheVariants as take
 use Rattle.mqb_network.specs.Choices as choice
 use Rattle.mqb_network.specs.Replies as network
-use Rattle.mqb_replies.specs.Replies.{op_reply, reply_of}
+use Rattle.mqb_replies.specs.Replies.{op_reply}
+use Rattle.mqb_replies.specs.Requests.{reply_of}
 use Rattle.mqb_replies.specs.declared.faults.AnswerFault.{AnswerFault}
 use Rattle.mqb_runs.specs.Pumped.{pump_fault_reply}
 use Rattle.mqb_runs.specs.Replies.{arrival_of, connected_reply, delivery_reply, outcome_of, told}

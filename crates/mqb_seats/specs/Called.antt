@@ -4,7 +4,7 @@ use Rattle.mqb_outside.specs.Disk.{View}
 use Rattle.mqb_model.specs.calls.Call.{Answer}
 use Rattle.mqb_model.specs.managers.Outcomes.{Outcome, lines_after}
 use Rattle.mqb_network.specs.Choices as network
-use Rattle.mqb_replies.specs.Replies.{reply_of}
+use Rattle.mqb_replies.specs.Requests.{reply_of}
 use Rattle.mqb_moves.specs.Moves.{IsMove}
 use Rattle.mqb_moves.specs.Seats.{SeatState, seated}
 use Rattle.mqb_seats.specs.declared.called.Called.{Called}

@@ -16,7 +16,8 @@ use Rattle.mqb_model.specs.declared.faults.StoreFault.TheVariants as stores
 use Rattle.mqb_model.specs.declared.faults.TakeFault.TheVariants as takes
 use Rattle.mqb_network.specs.Choices.{Failed, Failure, Stopped}
 use Rattle.mqb_network.specs.Replies as network
-use Rattle.mqb_replies.specs.Replies.{op_reply, reply_of}
+use Rattle.mqb_replies.specs.Replies.{op_reply}
+use Rattle.mqb_replies.specs.Requests.{reply_of}
 use Rattle.mqb_replies.specs.declared.faults.AnswerFault.{AnswerFault}
 use Rattle.mqb_script.specs.declared.events.Event.{Event}
 use Rattle.mqb_seats.specs.Called.{failure_of, how_by}

@@ -5,7 +5,7 @@ use Rattle.mqb_base.specs.declared.ledger.Line.{Line}
 use Rattle.mqb_model.specs.calls.Call.{Answer}
 use Rattle.mqb_model.specs.calls.Call as answer
 use Rattle.mqb_replies.specs.Asked.{faulted}
-use Rattle.mqb_replies.specs.Replies.{reply_of}
+use Rattle.mqb_replies.specs.Requests.{reply_of}
 use Rattle.mqb_replies.specs.declared.faults.AnswerFault.{AnswerFault}
 use Rattle.mqb_transcript.specs.declared.replies.Reply.{Reply}
 

@@ -16,7 +16,7 @@ use Rattle.mqb_model.specs.declared.faults.StoreFault.TheVariants as stores
 use Rattle.mqb_model.specs.declared.faults.TakeFault.TheVariants as takes
 use Rattle.mqb_replies.proofs.Making.{asked_as, is_asked}
 use Rattle.mqb_replies.proofs.Sayings as says
-use Rattle.mqb_replies.proofs.asking.ask.Goals as goal
+use Rattle.mqb_replies.proofs.requests.ask.Goals as goal
 
 pub returns-in-CreateQueue : goal.returns-in-CreateQueue
 returns-in-CreateQueue g c = asked_as c.args.request _ c.in-CreateQueue.is
