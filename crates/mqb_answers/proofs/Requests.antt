@@ -20,11 +20,11 @@ use Rattle.mqb_model.specs.records.Applying.{lines_of}
 use Rattle.mqb_model.specs.records.Record.{Record}
 use Rattle.mqb_model.specs.state.State.{State}
 use Rattle.mqb_outside.specs.Disk.{View}
+use Rattle.mqb_replies.proofs.Faulted.{replied, unreplied, unreplied_by}
 use Rattle.mqb_replies.specs.Asked.{IsAsked, RequestsAreReplied, faulted, faulting, told_as}
 use Rattle.mqb_replies.specs.Requests.{is_done, reply_of}
 use Rattle.mqb_replies.specs.declared.faults.AnswerFault.{AnswerFault}
 use Rattle.mqb_replies.specs.declared.faults.AnswerFault.TheVariants as fault
-use Rattle.mqb_replies.specs.lemmas.Faulted.{replied, unreplied, unreplied_by}
 use Rattle.mqb_transcript.specs.declared.replies.Reply.{Reply}
 
 -- what is told of an answer whose faults are apart

@@ -1,7 +1,7 @@
--- No definition of a request answers a fault of the machine, so there is a reply to each.
+-- No definition of a request answers a fault of the machine, so there is a reply to each; and what is replied to each answer.
 use Rattle.std.proofs.Common.{refl}
 use Rattle.std.specs.Option.{option_map_or, option_or}
-use Rattle.std.specs.Prelude.{[], ◌&&◌, ◌+◌, ◌==◌, ◌∷◌, Bool, Err, IfErr, IfSome, IsOk, List, None, Ok, Option, Result, Some, false, if◌then◌else◌, length, nat_le, nat_lt, true, ℕ}
+use Rattle.std.specs.Prelude.{[], ◌&&◌, ◌+◌, ◌==◌, ◌∷◌, ◌≡◌, Bool, Err, IfErr, IfSome, IsOk, List, None, Ok, Option, Result, Some, false, if◌then◌else◌, length, nat_le, nat_lt, true, ℕ}
 use Rattle.mqb_base.specs.declared.draft.Op.{Op}
 use Rattle.mqb_base.specs.declared.ledger.Line.{Line}
 use Rattle.mqb_base.specs.declared.message.Lane.{Lane}
@@ -14,6 +14,7 @@ use Rattle.mqb_queue.specs.Places.{Queue, lists_at, numbered, place_named}
 use Rattle.mqb_queue.specs.declared.first.Position.{Position}
 use Rattle.mqb_packet.specs.declared.packet.Headers.TheVariants as headers
 use Rattle.mqb_model.specs.calls.Call as calls
+use Rattle.mqb_model.specs.calls.Call.{Answer}
 use Rattle.mqb_model.specs.calls.Commit.{Trial, at_op, commit_tried, has_too_large, trial_of, try_op, try_ops}
 use Rattle.mqb_model.specs.calls.Messages.{plain_message}
 use Rattle.mqb_model.specs.calls.Purge.{purge_at, purging}
@@ -24,6 +25,7 @@ use Rattle.mqb_model.specs.declared.faults.CommitFault.{CommitFault}
 use Rattle.mqb_model.specs.declared.faults.CommitFault.TheVariants as commit_fault
 use Rattle.mqb_model.specs.declared.faults.CreateFault.TheVariants as create_fault
 use Rattle.mqb_model.specs.declared.faults.OpFault.{OpFault}
+use Rattle.mqb_model.specs.declared.faults.OpFault.TheVariants as op_fault
 use Rattle.mqb_model.specs.declared.faults.PurgeFault.TheVariants as purge_fault
 use Rattle.mqb_model.specs.declared.faults.SendFault.{SendFault}
 use Rattle.mqb_model.specs.declared.faults.SendFault.TheVariants as send_fault
@@ -41,7 +43,11 @@ use Rattle.mqb_model.specs.rules.Takes.{message_at}
 use Rattle.mqb_model.specs.state.Resolving.{resolved}
 use Rattle.mqb_model.specs.state.State.{State}
 use Rattle.mqb_replies.specs.Asked.{RequestsAreReplied}
+use Rattle.mqb_replies.specs.Replies.{op_reply}
 use Rattle.mqb_replies.specs.Requests.{reply_of}
+use Rattle.mqb_replies.specs.declared.faults.AnswerFault.{AnswerFault}
+use Rattle.mqb_transcript.specs.declared.replies.Reply.{Reply}
+use Rattle.mqb_transcript.specs.declared.replies.Reply.TheVariants as reply
 
 -- Queues and settings.
 
@@ -175,3 +181,35 @@ requests_are_replied m (calls.Send now recoverable draft) lines =
 requests_are_replied m (calls.Take now place) lines = take_is_told m now lines (is_down m) (place_named m.state.places.queues place)
 requests_are_replied m (calls.Purge now place) lines = purge_is_told m now lines (is_down m) (place_named m.state.places.queues place)
 requests_are_replied m (calls.Tick now) lines = tick_is_told m now lines (is_down m)
+
+-- Each answer.
+
+-- a reply tells how a disk failed, or what was found on it
+abbrev pub tells_of_disk : Reply → Bool
+tells_of_disk reply.Stopped = true
+tells_of_disk reply.Failed = true
+tells_of_disk (reply.Flowed arrivals) = true
+tells_of_disk (reply.OpenedKept lines) = true
+tells_of_disk reply.OpenedLost = true
+tells_of_disk _ = false
+
+-- two replies, the latter of which tells of no disk, or the same fault
+abbrev pub AreAlike : Result Reply AnswerFault → Result Reply AnswerFault → Type 0
+AreAlike (Ok one) (Ok other) = tells_of_disk other ≡ false
+AreAlike (Err why) (Err other) = why ≡ other
+AreAlike _ _ = ⊥
+
+op_alike : (index : ℕ) (why : OpFault) → tells_of_disk (op_reply index why) ≡ false
+op_alike index op_fault.NoQueue = refl
+op_alike index why = refl
+
+-- so is what is replied, whatever lines that tells
+pub alike : (a : Answer) (lines : List Line) → AreAlike (reply_of a []) (reply_of a lines)
+alike (calls.Created (Err create_fault.Down)) lines = refl
+alike (calls.WasSet (Err store_fault.Down)) lines = refl
+alike (calls.Committed (Err (commit_fault.AtOp index why))) lines = op_alike index why
+alike (calls.Sent (Err send_fault.Down)) lines = refl
+alike (calls.Took (Err take_fault.Down)) lines = refl
+alike (calls.Purged (Err purge_fault.Down)) lines = refl
+alike (calls.Ticked (Err store_fault.Down)) lines = refl
+alike a lines = refl

@@ -1,3 +1,4 @@
 pub mod Definitions
+pub mod Faulted
 mod Making
 mod Sayings

@@ -1,4 +1,3 @@
 pub mod Replies
 pub mod Requests
 pub mod Asked
-pub mod lemmas

@@ -1,28 +1,22 @@
 -- What is told of a network's answer has the signs of that.
 use Rattle.std.proofs.Common.{◌≡◌, ◌∷◌, ◌∙◌, ap, ap₂, List, [], map, refl, sym, ℕ}
-use Rattle.std.specs.Prelude.{Err, Ok, Result}
+use Rattle.std.proofs.lemmas.Bool.{true≢false}
+use Rattle.std.specs.Prelude.{Err, IfOk, Ok, Result, false}
 use Rattle.mqb_base.specs.declared.ledger.Line.{Line}
 use Rattle.mqb_history.specs.Choosing.{Quiet, Sign, sign_of, signs_of}
 use Rattle.mqb_model.specs.calls.Call.{Answer}
-use Rattle.mqb_model.specs.calls.Call as answer
-use Rattle.mqb_model.specs.declared.faults.CommitFault.TheVariants as commit
-use Rattle.mqb_model.specs.declared.faults.CreateFault.TheVariants as create
-use Rattle.mqb_model.specs.declared.faults.OpFault.{OpFault}
-use Rattle.mqb_model.specs.declared.faults.OpFault.TheVariants as op
 use Rattle.mqb_model.specs.declared.faults.PumpFault.{PumpFault}
 use Rattle.mqb_model.specs.declared.faults.PumpFault.TheVariants as pump
-use Rattle.mqb_model.specs.declared.faults.PurgeFault.TheVariants as purge
-use Rattle.mqb_model.specs.declared.faults.SendFault.TheVariants as send
-use Rattle.mqb_model.specs.declared.faults.StoreFault.TheVariants as store
-use Rattle.mqb_model.specs.declared.faults.TakeFault.TheVariants as take
 use Rattle.mqb_network.specs.Choices as choice
 use Rattle.mqb_network.specs.Replies as network
-use Rattle.mqb_replies.specs.Replies.{op_reply}
+use Rattle.mqb_replies.proofs.Definitions.{tells_of_disk}
+use Rattle.mqb_replies.proofs.Faulted.{tells_no_disk}
 use Rattle.mqb_replies.specs.Requests.{reply_of}
 use Rattle.mqb_replies.specs.declared.faults.AnswerFault.{AnswerFault}
 use Rattle.mqb_runs.specs.Pumped.{pump_fault_reply}
 use Rattle.mqb_runs.specs.Replies.{arrival_of, connected_reply, delivery_reply, outcome_of, told}
 use Rattle.mqb_transcript.specs.declared.replies.Reply.{Reply}
+use Rattle.mqb_transcript.specs.declared.replies.Reply.TheVariants as reply
 use Rattle.mqb_run_laws.proofs.Reading.{outcome_sign, shown_by}
 
 -- the signs of what is told, where anything is
@@ -33,10 +27,6 @@ told_signs (Err fault) = Quiet ∷ []
 -- nothing is shown of a disk
 abbrev IsQuiet : Result Reply AnswerFault → Type 0
 IsQuiet r = told_signs r ≡ Quiet ∷ []
-
-op_quiet : (index : ℕ) (why : OpFault) → shown_by (op_reply index why) ≡ Quiet ∷ []
-op_quiet index op.NoQueue = refl
-op_quiet index why = refl
 
 unpumped : (why : PumpFault) → IsQuiet (pump_fault_reply why)
 unpumped pump.Down = refl
@@ -63,14 +53,15 @@ delivery_shown d = refl
 -- Each answer.
 
 answered : (a : Answer) (lines : List Line) → IsQuiet (reply_of a lines)
-answered (answer.Created (Err create.Down)) lines = refl
-answered (answer.WasSet (Err store.Down)) lines = refl
-answered (answer.Committed (Err (commit.AtOp index why))) lines = op_quiet index why
-answered (answer.Sent (Err send.Down)) lines = refl
-answered (answer.Took (Err take.Down)) lines = refl
-answered (answer.Purged (Err purge.Down)) lines = refl
-answered (answer.Ticked (Err store.Down)) lines = refl
-answered a lines = refl
+answered a lines = at (reply_of a lines) (tells_no_disk a lines)
+  where
+    at : (q : Result Reply AnswerFault) → IfOk q (λ given. tells_of_disk given ≡ false) → IsQuiet q
+    at (Ok reply.Stopped) none = absurd (true≢false none)
+    at (Ok reply.Failed) none = absurd (true≢false none)
+    at (Ok (reply.Flowed arrivals)) none = absurd (true≢false none)
+    at (Ok (reply.OpenedKept lines)) none = absurd (true≢false none)
+    at (Ok reply.OpenedLost) none = absurd (true≢false none)
+    at q none = refl
 
 each_told : (r : network.Reply) → told_signs (told r) ≡ signs_of r
 each_told (network.DiskFailed choice.Stopped) = refl

@@ -16,11 +16,11 @@ use Rattle.mqb_moves.specs.Seats.{IsHeldOn, SeatState, seated}
 use Rattle.mqb_moves.specs.States.{ManagerState, manager_of}
 use Rattle.mqb_network.specs.Choices.{Failure as HowItFailed}
 use Rattle.mqb_outside.specs.Disk.{Lawful, View}
+use Rattle.mqb_replies.proofs.Faulted.{answered_so, replied, unreplied}
 use Rattle.mqb_replies.specs.Asked.{RequestsAreReplied, faulted, faulting, told_as}
 use Rattle.mqb_replies.specs.Requests.{reply_of}
 use Rattle.mqb_replies.specs.declared.faults.AnswerFault.{AnswerFault}
 use Rattle.mqb_replies.specs.declared.faults.AnswerFault.TheVariants as fault
-use Rattle.mqb_replies.specs.lemmas.Faulted.{answered_so, replied, unreplied}
 use Rattle.mqb_store_laws.specs.Laws.{ImagesOpenToOne}
 use Rattle.mqb_transcript.specs.declared.replies.Reply.{Reply}
 use Rattle.mqb_transcript.specs.declared.replies.Reply.TheVariants as reply

@@ -1,28 +1,23 @@
 -- A reply tells how a disk failed.
-use Rattle.std.proofs.Common.{◌≡◌, ℕ, Bool, List, [], ◌∷◌, Option, None, Some, Result, Ok, Err, refl, sym, subst}
+use Rattle.std.proofs.Common.{◌≡◌, ℕ, Bool, false, List, [], ◌∷◌, Option, None, Some, Result, Ok, Err, refl, sym, subst}
+use Rattle.std.proofs.lemmas.Bool.{true≢false}
 use Rattle.std.specs.Option.{option_map_or}
+use Rattle.std.specs.Prelude.{IfOk}
 use Rattle.mqb_base.specs.declared.ledger.Line.{Line}
 use Rattle.mqb_model.specs.calls.Call.{Answer}
-use Rattle.mqb_model.specs.calls.Call as answer
-use Rattle.mqb_model.specs.declared.faults.CommitFault.TheVariants as commits
-use Rattle.mqb_model.specs.declared.faults.CreateFault.TheVariants as creates
-use Rattle.mqb_model.specs.declared.faults.OpFault.{OpFault}
-use Rattle.mqb_model.specs.declared.faults.OpFault.TheVariants as op
 use Rattle.mqb_model.specs.declared.faults.PumpFault.{PumpFault}
 use Rattle.mqb_model.specs.declared.faults.PumpFault.TheVariants as pumps
-use Rattle.mqb_model.specs.declared.faults.PurgeFault.TheVariants as purges
-use Rattle.mqb_model.specs.declared.faults.SendFault.TheVariants as sends
-use Rattle.mqb_model.specs.declared.faults.StoreFault.TheVariants as stores
-use Rattle.mqb_model.specs.declared.faults.TakeFault.TheVariants as takes
 use Rattle.mqb_network.specs.Choices.{Failed, Failure, Stopped}
 use Rattle.mqb_network.specs.Replies as network
-use Rattle.mqb_replies.specs.Replies.{op_reply}
+use Rattle.mqb_replies.proofs.Definitions.{tells_of_disk}
+use Rattle.mqb_replies.proofs.Faulted.{tells_no_disk}
 use Rattle.mqb_replies.specs.Requests.{reply_of}
 use Rattle.mqb_replies.specs.declared.faults.AnswerFault.{AnswerFault}
 use Rattle.mqb_script.specs.declared.events.Event.{Event}
 use Rattle.mqb_seats.specs.Called.{failure_of, how_by}
 use Rattle.mqb_seats.specs.Pumped.{pump_fault_reply}
 use Rattle.mqb_transcript.specs.declared.replies.Reply.{Reply}
+use Rattle.mqb_transcript.specs.declared.replies.Reply.TheVariants as reply
 use Rattle.mqb_turns.specs.Replies.{connected_reply, told}
 use Rattle.mqb_turns.specs.Turns.{FailsAsAnswered}
 use Rattle.mqb_world.specs.Disks.{FaultsGo, IsToldSo, failures_of}
@@ -33,20 +28,13 @@ failures_in_told (Ok given) = failures_of given
 failures_in_told (Err fault) = []
 
 -- The answers of requests tell none.
-
-of_op : (k : ℕ) (f : OpFault) → failures_of (op_reply k f) ≡ []
-of_op k op.NoQueue = refl
-of_op k f = refl
-
 of_answer : (a : Answer) (ls : List Line) → failures_in_told (reply_of a ls) ≡ []
-of_answer (answer.Created (Err creates.Down)) ls = refl
-of_answer (answer.WasSet (Err stores.Down)) ls = refl
-of_answer (answer.Committed (Err (commits.AtOp k why))) ls = of_op k why
-of_answer (answer.Sent (Err sends.Down)) ls = refl
-of_answer (answer.Took (Err takes.Down)) ls = refl
-of_answer (answer.Purged (Err purges.Down)) ls = refl
-of_answer (answer.Ticked (Err stores.Down)) ls = refl
-of_answer a ls = refl
+of_answer a ls = at (reply_of a ls) (tells_no_disk a ls)
+  where
+    at : (q : Result Reply AnswerFault) → IfOk q (λ given. tells_of_disk given ≡ false) → failures_in_told q ≡ []
+    at (Ok reply.Stopped) none = absurd (true≢false none)
+    at (Ok reply.Failed) none = absurd (true≢false none)
+    at q none = refl
 
 of_connected : (ks : List ℕ) → failures_in_told (connected_reply ks) ≡ []
 of_connected (a ∷ b ∷ c ∷ d ∷ []) = refl
