@@ -1,4 +1,4 @@
 pub mod Definitions
 pub mod Faulted
+mod Refusals
 mod Making
-mod Sayings
