@@ -52,6 +52,6 @@ mod Cores
 mod Trying
 mod Transacting
 mod Sent
-mod Requests
+pub mod Requests
 pub mod Packets
 pub mod Entries

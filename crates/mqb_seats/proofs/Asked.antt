@@ -3,14 +3,14 @@ use Rattle.std.proofs.Common.{◌≡◌, ◌==◌, ℕ, Bool, true, false, cond,
 use Rattle.std.specs.Prelude.{IsOk, not}
 use Rattle.std.specs.Result.{result_and}
 use Rattle.mqb_base.specs.declared.ledger.Line.{Line}
-use Rattle.mqb_model.specs.calls.Call.{Answer, Request, requested}
+use Rattle.mqb_model.specs.calls.Call.{Answer, Request, down_answer, requested}
 use Rattle.mqb_model.specs.calls.Call as calls
 use Rattle.mqb_model.specs.laws.Validity.{RefusedIsSame}
 use Rattle.mqb_model.specs.managers.Manager.{Manager, is_down}
 use Rattle.mqb_model.specs.managers.Outcomes.{Outcome, lines_after}
 use Rattle.mqb_model.specs.managers.Valid.{IsValidManager}
 use Rattle.mqb_moves.specs.Calls.{IsCall}
-use Rattle.mqb_moves.specs.Downs.{DownRefusesAll, down_answer}
+use Rattle.mqb_moves.specs.Downs.{DownRefusesAll}
 use Rattle.mqb_moves.specs.Moves.{IsMove}
 use Rattle.mqb_moves.specs.Seats.{IsHeldOn, SeatState, seated}
 use Rattle.mqb_moves.specs.States.{ManagerState, manager_of}

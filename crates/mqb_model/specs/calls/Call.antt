@@ -1,5 +1,5 @@
 -- The calls of a manager that knows its peers, and what each of them comes to.
-use Rattle.std.specs.Prelude.{Bool, List, Result, false, is_err, ℕ}
+use Rattle.std.specs.Prelude.{Bool, Err, List, Result, false, is_err, ℕ}
 use Rattle.mqb_base.specs.declared.draft.Op.{Op}
 use Rattle.mqb_base.specs.declared.draft.Parts.{Parts}
 use Rattle.mqb_base.specs.declared.heard.Heard as arrivals
@@ -21,13 +21,19 @@ use Rattle.mqb_model.specs.calls.pump.Pump.{pump}
 use Rattle.mqb_model.specs.declared.answers.Done.{Done}
 use Rattle.mqb_model.specs.declared.answers.Ticked as ticks
 use Rattle.mqb_model.specs.declared.faults.CommitFault.{CommitFault}
+use Rattle.mqb_model.specs.declared.faults.CommitFault.TheVariants as commits
 use Rattle.mqb_model.specs.declared.faults.CreateFault.{CreateFault}
+use Rattle.mqb_model.specs.declared.faults.CreateFault.TheVariants as creates
 use Rattle.mqb_model.specs.declared.faults.HearFault.{HearFault}
 use Rattle.mqb_model.specs.declared.faults.PumpFault.{PumpFault}
 use Rattle.mqb_model.specs.declared.faults.PurgeFault.{PurgeFault}
+use Rattle.mqb_model.specs.declared.faults.PurgeFault.TheVariants as purges
 use Rattle.mqb_model.specs.declared.faults.SendFault.{SendFault}
+use Rattle.mqb_model.specs.declared.faults.SendFault.TheVariants as sends
 use Rattle.mqb_model.specs.declared.faults.StoreFault.{StoreFault}
+use Rattle.mqb_model.specs.declared.faults.StoreFault.TheVariants as stores
 use Rattle.mqb_model.specs.declared.faults.TakeFault.{TakeFault}
+use Rattle.mqb_model.specs.declared.faults.TakeFault.TheVariants as takes
 use Rattle.mqb_model.specs.managers.Manager.{Manager}
 use Rattle.mqb_model.specs.managers.Outcomes.{Outcome}
 use Rattle.mqb_model.specs.records.Record.{Setting}
@@ -74,6 +80,16 @@ is_refusal (Ticked r) = is_err r
 is_refusal Resent = false
 is_refusal (Pumped r) = is_err r
 is_refusal (Heard r) = is_err r
+
+-- what a manager that is down answers to a request
+abbrev pub down_answer : Request → Answer
+down_answer (CreateQueue plan) = Created (Err creates.Down)
+down_answer (Set setting) = WasSet (Err stores.Down)
+down_answer (Commit now ops) = Committed (Err commits.Down)
+down_answer (Send now recoverable parts) = Sent (Err sends.Down)
+down_answer (Take now place) = Took (Err takes.Down)
+down_answer (Purge now place) = Purged (Err purges.Down)
+down_answer (Tick now) = Ticked (Err stores.Down)
 
 -- an outcome, with its answer as one of these
 abbrev pub answered : {A : Type 0} → (A → Answer) → Outcome A → Outcome Answer
