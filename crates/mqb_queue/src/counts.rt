@@ -23,7 +23,6 @@ pub(crate) fn count_more(counts: &mut [usize; LEVELS], priority: u8, room: usize
     counts[level(priority)] += 1;
 }
 
-/// Counts one message less.
 pub(crate) fn count_less(counts: &mut [usize; LEVELS], priority: u8)
     requires { 0 < slice_index counts.old (level priority) }
     ensures { counts.new ≡ set counts.old (level priority)

@@ -49,7 +49,6 @@ fn position(lane: Lane, index: usize) -> Position
 }
 
 impl Lists {
-    /// A place without messages.
     pub(crate) fn new(alloc: Global) -> Lists
         ensures { result ≡ record { lists = no_messages; rooms = no_room } }
     {
@@ -59,7 +58,6 @@ impl Lists {
         }
     }
 
-    /// How many messages there are, durable and express ones.
     pub(crate) fn count(&self) -> u32
         ensures count { result ≡ count self.now.lists }
         ensures within { count self.now.lists ≤ MAX_MEMBERS }
@@ -67,7 +65,6 @@ impl Lists {
         (self.durable.len() + self.express.len()) as u32
     }
 
-    /// The messages of a lane, in two parts.
     pub(crate) fn messages(&self, lane: Lane) -> SplitSlice<'_, Message>
         ensures messages { result ≡ messages_in lane self.now.lists }
         ensures within { length (messages_in lane self.now.lists) ≤ MAX_MEMBERS }
@@ -78,7 +75,6 @@ impl Lists {
         }
     }
 
-    /// Makes room for so many more durable and express messages, and for no more than that where there was less.
     pub(crate) fn reserve(&mut self, durable: u32, express: u32) -> Result<(), Memory>
         ensures ok { OnOk result (self.new ≡ record self.old {
           rooms = room_for durable express self.old.lists self.old.rooms;
@@ -105,7 +101,6 @@ impl Lists {
         Ok(())
     }
 
-    /// Adds a message to a lane at the end.
     pub(crate) fn put(&mut self, lane: Lane, message: Message) -> Result<(), (Message, Memory)>
         ensures lists { OnOk result (self.new.lists ≡ put lane message self.old.lists) }
         ensures rooms { OnOk result (self.new.rooms ≡
@@ -129,7 +124,6 @@ impl Lists {
         Ok(())
     }
 
-    /// Puts a message of a lane before the one at a place, or at the end, where there is room.
     pub(crate) fn insert(&mut self, lane: Lane, k: usize, message: Message)
         requires place { k ≤ length (messages_in lane self.old.lists) }
         requires room { 0 < spare lane self.old }
@@ -141,7 +135,6 @@ impl Lists {
         }
     }
 
-    /// Takes out the message of a lane at a place.
     pub(crate) fn remove(&mut self, lane: Lane, k: usize) -> Message
         requires { k < length (messages_in lane self.old.lists) }
         ensures removed { slice_get (messages_in lane self.old.lists) k ≡ Some result }
@@ -155,7 +148,6 @@ impl Lists {
         }
     }
 
-    /// Whether a durable message has a lower priority than an express one.
     fn is_lower(&self, durable: usize, express: usize) -> bool
         requires durable { durable < length self.now.lists.durable }
         requires express { express < length self.now.lists.express }
@@ -167,7 +159,6 @@ impl Lists {
         self.durable.as_split().at(durable).priority < self.express.as_split().at(express).priority
     }
 
-    /// Where the first message stands of those that are wanted, of either lane.
     pub(crate) fn first_position(&self, choice: &Choice) -> Option<Position>
         ensures within { IfSome result (λ p. p.index < length (messages_in p.lane self.now.lists)) }
         ensures first { result ≡ first_position (is_wanted choice.now.at choice.now.moment
@@ -187,7 +178,6 @@ impl Lists {
         }
     }
 
-    /// Where the first durable message stands of those that are wanted.
     pub(crate) fn first_durable(&self, choice: &Choice) -> Option<u32>
         ensures within { IfSome result (λ k. k < length self.now.lists.durable) }
         ensures first { result ≡ first_index (is_wanted choice.now.at choice.now.moment
@@ -196,7 +186,6 @@ impl Lists {
         self.durable.first_index(choice).map(|index| index as u32)
     }
 
-    /// The first message of those that are wanted, of either lane.
     pub(crate) fn first(&self, choice: &Choice) -> Option<&Message>
         ensures { option_copied result ≡ first_of (is_wanted choice.now.at choice.now.moment
             choice.now.id) (self.now.lists.durable ++ self.now.lists.express) }

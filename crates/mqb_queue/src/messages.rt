@@ -59,7 +59,6 @@ impl MessageList {
         self.messages.room()
     }
 
-    /// The messages, in two parts.
     pub(crate) fn as_split(&self) -> SplitSlice<'_, Message>
         ensures items { result ≡ self.now.items }
         ensures within { length self.now.items ≤ self.now.room }
@@ -67,7 +66,6 @@ impl MessageList {
         self.messages.as_split()
     }
 
-    /// Makes room for `more`, and for no more than that where there was less.
     pub(crate) fn make_room(&mut self, more: usize) -> Result<(), Memory>
         ensures ok { OnOk result (self.new ≡ record self.old {
           room = max self.old.room (length self.old.items + more);
@@ -78,7 +76,6 @@ impl MessageList {
         self.messages.make_room(more)
     }
 
-    /// Gives back room, down to what was there before.
     pub(crate) fn give_back(&mut self, room: usize)
         requires members { length self.old.items ≤ room }
         requires less { room ≤ self.old.room }
@@ -87,7 +84,6 @@ impl MessageList {
         self.messages.give_back(room);
     }
 
-    /// Adds a message at the end, where there is room.
     pub(crate) fn push(&mut self, message: Message)
         requires { length self.old.items < self.old.room }
         ensures { self.new ≡ record self.old { items = self.old.items ++ message ∷ [] } }
@@ -97,7 +93,6 @@ impl MessageList {
         self.messages.push(message);
     }
 
-    /// Puts a message before the one at a place, or at the end, where there is room.
     pub(crate) fn insert(&mut self, at: usize, message: Message)
         requires place { at ≤ length self.old.items }
         requires room { length self.old.items < self.old.room }
@@ -110,7 +105,6 @@ impl MessageList {
         raise(&mut self.passes, &messages, at);
     }
 
-    /// Takes out the message at a place.
     pub(crate) fn remove(&mut self, at: usize) -> Message
         requires { at < length self.old.items }
         ensures removed { slice_get self.old.items at ≡ Some result }
@@ -126,7 +120,6 @@ impl MessageList {
         message
     }
 
-    /// Where the first message stands of those that are wanted.
     pub(crate) fn first_index(&self, choice: &Choice) -> Option<usize>
         ensures within { IfSome result (λ k. k < length self.now.items) }
         ensures room { length self.now.items ≤ self.now.room }

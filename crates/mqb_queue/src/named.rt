@@ -102,8 +102,6 @@ impl Queues {
         ensures refused { OnErr result (self.new ≡ self.old) }
         ensures handed_back { IfErr result (λ back. back.0 ≡ message) }
         ensures ready { 0 < spare_named self.old place.now Durable → IsOk result }
-
-        // The limit.
         ensures limit { IfSome (lists_named self.old.lists place.now)
             (λ l. count l ≡ MAX_MEMBERS → IsErr result) }
     {
@@ -121,8 +119,6 @@ impl Queues {
         ensures refused { OnErr result (self.new ≡ self.old) }
         ensures handed_back { IfErr result (λ back. back.0 ≡ message) }
         ensures ready { 0 < spare_named self.old place.now Express → IsOk result }
-
-        // The limit.
         ensures limit { IfSome (lists_named self.old.lists place.now)
             (λ l. count l ≡ MAX_MEMBERS → IsErr result) }
     {
@@ -165,8 +161,6 @@ impl Queues {
         ensures refused { OnErr result (self.new ≡ self.old) }
         ensures ready { durable ≤ spare_named self.old place.now Durable →
             express ≤ spare_named self.old place.now Express → IsOk result }
-
-        // The limit.
         ensures limit { IfSome (lists_named self.old.lists place.now)
             (λ l. MAX_MEMBERS < count l + (durable + express) → IsErr result) }
     {

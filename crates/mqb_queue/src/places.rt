@@ -79,8 +79,6 @@ impl Queues {
         ensures refused { OnErr result (self.new ≡ self.old) }
         ensures ready { durable ≤ spare_at self.old at Durable →
             express ≤ spare_at self.old at Express → IsOk result }
-
-        // The limit.
         ensures limit { IfSome (lists_at self.old.lists at)
             (λ l. MAX_MEMBERS < count l + (durable + express) → IsErr result) }
     {
@@ -102,8 +100,6 @@ impl Queues {
         ensures refused { OnErr result (self.new ≡ self.old) }
         ensures handed_back { IfErr result (λ back. back.0 ≡ message) }
         ensures ready { 0 < spare_at self.old at lane → IsOk result }
-
-        // The limit.
         ensures limit { IfSome (lists_at self.old.lists at)
             (λ l. count l ≡ MAX_MEMBERS → IsErr result) }
     {

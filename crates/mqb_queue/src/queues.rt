@@ -160,8 +160,6 @@ impl Queues {
         }) }
         ensures refused { OnErr result (self.new ≡ self.old) }
         ensures ready { length self.old.lists.queues < self.old.rooms.more_queues → IsOk result }
-
-        // The limit.
         ensures limit { found self.old.lists.queues name.now ≡ None →
             length self.old.lists.queues ≡ MAX_MEMBERS → IsErr result }
     {
@@ -186,8 +184,6 @@ impl Queues {
         ensures refused { OnErr result (self.new ≡ self.old) }
         ensures handed_back { IfErr result (λ back. back.0 ≡ plan) }
         ensures ready { length self.old.lists.queues < self.old.rooms.more_queues → IsOk result }
-
-        // The limit.
         ensures limit { length self.old.lists.queues ≡ MAX_MEMBERS → IsErr result }
     {
         if let Err(memory) = self.reserve_queue(&plan.name) {
