@@ -25,6 +25,3 @@ asks_none (Some command.Probe) ended asked = inl refl
 asks_none (Some (command.Call call)) ended asked = inl refl
 asks_none (Some (command.Peek place count)) ended asked = inl refl
 asks_none _ ended asked = refl
-
-pub counted_once : (asked asked_now : ℕ) → Counted 1 asked asked_now → AsksOnce asked asked_now
-counted_once asked asked_now counted = let by : RoseBy 1 asked asked_now = omega (arith, counted.later, counted.sum) in inr by

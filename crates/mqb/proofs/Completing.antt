@@ -249,9 +249,5 @@ pub of_command : (asked is : Command) (d : View) (b : Devices) (held : Option (L
     → Completes (Some asked) d b held old new r
 of_command asked is d b held old new r same ends = subst (λ (a : Command). Completes (Some a) d b held old new r) (sym same) ends
 
-pub of_words : (words asked : Option Command) (d : View) (b : Devices) (held : Option (List ℕ)) (old new : Faults) (r : Status) → words ≡ asked → Completes asked d b held old new r
-    → Completes words d b held old new r
-of_words words asked d b held old new r same ends = subst (λ (w : Option Command). Completes w d b held old new r) (sym same) ends
-
 pub no_memory : (words : Option Command) (d : View) (b : Devices) (held : Option (List ℕ)) (old new : Faults) → Completes words d b held old new status.Memory
 no_memory words d b held old new calm = inr refl

@@ -37,40 +37,6 @@ quiet_plain status.NetFull quiet = tt
 quiet_plain status.Memory quiet = tt
 quiet_plain status.Refused quiet = tt
 
-pub quiet_read : (before after : ℕ) (end : Status) → IsQuiet end → ReadFaultHasCause before after end
-quiet_read before after status.Done quiet = tt
-quiet_read before after status.Usage quiet = absurd quiet
-quiet_read before after (status.Script line kind) quiet = tt
-quiet_read before after status.TooLong quiet = tt
-quiet_read before after status.TooManyLines quiet = tt
-quiet_read before after status.ReadFault quiet = absurd quiet
-quiet_read before after status.WriteFault quiet = absurd quiet
-quiet_read before after status.DiskFault quiet = tt
-quiet_read before after status.NetFault quiet = absurd quiet
-quiet_read before after (status.BadStore at) quiet = tt
-quiet_read before after status.NotEmpty quiet = tt
-quiet_read before after (status.Peer why) quiet = tt
-quiet_read before after status.NetFull quiet = tt
-quiet_read before after status.Memory quiet = tt
-quiet_read before after status.Refused quiet = tt
-
-pub quiet_usage : (asked : Option Command) (end : Status) → IsQuiet end → UsageHasCause asked end
-quiet_usage asked status.Done quiet = tt
-quiet_usage asked status.Usage quiet = absurd quiet
-quiet_usage asked (status.Script line kind) quiet = tt
-quiet_usage asked status.TooLong quiet = tt
-quiet_usage asked status.TooManyLines quiet = tt
-quiet_usage asked status.ReadFault quiet = absurd quiet
-quiet_usage asked status.WriteFault quiet = absurd quiet
-quiet_usage asked status.DiskFault quiet = tt
-quiet_usage asked status.NetFault quiet = absurd quiet
-quiet_usage asked (status.BadStore at) quiet = tt
-quiet_usage asked status.NotEmpty quiet = tt
-quiet_usage asked (status.Peer why) quiet = tt
-quiet_usage asked status.NetFull quiet = tt
-quiet_usage asked status.Memory quiet = tt
-quiet_usage asked status.Refused quiet = tt
-
 -- what holds of the end that is told, and of a write fault, holds of the end of the program
 pub told_is : (P : Status → Type 0) (text : List ℕ) (end : Status) (before after : Option (List ℕ)) (r : Status) → Tells text end before after r
     → P end → P status.WriteFault → P r
@@ -160,75 +126,7 @@ peeks_quiet place count steady d e text end peeks = elim (peek_answers place cou
 
 -- The commands that read the input.
 
-pub shows_usage : (asked : Option Command) (held left before after : Option (List ℕ)) (r : Status) → Shows held left before after r → UsageHasCause asked r
-shows_usage asked held left before after status.Done shown = tt
-shows_usage asked held left before after status.Usage shown = absurd shown.wrote.0
-shows_usage asked held left before after (status.Script line kind) shown = tt
-shows_usage asked held left before after status.TooLong shown = tt
-shows_usage asked held left before after status.TooManyLines shown = tt
-shows_usage asked held left before after status.ReadFault shown = tt
-shows_usage asked held left before after status.WriteFault shown = tt
-shows_usage asked held left before after status.DiskFault shown = tt
-shows_usage asked held left before after status.NetFault shown = tt
-shows_usage asked held left before after (status.BadStore at) shown = tt
-shows_usage asked held left before after status.NotEmpty shown = tt
-shows_usage asked held left before after (status.Peer why) shown = tt
-shows_usage asked held left before after status.NetFull shown = tt
-shows_usage asked held left before after status.Memory shown = tt
-shows_usage asked held left before after status.Refused shown = tt
-
 -- No net and no disk is used by these.
-
-pub quiet_net : (cause : Type 0) (end : Status) → IsQuiet end → NetFaultHasCause cause end
-quiet_net cause status.Done quiet = tt
-quiet_net cause status.Usage quiet = absurd quiet
-quiet_net cause (status.Script line kind) quiet = tt
-quiet_net cause status.TooLong quiet = tt
-quiet_net cause status.TooManyLines quiet = tt
-quiet_net cause status.ReadFault quiet = absurd quiet
-quiet_net cause status.WriteFault quiet = absurd quiet
-quiet_net cause status.DiskFault quiet = tt
-quiet_net cause status.NetFault quiet = absurd quiet
-quiet_net cause (status.BadStore at) quiet = tt
-quiet_net cause status.NotEmpty quiet = tt
-quiet_net cause (status.Peer why) quiet = tt
-quiet_net cause status.NetFull quiet = tt
-quiet_net cause status.Memory quiet = tt
-quiet_net cause status.Refused quiet = tt
-
-pub makes_disk : (before after : ℕ) (orders : ℕ) (text : List ℕ) (end : Status) → Makes orders text end → DiskFaultHasCause before after end
-makes_disk before after orders text status.Done made = tt
-makes_disk before after orders text status.Usage made = tt
-makes_disk before after orders text (status.Script line kind) made = tt
-makes_disk before after orders text status.TooLong made = tt
-makes_disk before after orders text status.TooManyLines made = tt
-makes_disk before after orders text status.ReadFault made = tt
-makes_disk before after orders text status.WriteFault made = tt
-makes_disk before after orders text status.DiskFault made = absurd made
-makes_disk before after orders text status.NetFault made = tt
-makes_disk before after orders text (status.BadStore at) made = tt
-makes_disk before after orders text status.NotEmpty made = tt
-makes_disk before after orders text (status.Peer why) made = tt
-makes_disk before after orders text status.NetFull made = tt
-makes_disk before after orders text status.Memory made = tt
-makes_disk before after orders text status.Refused made = tt
-
-pub shows_net : (cause : Type 0) (held left before after : Option (List ℕ)) (r : Status) → Shows held left before after r → NetFaultHasCause cause r
-shows_net cause held left before after status.Done shown = tt
-shows_net cause held left before after status.Usage shown = tt
-shows_net cause held left before after (status.Script line kind) shown = tt
-shows_net cause held left before after status.TooLong shown = tt
-shows_net cause held left before after status.TooManyLines shown = tt
-shows_net cause held left before after status.ReadFault shown = tt
-shows_net cause held left before after status.WriteFault shown = tt
-shows_net cause held left before after status.DiskFault shown = tt
-shows_net cause held left before after status.NetFault shown = absurd shown.wrote.0
-shows_net cause held left before after (status.BadStore at) shown = tt
-shows_net cause held left before after status.NotEmpty shown = tt
-shows_net cause held left before after (status.Peer why) shown = tt
-shows_net cause held left before after status.NetFull shown = tt
-shows_net cause held left before after status.Memory shown = tt
-shows_net cause held left before after status.Refused shown = tt
 
 pub shows_disk : (cause : Type 0) (held left before after : Option (List ℕ)) (r : Status) → Shows held left before after r → IsDiskFaultOf cause r
 shows_disk cause held left before after status.Done shown = tt

@@ -39,9 +39,6 @@ front_is {X} xs i x is =
     let next : suc i ≡ i + 1 = omega arith in
     drop-cons xs i x (slice_get_within xs i x is) ∙ ap (λ (y : X). y ∷ drop (suc i) xs) (get_or_from_slice_get xs i x x is) ∙ ap (λ (n : ℕ). x ∷ drop n xs) next
 
-pub all_dropped : {X : Type 0} (xs : List X) (i : ℕ) → length xs ≤ i → drop i xs ≡ []
-all_dropped xs i past = drop_all i xs past
-
 -- Pairs of members of two lists.
 
 pub zip_got : {X Y : Type 0} (xs : List X) (ys : List Y) (i : ℕ) (x : X) (y : Y) → slice_get xs i ≡ Some x → slice_get ys i ≡ Some y → slice_get (zip xs ys) i ≡ Some (x, y)

@@ -138,18 +138,10 @@ by_count : (b : Bool) (m n : ℕ) → b ≡ true → cond b (counted m) refused 
 by_count true m n is e = cc
 by_count false m n is e = absurd cc
 
-by_refusal : (b : Bool) (m : ℕ) → b ≡ true → cond b (counted m) refused ≡ refused → ⊥
-by_refusal true m is e = cc
-by_refusal false m is e = cc
-
 -- the count that a feed answers
 pub is_fed : (f : Framing) (piece : List ℕ) (n : ℕ) → IsOpen f → counted n ≡ taken_of f piece → IsFed f piece n
 is_fed f piece n wants answers =
     subst (IsFed f piece) (by_count (wants_more (next f)) (length (fed f piece).held - length f.held) n wants (sym answers)) (fed_count f piece wants)
-
--- one that wants more is not full
-pub never_full : (f : Framing) (piece : List ℕ) → IsOpen f → refused ≡ taken_of f piece → ⊥
-never_full f piece wants answers = by_refusal (wants_more (next f)) (length (fed f piece).held - length f.held) wants (sym answers)
 
 -- Lists of packets.
 

@@ -27,10 +27,6 @@ gave_more h m None x y first second = first ∙ ap (λ (o : Option (List ℕ)). 
 gave_more h m (Some t) x y first second =
     first ∙ ap (λ (o : Option (List ℕ)). option_map (λ t. x ++ t) o) second ∙ ap (λ (z : List ℕ). Some z) (sym (append_assoc x y t))
 
-gave_empty : (m l : Option (List ℕ)) → Gave m l [] → m ≡ l
-gave_empty m None first = first
-gave_empty m (Some t) first = first
-
 -- The viewer is here.
 pub record SoFar (held left before after : Option (List ℕ)) (f : Framing) (count : ℕ) : Type 0 where
   pub bytes : List ℕ
@@ -47,14 +43,6 @@ none_so_far held before f is = record {
   wants = subst IsOpen (sym is) (open_empty 0);
   same = refl;
 }
-
-pub so_far_place : (held left before after : Option (List ℕ)) (f : Framing) (count : ℕ) → SoFar held left before after f count → f.place + length f.held ≡ count
-so_far_place held left before after f count so =
-    let counted = goes_count (held_at 0 []) f so.bytes [] before after so.goes in
-    omega (arith, counted, so.same)
-
-pub so_far_framer : (held left before after : Option (List ℕ)) (f : Framing) (count : ℕ) → SoFar held left before after f count → f ≡ held_at f.place f.held
-so_far_framer held left before after f count so = goes_framer (held_at 0 []) f so.bytes [] before after so.goes
 
 -- a piece was shown
 pub so_far_more : (held left later before after then : Option (List ℕ)) (f g : Framing) (count n : ℕ) (piece : List ℕ) → SoFar held left before after f count
@@ -76,51 +64,8 @@ record IsHeld (f : Framing) (bytes : List ℕ) (before after : Option (List ℕ)
   pub wrote : Took before after (lines_from 0 packets)
   pub place : f ≡ held_at (length (joined packets)) f.held
 
-held_of : (f : Framing) (bytes : List ℕ) (before after : Option (List ℕ)) → GoesOn (held_at 0 []) f bytes [] before after → IsHeld f bytes before after
-held_of f bytes before after so = record {
-  packets = so.packets;
-  cut = record { whole = so.cut.whole ∙ ap (λ (t : List ℕ). joined so.packets ++ t) (append-nil f.held); each = so.cut.each };
-  wrote = so.wrote;
-  place = so.framer ∙ ap (λ (p : ℕ). held_at p f.held) (zero-add (length (joined so.packets)));
-}
-
 unfinished : (f : Framing) (place : ℕ) → f ≡ held_at place f.held → IsOpen f → IsUnfinished place f.held
 unfinished f place is wants = ap (λ (g : Framing). wants_more (next g)) (sym is) ∙ wants
-
--- Few bytes came: packets and what follows them.
-within_all : (bytes rest : List ℕ) (packets : List (List ℕ)) → IsCut bytes packets rest → length bytes < MAX_READ → IsWithin (length (joined packets)) rest
-within_all bytes rest packets cut less = omega (arith, less, ap (λ (t : List ℕ). length t) cut.whole, length-append (joined packets) rest)
-
-pub ends_by_fault : (held left later before after : Option (List ℕ)) (f : Framing) (count : ℕ) → SoFar held left before after f count → count < MAX_READ → later ≡ left
-    → ShowsAll held later before after (Err fault.ReadFault)
-ends_by_fault held left later before after f count so less same =
-    let is = held_of f so.bytes before after so.goes in
-    let few : length so.bytes < MAX_READ = omega (arith, less, so.same) in
-    record {
-      bytes = so.bytes;
-      most = omega (arith, few);
-      packets = is.packets;
-      rest = f.held;
-      gave = subst (λ (o : Option (List ℕ)). Gave held o so.bytes) (sym same) so.gave;
-      cut = is.cut;
-      ends = ((unfinished f (length (joined is.packets)) is.place so.wants, within_all so.bytes f.held is.packets is.cut few), is.wrote);
-    }
-
-pub ends_by_limit : (held left before after : Option (List ℕ)) (f : Framing) (count : ℕ) → SoFar held left before after f count → count ≡ MAX_READ
-    → ShowsAll held left before after (Err (fault.Peer peer.TooMuch))
-ends_by_limit held left before after f count so most =
-    let is = held_of f so.bytes before after so.goes in
-    let size : length (joined is.packets) + length f.held ≡ MAX_READ =
-    omega (arith, most, so.same, ap (λ (t : List ℕ). length t) is.cut.whole, length-append (joined is.packets) f.held) in
-    record {
-      bytes = so.bytes;
-      most = omega (arith, most, so.same);
-      packets = is.packets;
-      rest = f.held;
-      gave = so.gave;
-      cut = is.cut;
-      ends = ((size, unfinished f (length (joined is.packets)) is.place so.wants), is.wrote);
-    }
 
 by_end : (place : ℕ) (held lines : List ℕ) (left before after : Option (List ℕ)) (r : Result (Unit {0}) ShowFault) → r ≡ end_of held → IsUnfinished place held → IsAtEnd left
     → IsWithin place held → Took before after lines → EndsWith place held lines left before after r
@@ -128,23 +73,6 @@ by_end place [] lines left before after r is open_ end within took = subst (Ends
 by_end place (b ∷ held) lines left before after r is open_ end within took =
     let some : 0 < length (b ∷ held) = omega arith in
     subst (EndsWith place (b ∷ held) lines left before after) (sym is) ((some, open_, end, within), took)
-
-pub ends_by_end : (held left later before after : Option (List ℕ)) (f : Framing) (count : ℕ) (r : Result (Unit {0}) ShowFault) → SoFar held left before after f count
-    → count < MAX_READ → Gave left later [] → IsAtEnd left → r ≡ end_of f.held → ShowsAll held later before after r
-ends_by_end held left later before after f count r so less gave end is_end =
-    let is = held_of f so.bytes before after so.goes in
-    let same = gave_empty left later gave in
-    let few : length so.bytes < MAX_READ = omega (arith, less, so.same) in
-    record {
-      bytes = so.bytes;
-      most = omega (arith, few);
-      packets = is.packets;
-      rest = f.held;
-      gave = subst (λ (o : Option (List ℕ)). Gave held o so.bytes) same so.gave;
-      cut = is.cut;
-      ends = by_end (length (joined is.packets)) f.held (lines_from 0 is.packets) later before after r is_end
-          (unfinished f (length (joined is.packets)) is.place so.wants) (subst IsAtEnd same end) (within_all so.bytes f.held is.packets is.cut few) is.wrote;
-    }
 
 by_stop : (place other : ℕ) (rest lines : List ℕ) (left before after : Option (List ℕ)) (why : ShowFault) → place ≡ other → StopsBehind place rest lines before after why
     → EndsWith other rest lines left before after (Err why)

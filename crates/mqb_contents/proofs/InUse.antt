@@ -40,18 +40,6 @@ last key rows = last_or None (filter (of key) rows)
 abbrev Leads : {S : Type 0} → InUse S → OutKey → Option Row → Type 0
 Leads m key o = IfSome o (λ row. get same_out_key m key ≡ Some row.sequence.ordinal)
 
-pub in_use_empty : {S : Type 0} (m : InUse S) → LeadsToLast [] m
-in_use_empty m key = tt
-
--- numbers stay, and keys may join them
-pub in_use_grown : {S : Type 0} (rows : List Row) (m n : InUse S) → ((key : OutKey) (k : ℕ) → get same_out_key m key ≡ Some k → get same_out_key n key ≡ Some k)
-    → LeadsToLast rows m → LeadsToLast rows n
-in_use_grown rows m n stay leads key = at (last key rows) (leads key)
-  where
-    at : (o : Option Row) → Leads m key o → Leads n key o
-    at None h = tt
-    at (Some r) h = stay key r.sequence.ordinal h
-
 -- a row joins the others
 pub in_use_more : {S : Type 0} (rows : List Row) (r : Row) (m n : InUse S)
     → ((key : OutKey) → get same_out_key n key ≡ cond (same_out_key (key_of r) key) (Some r.sequence.ordinal) (get same_out_key m key))

@@ -30,18 +30,6 @@ of key row = is_row_of key.source key.destination row
 abbrev Leads : {S : Type 0} → Sources S → InKey → Option ℕ → Type 0
 Leads m key o = IfSome o (λ k. get same_in_key m key ≡ Some k)
 
-pub sources_empty : {S : Type 0} (m : Sources S) → LeadsToSource [] m
-sources_empty m key = tt
-
--- numbers stay, and keys may join them
-pub sources_grown : {S : Type 0} (rows : List InRow) (m n : Sources S) → ((key : InKey) (k : ℕ) → get same_in_key m key ≡ Some k → get same_in_key n key ≡ Some k)
-    → LeadsToSource rows m → LeadsToSource rows n
-sources_grown rows m n stay leads key = at (position (of key) rows) (leads key)
-  where
-    at : (o : Option ℕ) → Leads m key o → Leads n key o
-    at None h = tt
-    at (Some k) h = stay key k h
-
 -- a row joins the others, the first of its key
 pub sources_more : {S : Type 0} (rows : List InRow) (r : InRow) (number : ℕ) (m n : Sources S) → number ≡ length rows → position (of (key_of r)) rows ≡ None
     → ((key : InKey) → get same_in_key n key ≡ cond (same_in_key (key_of r) key) (Some number) (get same_in_key m key))

@@ -18,22 +18,6 @@ use Rattle.mqb_model.specs.records.Record as entry
 use Rattle.mqb_packet.specs.declared.packet.UserPacket.{UserPacket}
 use Rattle.mqb_hearing.specs.Arrivals.{IsArrival, IsPartRead, arrival_of, bytes_in, part_shown}
 
--- a record that is there, whatever its packet is
-of_packet : (now : ℕ) (numbers : List ℕ) (made : UserPacket → Part) → ((p : UserPacket) → arrival_of now numbers (made p) ≡ Some (entry.Arrived now numbers (made p)))
-    → (o : Option UserPacket) → IsSome (option_map made o)
-    → option_map (λ part. entry.Arrived now numbers part) (option_map made o) ≡ arrival_of now numbers (unwrap_or (option_map made o) entry.Nothing)
-of_packet now numbers made is None h = absurd (let none : ⊥ = cc in none)
-of_packet now numbers made is (Some p) h = sym (is p)
-
--- The entry of a part that brings something is that record.
-pub brings_is : (now : ℕ) (numbers : List ℕ) (part : ArrivedPart) → IsSome (part_of part) → (arrival_of now numbers entry.Nothing ≡ Some (entry.Arrived now numbers entry.Nothing))
-    → option_map (λ part. entry.Arrived now numbers part) (part_of part) ≡ arrival_of now numbers (part_shown part)
-brings_is now numbers part.Nothing h some = sym some
-brings_is now numbers (part.Decided bytes) h some = of_packet now numbers (λ p. entry.Decided p) (λ p. refl) (user_packet_of bytes) h
-brings_is now numbers (part.Stored bytes) h some = of_packet now numbers (λ p. entry.Stored p) (λ p. refl) (user_packet_of bytes) h
-brings_is now numbers (part.OrderAcknowledged ordinal number) h some = refl
-brings_is now numbers (part.Final bytes) h some = of_packet now numbers (λ p. entry.Final p) (λ p. refl) (user_packet_of bytes) h
-
 -- The definitions' record is that.
 pub entry_is : (l : Listening) (part : Part) → arrival_of l.now (numbers_released l) part ≡ arrival_entry l part
 entry_is l entry.Nothing = refl
@@ -75,20 +59,5 @@ shows made bytes p e = ap (λ (o : Option UserPacket). unwrap_or (option_map mad
 is_some_of : (made : UserPacket → Part) (bytes : List ℕ) (p : UserPacket) → user_packet_of bytes ≡ Some p → IsSome (option_map made (user_packet_of bytes))
 is_some_of made bytes p e = subst (λ (o : Option UserPacket). IsSome (option_map made o)) (sym e) refl
 
-pub decided_shows : (bytes : List ℕ) (p : UserPacket) → user_packet_of bytes ≡ Some p → part_shown (part.Decided bytes) ≡ entry.Decided p
-decided_shows bytes p e = shows (λ p. entry.Decided p) bytes p e
-
-pub stored_shows : (bytes : List ℕ) (p : UserPacket) → user_packet_of bytes ≡ Some p → part_shown (part.Stored bytes) ≡ entry.Stored p
-stored_shows bytes p e = shows (λ p. entry.Stored p) bytes p e
-
-pub final_shows : (bytes : List ℕ) (p : UserPacket) → user_packet_of bytes ≡ Some p → part_shown (part.Final bytes) ≡ entry.Final p
-final_shows bytes p e = shows (λ p. entry.Final p) bytes p e
-
-pub decided_read : (bytes : List ℕ) (p : UserPacket) → user_packet_of bytes ≡ Some p → length bytes ≤ MAX_PACKET → IsPartRead (part.Decided bytes)
-decided_read bytes p e le = record { read = is_some_of (λ p. entry.Decided p) bytes p e; size = le }
-
 pub stored_read : (bytes : List ℕ) (p : UserPacket) → user_packet_of bytes ≡ Some p → length bytes ≤ MAX_PACKET → IsPartRead (part.Stored bytes)
 stored_read bytes p e le = record { read = is_some_of (λ p. entry.Stored p) bytes p e; size = le }
-
-pub final_read : (bytes : List ℕ) (p : UserPacket) → user_packet_of bytes ≡ Some p → length bytes ≤ MAX_PACKET → IsPartRead (part.Final bytes)
-final_read bytes p e le = record { read = is_some_of (λ p. entry.Final p) bytes p e; size = le }

@@ -124,7 +124,3 @@ shown law v d bytes lent named = record {
 pub reads : (v : UserView) (d : QueueName) → IsShown v d → user_packet_of v.whole.now ≡ Some (packet_shown v d)
 reads v d h = ap (λ (r : Result PacketParts HeadFault). option_and_then as_user (option_and_then packet_in (result_ok r))) h.lent
     ∙ ap (option_and_then as_user) h.said
-
--- a packet that the view shows is that one
-pub said_is : (v : UserView) (d : QueueName) (q : Packet) → IsShown v d → packet_in (seen_packet (view.User v)) ≡ Some q → q ≡ packet.User (packet_shown v d)
-said_is v d q h e = some_is q (packet.User (packet_shown v d)) (sym e ∙ h.said)

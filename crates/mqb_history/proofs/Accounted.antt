@@ -108,11 +108,6 @@ base_for s (entry.Commit now ops) = s.next_number + length (sends_of ops)
 base_for s (entry.Plain now p) = elim (resolved s p.message.destination) [ AtPeer k ↦ s.next_number | Here queue ↦ s.next_number + 1 | Nowhere ↦ s.next_number + 1 ]
 base_for s _ = s.next_number
 
--- where they go
-abbrev went_for : (ℕ → ℕ) → State → Record → ℕ → ℕ
-went_for went s (entry.Plain now p) = elim (resolved s p.message.destination) [ AtPeer k ↦ going went s.next_number k | Here queue ↦ went | Nowhere ↦ went ]
-went_for went s _ = went
-
 abbrev pub frame_for : State → (ℕ → ℕ) → List Line → ℕ → Frame
 frame_for s went mine base = record { own = s.identity.guid; low = s.next_number; base = base; went = went; Old = IsApart mine }
 

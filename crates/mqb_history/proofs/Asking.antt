@@ -52,10 +52,6 @@ sends_append [] ys = refl
 sends_append (entry.Send p ∷ xs) ys = ap (λ rest. in_transaction p ∷ rest) (sends_append xs ys)
 sends_append (entry.Take queue id ∷ xs) ys = sends_append xs ys
 
-more_ops : (now : ℕ) (ops more : List Op) (t : Trial) → AreOfOps now ops t → AreOfOps now (ops ++ more) t
-more_ops now ops more t h = all_weaker (IsOfOps now ops) (IsOfOps now (ops ++ more))
-    (λ m g. record { parts = g.parts; send = in_append ops more (asked.Send g.parts) g.send; message = g.message }) (sends_of t.ops) h
-
 -- a take sends nothing
 with_take_asked : (now : ℕ) (ops : List Op) (t : Trial) (number k : ℕ) (m : Message) → AreOfOps now ops t → AreOfOps now ops (with_take t number k m)
 with_take_asked now ops t number k m h = subst (AllByRecursion (IsOfOps now ops)) (sym (sends_append t.ops (entry.Take number m.id ∷ [])))

@@ -143,7 +143,3 @@ durable_keeps f T s h = record {
       (λ k p g. record { recoverable = unmarked_all (λ m. IsFair T m × IsWaiting f h.goes s.next_number k m) p.recoverable g.recoverable; express = tt }) 0 s.plain h.plain;
   outs = h.outs;
 }
-
--- in a connection that ends nothing counts as sent
-pub unmarked_keeps : (f : Frame) (ls : List Line) (s : State) → Keeps f (λ l. In l ls) s → Keeps f (λ l. In l ls) (record s { plain = map all_unmarked s.plain })
-unmarked_keeps f ls s h = beside_keeps f ls beside.Unmarks s tt h

@@ -31,14 +31,6 @@ found_has P test (y ∷ ys) x e h = at (test y) e (λ f. found_has P test ys x f
     at true e rest = subst P (some_is y x e) h.0
     at false e rest = rest e
 
-pub found_any : {X : Type 0} (test : X → Bool) (xs : List X) (x : X) → find test xs ≡ Some x → list_any test xs ≡ true
-found_any test [] x e = absurd (let none : ⊥ = cc in none)
-found_any test (y ∷ ys) x e = at (test y) e (found_any test ys x)
-  where
-    at : (b : Bool) → cond b (Some y) (find test ys) ≡ Some x → (find test ys ≡ Some x → list_any test ys ≡ true) → (b || list_any test ys) ≡ true
-    at true e rest = refl
-    at false e rest = rest e
-
 pub none_found : {X : Type 0} (test : X → Bool) (xs : List X) → find test xs ≡ None → list_any test xs ≡ false
 none_found test [] e = refl
 none_found test (y ∷ ys) e = at (test y) e (none_found test ys)

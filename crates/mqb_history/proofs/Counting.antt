@@ -84,18 +84,9 @@ IsTalliedAt c j = OfEach (λ i. IsTallied) c j
 abbrev IsOrderlyTallied : List Identity → Course → Type 0
 IsOrderlyTallied known c = IsOrderly known c × ((j : ℕ) → IsTalliedAt c j)
 
-tallied_closed : (known : List Identity) → AreApart known → IsClosed known (IsOrderlyTallied known)
-tallied_closed known apart = record {
-  orderly = λ c h. h.0;
-  keeps = λ c x may h. (change_orderly known c x apart may h.0, change_steady (λ i. IsTallied) tallied_steady known c x may h.0 h.1);
-}
-
 pub starts_tallied : (known : List Identity) → IsOrderlyTallied known (beginning known)
 starts_tallied known = (begins_orderly known, λ i. subst (λ o. IsTallied (unwrap_or o nobody).state []) (sym (map_get (λ own. formatted own (others known own)) known i)) (at (slice_get known i)))
   where
     at : (o : Option Identity) → IsTallied (unwrap_or (option_map (λ own. formatted own (others known own)) o) nobody).state []
     at None = begins_tallied (record { host = []; guid = no_guid; address = [] }) []
     at (Some own) = begins_tallied own (others known own)
-
-pub always_tallied : Always (λ c. (j : ℕ) → IsTalliedAt c j)
-always_tallied known ms apart run kept = (always_kept known (IsOrderlyTallied known) (tallied_closed known apart) ms run kept (starts_tallied known)).1

@@ -155,11 +155,6 @@ pub get_behind : {X : Type 0} (xs ys : List X) (k : ℕ) → slice_get (xs ++ ys
 get_behind [] ys k = ap (slice_get ys) (let e : 0 + k ≡ k = omega arith in e)
 get_behind (x ∷ xs) ys k = ap (slice_get (x ∷ (xs ++ ys))) (let e : suc (length xs) + k ≡ suc (length xs + k) = omega arith in e) ∙ get_behind xs ys k
 
-pub get_before : {X : Type 0} (xs ys : List X) (k : ℕ) (x : X) → slice_get xs k ≡ Some x → slice_get (xs ++ ys) k ≡ Some x
-get_before [] ys k x e = absurd (let none : ⊥ = cc in none)
-get_before (y ∷ xs) ys zero x e = e
-get_before (y ∷ xs) ys (suc k) x e = get_before xs ys k x e
-
 -- the packet of a number behind others
 pub numbered_behind : {X : Type 0} (xs ys : List X) (k : ℕ) → numbered (xs ++ ys) (length xs + 1 + k) ≡ slice_get ys k
 numbered_behind xs ys k = ap (λ b. cond b None (slice_get (xs ++ ys) (length xs + 1 + k - 1))) (other_numbers (length xs + 1 + k) 0 (λ e. omega arith))

@@ -51,9 +51,6 @@ use Rattle.mqb_history.proofs.Written.{IsByRecords, always_by_records}
 abbrev told : Channel → List Line → List Position
 told channel ls = filter_map (decision_told channel) ls
 
-quiet_lines : (channel : Channel) (ls : List Line) → AllByRecursion IsOther ls → told channel ls ≡ []
-quiet_lines channel ls h = told_nothing (decision_told channel) (other_undecided channel) ls h
-
 -- an effect that began with nothing and adds other lines tells nothing
 quiet_effect : (channel : Channel) (s : State) (f : Effect) → Adds (begun s) f → told channel f.lines ≡ []
 quiet_effect channel s f a = told_same (decision_told channel) (other_undecided channel) (begun s) f a

@@ -53,9 +53,6 @@ Asked ms i m = IsAskedFor ms i m ⊎ IsAskedAlone ms i m
 abbrev IsOf : Guid → Message → Type 0
 IsOf own m = m.id.qm ≡ own
 
-abbrev Traces : List Identity → List Move → ℕ → Record → Type 0
-Traces known ms i r = AllByRecursion (Asked ms i) (sends_in r) × ((own : Identity) → slice_get known i ≡ Some own → AllByRecursion (IsOf own.guid) (sends_in r))
-
 numbered_own : (own : Guid) (n : ℕ) (ms : List Message) → AreNumbered own n ms → AllByRecursion (IsOf own) ms
 numbered_own own n [] h = tt
 numbered_own own n (m ∷ ms) h = (ap (λ i. i.qm) h.0, numbered_own own (n + 1) ms h.1)

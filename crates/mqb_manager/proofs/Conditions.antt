@@ -41,7 +41,3 @@ doubt_by false bytes = refl
 pub doubt_is : (m : ManagerState) (entry : Option (List ℕ)) → entry ≡ (if m.store.journal.down then Some m.store.entry else None)
     → option_and_then record_of entry ≡ doubt_of (manager_of m).condition
 doubt_is m entry e = ap (option_and_then record_of) e ∙ doubt_by m.store.journal.down m.store.entry
-
--- A manager that is up and not linked.
-pub unlinked_is : (w : StoreState) → stores.IsUp w → manager_of (seen w None [] []) ≡ unlinked w.state
-unlinked_is w up = ap (λ c. record { state = w.state; rest = rest_for w.state no_rest; condition = c }) (up_condition w up)

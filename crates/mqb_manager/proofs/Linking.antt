@@ -48,9 +48,6 @@ refused_left m role window why valid refused =
     quiet m m (link (manager_of m) role window) (ap (λ o. o.entry) is) refl refl
     (stays_same {A = Result (Unit {0}) LinkFault} (manager_of m) (Err why) valid ∙ ap (λ o. succeeded (manager_of m) o) (sym is))
 
-pub refused_answer : (m : Manager) (role : Role) (window : ℕ) (why : LinkFault) → link_refusal m role window ≡ Some why → Err why ≡ (link m role window).answer
-refused_answer m role window why refused = ap (λ o. o.answer) (sym (unless_some m (link_refusal m role window) why (linking m role window) refused))
-
 -- A session begins.
 
 pub linked_answer : (m : Manager) (role : Role) (window : ℕ) → link_refusal m role window ≡ None → Ok tt ≡ (link m role window).answer
@@ -159,18 +156,7 @@ module _ (w : StoreState) (session : Option one_end.State) (cs : List ℕ) (os :
 
 -- The same of a manager that is these parts.
 
-pub unlink_left : (whole : ManagerState) (w x : StoreState) (session : Option one_end.State) (cs : List ℕ) (os : List Bool) → seen w session cs os ≡ whole
-    → x ≡ record w { state = beside_done beside.Unmarks w.state } → Succeeds whole (seen x None [] []) (unlink (manager_of whole))
-unlink_left whole w x session cs os is unmarks =
-    subst (λ (k : ManagerState). Succeeds k (seen x None [] []) (unlink (manager_of k))) is (unlinked_left w session cs os x unmarks)
-
 -- It is sent anew.
-
-pub unlinked_resent : (m : ManagerState) → IsValidManager (manager_of m) → m.session ≡ None → Succeeds m m (resend (manager_of m))
-unlinked_resent m valid none = quiet m m (resend (manager_of m)) refl refl refl
-    (stays_same {A = Unit {0}} (manager_of m) tt valid
-    ∙ ap (λ (s : Option one_end.State). succeeded (manager_of m) (resting {A = Unit {0}} (manager_of m)
-    (option_map_or (λ session. rewound m.store.state (linked_peer m.store.state session) (manager_of m).rest) s (manager_of m).rest) tt)) (sym none))
 
 module _ (w : StoreState) (session : one_end.State) (peer : ℕ) (cs : List ℕ) (os : List Bool) where
   abbrev k : ManagerState
@@ -221,11 +207,6 @@ anew_valid law w session end peer cs ns os linked valid leads anew =
     subst (λ (s : Option one_end.State). IsValidManager (manager_of (seen w s ns os))) (sym linked)
     (subst (λ (ms : List ℕ). IsValidManager (manager_of (seen w (Some end) ms os))) (sym anew)
     (resent_valid w end peer cs os mine (law (manager_of (seen w (Some end) cs os)) mine) leads))
-
-pub idle_left : (whole : ManagerState) (w : StoreState) (session : Option one_end.State) (cs : List ℕ) (os : List Bool) → seen w session cs os ≡ whole
-    → session ≡ None → IsValidManager (manager_of (seen w session cs os)) → Succeeds whole whole (resend (manager_of whole))
-idle_left whole w session cs os is none valid =
-    subst (λ (k : ManagerState). Succeeds k k (resend (manager_of k))) is (unlinked_resent (seen w session cs os) valid none)
 
 -- Rows.
 

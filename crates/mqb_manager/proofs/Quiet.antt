@@ -86,12 +86,3 @@ padded m session valid = sym (
 pub quiet_answer : {V E : Type 0} (memory : E) (m : ManagerState) (answer : Result V E) → IsValidManager (manager_of m)
     → IsQuiet memory m m (answering (manager_of m) answer) answer
 quiet_answer memory m answer valid = record { store = refl; entry = refl; ends = inl (refl, padded (manager_of m) m.session valid) }
-
--- a packet of the session goes
-pub quiet_one : (m : ManagerState) (p : Packet) (session : one_end.State) → IsValidManager (manager_of m)
-    → IsQuiet fault.Memory m (record m { session = Some session }) (sending_one (manager_of m) p session) (Ok 1)
-quiet_one m p session valid = record { store = refl; entry = refl; ends = inl (refl, padded (manager_of m) (Some session) valid) }
-
--- memory is wanting
-pub quiet_memory : {V E : Type 0} (memory : E) (m : ManagerState) (o : Outcome (Result V E)) → o.entry ≡ None → IsQuiet memory m m o (Err memory)
-quiet_memory memory m o entry = record { store = refl; entry = entry; ends = inr (refl, refl) }

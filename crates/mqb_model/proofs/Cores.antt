@@ -227,9 +227,6 @@ pub delivered_core : (s : State) (queue : Option ℕ) (m : Message) (now : ℕ) 
 delivered_core s None m now = meets_core (core s) s m now refl
 delivered_core s (Some n) m now = meets_core (core s) (put_at s (place.Queue n) m) m now (put_core s (place.Queue n) m)
 
-pub nowhere_core : (s : State) (m : Message) (now : ℕ) → core (delivered s Nowhere m now) ≡ core s
-nowhere_core s m now = meets_core (core s) s m now refl
-
 pub join_names : (s : State) (peer now : ℕ) (m : Message) → names (join s peer now m) ≡ names s
 join_names s peer now m = at (sequence_in_use s peer m.destination)
   where

@@ -118,9 +118,6 @@ purge_goes m now at = whole_or m (purging m now at) (lists_at m.state.places at)
 
 -- hearing
 
-heard_goes : (m : Manager) (l : Listening) (part : Part) (answer : Heard) → IsWhole m (heard_as l part answer)
-heard_goes m l part answer = record { refused = tt; touches = refl }
-
 duplicate_goes : (m : Manager) (l : Listening) (message : Message) (tx : TxHead) → IsWhole m (hear_duplicate l message tx)
 duplicate_goes m l message tx = either m (has_sequence l.manager.state message tx)
     (owing (index_for l.manager.state message) (duplicate_heard l tx)) (duplicate_heard l tx)

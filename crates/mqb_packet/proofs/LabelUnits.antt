@@ -4,16 +4,6 @@ use Rattle.std.proofs.lemmas.List.Elements.{All-head, All-tail}
 use Rattle.mqb_heads.specs.Properties.{label_bytes}
 use Rattle.mqb_packet.specs.Spelled.{units_of}
 
-pub units_more : (front rest : List ℕ) → 2 ≤ length rest → front ++ units_of rest ≡ (front ++ (slice_index rest 0 + 256 * slice_index rest 1) ∷ []) ++ units_of (drop 2 rest)
-units_more front [] long = absurd (omega arith)
-units_more front (a ∷ []) long = absurd (omega arith)
-units_more front (a ∷ b ∷ rest) long = sym (append_assoc front ((a + 256 * b) ∷ []) (units_of rest))
-
-pub units_none : (rest : List ℕ) → length rest < 2 → units_of rest ≡ []
-units_none [] short = refl
-units_none (a ∷ []) short = refl
-units_none (a ∷ b ∷ rest) short = absurd (omega arith)
-
 pub length_units : (bytes : List ℕ) (n : ℕ) → length bytes ≡ 2 * n → length (units_of bytes) ≡ n
 length_units [] n len = omega (arith, len)
 length_units (a ∷ []) n len = absurd (omega (arith, len))

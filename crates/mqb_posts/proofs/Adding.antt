@@ -8,21 +8,11 @@ use Rattle.mqb_posts.specs.declared.faults.PostFault.TheVariants.{NetFull, Memor
 use Rattle.mqb_posts.specs.declared.posting.TheConstants.{MAX_MEDIUM}
 use Rattle.mqb_posts.specs.Posting.{IsWithin, IsCutOff, HasFront, PostedBy}
 
-bytes_append : (xs ys : List (List ℕ)) → bytes_in (xs ++ ys) ≡ bytes_in xs + bytes_in ys
-bytes_append xs ys = sum_by-append (λ (x : List ℕ). length x) xs ys
-
 pub none_posted : (before wanted : List (List ℕ)) → HasFront before before wanted
 none_posted before wanted = record { front = []; rest = wanted; wanted_are = refl; added = sym (append-nil before) }
 
 pub one_cut_off : (before : List (List ℕ)) (next : List ℕ) → MAX_MEDIUM < bytes_in before + length next → IsCutOff before before (next ∷ [])
 one_cut_off before next full = record { front = []; next = next; rest = []; wanted_are = refl; added = sym (append-nil before); full = full }
-
-pub one_posted : (before after : List (List ℕ)) (one : List ℕ) → IsWithin before → 0 < length one → bytes_in before + length one ≤ MAX_MEDIUM
-    → after ≡ before ++ one ∷ [] → IsWithin after
-one_posted before after one within some room added =
-    let bytes : bytes_in after ≡ bytes_in before + length one = ap bytes_in added ∙ bytes_append before (one ∷ []) ∙ omega arith in
-    let count : length after ≡ length before + 1 = ap (λ (xs : List (List ℕ)). length xs) added ∙ length-append before (one ∷ []) in
-    record { bytes = omega (arith, bytes, room); count = omega (arith, bytes, count, within.count, some) }
 
 -- A refusal of the next one is one of all that are wanted, of which these were added.
 pub refused_behind : (a b c done rest wanted : List (List ℕ)) (one : List ℕ) (fault : PostFault) → b ≡ a ++ done → wanted ≡ done ++ one ∷ rest

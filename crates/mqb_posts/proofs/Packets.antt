@@ -142,18 +142,6 @@ all_added packets bytes at before after so_far end = of so_far.back so_far.writa
     of [] w whole none = so_far.added ∙ ap (λ (ps : List Packet). before ++ map plain_spelling ps) (sym (whole ∙ append-nil so_far.front))
     of (p ∷ back) w whole none = absurd (omega (arith, length-append (plain_spelling p) (flat_map plain_spelling back), some_bytes p w.0))
 
--- before the first one
-pub none_added : (packets : List Packet) (bytes : List ℕ) (before : List (List ℕ)) → AreWritable packets → bytes ≡ flat_map plain_spelling packets
-    → IsPartly packets bytes 0 before before
-none_added packets bytes before w are = record {
-  front = [];
-  back = packets;
-  writable = w;
-  whole = refl;
-  rest = are;
-  added = sym (append-nil before);
-}
-
 -- bytes from a place to their end
 from_place : (bytes : List ℕ) (at : ℕ) → take (length bytes - at) (drop at bytes) ≡ drop at bytes
 from_place bytes at = between_to_end bytes at (length bytes) (omega arith)

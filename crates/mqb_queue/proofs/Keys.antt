@@ -137,24 +137,6 @@ leads_empty m none key = ap (λ (es : List (NameKey × ℕ)). lookup (same_key k
 pub leads_same : {S : Type 0} (queues : List Queue) (m n : IndexMap NameKey ℕ S) → n.entries ≡ m.entries → LeadsTo queues m → LeadsTo queues n
 leads_same queues m n same leads key = ap (λ (es : List (NameKey × ℕ)). lookup (same_key key) es) same ∙ leads key
 
-pub named_empty : {S : Type 0} (m : IndexMap NameKey ℕ S) → m.entries ≡ [] → IsNamed [] 0 m
-named_empty m none = record {
-  valid = All-nil Valid;
-  leads = leads_empty m none;
-  count = ap length none;
-  room = omega arith;
-}
-
--- there is room for more
-pub named_grown : {S : Type 0} (queues : List Queue) (room more : ℕ) (m n : IndexMap NameKey ℕ S) → n.entries ≡ m.entries → more ≤ length queues + spare n
-    → IsNamed queues room m → IsNamed queues more n
-named_grown queues room more m n same fits h = record {
-  valid = h.valid;
-  leads = leads_same queues m n same h.leads;
-  count = ap length same ∙ h.count;
-  room = fits;
-}
-
 -- a queue joins the others
 pub named_more : {S : Type 0} (queues : List Queue) (q : Queue) (room number : ℕ) (m n : IndexMap NameKey ℕ S) → Valid q → number ≡ length queues
     → get same_key m (key_of q.plan.name) ≡ None → Updates same_key m n (key_of q.plan.name) (Some number) → index_map_len n ≡ index_map_len m + 1

@@ -178,36 +178,6 @@ pub all_raised : (k : ℕ) (passes : List Pass) (old new : List Message) → len
 all_raised k passes old new few h j p is =
     subst (λ (b : Bool). IsPassed j p (cond b new old)) (lt-ltb j k (omega (arith, few, slice_get_within passes j p is))) (h j p is)
 
-pub one_raised : (k : ℕ) (passes : List Pass) (q : Pass) (old new : List Message) → AreRaised k passes old new → IsPassed k q new
-    → AreRaised (k + 1) (set passes k q) old new
-one_raised k passes q old new h mine j p is = at (eqb j k) refl
-  where
-    there : j < length passes
-    there = let len : length (set passes k q) ≡ length passes = length-set passes k q in omega (arith, slice_get_within (set passes k q) j p is, len)
-
-    got : get_or (set passes k q) j q ≡ p
-    got = get_or_from_slice_get (set passes k q) j p q is
-
-    at : (b : Bool) → eqb j k ≡ b → IsPassed j p (cond (ltb j (k + 1)) new old)
-    at true e =
-        let same : j ≡ k = eqb-true j k e in
-        let mine_is : get_or (set passes k q) j q ≡ q = subst (λ (i : ℕ). get_or (set passes i q) j q ≡ q) same (get_or-set_same passes j q q there) in
-        subst (λ (b : Bool). IsPassed j p (cond b new old)) (sym (lt-ltb j (k + 1) (omega (arith, same))))
-        (subst (λ (i : ℕ). IsPassed i p new) (sym same) (subst (λ (r : Pass). IsPassed k r new) (sym mine_is ∙ got) mine))
-    at false e =
-        let other : get_or (set passes k q) j q ≡ get_or passes j q = get_or-set_other passes k j q q (λ same. true≢false (sym (eq-eqb j k same) ∙ e)) in
-        subst (λ (b : Bool). IsPassed j p (cond b new old)) (by (ltb j k) refl) (h j p (slice_get-get_or passes j q there ∙ ap Some (sym other ∙ got)))
-      where
-        by : (b : Bool) → ltb j k ≡ b → ltb j k ≡ ltb j (k + 1)
-        by true is = is ∙ sym (lt-ltb j (k + 1) (omega (arith, ltb-true j k is)))
-        by false is =
-            let behind : j ≡ k → ⊥ = λ same. true≢false (sym (eq-eqb j k same) ∙ e) in
-            is ∙ sym (past (ltb j (k + 1)) refl behind (ltb-false j k is))
-          where
-            past : (b : Bool) → ltb j (k + 1) ≡ b → (j ≡ k → ⊥) → k ≤ j → ltb j (k + 1) ≡ false
-            past false f behind le = f
-            past true f behind le = absurd (behind (omega (arith, ltb-true j (k + 1) f, le)))
-
 -- a pass goes on
 
 none_has : (k : ℕ) (xs : List Message) → at_level k xs ≡ 0 → All (λ m. level m.priority ≡ k → ⊥) xs

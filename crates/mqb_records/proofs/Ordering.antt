@@ -197,9 +197,6 @@ join_ordered s peer now m o = at (sequence_in_use s peer m.destination)
 pub taken_ordered : (at : EntryPlace) (id : MessageId) (now : ℕ) (e : Effect) → IsOrdered e.state → IsOrdered (taken at id now e).state
 taken_ordered at id now e o = ordered_as (taken at id now e).state e.state (taken_rows at id now e) o
 
-pub numbered_ordered : (s : State) (count : ℕ) → IsOrdered s → IsOrdered (numbers_taken s count)
-numbered_ordered s count o = ordered_as (numbers_taken s count) s refl o
-
 pub sent_ordered : (now : ℕ) (e : Effect) (m : Message) → IsOrdered e.state → IsOrdered (send_made now e m).state
 sent_ordered now e m o = at (resolved e.state m.destination)
   where

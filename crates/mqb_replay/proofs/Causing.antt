@@ -10,16 +10,6 @@ use Rattle.mqb_replay.specs.Faults.{TellCause, WriteCause, script_fault, world_f
 use Rattle.mqb_replay.specs.declared.faults.ReplayFault.{ReplayFault}
 use Rattle.mqb_replay.specs.declared.faults.ReplayFault.TheVariants as fault
 
--- what ends a world is none
-pub world_cause : (f : WorldFault) (n : ℕ) → WriteCause n n (Err (world_fault f))
-world_cause world.NotEmpty n = refl
-world_cause f n = refl
-
--- nor is a fault of the input
-pub script_cause : (f : ScriptFault) (n : ℕ) → WriteCause n n (Err (script_fault f))
-script_cause (script.Line number kind) n = refl
-script_cause f n = refl
-
 -- what was done before raised no count
 pub cause_then : (a b c : ℕ) (r : Result (Unit {0}) ReplayFault) → b ≡ a → WriteCause b c r → WriteCause a c r
 cause_then a b c r same cause = subst (λ (n : ℕ). WriteCause n c r) same cause

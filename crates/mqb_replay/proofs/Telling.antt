@@ -49,15 +49,6 @@ ends_by text rest b a before after lines (Err fault.TooManyLines) is plays = abs
 ends_by text rest b a before after lines (Err fault.ReadFault) is plays = absurd plays.1
 ends_by text rest b a before after lines r is plays = (lines, is, plays)
 
-pub was_read : (held rest : Option (List ℕ)) (b a : Devices) (before after : Option (List ℕ)) (lines : List (ℕ × Event)) (r : Result (Unit {0}) ReplayFault) → ReadsScript held rest (Ok lines)
-    → Begins (PlaysWhole lines) b a before after r → EndsSo held rest b a before after r
-was_read held rest b a before after lines r reads plays = (
-  reads.text,
-  reads.gave,
-  ends_by reads.text rest b a before after lines r
-      (record { short = reads.answers.0; few_lines = reads.answers.1; script = reads.answers.2; ended = reads.ended }) plays,
-)
-
 -- The line of a fault.
 
 line_is : (f : ReplayFault) (s : Status) (text : List ℕ) → s ≡ fault_status f → text ≡ fault_text s → text ≡ fault_text (fault_status f)
@@ -83,20 +74,12 @@ told_line why before after r no_write no_memory told = told
 
 -- Which ends are told.
 
--- no play ends as if its input had failed
-pub plays_not_read : (lines : List (ℕ × Event)) (b a : Devices) (before after : Option (List ℕ)) (r : Result (Unit {0}) ReplayFault) → Begins (PlaysWhole lines) b a before after r → r ≡ Err fault.ReadFault → ⊥
-plays_not_read lines b a before after r plays is = (subst (Begins (PlaysWhole lines) b a before after) is plays).1
-
 err_one : (f g : ReplayFault) → ◌≡◌ {A = Result (Unit {0}) ReplayFault} (Err f) (Err g) → f ≡ g
 err_one f g is = cc
 
 read_is : (f : ScriptFault) → script_fault f ≡ fault.ReadFault → f ≡ script.ReadFault
 read_is script.ReadFault is = refl
 read_is f is = absurd (let none : ⊥ = cc in none)
-
--- the input failed where that is told
-pub read_cause : (f : ScriptFault) (a b : ℕ) → ReadCause a b (Err f) → ◌≡◌ {A = Result (Unit {0}) ReplayFault} (Err (script_fault f)) (Err fault.ReadFault) → Rose a b
-read_cause f a b cause is = subst (λ (g : ScriptFault). ReadCause a b (Err g)) (read_is f (err_one (script_fault f) fault.ReadFault is)) cause
 
 clash : (r : Result (Unit {0}) ReplayFault) (f g : ReplayFault) → r ≡ Err f → r ≡ Err g → (f ≡ g → ⊥) → ⊥
 clash r f g one other apart = apart (err_one f g (sym one ∙ other))

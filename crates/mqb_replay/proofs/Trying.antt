@@ -62,18 +62,3 @@ tried keep lines w b a before after h r count counted wrote = by r (subst (λ (t
     by (Err fault.WriteFault) is = (played.0, is)
     by (Err fault.Memory) is = ((short_of keep lines lines [] (sym (append-nil lines)) w b a h).0, is)
     by (Err f) is = absurd is
-
--- The loop stopped.
-pub not_played : (lines : List (ℕ × Event)) (w : WorldState) (b a : Devices) (before taken after : Option (List ℕ)) (f : ReplayFault) → (f ≡ fault.WriteFault → ⊥)
-    → PlaysLines lines w b a taken taken (Err f) → TriesLines lines b a before before (Err f)
-not_played lines w b a before taken after fault.WriteFault no_write plays = absurd (no_write refl)
-not_played lines w b a before taken after fault.NetFull no_write plays = (plays.0, refl)
-not_played lines w b a before taken after fault.Memory no_write plays = (plays.0, refl)
-not_played lines w b a before taken after f no_write plays = absurd plays
-
--- The script was made, and its lines were tried.
-pub made_tried : (n : ℕ) (lines : List (ℕ × Event)) (b a : Devices) (before after : Option (List ℕ)) (r : Result (Unit {0}) ReplayFault) → script_of (generated n) ≡ Ok lines
-    → Begins (TriesLines lines) b a before after r → EndsTrial n b a before after r
-made_tried n lines b a before after (Ok done) script tries = (lines, script, tries)
-made_tried n lines b a before after (Err fault.Memory) script tries = inr (lines, script, tries)
-made_tried n lines b a before after (Err f) script tries = (lines, script, tries)

@@ -18,13 +18,6 @@ and_false : (a b : Bool) → a ≡ false → (a && b) ≡ false
 and_false true b h = cc
 and_false false b h = refl
 
-pub some_more : (whole : Bool) (place : ℕ) (words : List (Bor (List ℕ))) (d : Bor (List ℕ)) → whole ≡ are_some_from place words
-    → place < length words → is_some_word (get_or words place d).now ≡ true
-    → whole ≡ are_some_from (place + 1) words
-some_more whole place words d read within is =
-    read ∙ at_drop_more (λ rest. list_all is_some_word (map (λ word. word.now) rest)) words place d within
-    ∙ and_true (is_some_word (get_or words place d).now) (are_some_from (place + 1) words) is
-
 pub none_more : (whole : Bool) (place : ℕ) (words : List (Bor (List ℕ))) (d : Bor (List ℕ)) → whole ≡ are_some_from place words
     → place < length words → is_some_word (get_or words place d).now ≡ false
     → whole ≡ false

@@ -15,17 +15,10 @@ use Rattle.mqb_script.specs.Script.{lines_of, numbered, script_from}
 use Rattle.mqb_script.specs.Lines.{is_skipped, event_of}
 use Rattle.mqb_script.specs.Reading.{begun, line_count, in_front, ReadsLine, IsScriptFault}
 
-pub in_front_nothing : (r : Result (List (ℕ × Event)) (ℕ × LineKind)) → r ≡ in_front [] r
-in_front_nothing (Ok more) = refl
-in_front_nothing (Err first) = refl
-
 pushed : (n : ℕ) (event : Event) (before : List (ℕ × Event)) (r : Result (List (ℕ × Event)) (ℕ × LineKind))
     → in_front before (r >>= λ events. Ok ((n, event) ∷ events)) ≡ in_front (before ++ (n, event) ∷ []) r
 pushed n event before (Ok more) = ap Ok (sym (append_assoc before ((n, event) ∷ []) more))
 pushed n event before (Err first) = refl
-
-pub skipped_line : (n : ℕ) (line : List ℕ) (before : List (ℕ × Event)) → is_skipped line ≡ true → ReadsLine n line before before
-skipped_line n line before is rest = rw is refl
 
 added : (n : ℕ) (read : Result Event LineKind) (before after : List (ℕ × Event)) (r : Result (List (ℕ × Event)) (ℕ × LineKind))
     → behind (λ event. (n, event)) before read ≡ Ok after
@@ -34,10 +27,6 @@ added n (Ok event) before after r is =
     let same : before ++ (n, event) ∷ [] ≡ after = cc in
     pushed n event before r ∙ ap (λ events. in_front events r) same
 added n (Err kind) before after r is = absurd cc
-
-pub added_line : (n : ℕ) (line : List ℕ) (before after : List (ℕ × Event)) → is_skipped line ≡ false
-    → behind (λ event. (n, event)) before (event_of line) ≡ Ok after → ReadsLine n line before after
-added_line n line before after kept is rest = rw kept (added n (event_of line) before after (script_from (n + 1) rest) is)
 
 faulty_line : (n : ℕ) (line : List ℕ) (first : ℕ × LineKind) (before : List (ℕ × Event)) (rest : List (List ℕ)) → is_skipped line ≡ false
     → numbered n (event_of line) ≡ Err first → in_front before (script_from n (line ∷ rest)) ≡ Err first
@@ -107,12 +96,6 @@ stops whole n place lines before d fault.Memory read within kept is = tt
 stops whole n place lines before d fault.TooLong read within kept is = is
 stops whole n place lines before d fault.TooManyLines read within kept is = is
 stops whole n place lines before d fault.ReadFault read within kept is = is
-
-pub all_gathered : (whole : Result (List (ℕ × Event)) (ℕ × LineKind)) (n place : ℕ) (lines : List (Bor (List ℕ))) (before : List (ℕ × Event))
-    → IsGathered whole n place lines before → length lines ≤ place → whole ≡ Ok before
-all_gathered whole n place lines before read end =
-    read ∙ ap (λ rest. in_front before (script_from n (map (λ (line : Bor (List ℕ)). line.now) rest))) (drop_all place lines end)
-    ∙ ap Ok (append-nil before)
 
 pub gave_more : (first middle last : Option (List ℕ)) (text more : List ℕ) → Gave first middle text → Gave middle last more
     → Gave first last (text ++ more)

@@ -16,11 +16,6 @@ use Rattle.mqb_model.specs.records.Record.{Record}
 use Rattle.mqb_serving.proofs.Moments.{pumped_now, read_now}
 use Rattle.mqb_serving.proofs.Points.{read_then}
 
--- what is answered for an end, and for a fault
-abbrev pub answer_for : Result End ConnFault → Answer
-answer_for (Ok end) = answer_of end
-answer_for (Err why) = Err why
-
 -- The manager was linked.
 pub linked_stands : (m n : StoredManager) (asks : Purpose) (now : ℕ) → n ≡ stored_after m (link m.manager (role_of asks) WINDOW) → Stands (linked m asks now) asks now n no_bytes
 linked_stands m n asks now is = record { purpose = refl; now = refl; manager = sym is; framing = refl; end = refl }
@@ -161,6 +156,3 @@ module _ (m : StoredManager) (asks : Purpose) (now : ℕ) where
 
 pub down_unlinked : (m n : StoredManager) (asks : Purpose) (now : ℕ) (h i x y : Option (List ℕ)) → Converses (linked m asks now) h i x y n (Err fault.DiskFault) → n.manager.rest.session ≡ None
 down_unlinked m n asks now h i x y c = ap (λ (k : StoredManager). k.manager.rest.session) c.ends.left.2
-
-pub unlinked_after : (n k : StoredManager) → k ≡ stored_after n (unlink n.manager) → k.manager.rest.session ≡ None
-unlinked_after n k left = ap (λ (k : StoredManager). k.manager.rest.session) left

@@ -36,9 +36,6 @@ pumped_one d = at (sent_some (next_pump d).answer)
     at true = record { manager = refl; now = refl; given = refl }
     at false = record { manager = refl; now = refl; given = refl }
 
-ahead_none : (c : Conversation) → IsAhead 0 c c
-ahead_none c k = ap (λ (n : ℕ). pumped n c) (zero-add k)
-
 ahead_more : (i : ℕ) (c d : Conversation) → IsAhead i c d → sent_some (next_pump d).answer ≡ true → IsAhead (i + 1) c (gave (next_pump d) d)
 ahead_more i c d ahead some k =
     let e : i + 1 + k ≡ i + suc k = omega arith in
@@ -50,9 +47,6 @@ pub record Pumps (c : Conversation) (i : ℕ) (before after : Option (List ℕ))
   pub ahead : IsAhead i c at
   pub stands : Stands at asks moment m f
   pub gives : Gives c at before after
-
-pub pumps_none : (c : Conversation) (a : Option (List ℕ)) (asks : Purpose) (moment : ℕ) (m : StoredManager) (f : Framing) → Stands c asks moment m f → Pumps c 0 a a asks moment m f
-pumps_none c a asks moment m f s = record { at = c; ahead = ahead_none c; stands = s; gives = gives_none c c a a refl refl }
 
 -- One more.
 

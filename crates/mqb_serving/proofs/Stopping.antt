@@ -32,9 +32,6 @@ gives_then c d e x y z first second = record {
 pub gives_from : (c d e : Conversation) (x y : Option (List ℕ)) → d.given ≡ c.given → Gives d e x y → Gives c e x y
 gives_from c d e x y same g = record { packets = g.packets; given = g.given ∙ ap (λ (t : List Packet). t ++ g.packets) same; took = g.took }
 
-pub gives_to : (c d e : Conversation) (x y : Option (List ℕ)) → e.given ≡ d.given → Gives c d x y → Gives c e x y
-gives_to c d e x y same g = record { packets = g.packets; given = same ∙ g.given; took = g.took }
-
 -- Where it stops.
 
 -- another record may be under way

@@ -63,9 +63,6 @@ pub record Takes (c : Conversation) (piece rest : List ℕ) (before after : Opti
 stands_reached : (c : Conversation) (a : Option (List ℕ)) (asks : Purpose) (moment : ℕ) (m : StoredManager) (f : Framing) → Stands c asks moment m f → Reaches c c a a asks moment m f None
 stands_reached c a asks moment m f s = record { gives = gives_none c c a a refl refl; manager = s.manager; end = s.end; stands = λ none. s }
 
-pub takes_none : (c : Conversation) (piece : List ℕ) (a : Option (List ℕ)) (asks : Purpose) (moment : ℕ) (m : StoredManager) (f : Framing) → Stands c asks moment m f → Takes c piece piece a a asks moment m f
-takes_none c piece a asks moment m f s = record { front = []; whole = refl; reached = stands_reached c a asks moment m f s }
-
 module _ (c : Conversation) (piece rest : List ℕ) (x y z : Option (List ℕ)) (asks asks_now : Purpose) (moment moment_now : ℕ) (m n : StoredManager) (f g : Framing) (count : ℕ)
     (t : Takes c piece rest x y asks moment m f) (wants : wants_more (next f) ≡ true) (some : 0 < length rest) (few : f.place + length f.held + length rest ≤ MAX_READ)
     (taken : take count rest ≡ part_of f rest) where

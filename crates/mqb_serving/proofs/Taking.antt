@@ -36,9 +36,6 @@ gave_same a b same = subst (λ (o : Option (List ℕ)). Gave a o []) (sym same) 
 pub begins_same : (x y : List ℕ) → x ≡ y → Begins x y
 begins_same x y same = ([], sym same ∙ sym (append-nil x))
 
-pub begins_more : (x y : List ℕ) → Begins x (x ++ y)
-begins_more x y = (y, refl)
-
 pub begins_behind : (x y z : List ℕ) → Begins y z → Begins (x ++ y) (x ++ z)
 begins_behind x y z b = (b.0, ap (λ (t : List ℕ). x ++ t) b.1 ∙ sym (append_assoc x y b.0))
 

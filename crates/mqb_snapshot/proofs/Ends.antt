@@ -2,8 +2,5 @@
 use Rattle.std.proofs.Common.{◌≡◌, ◌≤◌, ℕ, List, ◌++◌, length, take, drop, ap, ◌∙◌}
 use Rattle.std.proofs.lemmas.List.{take-append-le, drop-append-le}
 
-pub front_stays : (start : ℕ) (old new added : List ℕ) → start ≤ length old → new ≡ old ++ added → take start new ≡ take start old
-front_stays start old new added within is = ap (take start) is ∙ take-append-le start old added within
-
 pub text_grows : (start : ℕ) (old new added : List ℕ) → start ≤ length old → new ≡ old ++ added → drop start new ≡ drop start old ++ added
 text_grows start old new added within is = ap (drop start) is ∙ drop-append-le start old added within

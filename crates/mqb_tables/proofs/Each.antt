@@ -26,7 +26,3 @@ next {X} change (x ∷ xs) (suc k) within =
 pub one_more : {X : Type 0} (change : X → X) (xs : List X) (k : ℕ) → k < length xs
     → with_changed change (first_changed change xs k) k ≡ first_changed change xs (k + 1)
 one_more change xs k within = next change xs k within ∙ ap (λ n. first_changed change xs n) (sym (add-one k))
-
-pub all_changed : {X : Type 0} (change : X → X) (xs : List X) → first_changed change xs (length xs) ≡ map change xs
-all_changed change [] = refl
-all_changed {X} change (x ∷ xs) = ap (λ (ys : List X). change x ∷ ys) (all_changed change xs)

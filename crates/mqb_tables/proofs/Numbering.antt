@@ -93,19 +93,6 @@ own_on rows r m n number leads h few grows own all = own_from (rows ++ r ∷ [])
         ∙ (ap (option_map (λ j. length rows + j)) (position_step (has_ordinal r.sequence.ordinal) r [] ∙ ap (λ b. cond b (Some 0) None) itself)
         ∙ ap Some (omega (arith, e.0))))
 
-pub numbered_empty : {S : Type 0} (m : Table S) → m.entries ≡ [] → AreNumbered [] 0 m
-numbered_empty m none = record { leads = leads_empty m none; few = let e : length m.entries ≡ 0 = ap length none in omega (arith, e); own = λ all k. tt; room = omega arith }
-
--- there is room for more
-pub numbered_grown : {S : Type 0} (rows : List Row) (most more : ℕ) (m n : Table S) → n.entries ≡ m.entries → more ≤ index_map_len n + spare n → AreNumbered rows most m
-    → AreNumbered rows more n
-numbered_grown rows most more m n same fits h = record {
-  leads = leads_same rows m n same h.leads;
-  few = let e : length n.entries ≡ length m.entries = ap length same in omega (arith, e, h.few);
-  own = λ all. h.own (let e : length n.entries ≡ length m.entries = ap length same in omega (arith, e, all));
-  room = fits;
-}
-
 -- a row joins the others
 pub numbered_more : {S : Type 0} (rows : List Row) (r : Row) (most number : ℕ) (m n : Table S) → number ≡ length rows → IsEntered m n r.sequence.ordinal number
     → index_map_len n ≤ index_map_len m + 1 → index_map_len m + spare m ≤ index_map_len n + spare n → AreNumbered rows most m → AreNumbered (rows ++ r ∷ []) most n
@@ -186,15 +173,3 @@ own_next items k x m n leads is entered few grows own all =
     take_more items k x within ∙ ap (λ (y : OutRow). take k items ++ y ∷ []) (get_or_from_slice_get items k x x is) in
     subst HaveOwnOrdinals (sym (ap (map row_of) more ∙ map-append row_of (take k items) (x ∷ [])))
     (own_on first (row_of x) m n k leads entered (omega (arith, few, long)) grows (λ h. own (omega (arith, h, long))) (omega (arith, all, long, pushed)))
-
--- the place that a search gives
-pub ordinal_within : (o : ℕ) (rows : List Row) → IfSome (position (has_ordinal o) rows) (λ k. k < length rows)
-ordinal_within o rows = at (position (has_ordinal o) rows) refl
-  where
-    at : (p : Option ℕ) → position (has_ordinal o) rows ≡ p → IfSome p (λ k. k < length rows)
-    at None is = tt
-    at (Some k) is = first rows k is
-      where
-        first : (xs : List Row) (k : ℕ) → position (has_ordinal o) xs ≡ Some k → k < length xs
-        first [] k is = absurd (let none : ⊥ = cc in none)
-        first (x ∷ xs) k is = (position-Some (has_ordinal o) (x ∷ xs) k x is).0

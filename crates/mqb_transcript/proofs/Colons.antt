@@ -31,9 +31,6 @@ lacks text = list_all (λ b. not (b == 58)) text
 pub lacks-append : (a b : List ℕ) → lacks a ≡ true → lacks b ≡ true → lacks (a ++ b) ≡ true
 lacks-append a b h k = rw (list_all-append (λ x. not (x == 58)) a b, h, k) refl
 
-pub lacks_spaced : (a : List ℕ) → lacks a ≡ true → lacks (spaced a) ≡ true
-lacks_spaced a h = h
-
 -- Numbers, classes and GUIDs.
 
 glyph_lacks : (n : ℕ) → not (digit_glyph false (n % 10) == 58) ≡ true

@@ -46,10 +46,6 @@ is_refusal outcome fault.NumbersSpent e = e
 is_refusal outcome fault.TooLarge e = e
 is_refusal outcome fault.DiskFault e = e
 
--- a wrong count refuses it
-pub count_refuses : (s : State) (now : ℕ) (ops : List Op) (why : CommitFault) → count_refusal (length ops) ≡ Some why → tried s now ops ≡ Err why
-count_refuses s now ops why e = ap (λ c. trying.unless c (try_ops now 0 (trial_of s) ops >>= λ t. trying.unless (whole_refusal t) (Ok t))) e
-
 module _ (s : State) (now : ℕ) (ops : List Op) (n : Noted) (v : IsValidState s) (few : count_refusal (length ops) ≡ None) (noted : try_all s now 0 (nothing_noted s) ops ≡ Ok n) where
   there : (t : Trial) × (try_ops now 0 (trial_of s) ops ≡ Ok t) × Follows s now n t
   there = followed s now n (try_all s now 0 (nothing_noted s) ops) (try_ops now 0 (trial_of s) ops) noted (all_agree s now 0 (nothing_noted s) (trial_of s) ops (follows_first s now v))

@@ -101,9 +101,6 @@ all_read [] h = refl
 all_read (op ∷ ops) h = ap (λ o. option_and_then (λ x. option_map (λ xs. x ∷ xs) (all_some (map op_of (map op_view (map record_op ops))))) o) h.0
     ∙ ap (option_map (λ xs. record_op op ∷ xs)) (all_read ops h.1)
 
-pub record_read : (now : ℕ) (ops : List RecordOp) → all_some (map op_of (map op_view ops)) ≡ Some ops → record_in (form.Commit now (map op_view ops)) ≡ Some (entry.Commit now ops)
-record_read now ops h = ap (option_map (λ ops. entry.Commit now ops)) h
-
 pub few_ops : (now : ℕ) (ops : List RecordOp) → (1 ≤ length ops) × (length ops ≤ 64) → Fits (form.Commit now (map op_view ops))
 few_ops now ops h = subst (λ n. (1 ≤ n) × (n ≤ 64)) (sym (length-map ops op_view)) h
 

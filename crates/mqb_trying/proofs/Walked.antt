@@ -23,27 +23,6 @@ pub all_more : (s : State) (now i : ℕ) (n next : Noted) (total : Result Noted 
 all_more s now i n next total ops op front tried left =
     sym (ap (λ (r : Result Noted OpFault). at_op i r >>= λ n. try_all s now (i + 1) n (drop (i + 1) ops)) tried) ∙ sym (ap (try_all s now i n) front) ∙ left
 
-pub all_end : (s : State) (now i : ℕ) (n : Noted) (total : Result Noted CommitFault) (ops : List Op) → length ops ≤ i → try_all s now i n (drop i ops) ≡ total → total ≡ Ok n
-all_end s now i n total ops past left = sym left ∙ ap (try_all s now i n) (drop_all i ops past)
-
--- It refuses all.
-pub all_refused : (s : State) (now i : ℕ) (n : Noted) (total : Result Noted CommitFault) (ops : List Op) (op : Op) (why : CommitFault) → drop i ops ≡ op ∷ drop (i + 1) ops
-    → IsRefusedBy (at_op i (try_op s now n op)) why → try_all s now i n (drop i ops) ≡ total → IsRefusedBy total why
-all_refused s now i n total ops op why front refused left = by why refused
-  where
-    same : (why : CommitFault) → at_op i (try_op s now n op) ≡ Err why → total ≡ Err why
-    same why e = sym left ∙ ap (try_all s now i n) front ∙ ap (λ (r : Result Noted CommitFault). r >>= λ n. try_all s now (i + 1) n (drop (i + 1) ops)) e
-
-    by : (why : CommitFault) → IsRefusedBy (at_op i (try_op s now n op)) why → IsRefusedBy total why
-    by fault.Memory r = tt
-    by fault.Down r = same fault.Down r
-    by fault.NoOps r = same fault.NoOps r
-    by fault.TooManyOps r = same fault.TooManyOps r
-    by (fault.AtOp index x) r = same (fault.AtOp index x) r
-    by fault.NumbersSpent r = same fault.NumbersSpent r
-    by fault.TooLarge r = same fault.TooLarge r
-    by fault.DiskFault r = same fault.DiskFault r
-
 -- One op more is spelled.
 
 pub spelled_more : (i : ℕ) (now next : List SpelledOp) (x : SpelledOp) (op : PlannedOp) (ops : List PlannedOp) (total : List OpView) → drop i ops ≡ op ∷ drop (i + 1) ops
@@ -60,11 +39,6 @@ spelled_more i now next x op ops total front is pushed left =
     rest : List OpView
     rest = map op_view (map record_op (drop (i + 1) ops))
 
-pub spelled_end : (i : ℕ) (now : List SpelledOp) (ops : List PlannedOp) (total : List OpView) → length ops ≤ i
-    → map shown now ++ map op_view (map record_op (drop i ops)) ≡ total → map shown now ≡ total
-spelled_end i now ops total past left = sym (append-nil (map shown now))
-    ∙ sym (ap (λ (os : List PlannedOp). map shown now ++ map op_view (map record_op os)) (drop_all i ops past)) ∙ left
-
 -- One op more is shown.
 
 pub views_more : (i : ℕ) (now next : List OpView) (v : OpView) (op : SpelledOp) (ops : List SpelledOp) (total : List OpView) → drop i ops ≡ op ∷ drop (i + 1) ops
@@ -75,9 +49,6 @@ views_more i now next v op ops total front is pushed left =
     ∙ ap (λ (v : OpView). now ++ (v ∷ map shown (drop (i + 1) ops))) is
     ∙ sym (ap (λ (os : List SpelledOp). now ++ map shown os) front)
     ∙ left
-
-pub views_end : (i : ℕ) (now : List OpView) (ops : List SpelledOp) (total : List OpView) → length ops ≤ i → now ++ map shown (drop i ops) ≡ total → now ≡ total
-views_end i now ops total past left = sym (append-nil now) ∙ sym (ap (λ (os : List SpelledOp). now ++ map shown os) (drop_all i ops past)) ∙ left
 
 -- What holds of the members so far.
 pub all_taken : {X : Type 0} (P : X → Type 0) (xs : List X) (i : ℕ) (x : X) → i < length xs → x ≡ get_or xs i x → All P (take i xs) → P x → All P (take (i + 1) xs)

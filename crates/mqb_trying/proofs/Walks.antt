@@ -43,9 +43,6 @@ pub index_here : (may : ℕ → Message → Bool) (least i : ℕ) (total : Optio
 index_here may least i total ms m front passes left =
     sym (ap (λ b. cond b (Some i) (index_from may least (i + 1) (drop (i + 1) ms))) passes) ∙ sym (ap (index_from may least i) front) ∙ left
 
-pub index_end : (may : ℕ → Message → Bool) (least i : ℕ) (total : Option ℕ) (ms : List Message) → length ms ≤ i → index_from may least i (drop i ms) ≡ total → None ≡ total
-index_end may least i total ms past left = sym (ap (index_from may least i) (drop_all i ms past)) ∙ left
-
 -- How many bytes ops have.
 
 pub size_more : (i size one next total : ℕ) (ops : List PlannedOp) (op : PlannedOp) → drop i ops ≡ op ∷ drop (i + 1) ops → one ≡ op_size (record_op op) → next ≡ size + one
@@ -54,19 +51,9 @@ size_more i size one next total ops op front is step left =
     let split = ap (λ (os : List PlannedOp). sum_by op_size (map record_op os)) front in
     omega (arith, split, is, step, left, sum_by-cons op_size (record_op op) (map record_op (drop (i + 1) ops)))
 
-pub size_end : (i size : ℕ) (ops : List PlannedOp) → length ops ≤ i → size + sum_by op_size (map record_op (drop i ops)) ≡ commit_size (map record_op ops) → size ≡ commit_size (map record_op ops)
-size_end i size ops past left = let none = ap (λ (os : List PlannedOp). sum_by op_size (map record_op os)) (drop_all i ops past) in omega (arith, none, left)
-
 pub large_more : (i : ℕ) (total : Bool) (ops : List PlannedOp) (op : PlannedOp) → drop i ops ≡ op ∷ drop (i + 1) ops → is_large op ≡ false
     → list_any is_large (drop i ops) ≡ total → list_any is_large (drop (i + 1) ops) ≡ total
 large_more i total ops op front small left = sym (ap (λ b. b || list_any is_large (drop (i + 1) ops)) small) ∙ sym (ap (list_any is_large) front) ∙ left
-
-pub large_here : (i : ℕ) (total : Bool) (ops : List PlannedOp) (op : PlannedOp) → drop i ops ≡ op ∷ drop (i + 1) ops → is_large op ≡ true
-    → list_any is_large (drop i ops) ≡ total → true ≡ total
-large_here i total ops op front large left = sym (ap (λ b. b || list_any is_large (drop (i + 1) ops)) large) ∙ sym (ap (list_any is_large) front) ∙ left
-
-pub large_end : (i : ℕ) (total : Bool) (ops : List PlannedOp) → length ops ≤ i → list_any is_large (drop i ops) ≡ total → false ≡ total
-large_end i total ops past left = sym (ap (list_any is_large) (drop_all i ops past)) ∙ left
 
 pub both_fail : (a : Bool) (least priority : ℕ) → priority < least → (a && nat_le least priority) ≡ false
 both_fail true least priority lt = grind (arith, nat_tests)

@@ -56,10 +56,6 @@ none_posted strings sent none = sym (append-nil strings) ∙ ap (λ (ps : List P
 pub none_written : (sent : List Packet) → sent ≡ [] → AreWritable sent
 none_written sent none = subst AreWritable (sym none) tt
 
--- Where memory ran out, and the medium has what it had.
-pub nothing_posted : (strings wanted : List (List ℕ)) → HasFront strings strings wanted
-nothing_posted strings wanted = record { front = []; rest = wanted; wanted_are = refl; added = sym (append-nil strings) }
-
 -- Requests.
 
 -- what the network is asked for
@@ -183,12 +179,6 @@ own_at : (which : Which) (x : Side) → manager_at (network_at which x) (index_o
 own_at Alpha x = refl
 own_at Beta x = refl
 
-pub pump_short : (which : Which) (x : Side) (now : ℕ) (strings strings_now : List (List ℕ)) (r : Result Reply PostFault) → ComesShort strings strings_now (pump_at which x now) r
-    → FallsShort (network_at which x) None (network.Pump (index_of which) now) strings strings_now r
-pump_short which x now strings strings_now (Ok given) short = tt
-pump_short which x now strings strings_now (Err post.NetFull) short = subst (λ (m : Manager). IsCutOff strings strings_now (map plain_spelling (pump m now).packets)) (sym (own_at which x)) short
-pump_short which x now strings strings_now (Err post.Memory) short = subst (λ (m : Manager). HasFront strings strings_now (map plain_spelling (pump m now).packets)) (sym (own_at which x)) short
-
 -- A restart.
 
 start_faults : (which : Which) (pick : Pick) (stopped : Bool) (before after : ℕ) (n : Network) (i : ℕ) (choice : Choice) → FailsInStart before after (step n None (network.Restart i) choice).reply
@@ -227,24 +217,6 @@ start_acted which x y pick strings within given d e stopped t = record {
 }
 
 -- An arming.
-
-pub arm_acted : (which : Which) (x : Side) (call : ℕ) (mode : Mode) (strings : List (List ℕ)) → IsWithin strings → (d e : View) (stopped : Bool) → IsHeldOn e x.own → e.faults ≡ d.faults
-    → IsActed which x x d e stopped (event.Arm which call mode) strings strings reply.Armed
-arm_acted which x call mode strings within d e stopped held same = record {
-  step = record {
-    choice = Well;
-    may = refl;
-    reply = refl;
-    network = refl;
-    posted = none_posted strings [] refl;
-    writable = tt;
-    within = within;
-  };
-  held = held;
-  beside = same_stores x.other;
-  faults = same;
-  records = subst (λ (b : Bool). RecordsGo (cond b (Arms call mode) LeavesIt) reply.Armed (records_of x.own) (records_of x.own)) (sym (same_self which)) tt;
-}
 
 -- Events that call no disk.
 

@@ -44,20 +44,6 @@ none_of : (which : Which) (asked : Event) → IsOf which asked → (packets : Li
 none_of which (event.Deliver k now) is packets = absurd (none_some is.0)
 none_of which asked is packets = refl
 
--- Which manager acts.
-pub acts_so : (asked : Event) → ((m : Which) (now alpha beta : ℕ) → asked ≡ event.Connect m now alpha beta → ⊥) → ((k now : ℕ) → asked ≡ event.Deliver k now → ⊥)
-    → ((m : Which) (now : ℕ) → asked ≡ event.Flow m now → ⊥) → IsOf (actor asked) asked
-acts_so (event.Connect m now alpha beta) c d f = absurd (c m now alpha beta refl)
-acts_so event.Disconnect c d f = tt
-acts_so (event.Pump m now) c d f = refl
-acts_so (event.Deliver k now) c d f = absurd (d k now refl)
-acts_so (event.Drop k) c d f = tt
-acts_so (event.Flow m now) c d f = absurd (f m now refl)
-acts_so (event.Resend m) c d f = refl
-acts_so (event.Arm m call mode) c d f = refl
-acts_so (event.Restart m pick) c d f = refl
-acts_so asked c d f = (refl, refl)
-
 -- What is told of a disk in a flow or a delivery.
 faults_as : (asked : Event) (stopped : Bool) → ((how : Failure) → how ≡ failure_of (how_by stopped) → IsToldSo asked stopped how) → (before after : ℕ) (hows : List Failure)
     → FailsAs hows stopped before after → FaultsGo asked stopped before after hows
