@@ -73,7 +73,7 @@ use Rattle.mqb_model.specs.state.Rows.{in_row}
 
 -- what an outcome is made of
 
-whole_unless : {V E : Type 0} (m : Manager) (refusal : Option E) (outcome : Outcome (Result V E)) → IsWhole m outcome → IsWhole m (unless m refusal outcome)
+pub whole_unless : {V E : Type 0} (m : Manager) (refusal : Option E) (outcome : Outcome (Result V E)) → IsWhole m outcome → IsWhole m (unless m refusal outcome)
 whole_unless m (Some fault) outcome h = record { refused = refl; touches = refl }
 whole_unless m None outcome h = h
 
