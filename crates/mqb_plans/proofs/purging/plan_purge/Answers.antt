@@ -1,10 +1,19 @@
 use Rattle.std.proofs.lemmas.Result.{IfOk-weaker}
+use Rattle.mqb_model.specs.calls.Call as answer
 use Rattle.mqb_model.specs.calls.Call.{Purge}
 use Rattle.mqb_model.specs.calls.Purge.{purge}
 use Rattle.mqb_plans.specs.Answers.{purge_plan}
-use Rattle.mqb_plans.proofs.Planned.{writes}
+use Rattle.mqb_plans.proofs.Planned.{keeps_store, keeps_valid, writes}
 use Rattle.mqb_plans.proofs.purging.plan_purge.Goals as goal
 
 pub returns-clause-writable : goal.returns-clause-writable
 returns-clause-writable c = IfOk-weaker c.purge.result _ _ (λ t made. writes c.args.contents.now.lists (λ m. purge m c.args.place.now c.args.now) (purge_plan t) t.count made
     (λ m. (c.records_fit.ensures m).requests (Purge c.args.now c.args.place.now) tt) (λ m. (c.records_are_read.ensures m).requests (Purge c.args.now c.args.place.now) tt)) c.purge.ensures.planned
+
+pub returns-clause-stays_valid : goal.returns-clause-stays_valid
+returns-clause-stays_valid c = IfOk-weaker c.purge.result _ _ (λ t made. keeps_valid c.args.contents.now.lists (λ m. purge m c.args.place.now c.args.now) (purge_plan t) t.count made answer.Purged
+    (λ m v. (c.calls_keep_valid.ensures m v).requests (Purge c.args.now c.args.place.now) tt)) c.purge.ensures.planned
+
+pub returns-clause-stays_stored : goal.returns-clause-stays_stored
+returns-clause-stays_stored c = IfOk-weaker c.purge.result _ _ (λ t made. keeps_store c.args.contents.now.lists (λ m. purge m c.args.place.now c.args.now) (purge_plan t) t.count made answer.Purged
+    (λ m v. (c.calls_leave_store.ensures m v).requests (Purge c.args.now c.args.place.now) tt)) c.purge.ensures.planned
