@@ -7,9 +7,9 @@ brought over and taken: each message once, in the order of the commits. It print
 was not (`made`), and nothing was done (`not`); `part` is an `init` that left a file which is no store. Of connections: all that waited on both sides was acknowledged
 (`whole`), something was decided that its sender had not heard of (`ahead`), or neither (`short`).
 
-Seen, of 300 kills each, by the released program whose sum begins with d60eebe1, on a machine with five times as many busy programs as processors (said, made, not): peer 100, 26, 174; create 102, 18,
-180; send 103, 22, 175; commit 98, 23, 179; take 60, 14, 226; purge 100, 17, 183; tick 143, 23, 134; roll 103, 25, 172; init 209, 21, 19, and 51 part; (whole, ahead, short): serve 26, 233, 41; attend 22,
-255, 23; probe 91, 163, 46; push 165, 68, 67; fetch 177, 55, 68, and the 9,000 messages of these five came once each, in order. Two runs side by side took 10 minutes. The program 21bffc63, before it, stood 1,000 of each.
+Seen, of 300 kills each, by the released program whose sum begins with b9784d31, on a machine with twice as many busy programs as processors (said, made, not): peer 108, 13, 179; create 129, 18,
+153; send 154, 19, 127; commit 136, 15, 149; take 172, 11, 117; purge 130, 22, 148; tick 101, 30, 169; roll 118, 35, 147; init 199, 22, 33, and 46 part; (whole, ahead, short): serve 157, 81, 62; attend 170,
+70, 60; probe 241, 25, 34; push 223, 31, 46; fetch 206, 49, 45, and the 9,000 messages of these five came once each, in order. Two runs side by side took 8 minutes. The program 21bffc63, before it, stood 1,000 of each.
 
 It stands outside the gate. Its port must be free: 1801, or MQB_PORT. MQB names another program than `./mqb --where` does.
 """

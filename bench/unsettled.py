@@ -6,7 +6,7 @@ What was told is there still: the message that `list` showed; what beta acknowle
 commit. The system's C compiler makes the library of `unsettled.c`, which kills the program and follows what is safe. It stands outside the gate.
 
 Seen with the program from before a start synced: in the first round of `commit` the message that was listed is lost, in the first of `serve` the message that beta acknowledged, which
-alpha forgot; of `push` nothing is lost. With the one whose sum begins with d60eebe1, which syncs at its start, in 200 rounds of each: 600 kills, nothing that was told is lost, and every message came once.
+alpha forgot; of `push` nothing is lost. With the one whose sum begins with b9784d31, which syncs at its start, in 200 rounds of each: 600 kills, nothing that was told is lost, and every message came once.
 
 Its port must be free: 1801, or MQB_PORT. MQB names another program than `./mqb --where` does.
 """
