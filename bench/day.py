@@ -6,9 +6,9 @@ programs or a commit is killed by signal 9, and a link goes down or loses all pa
 At the end nothing more is done, and what waits must come: each order that was committed was handled by beta once, in the order of its sender's commits, was answered once, and its answer
 was handled once at its sender, in order; each row is acknowledged, and no queue has a message. `handle` counts what it was given again. A commit that was killed is looked for with `list`.
 
-Seen, in 11 minutes of seed 7, by the released program whose sum begins with d60eebe1, on a machine with some three times as many busy programs as processors: 14 loops, 7 of their programs and 27 commits were
-killed, 6 links cut, and of 610 orders each was handled and answered once, and each answer handled once; none was handed to `handle` again. No commit found the store in use, no loop stopped for
-good, and all was through 17 seconds behind the last commit. The program 91d03e07, before it, went 32 minutes so (seed 5), with 1,668 orders, and 21bffc63 60 minutes (seed 3), with 3,109. A day was not run.
+Seen, in 11 minutes of seed 24, by the released program whose sum begins with b9784d31, on a machine with some twice as many busy programs as processors: 16 loops, 6 of their programs and 23 commits were
+killed, 5 links cut, and of 596 orders each was handled and answered once, and each answer handled once; none was handed to `handle` again. No commit found the store in use, no loop stopped for
+good, and all was through 10 seconds behind the last commit. The program 91d03e07, before it, went 32 minutes so (seed 5), with 1,668 orders, and 21bffc63 60 minutes (seed 3), with 3,109. A day was not run.
 
 It wants root, for the hosts. It stands outside the gate. Port 1801, or MQB_PORT, is that of each host. MQB names another program than `./mqb --where` does.
 """
