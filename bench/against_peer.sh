@@ -3,11 +3,10 @@
 # Prints a line a load, and the greatest ratio. MQB names another program than ./mqb --where does; ONLY=WORD takes the loads whose names have that word.
 # What is wanted: 3 at most for what is put and taken, 2 at `trial`, `show` and `list`, 2.5 at the three replays of commits; 163,840 messages at most 4.6 times
 # 40,960, and 81,920 with priorities or due messages, purged, swept or expired, at most 2.4 times 40,960; an empty replay at most 20 milliseconds in all.
-# Seen on a busy machine (load 10 to 16 on four processors), one or two rounds, whose tenths of a second vary by a half; the program was built of this text unproved, so its ratios are of that. 40,960 messages put and taken by 64 1.9 and 4.0 times,
-# taken one by one 4.3 and 4.1; 163,840 2.7 and 1.9, and 4.3 and 6.5, which is 3.9 and 4.1, and 4.2 and 3.5 times 40,960; `trial 10000` 4.7 and 4.3, the replays 4.1 and 3.1, 3.7 and 3.6, and 3.8 and 4.0, `show` 1.5 and 1.8, `list` 6.2 and 2.1, and an empty replay 1 millisecond.
+# Seen of the release whose sum begins with b9784d31, beside some four busy programs on four processors: 40,960 messages put by 64 and taken by 64 2.7 times, taken one by one 5.9; 163,840 2.8 and 4.8, which is 4.3 and 4.2 times 40,960; `trial 10000` 4.9, the replays 3.9, 4.0 and 2.9, `show` 1.6, `list` 2.4, and an
+# empty replay 1 millisecond. 81,920 with priorities in turn are 2.1 times 40,960, with a front of which half is due 2.0, purged, swept and expired 2.2, 2.4 and 1.9 times. Tenths of a second vary by a half on a busy machine; on a quiet one the other program gains more.
 # The release before gaps (GapBuffer): 2.9, 2.2, 2.2 and 3.8, `trial` 3.9, the replays 2.9, 3.2 and 2.2, `show` 1.4, `list` 1.9; 81,920 purged, swept and expired 2.1, 2.1 and 1.7 times 40,960.
-# By instructions, which do not vary, `trial 1500` has 313 million, that release 267, the other program 102. 81,920 with priorities in turn are 1.8 times 40,960, with a front of which half is due 1.5, purged, swept and expired 1.4, 2.1 and
-# 1.9 times; 8,192 with priorities in turn, and with a front that is due, 2.0 times 4,096 by instructions. Where a message that was put back made each pass of its list begin anew, these were 5.7 times and 3.0.
+# By instructions, which do not vary, `trial 1500` has 313 million, that release 267, the other program 102. Of takes 8,192 with priorities in turn, and with a front that is due, 2.0 times 4,096 by instructions. Where a message that was put back made each pass of its list begin anew, these were 5.7 times and 3.0.
 # It stands outside the gate.
 set -e
 top=$(cd "$(dirname "$0")/.." && pwd)
