@@ -7,11 +7,11 @@ is decided at the other. Then all is brought over without faults and taken: each
 calls were failed, and with which status the program ended how often: 127 is the loader's, `cut` a program that had not ended after LIMIT seconds (20). ERRORS=EIO tries that error alone. Of a
 call that is made more than 40 times, as the looks of `attend` for a peer, the first twenty are failed and each tenth.
 
-Seen, by the released program whose sum begins with d60eebe1, with each error: each of 61 calls of commit and of take, 114 of push, 121 of serve, 113 of fetch, and 175 of 320 of attend: 1,935 in all, of which
-19 did not come. Both stores agreed each time, and each message came once. The first calls are the loader's: 15 end with its status, 2 or 3 by a signal. Of EIO and ENOSPC the disk's end with 6 (24 of commit
-and take, 48 of the others), that of the output with 5, those of the net with 7 (21 of push, 23 or 25 of fetch, 5 of serve, 12 of attend), and others do no harm. Of EINTR the disk's are made again, but that of its
+Seen, by the released program whose sum begins with b9784d31, with each error: each of 61 calls of commit and of take, 116 of push, 117 of serve, 112 of fetch, and 173 of 303 of attend: 1,920 in all, of which
+14 did not come. Both stores agreed each time, and each message came once. The first calls are the loader's: 15 end with its status, 2 or 3 by a signal. Of EIO and ENOSPC the disk's end with 6 (24 of commit
+and take, 48 of the others), that of the output with 5, those of the net with 7 (21 or 22 of push, 23 or 24 of fetch, 5 of serve, 12 of attend), and others do no harm. Of EINTR the disk's are made again, but that of its
 length, 6, and so is not that of the output, 5; of the net those that make a connection ready end with 7. Where the time limits of a connection cannot be set, serve lets it go and waits for another, and
-attend ends with 7. Three runs side by side, on ports of their own, took 17 minutes on a busy machine; attend, which looks each few milliseconds whether a peer came, took most of it.
+attend ends with 7. One run took 34 minutes on a busy machine; attend, which looks each few milliseconds whether a peer came, took most of it.
 
 A call that is failed is not made, and each run fails one: what a disk does that fails for good is not tried, nor what the system keeps behind a failed sync. A silent peer
 is waited for two seconds (MQB_WAIT), so which calls a connection makes differs a little from run to run: a call that did not come is counted as `not reached`.
