@@ -8,11 +8,11 @@ ghost use Rattle.mqb_arrivals.specs.declared.faults.RecordFault.TheVariants as f
 use crate::decisions::{decide, decided_fits, discard, store};
 use crate::faults::RecordFault;
 use crate::finals::{is_final, store_final};
-use crate::packets::is_recoverable;
 use mqb_base::{Message, TxHead};
 use mqb_contents::Contents;
 use mqb_drafts::Draft;
 use mqb_packet::UserPacket;
+use mqb_rules::is_recoverable;
 
 fn is_from_peer(contents: &Contents, message: &Message) -> bool
     ensures { result ≡ is_from_peer contents.now.lists message.now }

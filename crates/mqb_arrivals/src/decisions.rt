@@ -1,29 +1,23 @@
 ghost use Rattle.std.specs.Prelude.{◌+◌, ◌<◌, ◌≡◌, ◌≤◌, IfOk, IfSome, OnOk, false, length};
 ghost use Rattle.std.specs.Option.{option_map_or};
 ghost use Rattle.mqb_contents.specs.Rooms.{IsGrown};
-ghost use Rattle.mqb_fate.specs.Asking.{is_ordinary, is_transactional};
+ghost use Rattle.mqb_fate.specs.Asking.{is_ordinary};
 ghost use Rattle.mqb_model.specs.records.Decisions.{decided_fits, decided_line, is_next, message_decided, message_stored, stored_line, with_decided};
 ghost use Rattle.mqb_model.specs.rules.Effects.{joined, with_line, without_line};
 ghost use Rattle.mqb_model.specs.state.Rows.{in_index, in_row};
 ghost use Rattle.mqb_orders.specs.Judging.{verdict_of};
 
-use mqb_base::{Class, Delivery, Line, Memory, Message, Stream, TxHead};
+use mqb_base::{Class, Line, Memory, Message, Stream, TxHead};
 use mqb_contents::Contents;
 use mqb_drafts::Draft;
 use mqb_orders::{InRow, Verdict, judge};
 use mqb_packet::UserPacket;
-use mqb_rules::{arrive, refusal_of, storing_refusal};
+use mqb_rules::{arrive, is_transactional, refusal_of, storing_refusal};
 
 fn is_next(verdict: Verdict) -> bool
     ensures { result ≡ is_next verdict }
 {
     matches!(verdict, Verdict::Next)
-}
-
-fn is_transactional(delivery: Delivery) -> bool
-    ensures { result ≡ is_transactional delivery }
-{
-    matches!(delivery, Delivery::Transactional)
 }
 
 fn is_ordinary(message: &Message) -> bool

@@ -7,13 +7,12 @@ ghost use Rattle.mqb_model.specs.state.Resolving.{peer_known};
 ghost use Rattle.mqb_orders.specs.Rows.{row_of};
 
 use crate::kept::{index_named, keeps_named};
-use crate::packets::is_recoverable;
 use mqb_base::{Class, EntryPlace, Line, Memory, Message, MessageId};
 use mqb_contents::Contents;
 use mqb_drafts::Draft;
 use mqb_fate::is_final_class;
 use mqb_orders::OutRow;
-use mqb_rules::is_for_order_layer;
+use mqb_rules::{is_for_order_layer, is_recoverable};
 
 /// Whether a message is a final acknowledgement for this manager's order layer.
 pub fn is_final(contents: &Contents, message: &Message) -> bool

@@ -1,9 +1,8 @@
 ghost use Rattle.std.specs.Prelude.{◌≡◌, IfOk, IfSome};
-ghost use Rattle.mqb_model.specs.records.Packets.{is_recoverable};
 ghost use Rattle.mqb_model.specs.records.Reading.{user_packet_of};
 ghost use Rattle.mqb_packet.specs.Plain.{IsWellFormedUser};
 
-use mqb_base::{Delivery, Memory};
+use mqb_base::Memory;
 use mqb_packet::{Packet, UserPacket, to_owned, view};
 use std::alloc::Global;
 
@@ -19,10 +18,4 @@ pub fn user_packet_of(alloc: Global, bytes: &[u8]) -> Result<Option<UserPacket>,
         Packet::User(user) => Ok(Some(user)),
         _ => Ok(None),
     }
-}
-
-pub(crate) fn is_recoverable(delivery: Delivery) -> bool
-    ensures { result ≡ is_recoverable delivery }
-{
-    matches!(delivery, Delivery::Recoverable)
 }

@@ -1,13 +1,12 @@
 ghost use Rattle.std.specs.Prelude.{◌≡◌};
 ghost use Rattle.mqb_model.specs.records.Finals.{is_final};
-ghost use Rattle.mqb_model.specs.records.Packets.{is_recoverable};
 ghost use Rattle.mqb_model.specs.rules.Arrivals.{refusal_of, storing_refusal};
 
 use crate::lent::LentPacket;
-use mqb_base::{Class, Delivery};
+use mqb_base::Class;
 use mqb_contents::Contents;
 use mqb_fate::is_final_class;
-use mqb_rules::{is_for_order_layer, resolved, target_refusal};
+use mqb_rules::{is_for_order_layer, is_recoverable, resolved, target_refusal};
 
 /// Why the arrival of a packet's message is refused.
 pub(crate) fn refusal_of(contents: &Contents, packet: &LentPacket<'_>) -> Option<Class>
@@ -28,12 +27,6 @@ pub(crate) fn storing_refusal(contents: &Contents, packet: &LentPacket<'_>) -> O
         return Some(Class::BAD_DESTINATION);
     }
     refusal_of(contents, packet)
-}
-
-fn is_recoverable(delivery: Delivery) -> bool
-    ensures { result ≡ is_recoverable delivery }
-{
-    matches!(delivery, Delivery::Recoverable)
 }
 
 /// Whether a packet's message is a final acknowledgement for this manager's order layer.

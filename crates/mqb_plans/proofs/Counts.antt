@@ -1,41 +1,18 @@
 -- How many messages are due, and that they are few.
-use Rattle.std.proofs.Common.{◌≡◌, ◌⊎◌, inl, inr, ◌+◌, ◌<◌, ◌≤◌, ℕ, zero, suc, List, [], ◌∷◌, Option, Some, length, take, sym, ap, subst, ◌∙◌, arith}
-use Rattle.std.proofs.lemmas.Bool.{cases_lt}
-use Rattle.std.proofs.lemmas.List.{take_all}
+use Rattle.std.proofs.Common.{◌≡◌, ◌+◌, ◌<◌, ◌≤◌, ℕ, zero, suc, List, [], ◌∷◌, Option, Some, None, length, refl, subst, arith}
 use Rattle.std.proofs.lemmas.List.Elements.{recursion_from_All}
-use Rattle.std.proofs.lemmas.List.Sums.{sum_by_more}
-use Rattle.std.proofs.lemmas.Option.{slice_get-get_or, slice_get_past}
+use Rattle.std.proofs.lemmas.List.Sums.{count_by-le-length}
 use Rattle.std.specs.List.{AllByRecursion}
 use Rattle.std.specs.Option.{option_map_or}
-use Rattle.std.specs.Prelude.{max, slice_get, sum_by}
+use Rattle.std.specs.Prelude.{max, slice_get}
 use Rattle.mqb_orders.specs.KeptLists.{Rises}
 use Rattle.mqb_orders.specs.Rows.{Row}
 use Rattle.mqb_orders.specs.declared.kept.Kept.{Kept}
 use Rattle.mqb_model.specs.declared.limits.TheConstants.{MAX_ROLL}
+use Rattle.mqb_model.specs.rules.Timeouts.{expires, expiring_in}
 use Rattle.mqb_model.specs.state.State.{State}
 use Rattle.mqb_model.specs.state.Valid.{IsInOrder, IsKeptBy, IsValidState}
-
--- sums over the first members
-pub sum_step : {X : Type 0} (f : X → ℕ) (xs : List X) (k : ℕ) → sum_by f (take (k + 1) xs) ≡ sum_by f (take k xs) + option_map_or f (slice_get xs k) 0
-sum_step f [] k =
-    let a = ap (sum_by f) (take_all (k + 1) [] (omega arith)) in
-    let b = ap (sum_by f) (take_all k [] (omega arith)) in
-    omega (arith, a, b)
-sum_step {X} f (x ∷ xs) k = at (cases_lt k (length (x ∷ xs)))
-  where
-    at : (k < length (x ∷ xs)) ⊎ (length (x ∷ xs) ≤ k)
-        → sum_by f (take (k + 1) (x ∷ xs)) ≡ sum_by f (take k (x ∷ xs)) + option_map_or f (slice_get (x ∷ xs) k) 0
-    at (inl h) = sum_by_more f (x ∷ xs) k x h
-        ∙ ap (λ (o : Option X). sum_by f (take k (x ∷ xs)) + option_map_or f o 0) (sym (slice_get-get_or (x ∷ xs) k x h))
-    at (inr h) =
-        let a = ap (sum_by f) (take_all (k + 1) (x ∷ xs) (omega (arith, h))) in
-        let b = ap (sum_by f) (take_all k (x ∷ xs) h) in
-        let e = ap (λ (o : Option X). option_map_or f o 0) (slice_get_past (x ∷ xs) k h) in
-        omega (arith, a, b, e)
-
--- one member more
-pub sum_more : {X : Type 0} (f : X → ℕ) (xs : List X) (k : ℕ) (x : X) → slice_get xs k ≡ Some x → sum_by f (take (k + 1) xs) ≡ sum_by f (take k xs) + f x
-sum_more {X} f xs k x is = sum_step f xs k ∙ ap (λ (o : Option X). sum_by f (take k xs) + option_map_or f o 0) is
+use Rattle.mqb_timeouts.specs.Waiting.{expired_count}
 
 -- Numbers that rise above one and up to another are few.
 rising_few : (low most : ℕ) (kept : List Kept) → Rises kept → AllByRecursion (λ k. (low < k.number) × (k.number ≤ most)) kept → length kept + low ≤ max low most
@@ -75,5 +52,16 @@ member P (y ∷ xs) zero x h is = subst P (same y x is) h.0
 member P (y ∷ xs) (suc k) x h is = member P xs k x h.1 is
 
 -- A row of a valid state keeps few messages.
-pub few_kept : (s : State) (k : ℕ) (row : Row) → IsValidState s → slice_get s.outs k ≡ Some row → length row.kept ≤ MAX_ROLL
+few_kept : (s : State) (k : ℕ) (row : Row) → IsValidState s → slice_get s.outs k ≡ Some row → length row.kept ≤ MAX_ROLL
 few_kept s k row valid is = few_in_row (length s.peers) row (member (IsInOrder (length s.peers)) s.outs k row (recursion_from_All (IsInOrder (length s.peers)) s.outs valid.rows) is)
+
+-- So few of them expire.
+pub few_expire : (now : ℕ) (s : State) (k : ℕ) → IsValidState s → expired_count now s k ≤ MAX_ROLL
+few_expire now s k valid = by (slice_get s.outs k) refl
+  where
+    by : (o : Option Row) → slice_get s.outs k ≡ o → option_map_or (expiring_in now) o 0 ≤ MAX_ROLL
+    by None is = omega arith
+    by (Some row) is =
+        let few = few_kept s k row valid is in
+        let passing = count_by-le-length (expires now row) row.kept in
+        omega (arith, few, passing)

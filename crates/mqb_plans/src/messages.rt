@@ -2,46 +2,11 @@ ghost use Rattle.std.specs.Prelude.{◌≡◌, IfOk, None, false, if◌then◌el
 ghost use Rattle.mqb_base.specs.Drafts.{draft_fault};
 ghost use Rattle.mqb_base.specs.Messages.{IsWellFormed};
 ghost use Rattle.mqb_base.specs.declared.message.Delivery.TheVariants.{Express, Recoverable};
-ghost use Rattle.mqb_model.specs.calls.Messages.{message_of, plain_message};
+ghost use Rattle.mqb_model.specs.calls.Messages.{plain_message};
 
-use mqb_base::{Class, Delivery, Memory, Message, MessageId, Parts, QueueName};
+use mqb_base::{Delivery, Memory, Message, MessageId, Parts};
 use mqb_contents::Contents;
-
-/// A copy of a name that may be absent.
-fn copy_of(name: &Option<QueueName>) -> Result<Option<QueueName>, Memory>
-    ensures { IfOk result (λ copy. copy ≡ name.now) }
-{
-    match name {
-        Some(name) => Ok(Some(name.clone()?)),
-        None => Ok(None),
-    }
-}
-
-fn message_of(id: MessageId, delivery: Delivery, now: u32, parts: &Parts) -> Result<Message, Memory>
-    ensures { IfOk result (λ m.
-        m ≡ message_of id delivery parts.now.priority now parts.now) }
-{
-    Ok(Message {
-        destination: parts.destination.clone()?,
-        admin: copy_of(&parts.admin)?,
-        response: copy_of(&parts.response)?,
-        label: parts.label.clone()?,
-        extension: parts.extension.clone()?,
-        body: parts.body.clone()?,
-        id,
-        class: Class::NORMAL,
-        delivery,
-        priority: parts.priority,
-        sent: now,
-        reach: parts.reach,
-        life: parts.life,
-        ack: parts.ack,
-        journal: parts.journal,
-        correlation: parts.correlation,
-        body_type: parts.body_type,
-        tag: parts.tag,
-    })
-}
+use mqb_rules::message_of;
 
 /// The number of the next message of its kind.
 fn next_number(contents: &Contents, recoverable: bool) -> u32
@@ -81,6 +46,6 @@ pub(crate) fn plain_message(
         qm: contents.identity().guid,
         number: next_number(contents, recoverable),
     };
-    let message = message_of(id, delivery_of(recoverable), now, parts)?;
+    let message = message_of(id, delivery_of(recoverable), parts.priority, now, parts)?;
     Ok(message)
 }

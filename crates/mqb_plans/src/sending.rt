@@ -4,7 +4,6 @@ ghost use Rattle.mqb_base.specs.declared.message.Delivery.TheVariants.{Recoverab
 ghost use Rattle.mqb_model.specs.calls.Send.{send};
 ghost use Rattle.mqb_model.specs.laws.Fitting.{IsDrafted};
 ghost use Rattle.mqb_model.specs.records.Packets.{is_too_large};
-ghost use Rattle.mqb_model.specs.state.Resolving.{guid_at};
 ghost use Rattle.mqb_packet.specs.declared.packet.Headers.TheVariants as headers;
 ghost use Rattle.mqb_plans.specs.Answers.{send_plan};
 ghost use Rattle.mqb_plans.specs.Calls.{sending};
@@ -14,12 +13,10 @@ use crate::messages::plain_message;
 use crate::refusals::{message_fault, target_fault};
 use crate::spelling::SentRecord;
 use crate::values::draft_fits;
-use mqb_base::{Draft, Guid, Memory, Message, MessageId};
+use mqb_base::{Draft, Memory, Message, MessageId};
 use mqb_contents::Contents;
-use mqb_model::{
-    SendFault, Target, calls_keep_valid, calls_leave_store, records_are_read, records_fit,
-};
-use mqb_rules::resolved;
+use mqb_model::{SendFault, calls_keep_valid, calls_leave_store, records_are_read, records_fit};
+use mqb_rules::{guid_at, resolved};
 use mqb_timeouts::ExpressWork;
 use std::alloc::Global;
 
@@ -32,19 +29,6 @@ pub struct Sending {
     pub sent: SentRecord,
     /// What is to be done beside it.
     pub work: ExpressWork,
-}
-
-/// The manager to which a message for a target goes.
-fn guid_at(contents: &Contents, target: Target) -> Guid
-    ensures { result ≡ guid_at contents.now.lists target }
-{
-    match target {
-        Target::AtPeer(k) => match contents.peers().get(k as usize) {
-            Some(peer) => peer.guid,
-            None => contents.identity().guid,
-        },
-        Target::Here(_) | Target::Nowhere => contents.identity().guid,
-    }
 }
 
 fn send_recoverable(

@@ -1,22 +1,16 @@
 ghost use Rattle.std.specs.Prelude.{◌&&◌, ◌≡◌, not};
 ghost use Rattle.mqb_base.specs.Messages.{IsWellFormed};
 ghost use Rattle.mqb_base.specs.Same.{same_guid};
-ghost use Rattle.mqb_model.specs.records.Packets.{is_own_packet, is_recoverable, is_sendable, is_too_large};
+ghost use Rattle.mqb_model.specs.records.Packets.{is_own_packet, is_sendable, is_too_large};
 ghost use Rattle.mqb_model.specs.rules.Numbers.{is_numbered};
 ghost use Rattle.mqb_model.specs.state.Resolving.{guid_at, is_found, resolved};
 ghost use Rattle.mqb_packet.specs.Plain.{IsWellFormedUser};
 
-use mqb_base::{Delivery, Guid, Message};
+use mqb_base::Message;
 use mqb_contents::Contents;
 use mqb_model::{MAX_NUMBER, Target};
 use mqb_packet::{Headers, UserPacket, message_size};
-use mqb_rules::resolved;
-
-fn is_recoverable(delivery: Delivery) -> bool
-    ensures { result ≡ is_recoverable delivery }
-{
-    matches!(delivery, Delivery::Recoverable)
-}
+use mqb_rules::{guid_at, is_recoverable, resolved};
 
 /// Whether a message is the manager's own of a number.
 fn is_numbered(contents: &Contents, number: u32, message: &Message) -> bool
@@ -29,19 +23,6 @@ fn is_found(target: Target) -> bool
     ensures { result ≡ is_found target }
 {
     matches!(target, Target::Here(Some(_)) | Target::AtPeer(_))
-}
-
-/// The manager to which a message for a target goes.
-fn guid_at(contents: &Contents, target: Target) -> Guid
-    ensures { result ≡ guid_at contents.now.lists target }
-{
-    match target {
-        Target::AtPeer(k) => match contents.peers().get(k as usize) {
-            Some(peer) => peer.guid,
-            None => contents.identity().guid,
-        },
-        Target::Here(_) | Target::Nowhere => contents.identity().guid,
-    }
 }
 
 /// Whether a packet goes to where its message's destination leads.

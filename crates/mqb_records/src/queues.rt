@@ -10,13 +10,14 @@ ghost use Rattle.mqb_arrivals.specs.declared.faults.RecordFault.TheVariants as f
 
 use crate::peers::owned_name;
 use mqb_arrivals::RecordFault;
-use mqb_base::{Guid, Memory, QueuePlan};
+use mqb_base::{Memory, QueuePlan};
 use mqb_contents::Contents;
 use mqb_drafts::Draft;
 use mqb_entries::QueueView;
 use mqb_fate::is_order_name;
 use mqb_model::MAX_QUEUES;
 use mqb_queue::Queues;
+use mqb_rules::is_registered;
 use std::alloc::Global;
 
 fn owned_plan(alloc: Global, view: &QueueView<'_>) -> Result<QueuePlan, Memory>
@@ -29,15 +30,6 @@ fn owned_plan(alloc: Global, view: &QueueView<'_>) -> Result<QueuePlan, Memory>
         quota: view.quota,
         journal: view.journal,
     })
-}
-
-fn is_registered(plan: &QueuePlan, guid: Guid) -> bool
-    ensures { result ≡ option_map_or (same_guid guid) plan.now.public false }
-{
-    match plan.public {
-        Some(public) => guid == public,
-        None => false,
-    }
 }
 
 fn shares_guid(plan: &QueuePlan, other: &QueuePlan) -> bool

@@ -3,3 +3,4 @@ pub mod Peers
 pub mod Following
 pub mod Loops
 pub mod Here
+pub mod Drafted

@@ -1,6 +1,7 @@
 ghost use Rattle.std.specs.Prelude.{◌≡◌, ◌+◌, ◌≤◌, OnOk};
 ghost use Rattle.mqb_contents.specs.Rooms.{IsGrown};
 ghost use Rattle.mqb_fate.specs.Asking.{is_transactional};
+ghost use Rattle.mqb_model.specs.records.Packets.{is_recoverable};
 ghost use Rattle.mqb_model.specs.rules.Arrivals.{is_recorded, refusal_of, storing_refusal, target_refusal};
 ghost use Rattle.mqb_model.specs.rules.Effects.{without_line};
 ghost use Rattle.mqb_model.specs.rules.Notices.{arrived};
@@ -20,10 +21,16 @@ fn is_recorded(delivery: Delivery) -> bool
     !matches!(delivery, Delivery::Express)
 }
 
-fn is_transactional(delivery: Delivery) -> bool
+pub fn is_transactional(delivery: Delivery) -> bool
     ensures { result ≡ is_transactional delivery }
 {
     matches!(delivery, Delivery::Transactional)
+}
+
+pub fn is_recoverable(delivery: Delivery) -> bool
+    ensures { result ≡ is_recoverable delivery }
+{
+    matches!(delivery, Delivery::Recoverable)
 }
 
 /// Why a target refuses a message of a delivery.

@@ -6,6 +6,7 @@
 #![tactic(auto)]
 
 mod arrivals;
+mod messages;
 mod notices;
 mod placing;
 mod purges;
@@ -14,9 +15,12 @@ mod resolving;
 mod sends;
 mod takes;
 
-pub use arrivals::{arrive, refusal_of, storing_refusal, target_refusal};
+pub use arrivals::{
+    arrive, is_recoverable, is_transactional, refusal_of, storing_refusal, target_refusal,
+};
+pub use messages::message_of;
 pub use notices::meets;
 pub use purges::purged;
-pub use resolving::{is_for_order_layer, queue_named, resolved};
+pub use resolving::{guid_at, is_for_order_layer, is_registered, queue_named, resolved};
 pub use sends::{message_sent, plain_sent};
 pub use takes::{copy_at, taken, taken_at};

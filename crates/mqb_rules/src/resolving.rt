@@ -1,7 +1,7 @@
 ghost use Rattle.std.specs.Prelude.{◌≡◌, ◌<◌, false, length, IfSome, position};
 ghost use Rattle.std.specs.Option.{option_map_or};
 ghost use Rattle.mqb_base.specs.Same.{same_guid};
-ghost use Rattle.mqb_model.specs.state.Resolving.{at_peer, at_queue, is_for_order_layer, is_host_of, is_own_host, is_registered, peer_at, queue_named, queue_numbered, queue_registered, resolved};
+ghost use Rattle.mqb_model.specs.state.Resolving.{at_peer, at_queue, guid_at, is_for_order_layer, is_host_of, is_own_host, is_registered, peer_at, queue_named, queue_numbered, queue_registered, resolved};
 
 use mqb_base::{Guid, Host, Identity, Name, QueueName, QueuePlan};
 use mqb_contents::Contents;
@@ -117,6 +117,19 @@ pub fn resolved(contents: &Contents, name: &QueueName) -> Target
     }
 }
 
+/// The manager to which a message for a target goes.
+pub fn guid_at(contents: &Contents, target: Target) -> Guid
+    ensures { result ≡ guid_at contents.now.lists target }
+{
+    match target {
+        Target::AtPeer(k) => match contents.peers().get(k as usize) {
+            Some(peer) => peer.guid,
+            None => contents.identity().guid,
+        },
+        Target::Here(_) | Target::Nowhere => contents.identity().guid,
+    }
+}
+
 /// Whether a name is that of this manager's order layer. Its host tells: no queue is looked for.
 #[tactic(auto, using(crate::proofs::Here::here_by_host))]
 pub fn is_for_order_layer(contents: &Contents, name: &QueueName) -> bool
@@ -132,7 +145,8 @@ pub fn is_for_order_layer(contents: &Contents, name: &QueueName) -> bool
     }
 }
 
-fn is_registered(plan: &QueuePlan, guid: Guid) -> bool
+/// Whether a queue is registered under a GUID.
+pub fn is_registered(plan: &QueuePlan, guid: Guid) -> bool
     ensures { result ≡ option_map_or (same_guid guid) plan.now.public false }
 {
     match plan.public {

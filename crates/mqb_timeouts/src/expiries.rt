@@ -78,7 +78,8 @@ fn index_expiring(contents: &Contents, k: u32, from: u32, now: u32) -> Option<u3
     index_in(row, from, now)
 }
 
-fn count_expiring(contents: &Contents, k: u32, now: u32) -> u32
+/// How many messages of the outgoing row at an index expire.
+pub fn count_expiring(contents: &Contents, k: u32, now: u32) -> u32
     ensures { result ≡ expired_count now contents.now.lists k }
 {
     match row_at(contents, k) {

@@ -90,12 +90,21 @@ fn index_lapsing(contents: &Contents, lane: Lane, k: u32, from: u32, now: u32) -
     }
 }
 
-fn count_lapsing(contents: &Contents, lane: Lane, k: u32, now: u32) -> usize
+fn lapsing_in(plain: &PlainOut, lane: Lane, now: u32) -> u32
+    ensures { result ≡ lapsing_in lane now plain.now.lists }
+{
+    let _few = plain.len();
+    count_due(messages_in(plain, lane), now) as u32
+}
+
+/// How many plain messages of a lane for the peer at an index lapse.
+pub fn count_lapsing(contents: &Contents, lane: Lane, k: u32, now: u32) -> u32
     ensures { result ≡ lapsed_count lane now contents.now.lists k }
 {
-    match messages_for(contents, lane, k) {
-        Some(messages) => count_due(messages, now),
-        None => 0,
+    if (k as usize) < contents.peers().len() {
+        lapsing_in(contents.plain(k), lane, now)
+    } else {
+        0
     }
 }
 

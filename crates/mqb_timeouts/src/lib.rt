@@ -17,7 +17,9 @@ mod timeouts;
 mod work;
 
 pub use beside::beside_done;
-pub use expiries::rows_expired;
+pub use expiries::{count_expiring, rows_expired};
+pub use lapses::count_lapsing;
 pub use noting::{Origin, note_sent};
+pub use sweeps::count_swept;
 pub use timeouts::lane_ticked;
 pub use work::ExpressWork;

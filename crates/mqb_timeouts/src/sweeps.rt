@@ -67,7 +67,8 @@ fn index_swept(contents: &Contents, lane: Lane, k: u32, from: u32, now: u32) -> 
     Some(index as u32)
 }
 
-fn count_swept(contents: &Contents, lane: Lane, k: u32, now: u32) -> usize
+/// How many messages of a lane of the queue at an index are swept.
+pub fn count_swept(contents: &Contents, lane: Lane, k: u32, now: u32) -> u32
     requires { k < MAX_QUEUES }
     ensures { result ≡ swept_count lane now contents.now.lists k }
 {
@@ -75,7 +76,7 @@ fn count_swept(contents: &Contents, lane: Lane, k: u32, now: u32) -> usize
         .queues()
         .messages_at(EntryPlace::Queue(k + 1), lane)
     {
-        Some(messages) => count_due(&messages, now),
+        Some(messages) => count_due(&messages, now) as u32,
         None => 0,
     }
 }

@@ -9,7 +9,6 @@ pub mod SendsAgree
 pub mod Agreeing
 pub mod Finishing
 pub mod Walks
-pub mod Drafted
 pub mod Lookups
 pub mod Finished
 pub mod Walked

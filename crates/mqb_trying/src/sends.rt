@@ -1,7 +1,6 @@
 ghost use Rattle.std.specs.Option.{option_map_or};
 ghost use Rattle.std.specs.Prelude.{◌≡◌, ◌≤◌, ◌<◌, ◌^◌, ◌+◌, Err, IfErr, IfOk, None, Ok, OnOk, fold, option_map};
 ghost use Rattle.mqb_model.specs.declared.faults.OpFault.TheVariants as op_fault;
-ghost use Rattle.mqb_model.specs.state.Resolving.{guid_at};
 ghost use Rattle.mqb_model.specs.state.Rows.{last_sequence};
 ghost use Rattle.mqb_queue.specs.Places.{numbered};
 ghost use Rattle.mqb_trying.specs.Notes.{IsWritable};
@@ -12,12 +11,11 @@ ghost use Rattle.mqb_trying.specs.declared.notes.PlannedOp.TheVariants as planne
 use crate::messages::recorded_message;
 use crate::notes::{Notes, PlannedOp, Route, SequenceEnd, push_op};
 use mqb_base::{
-    Draft, EntryPlace, Guid, Memory, Message, MessageId, QueueName, QueuePlan, SequenceId,
-    same_name,
+    Draft, EntryPlace, Memory, Message, MessageId, QueueName, QueuePlan, SequenceId, same_name,
 };
 use mqb_contents::Contents;
 use mqb_model::{CommitFault, Done, MAX_ORDINAL, OpFault, Target};
-use mqb_rules::resolved;
+use mqb_rules::{guid_at, resolved};
 
 // Into a queue here.
 
@@ -130,19 +128,6 @@ fn target_of(route: Route) -> Target
     match route {
         Route::Put { queue } => Target::Here(Some(queue)),
         Route::Join { peer, .. } | Route::Begin { peer } => Target::AtPeer(peer),
-    }
-}
-
-/// The manager to which a message for a target goes.
-fn guid_at(contents: &Contents, target: Target) -> Guid
-    ensures { result ≡ guid_at contents.now.lists target }
-{
-    match target {
-        Target::AtPeer(k) => match contents.peers().get(k as usize) {
-            Some(peer) => peer.guid,
-            None => contents.identity().guid,
-        },
-        Target::Here(_) | Target::Nowhere => contents.identity().guid,
     }
 }
 

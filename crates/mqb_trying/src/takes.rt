@@ -1,6 +1,5 @@
 ghost use Rattle.std.specs.Prelude.{◌≡◌, ◌<◌, ◌≤◌, ◌+◌, IfErr, IfOk, IfSome, IsSome, None, Ok, OnOk, Some, drop, length, option_copied, option_map};
 ghost use Rattle.mqb_base.specs.declared.roomed.TheConstants.{MAX_MEMBERS};
-ghost use Rattle.mqb_model.specs.state.Resolving.{queue_named};
 ghost use Rattle.mqb_queue.specs.Places.{numbered};
 ghost use Rattle.mqb_trying.specs.Takes.{comes_after, durable, index_from, last_index, mark_of, may_take, message_of_take, next_index, next_take, noted_take, take_by, take_of, top_from, try_take};
 ghost use Rattle.mqb_trying.specs.Trying.{IsRefusedBy, at_op};
@@ -10,6 +9,7 @@ use mqb_base::{EntryPlace, Lane, Memory, Message, Name, is_due};
 use mqb_contents::Contents;
 use mqb_deque::SplitSlice;
 use mqb_model::{CommitFault, Done, OpFault};
+use mqb_rules::queue_named;
 
 /// Where a message stands that was taken, and its priority.
 #[derive(Clone, Copy, Debug, PartialEq, Eq)]
@@ -202,15 +202,6 @@ fn take_of(contents: &Contents, takes: &[Take], now: u32, queue: u32) -> Result<
         return Err(OpFault::NoQueue);
     };
     take_by(contents, takes, now, queue, plan.transactional, &messages)
-}
-
-fn queue_named(contents: &Contents, name: &Name) -> Option<u32>
-    ensures { result ≡ queue_named contents.now.lists name.now }
-{
-    match contents.queues().find(name) {
-        Some(k) => Some(k + 1),
-        None => None,
-    }
 }
 
 /// The next take of the queue with a name.
