@@ -8,7 +8,7 @@ work=$(mktemp -d)
 folder=${FOLDER:-$work}
 trap 'rm -rf "$work" "$folder/raw.store" "$folder/journal.store"' EXIT
 git -C "$top" archive HEAD crates crates.txt HANDLES | tar -x -C "$work"
-for name in mqb_base mqb_outside mqb_fields mqb_disk mqb_journal; do # what rt has kept of them is not proved again
+for name in mqb_base mqb_outside mqb_fields mqb_disk mqb_layout mqb_journal; do # what rt has kept of them is not proved again
   [ ! -d "$top/crates/$name/out" ] || cp -a "$top/crates/$name/out" "$work/crates/$name/"
 done
 crate=$work/crates/mqb_bench

@@ -4,5 +4,6 @@ pub mod Scan
 pub mod States
 pub mod Causes
 pub mod Journals
+pub mod Checkpoints
 pub mod Next
 pub mod lemmas

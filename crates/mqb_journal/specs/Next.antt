@@ -3,6 +3,7 @@ use Rattle.std.specs.Prelude.{◌≡◌, ◌+◌, ◌<◌, ◌≤◌, max, ℕ, 
 use Rattle.std.specs.Borrow.{Fml, Bor, MutBor}
 use Rattle.std.specs.Io.BufRead.{Rests}
 use Rattle.mqb_outside.specs.Disk.{View}
+use Rattle.mqb_journal.specs.Store.{Base}
 use Rattle.mqb_journal.specs.States.{ScanState, advanced, ended}
 use Rattle.mqb_journal.specs.Journals.{Lent}
 use Rattle.mqb_journal.specs.declared.faults.ScanFault.{ScanFault}
@@ -10,8 +11,8 @@ use Rattle.mqb_journal.specs.contracts.scan.Scan.{the_row}
 
 -- a scan lent the next record, or found that there is none
 pub record HasMoved (d e : View) (old : ScanState) (r : Result (Option (Bor (List ℕ))) ScanFault) (new : ScanState) : Type 0 where
-  pub more : (records : List (List ℕ)) → Lent d old records → IfOk r (λ next. IfSome next (λ entry. Lent e new (records ++ entry.now ∷ [])))
-  pub all : (records : List (List ℕ)) → Lent d old records → IfOk r (λ next. next ≡ None → Lent e new records)
+  pub more : (base : Base) (records : List (List ℕ)) → Lent d old base records → IfOk r (λ next. IfSome next (λ entry. Lent e new base (records ++ entry.now ∷ [])))
+  pub all : (base : Base) (records : List (List ℕ)) → Lent d old base records → IfOk r (λ next. next ≡ None → Lent e new base records)
   pub advanced : IfOk r (λ next. IfSome next (λ entry. new ≡ advanced old entry.now new.is_open))
   pub ended : IfOk r (λ next. next ≡ None → new ≡ ended old)
   pub within : new.gate < new.len

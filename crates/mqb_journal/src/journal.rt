@@ -1,21 +1,25 @@
-ghost use Rattle.std.specs.Prelude.{◌≡◌, ◌≢◌, ◌↔◌, ◌+◌, ◌<◌, ◌≤◌, max, ℕ, List, [], ◌∷◌, ◌++◌, length, vec_capacity, true, false, Err, IfOk, OnOk, OnErr};
+ghost use Rattle.std.specs.Prelude.{◌≡◌, ◌≢◌, ◌↔◌, ◌+◌, ◌^◌, ◌<◌, ◌≤◌, max, ℕ, List, [], ◌∷◌, ◌++◌, length, vec_capacity, true, false, Err, IfOk, OnOk, OnErr};
 ghost use Rattle.mqb_fields.specs.Writing.{bytes_of};
 ghost use Rattle.mqb_outside.specs.Faults.{Rose};
 ghost use Rattle.mqb_outside.specs.Images.{Each, Follows, Written};
 ghost use Rattle.mqb_outside.specs.Disk.{IsSettled, LeavesOnly, OnlyReads, Counted, AtMost};
 ghost use Rattle.mqb_outside.specs.declared.disk.TheConstants.{MAX_DISK};
-ghost use Rattle.mqb_journal.specs.Store.{IsSmall, IsBeforeOrAfter, framed, header};
+ghost use Rattle.mqb_journal.specs.Store.{Base, Nothing, IsSmall, IsBeforeOrAfter, bytes_in, framed};
+ghost use Rattle.mqb_layout.specs.Layouts.{IsWithinStore};
+ghost use Rattle.mqb_layout.specs.Store.{header};
+ghost use Rattle.mqb_layout.specs.declared.limits.TheConstants.{MOST_HEAD, HEAD, AREA};
 ghost use Rattle.mqb_journal.specs.States.{appended};
-ghost use Rattle.mqb_journal.specs.Scan.{HasNoHeader};
+ghost use Rattle.mqb_journal.specs.Scan.{HasNoFront, ReadsOnlyFront};
 ghost use Rattle.mqb_journal.specs.Causes.{FaultsAsSaid, open_failed, append_failed};
 
 use crate::durable::{write_behind, write_durably};
 use crate::faults::{AppendFault, OpenFault};
-use crate::header::empty_store;
-use crate::limits::{FIRST_BLOCK, HEADER, MAX_RECORD, MIN_STORE};
-use crate::reading::{header_at, is_open_at, reserve};
+use crate::front::front_at;
+use crate::limits::{FIRST_BLOCK, MAX_RECORD};
+use crate::reading::reserve;
 use crate::scan::Scan;
 use mqb_base::{Guid, Memory};
+use mqb_layout::{HEADER, Layout, MIN_STORE, empty_store, is_open_at};
 use mqb_outside::Disk;
 use std::alloc::Global;
 use std::marker::Model;
@@ -23,30 +27,34 @@ use std::marker::Model;
 /// The journal of one store. It is used with the disk on which it was formatted or begun, and nobody else writes that.
 #[derive(Debug, Drop)]
 pub struct Journal {
-    guid: Guid,
+    pub(crate) alloc: Global,
+    pub(crate) guid: Guid,
+    pub(crate) later: Option<Layout>,
     // Where the closed gate stands.
-    end: u64,
-    count: u64,
-    down: bool,
+    pub(crate) end: u64,
+    pub(crate) count: u64,
+    pub(crate) down: bool,
     block: Vec<u8>,
 }
 
 impl Model for Journal {
-    ghost use Rattle.std.specs.Prelude.{◌<◌, ◌≤◌, vec_capacity};
+    ghost use Rattle.std.specs.Prelude.{◌+◌, ◌^◌, ◌<◌, ◌≤◌, vec_capacity};
     ghost use Rattle.mqb_outside.specs.declared.disk.TheConstants.{MAX_DISK};
     ghost use Rattle.mqb_journal.specs.States.{JournalState};
+    ghost use Rattle.mqb_layout.specs.Layouts.{IsWithinStore};
 
     ghost Value = { JournalState };
 
     ghost view = { λ j. record {
       guid = j.guid;
+      later = j.later;
       end = j.end;
       count = j.count;
       down = j.down;
       room = vec_capacity j.block;
     } };
 
-    ghost invariant = { λ j. (j.end < MAX_DISK) × (j.count ≤ j.end) };
+    ghost invariant = { λ j. (j.end < MAX_DISK) × (j.count ≤ 2 ^ 63 + j.end) × IsWithinStore j.later j.end };
 }
 
 impl Journal {
@@ -54,7 +62,7 @@ impl Journal {
 
     /// Makes an empty disk a store without records. The first record of at most 128 bytes then needs no memory.
     pub fn format<D: Disk>(alloc: Global, disk: &mut D, guid: Guid) -> Result<Journal, OpenFault>
-        ensures formatted { IfOk result (λ journal. GoesOn (D.view disk.new) journal []) }
+        ensures formatted { IfOk result (λ journal. GoesOn (D.view disk.new) journal Nothing []) }
         ensures wrote { OnOk result
             (Each (D.view disk.new).reads (λ c. c ≡ header guid.0 ++ 0 ∷ [])) }
         ensures settled { OnOk result (IsSettled (D.view disk.new)) }
@@ -84,7 +92,9 @@ impl Journal {
         }
         write_durably(disk, 0, &empty_store(guid))?;
         Ok(Journal {
+            alloc,
             guid,
+            later: None,
             end: HEADER,
             count: 0,
             down: false,
@@ -92,21 +102,29 @@ impl Journal {
         })
     }
 
-    /// Begins to read the store on a disk, by its header and the first gate alone. It reserves one buffer for the longest record.
+    /// Begins to read the store on a disk, by what stands before its first gate. It reserves one buffer for the longest record, and room for the base.
     pub fn begin<D: Disk>(alloc: Global, disk: &mut D) -> Result<Scan, OpenFault>
-        ensures begun { IfOk result (λ scan. Lent (D.view disk.new) scan []) }
+        ensures begun { IfOk result (λ scan. (base : Base)
+            × Lent (D.view disk.new) scan base [] × (scan.base ≡ bytes_in base)) }
         ensures going { IfOk result (λ scan. scan.ended ≡ false) }
         ensures place { IfOk result (λ scan. scan.place ≡ scan.gate) }
         ensures within { IfOk result (λ scan. scan.gate < scan.len) }
         ensures bad { (at : ℕ) → result ≡ Err (OpenFault.BadStore at)
-            → Each (D.view disk.old).reads (HasNoHeader at) }
-        ensures not_bad { OnOk result (Each (D.view disk.old).reads (λ c. HasNoHeader 0 c → ⊥)) }
+            → Each (D.view disk.old).reads (HasNoFront at) }
+        ensures not_bad { OnOk result
+            (Each (D.view disk.old).reads (λ c. (at : ℕ) → HasNoFront at c → ⊥)) }
         ensures never { result ≢ Err OpenFault.NotEmpty }
-        ensures memory { result ≡ Err OpenFault.Memory → disk.new ≡ disk.old }
         ensures reads { OnlyReads (D.view disk.old) (D.view disk.new) }
-        ensures reached { (D.view disk.new).reached
-            ≤ max (D.view disk.old).reached MIN_STORE }
-        ensures most { AtMost 3 (D.view disk.old).calls (D.view disk.new).calls }
+        // Nothing behind the first gate, which in version 1 stands behind the header.
+        ensures reached { IfOk result
+            (λ scan. (D.view disk.new).reached ≤ max (D.view disk.old).reached (scan.gate + 1)) }
+        ensures bad_reached { (at : ℕ) → result ≡ Err (OpenFault.BadStore at)
+            → (D.view disk.new).reached
+            ≤ max (D.view disk.old).reached (max (MOST_HEAD + HEAD) (at + AREA)) }
+        // However it ends.
+        ensures no_further { Each (D.view disk.old).reads
+            (ReadsOnlyFront (D.view disk.old).reached (D.view disk.new).reached) }
+        ensures most { AtMost 8 (D.view disk.old).calls (D.view disk.new).calls }
         ensures cause { FaultsAsSaid open_failed (D.view disk.old).faults
             (D.view disk.new).faults result }
     {
@@ -115,22 +133,35 @@ impl Journal {
         if len < MIN_STORE {
             return Err(OpenFault::BadStore { at: 0 });
         }
-        let Some(guid) = header_at(disk)? else {
-            return Err(OpenFault::BadStore { at: 0 });
-        };
-        let is_open = is_open_at(disk, HEADER)?;
-        Ok(Scan::new(alloc, guid, len, is_open, buffer))
+        let front = front_at(alloc, disk, len)?;
+        let is_open = is_open_at(disk, front.first)?;
+        Ok(Scan::new(alloc, front, len, is_open, buffer))
     }
 
     /// The journal behind so many records, whose closed gate stands at `end`.
-    pub(crate) fn after(alloc: Global, guid: Guid, end: u64, count: u64) -> Journal
+    pub(crate) fn after(
+        alloc: Global,
+        guid: Guid,
+        later: Option<Layout>,
+        end: u64,
+        count: u64,
+    ) -> Journal
         requires within { end < MAX_DISK }
-        requires count { count ≤ end }
-        ensures { result
-            ≡ record { guid = guid; end = end; count = count; down = false; room = result.room } }
+        requires count { count ≤ 2 ^ 63 + end }
+        requires laid { IsWithinStore later end }
+        ensures { result ≡ record {
+          guid = guid;
+          later = later;
+          end = end;
+          count = count;
+          down = false;
+          room = result.room;
+        } }
     {
         Journal {
+            alloc,
             guid,
+            later,
             end,
             count,
             down: false,
@@ -142,18 +173,20 @@ impl Journal {
     pub fn append<D: Disk>(&mut self, disk: &mut D, entry: &[u8]) -> Result<(), AppendFault>
         requires { self.old.down ≡ false
             → Each (D.view disk.old).reads (λ c. self.old.end < length c) }
-        ensures done { (records : List (List ℕ)) → GoesOn (D.view disk.old) self.old records
-            → OnOk result (GoesOn (D.view disk.new) self.new (records ++ entry.now ∷ [])) }
+        ensures done { (base : Base) (records : List (List ℕ))
+            → GoesOn (D.view disk.old) self.old base records
+            → OnOk result (GoesOn (D.view disk.new) self.new base (records ++ entry.now ∷ [])) }
         // The gate is opened, behind it stand the length, the record and a closed gate, and all else is as it was.
         ensures wrote { OnOk result (Follows (Written self.old.end (framed entry.now ++ 0 ∷ []))
             (D.view disk.old).reads (D.view disk.new).reads) }
         ensures settled { OnOk result (IsSettled (D.view disk.new)) }
 
         // A crash at any moment of the call leaves the records from before it, with the new one or without.
-        ensures moments { (records : List (List ℕ)) → GoesOn (D.view disk.old) self.old records
+        ensures moments { (base : Base) (records : List (List ℕ))
+            → GoesOn (D.view disk.old) self.old base records
             → IsSettled (D.view disk.old)
             → LeavesOnly (D.view disk.old) (D.view disk.new)
-            (IsBeforeOrAfter self.old.guid.0 records entry.now) }
+            (IsBeforeOrAfter self.old.guid.0 base records entry.now) }
         ensures down { (result ≡ Err AppendFault.Down) ↔ (self.old.down ≡ true) }
         ensures too_large { (result ≡ Err AppendFault.TooLarge)
             ↔ ((self.old.down ≡ false) × (MAX_RECORD < length entry.now)) }

@@ -2,15 +2,22 @@ ghost use Rattle.std.specs.Prelude.{◌≡◌, ◌+◌, ◌<◌, ◌≤◌, max,
 ghost use Rattle.mqb_outside.specs.Images.{Each};
 ghost use Rattle.mqb_outside.specs.Disk.{OnlyReads, AtMost};
 ghost use Rattle.mqb_outside.specs.declared.disk.TheConstants.{MAX_DISK};
+ghost use Rattle.std.specs.Option.{option_map, option_map_or};
+ghost use Rattle.mqb_layout.specs.declared.limits.TheConstants.{MOST_COUNT};
+ghost use Rattle.mqb_layout.specs.Layouts.{IsWithinStore};
+ghost use Rattle.mqb_journal.specs.Store.{Base};
 ghost use Rattle.mqb_journal.specs.States.{begun, advanced, ended, finished};
-ghost use Rattle.mqb_journal.specs.Scan.{HasGate, HasNext, IsClosedAt, IsBadAt, ReadsOnlyAt};
+ghost use Rattle.mqb_layout.specs.Gates.{HasGate, IsClosedAt};
+ghost use Rattle.mqb_journal.specs.Scan.{HasNext, IsBadAt, ReadsOnlyAt};
 ghost use Rattle.mqb_journal.specs.Causes.{FaultsAsSaid, scan_failed};
 
 use crate::faults::ScanFault;
+use crate::front::Front;
 use crate::journal::Journal;
-use crate::limits::{HEADER, MAX_RECORD};
+use crate::limits::MAX_RECORD;
 use crate::reading::read_next;
 use mqb_base::Guid;
+use mqb_layout::Layout;
 use mqb_outside::Disk;
 use std::alloc::Global;
 use std::marker::Model;
@@ -20,12 +27,14 @@ use std::marker::Model;
 pub struct Scan {
     alloc: Global,
     guid: Guid,
+    later: Option<Layout>,
     len: u64,
     // Where the next gate stands.
     gate: u64,
     // The gate of the record that was lent last, or the first gate.
     place: u64,
     count: u64,
+    base: Option<Vec<u8>>,
     // Whether the next gate is open, which was read with what stands before it.
     is_open: bool,
     ended: bool,
@@ -38,22 +47,25 @@ impl Model for Scan {
     ghost use Rattle.std.specs.Prelude.{◌≡◌, ◌<◌, ◌≤◌, take, vec_len};
     ghost use Rattle.mqb_outside.specs.declared.disk.TheConstants.{MAX_DISK};
     ghost use Rattle.mqb_journal.specs.declared.limits.TheConstants.{MAX_RECORD};
+    ghost use Rattle.std.specs.Option.{option_map};
     ghost use Rattle.mqb_journal.specs.States.{ScanState, IsWithin};
 
     ghost Value = { ScanState };
 
     ghost view = { λ s. record {
       guid = s.guid;
+      later = s.later;
       len = s.len;
       gate = s.gate;
       place = s.place;
       count = s.count;
+      base = option_map (λ v. v.items) s.base;
       lent = take s.held s.buffer.items;
       is_open = s.is_open;
       ended = s.ended;
     } };
 
-    ghost invariant = { λ s. IsWithin s.len s.gate s.place s.count s.held (vec_len s.buffer) };
+    ghost invariant = { λ s. IsWithin s.len s.gate s.place s.count s.held (vec_len s.buffer) s.later };
 }
 
 impl Scan {
@@ -62,23 +74,46 @@ impl Scan {
     ghost use Rattle.mqb_journal.specs.Next.{EndsAs};
 
     /// Before the first record.
-    pub(crate) fn new(alloc: Global, guid: Guid, len: u64, is_open: bool, buffer: Vec<u8>) -> Scan
+    pub(crate) fn new(alloc: Global, front: Front, len: u64, is_open: bool, buffer: Vec<u8>) -> Scan
         requires bound { len ≤ MAX_DISK }
-        requires long { HEADER < len }
+        requires within { front.first < len }
+        requires laid { IsWithinStore front.later front.first }
+        requires counted { front.count ≤ MOST_COUNT }
         requires room { vec_len buffer ≡ MAX_RECORD + 1 }
-        ensures { result ≡ begun guid len HEADER is_open [] }
+        ensures { result ≡ begun front.guid front.later len front.first front.count
+            (option_map (λ v. v.items) front.base) is_open [] }
     {
         Scan {
             alloc,
-            guid,
+            guid: front.guid,
+            later: front.later,
             len,
-            gate: HEADER,
-            place: HEADER,
-            count: 0,
+            gate: front.first,
+            place: front.first,
+            count: front.count,
+            base: front.base,
             is_open,
             ended: false,
             held: 0,
             buffer,
+        }
+    }
+
+    /// The base behind which the chain stands, once. None where the store has none.
+    pub fn take_base(&mut self) -> Option<Vec<u8>>
+        ensures taken { option_map (λ v. v.items) result ≡ self.old.base }
+        ensures gone { self.new ≡ record self.old { base = None } }
+    {
+        self.base.take()
+    }
+
+    /// Where the area in use stands; 0 in a store that has none.
+    pub fn area(&self) -> u64
+        ensures { result ≡ option_map_or (λ l. l.place) self.now.later 0 }
+    {
+        match self.later {
+            Some(later) => later.place,
+            None => 0,
         }
     }
 
@@ -87,11 +122,13 @@ impl Scan {
         requires going { self.old.ended ≡ false }
         requires long { Each (D.view disk.old).reads (λ c. self.old.len ≡ length c) }
         requires gate { Each (D.view disk.old).reads (HasGate self.old.gate self.old.is_open) }
-        ensures more { (records : List (List ℕ)) → Lent (D.view disk.old) self.old records
+        ensures more { (base : Base) (records : List (List ℕ))
+            → Lent (D.view disk.old) self.old base records
             → IfOk result (λ more. more ≡ true
-            → Lent (D.view disk.new) self.new (records ++ self.new.lent ∷ [])) }
-        ensures all { (records : List (List ℕ)) → Lent (D.view disk.old) self.old records
-            → IfOk result (λ more. more ≡ false → Lent (D.view disk.new) self.new records) }
+            → Lent (D.view disk.new) self.new base (records ++ self.new.lent ∷ [])) }
+        ensures all { (base : Base) (records : List (List ℕ))
+            → Lent (D.view disk.old) self.old base records
+            → IfOk result (λ more. more ≡ false → Lent (D.view disk.new) self.new base records) }
         ensures next { IfOk result (λ more. more ≡ true
             → Each (D.view disk.old).reads (HasNext self.old.gate self.new.lent)) }
         ensures none { IfOk result (λ more. more ≡ false
@@ -202,6 +239,6 @@ impl Scan {
         requires { self.ended ≡ true }
         ensures { result ≡ finished self result.room }
     {
-        Journal::after(self.alloc, self.guid, self.gate, self.count)
+        Journal::after(self.alloc, self.guid, self.later, self.gate, self.count)
     }
 }

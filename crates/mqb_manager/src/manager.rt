@@ -75,6 +75,7 @@ impl Manager {
         ensures up { IfOk result IsUp }
         ensures settled { OnOk result (IsSettled (D.view disk.new)) }
         ensures lines { IfOk result (λ n. n.store.lines ≡ []) }
+        ensures guid { IfOk result (λ n. n.store.journal.guid ≡ identity.now.guid) }
         ensures count { IfOk result (λ n. n.store.journal.count ≡ 1) }
         ensures empty { OnOk result (Each (D.view disk.old).reads (λ c. c ≡ [])) }
         ensures not_empty { result ≡ Err OpenFault.NotEmpty
@@ -117,7 +118,7 @@ impl Manager {
         ensures never { result ≢ Err OpenFault.NotEmpty }
         ensures reads { OnlySettles (D.view disk.old) (D.view disk.new) }
         ensures reached { IfOk result (λ n. (D.view disk.new).reached
-            ≤ max (max (D.view disk.old).reached 25) (n.store.journal.end + 1)) }
+            ≤ max (D.view disk.old).reached (n.store.journal.end + 1)) }
         ensures no_further { Each (D.view disk.old).reads
             (ReadsInOrder (D.view disk.old).reached (D.view disk.new).reached) }
         ensures cause { FaultsAsSaid open_failed (D.view disk.old).faults

@@ -4,7 +4,7 @@ use Rattle.std.specs.Prelude.{[], ◌++◌, ◌≡◌, ◌∷◌, Err, IsSomeAnd
 use Rattle.mqb_outside.specs.Disk.{IsSettled, LeavesOnly, View}
 use Rattle.mqb_journal.specs.Journals.{GoesOn}
 use Rattle.mqb_journal.specs.States.{JournalState}
-use Rattle.mqb_journal.specs.Store.{IsBeforeOrAfter}
+use Rattle.mqb_journal.specs.Store.{Base, IsBeforeOrAfter}
 use Rattle.mqb_model.specs.managers.Beside.{Beside, beside_done}
 use Rattle.mqb_model.specs.managers.Outcomes.{recorded}
 use Rattle.mqb_model.specs.records.Applying.{apply, fits}
@@ -27,7 +27,7 @@ pub record CanJoin (s : State) (entry : List ℕ) (o : Option Record) : Type 0 w
 
 -- after a record, and what is done beside it
 pub written_on : RecordsJoin → (d e : View) (j k : JournalState) (s t : State) (entry : List ℕ) (o : Option Record) (b : Beside) → IsOn d j s → CanJoin s entry o
-    → ((entries : List (List ℕ)) → GoesOn d j entries → GoesOn e k (entries ++ entry ∷ [])) → k.guid ≡ j.guid
+    → ((base : Base) (entries : List (List ℕ)) → GoesOn d j base entries → GoesOn e k base (entries ++ entry ∷ [])) → k.guid ≡ j.guid
     → durable (beside_done b (recorded s o)) ≡ durable (recorded s o) → t ≡ beside_done b (recorded s o) → IsOn e k t
 written_on join d e j k s t entry None b on new goes guid stored gives = absurd new.fit
 written_on join d e j k s t entry (Some r) b on new goes guid stored gives =
@@ -36,7 +36,7 @@ written_on join d e j k s t entry (Some r) b on new goes guid stored gives =
 
 -- at each moment of the write
 pub written_moments : RecordsJoin → (d e : View) (j : JournalState) (s : State) (entry : List ℕ) (o : Option Record) → IsOn d j s → CanJoin s entry o
-    → ((entries : List (List ℕ)) → GoesOn d j entries → IsSettled d → LeavesOnly d e (IsBeforeOrAfter j.guid.0 entries entry))
+    → ((base : Base) (entries : List (List ℕ)) → GoesOn d j base entries → IsSettled d → LeavesOnly d e (IsBeforeOrAfter j.guid.0 base entries entry))
     → IsSettled d → LeavesOnly d e (Opens j s o)
 written_moments join d e j s entry None on new moments settled = absurd new.fit
 written_moments join d e j s entry (Some r) on new moments settled =

@@ -5,3 +5,4 @@ pub mod Faulty
 pub mod Read
 pub mod Steps
 pub mod Reaching
+pub mod Fronts

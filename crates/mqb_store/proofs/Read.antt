@@ -10,6 +10,7 @@ use Rattle.mqb_outside.specs.Disk.{View}
 use Rattle.mqb_outside.specs.Images.{Each}
 use Rattle.mqb_journal.specs.lemmas.Carrying.{goes_on_stands, lent_goes_on}
 use Rattle.mqb_journal.specs.States.{ScanState, finished}
+use Rattle.mqb_journal.specs.Store.{After, Base, Nothing}
 use Rattle.mqb_model.specs.laws.Durable.{DurableIsApplied}
 use Rattle.mqb_model.specs.records.Applying.{apply, effect_of, fits, lines_of}
 use Rattle.mqb_model.specs.records.Folding.{applied}
@@ -20,34 +21,44 @@ use Rattle.mqb_model.specs.state.Durable.{durable}
 use Rattle.mqb_model.specs.state.State.{State, empty}
 use Rattle.mqb_model.specs.state.Valid.{IsValidState}
 use Rattle.mqb_state.specs.Unfit.{is_fit}
-use Rattle.mqb_store.proofs.Beginning.{first_state}
+use Rattle.mqb_store.proofs.Beginning.{base_stands, first_state}
 use Rattle.mqb_store.proofs.Faulty.{StandsBehind}
 use Rattle.mqb_store.specs.Replaying.{IsReadUpTo}
 use Rattle.mqb_store_laws.specs.lemmas.Carrying.{opens_now}
 use Rattle.mqb_store_laws.specs.lemmas.Settling.{lent_settled}
 use Rattle.mqb_store_laws.specs.Faults.{MayGoOn}
-use Rattle.mqb_store_laws.specs.Images.{HasLastLines, IsOn, OpensTo, identity_in, lines_added, state_from, state_in}
+use Rattle.mqb_store_laws.specs.Images.{HasLastLines, IsOn, OpensTo, identity_in, last_lines, state_at, state_from, state_in}
 use Rattle.mqb_store_laws.specs.Laws.{EntriesBegin, EntriesGoOn}
 use Rattle.mqb_store_laws.specs.Settling.{OnlySettles}
 
--- the records that were read
-abbrev pub read_in : {d : View} {scan : ScanState} {s : State} {lines : List Line} → IsReadUpTo d scan s lines → List (List ℕ)
-read_in read = read.before ++ read.last ∷ []
-
-pub stands_behind : {d : View} {scan : ScanState} {s : State} {lines : List Line} (read : IsReadUpTo d scan s lines) → StandsBehind d scan (read_in read)
+pub stands_behind : {d : View} {scan : ScanState} {s : State} {lines : List Line} (read : IsReadUpTo d scan s lines) → StandsBehind d scan read.base read.entries
 stands_behind read = record { whole = read.whole; within = read.within; lent = read.lent }
 
 -- the first one was read
-pub read_first : EntriesBegin → (d : View) (t : ScanState) (first : List ℕ) (identity : Identity) → StandsBehind d t (first ∷ [])
+pub read_first : EntriesBegin → (d : View) (t : ScanState) (first : List ℕ) (identity : Identity) → StandsBehind d t Nothing (first ∷ [])
     → identity_in (record_of first) ≡ Some identity → same_guid identity.guid t.guid ≡ true → IsReadUpTo d t (empty identity) []
 read_first law d t first identity behind is same = record {
   whole = behind.whole;
   within = behind.within;
-  before = [];
-  last = first;
+  base = Nothing;
+  entries = first ∷ [];
   lent = behind.lent;
   state = first_state law t.guid first identity is same;
   kept = refl;
+  added = refl;
+}
+
+-- the base was read
+pub read_base : (d : View) (t : ScanState) (count : ℕ) (bytes : List ℕ) (s : State) → StandsBehind d t (After count bytes) [] → state_at bytes ≡ Some s
+    → durable s ≡ s → same_guid s.identity.guid t.guid ≡ true → IsReadUpTo d t s []
+read_base d t count bytes s behind is kept same = record {
+  whole = behind.whole;
+  within = behind.within;
+  base = After count bytes;
+  entries = [];
+  lent = behind.lent;
+  state = base_stands t.guid count bytes s is same;
+  kept = kept;
   added = refl;
 }
 
@@ -73,36 +84,36 @@ lines_as s t lines (Some r) made = sym (ap (λ (e : Effect). e.lines) made.1)
 
 -- one more was read
 pub read_more : EntriesGoOn → DurableIsApplied → (d e : View) (scan next : ScanState) (s t : State) (old new : List Line) (entry : List ℕ)
-    → (read : IsReadUpTo d scan s old) → IsValidState s → next.guid ≡ scan.guid → StandsBehind e next (read_in read ++ entry ∷ [])
+    → (read : IsReadUpTo d scan s old) → IsValidState s → next.guid ≡ scan.guid → StandsBehind e next read.base (read.entries ++ entry ∷ [])
     → IsMade s (record_of entry) t new → IsReadUpTo e next t new
 read_more law kept d e scan next s t old new entry read valid guid behind made = record {
   whole = behind.whole;
   within = behind.within;
-  before = read_in read;
-  last = entry;
+  base = read.base;
+  entries = read.entries ++ entry ∷ [];
   lent = behind.lent;
-  state = subst (λ (g : Guid). state_in g (read_in read ++ entry ∷ []) ≡ Some t) (sym guid)
-      (law.in_store scan.guid (read_in read) entry s read.state ∙ applied_as s t new (record_of entry) made);
+  state = subst (λ (g : Guid). state_in g read.base (read.entries ++ entry ∷ []) ≡ Some t) (sym guid)
+      (law.in_store scan.guid read.base read.entries entry s read.state ∙ applied_as s t new (record_of entry) made);
   kept = kept_as kept s t new (record_of entry) valid read.kept made;
-  added = subst (λ (g : Guid). new ≡ lines_added g (read_in read) entry) (sym guid)
-      (lines_as s t new (record_of entry) made ∙ sym (ap (λ o. option_map_or (λ u. option_map_or (lines_of u) (record_of entry) []) o []) read.state));
+  added = subst (λ (g : Guid). new ≡ last_lines g read.base (read.entries ++ entry ∷ [])) (sym guid)
+      (lines_as s t new (record_of entry) made ∙ sym (law.lines scan.guid read.base read.entries entry s read.state));
 }
 
 -- there is no more
 pub read_all : (d e : View) (scan next : ScanState) (s : State) (lines : List Line) (read : IsReadUpTo d scan s lines) → next.guid ≡ scan.guid
-    → StandsBehind e next (read_in read) → IsReadUpTo e next s lines
+    → StandsBehind e next read.base read.entries → IsReadUpTo e next s lines
 read_all d e scan next s lines read guid behind = record {
   whole = behind.whole;
   within = behind.within;
-  before = read.before;
-  last = read.last;
+  base = read.base;
+  entries = read.entries;
   lent = behind.lent;
-  state = subst (λ (g : Guid). state_in g (read_in read) ≡ Some s) (sym guid) read.state;
+  state = subst (λ (g : Guid). state_in g read.base read.entries ≡ Some s) (sym guid) read.state;
   kept = read.kept;
-  added = subst (λ (g : Guid). lines ≡ lines_added g read.before read.last) (sym guid) read.added;
+  added = subst (λ (g : Guid). lines ≡ last_lines g read.base read.entries) (sym guid) read.added;
 }
 
-pub may_go_on : {d : View} {scan : ScanState} {s : State} {lines : List Line} (read : IsReadUpTo d scan s lines) → MayGoOn scan.guid (read_in read)
+pub may_go_on : {d : View} {scan : ScanState} {s : State} {lines : List Line} (read : IsReadUpTo d scan s lines) → MayGoOn scan.guid read.base read.entries
 may_go_on read = inr (ap is_some read.state)
 
 not_applied : (s : State) (o : Option Record) → is_fit s o ≡ false → option_and_then (applied s) o ≡ None
@@ -110,18 +121,18 @@ not_applied s None unfit = refl
 not_applied s (Some r) unfit = ap (λ b. cond b (Some (apply s r)) None) unfit
 
 -- what was read stands for no state with an entry that is no record, or one that does not fit
-pub unfit_from : EntriesGoOn → (guid : Guid) (entries : List (List ℕ)) (entry : List ℕ) (s : State) → state_in guid entries ≡ Some s
-    → is_fit s (record_of entry) ≡ false → state_from (entries ++ entry ∷ []) ≡ None
-unfit_from law guid entries entry s is unfit = law.anywhere guid entries entry s is ∙ not_applied s (record_of entry) unfit
+pub unfit_from : EntriesGoOn → (guid : Guid) (base : Base) (entries : List (List ℕ)) (entry : List ℕ) (s : State) → state_in guid base entries ≡ Some s
+    → is_fit s (record_of entry) ≡ false → state_from base (entries ++ entry ∷ []) ≡ None
+unfit_from law guid base entries entry s is unfit = law.anywhere guid base entries entry s is ∙ not_applied s (record_of entry) unfit
 
 -- it was read still behind calls that read and sync
 pub read_settled : (d e : View) (scan : ScanState) (s : State) (lines : List Line) → IsReadUpTo d scan s lines → OnlySettles d e → IsReadUpTo e scan s lines
 read_settled d e scan s lines read settles = record {
   whole = read.whole;
   within = read.within;
-  before = read.before;
-  last = read.last;
-  lent = lent_settled d e scan (read_in read) read.lent settles;
+  base = read.base;
+  entries = read.entries;
+  lent = lent_settled d e scan read.base read.entries read.lent settles;
   state = read.state;
   kept = read.kept;
   added = read.added;
@@ -130,8 +141,9 @@ read_settled d e scan s lines read settles = record {
 -- the store that was read to its end
 pub read_on : (d : View) (scan : ScanState) (room : ℕ) (s : State) (lines : List Line) → IsReadUpTo d scan s lines → scan.ended ≡ true → IsOn d (finished scan room) s
 read_on d scan room s lines read ended = record {
-  entries = read_in read;
-  goes_on = lent_goes_on d scan room (read_in read) read.lent ended;
+  base = read.base;
+  entries = read.entries;
+  goes_on = lent_goes_on d scan room read.base read.entries read.lent ended;
   state = read.state ∙ ap Some (sym read.kept);
 }
 
@@ -144,9 +156,9 @@ read_opens d e scan s lines read ended settles c told =
 pub read_lines : (d e : View) (scan : ScanState) (s : State) (lines : List Line) → IsReadUpTo e scan s lines → scan.ended ≡ true → OnlySettles d e
     → Each d.reads (HasLastLines scan.guid lines)
 read_lines d e scan s lines read ended settles c told = record {
-  before = read.before;
-  last = read.last;
-  stands = goes_on_stands e (finished scan 0) (read_in read) (lent_goes_on e scan 0 (read_in read) read.lent ended) c
+  base = read.base;
+  entries = read.entries;
+  stands = goes_on_stands e (finished scan 0) read.base read.entries (lent_goes_on e scan 0 read.base read.entries read.lent ended) c
       (settles.reads.none_lost c told);
   added = read.added;
 }

@@ -8,6 +8,7 @@ use Rattle.mqb_outside.specs.lemmas.Runs.{reads_then}
 use Rattle.mqb_journal.specs.Causes.{open_failed, opening_of}
 use Rattle.mqb_journal.specs.Journals.{Lent}
 use Rattle.mqb_journal.specs.States.{ScanState, advanced, ended}
+use Rattle.mqb_journal.specs.Store.{Base, Nothing}
 use Rattle.mqb_journal.specs.declared.faults.OpenFault.{OpenFault}
 use Rattle.mqb_journal.specs.declared.faults.OpenFault.TheVariants as opening
 use Rattle.mqb_journal.specs.declared.faults.ScanFault.{ScanFault}
@@ -31,18 +32,18 @@ pub same_place : {T : Type 0} (at other : ℕ) → ◌≡◌ {A = Result T OpenF
 unfolding place_in
 same_place {T} at other is = ap (place_in {T = T}) is
 
--- A scan that stood behind these records went on to one more.
-pub record HasGoneOn (d e : View) (s t : ScanState) (records : List (List ℕ)) : Type 0 where
-  pub behind : StandsBehind d s records
+-- A scan that stood behind this base and these records went on to one more.
+pub record HasGoneOn (d e : View) (s t : ScanState) (base : Base) (records : List (List ℕ)) : Type 0 where
+  pub behind : StandsBehind d s base records
   pub next : t ≡ advanced s t.lent t.is_open
   pub within : t.gate < t.len
-  pub lent : Lent e t (records ++ t.lent ∷ [])
+  pub lent : Lent e t base (records ++ t.lent ∷ [])
   pub reads : OnlyReads d e
 
-pub same_guid_then : {d e : View} {s t : ScanState} {records : List (List ℕ)} → HasGoneOn d e s t records → t.guid ≡ s.guid
+pub same_guid_then : {d e : View} {s t : ScanState} {base : Base} {records : List (List ℕ)} → HasGoneOn d e s t base records → t.guid ≡ s.guid
 same_guid_then gone = ap (λ (u : ScanState). u.guid) gone.next
 
-pub stands_then : {d e : View} {s t : ScanState} {records : List (List ℕ)} → HasGoneOn d e s t records → StandsBehind e t (records ++ t.lent ∷ [])
+pub stands_then : {d e : View} {s t : ScanState} {base : Base} {records : List (List ℕ)} → HasGoneOn d e s t base records → StandsBehind e t base (records ++ t.lent ∷ [])
 stands_then gone = record {
   whole = subst (λ (g : Guid). length g.0 ≡ 16) (sym (same_guid_then gone)) gone.behind.whole;
   within = gone.within;
@@ -50,21 +51,21 @@ stands_then gone = record {
 }
 
 -- the entry that was lent does not go on from those before it
-pub unfit_then : {d e : View} {s t : ScanState} {records : List (List ℕ)} (gone : HasGoneOn d e s t records) (at : ℕ) → MayGoOn s.guid records
-    → at ≡ t.place → state_from (records ++ t.lent ∷ []) ≡ None → Each d.reads (IsBadStore at)
-unfit_then {d} {e} {s} {t} {records} gone at good place unfit =
-    does_not_fit d e s t records t.lent at gone.behind good (stands_then gone) (same_guid_then gone) gone.reads
+pub unfit_then : {d e : View} {s t : ScanState} {base : Base} {records : List (List ℕ)} (gone : HasGoneOn d e s t base records) (at : ℕ) → MayGoOn s.guid base records
+    → at ≡ t.place → state_from base (records ++ t.lent ∷ []) ≡ None → Each d.reads (IsBadStore at)
+unfit_then {d} {e} {s} {t} {base} {records} gone at good place unfit =
+    does_not_fit d e s t base records t.lent at gone.behind good (stands_then gone) (same_guid_then gone) gone.reads
     (place ∙ ap (λ (u : ScanState). u.place) gone.next) unfit
 
--- A scan that stood behind these records came to their end.
-pub record HasEnded (d e : View) (s t : ScanState) (records : List (List ℕ)) : Type 0 where
-  pub behind : StandsBehind d s records
+-- A scan that stood behind this base and these records came to their end.
+pub record HasEnded (d e : View) (s t : ScanState) (base : Base) (records : List (List ℕ)) : Type 0 where
+  pub behind : StandsBehind d s base records
   pub next : t ≡ ended s
   pub within : t.gate < t.len
-  pub lent : Lent e t records
+  pub lent : Lent e t base records
   pub reads : OnlyReads d e
 
-pub stands_at_end : {d e : View} {s t : ScanState} {records : List (List ℕ)} → HasEnded d e s t records → StandsBehind e t records
+pub stands_at_end : {d e : View} {s t : ScanState} {base : Base} {records : List (List ℕ)} → HasEnded d e s t base records → StandsBehind e t base records
 stands_at_end done = record {
   whole = subst (λ (u : ScanState). length u.guid.0 ≡ 16) (sym done.next) done.behind.whole;
   within = done.within;
@@ -72,14 +73,14 @@ stands_at_end done = record {
 }
 
 -- there is no first record
-pub none_then : {d e : View} {s t : ScanState} (done : HasEnded d e s t []) (at : ℕ) → s.place ≡ s.gate → at ≡ t.place → Each d.reads (IsBadStore at)
+pub none_then : {d e : View} {s t : ScanState} (done : HasEnded d e s t Nothing []) (at : ℕ) → s.place ≡ s.gate → at ≡ t.place → Each d.reads (IsBadStore at)
 none_then {d} {e} {s} {t} done at first place c told =
     subst (λ (k : ℕ). IsBadStore k c)
     (ap (λ (u : ScanState). u.gate) done.next ∙ (sym first ∙ (sym (ap (λ (u : ScanState). u.place) done.next) ∙ sym place)))
     (no_record e t (stands_at_end done) (ap (λ (u : ScanState). u.ended) done.next) c (done.reads.unchanged.reads.none_lost c told))
 
 -- the first record is no identity
-pub no_identity : EntriesBegin → (first : List ℕ) → identity_in (record_of first) ≡ None → state_from ([] ++ first ∷ []) ≡ None
+pub no_identity : EntriesBegin → (first : List ℕ) → identity_in (record_of first) ≡ None → state_from Nothing ([] ++ first ∷ []) ≡ None
 no_identity law first none = law.anywhere first ∙ ap (λ o. option_map empty o) none
 
 pub not_false : (b : Bool) → true ≡ not b → b ≡ false

@@ -4,7 +4,7 @@ ghost use Rattle.mqb_outside.specs.Images.{Each};
 ghost use Rattle.mqb_journal.specs.Causes.{FaultsAsSaid};
 ghost use Rattle.mqb_journal.specs.Journals.{GoesOn};
 ghost use Rattle.mqb_journal.specs.States.{appended};
-ghost use Rattle.mqb_journal.specs.Store.{IsBeforeOrAfter, IsSmall};
+ghost use Rattle.mqb_journal.specs.Store.{Base, IsBeforeOrAfter, IsSmall};
 ghost use Rattle.mqb_store.specs.Writing.{write_failed};
 
 use crate::faults::WriteFault;
@@ -20,12 +20,14 @@ pub(crate) fn append<D: Disk>(
     requires up { journal.old.down ≡ false }
     requires small { IsSmall entry.now }
     requires gate { Each (D.view disk.old).reads (λ c. journal.old.end < length c) }
-    ensures done { (records : List (List ℕ)) → GoesOn (D.view disk.old) journal.old records
-        → OnOk result (GoesOn (D.view disk.new) journal.new (records ++ entry.now ∷ [])) }
-    ensures moments { (records : List (List ℕ)) → GoesOn (D.view disk.old) journal.old records
+    ensures done { (base : Base) (records : List (List ℕ))
+        → GoesOn (D.view disk.old) journal.old base records
+        → OnOk result (GoesOn (D.view disk.new) journal.new base (records ++ entry.now ∷ [])) }
+    ensures moments { (base : Base) (records : List (List ℕ))
+        → GoesOn (D.view disk.old) journal.old base records
         → IsSettled (D.view disk.old)
         → LeavesOnly (D.view disk.old) (D.view disk.new)
-        (IsBeforeOrAfter journal.old.guid.0 records entry.now) }
+        (IsBeforeOrAfter journal.old.guid.0 base records entry.now) }
     ensures settled { OnOk result (IsSettled (D.view disk.new)) }
     ensures appended { OnOk result (journal.new
         ≡ record (appended journal.old (length entry.now)) { room = journal.new.room }) }

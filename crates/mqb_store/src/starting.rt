@@ -4,6 +4,7 @@ ghost use Rattle.mqb_outside.specs.Images.{Each};
 ghost use Rattle.mqb_journal.specs.Causes.{FaultsAsSaid, open_failed};
 ghost use Rattle.mqb_journal.specs.Journals.{GoesOn};
 ghost use Rattle.mqb_journal.specs.States.{appended};
+ghost use Rattle.mqb_journal.specs.Store.{Nothing};
 ghost use Rattle.mqb_model.specs.state.Durable.{durable};
 ghost use Rattle.mqb_model.specs.state.State.{empty};
 ghost use Rattle.mqb_store.specs.Reaching.{ReadsInOrder};
@@ -30,8 +31,8 @@ fn append_first<D: Disk>(journal: &mut Journal, disk: &mut D, entry: &[u8]) -> R
     requires up { journal.old.down ≡ false }
     requires short { length entry.now ≤ FIRST_RECORD }
     requires room { FIRST_RECORD + 5 ≤ journal.old.room }
-    requires on { GoesOn (D.view disk.old) journal.old [] }
-    ensures on { OnOk result (GoesOn (D.view disk.new) journal.new (entry.now ∷ [])) }
+    requires on { GoesOn (D.view disk.old) journal.old Nothing [] }
+    ensures on { OnOk result (GoesOn (D.view disk.new) journal.new Nothing (entry.now ∷ [])) }
     ensures settled { OnOk result (IsSettled (D.view disk.new)) }
     ensures appended { OnOk result (journal.new
         ≡ record (appended journal.old (length entry.now)) { room = journal.new.room }) }
@@ -64,6 +65,7 @@ impl Store {
         ensures up { IfOk result IsUp }
         ensures settled { OnOk result (IsSettled (D.view disk.new)) }
         ensures state { IfOk result (λ w. w.state ≡ empty identity.now) }
+        ensures guid { IfOk result (λ w. w.journal.guid ≡ identity.now.guid) }
         ensures count { IfOk result (λ w. w.journal.count ≡ 1) }
         ensures lines { IfOk result (λ w. w.lines ≡ []) }
         ensures empty { OnOk result (Each (D.view disk.old).reads (λ c. c ≡ [])) }
@@ -106,7 +108,7 @@ impl Store {
         }
     }
 
-    /// The store on a disk: each record is made on one state as it is read. Nothing is written, and a sync makes safe what was read.
+    /// The store on a disk: its base is read back, and each record is made on that state as it is read. Nothing is written, and a sync makes safe what was read.
     ///
     /// # Errors
     /// `BadStore` with the first place where the disk is no store of a manager; `Memory`; `DiskFault`.
@@ -125,7 +127,7 @@ impl Store {
         ensures reads { OnlySettles (D.view disk.old) (D.view disk.new) }
         // No further than the gate behind the last record.
         ensures reached { IfOk result (λ w. (D.view disk.new).reached
-            ≤ max (max (D.view disk.old).reached 25) (w.journal.end + 1)) }
+            ≤ max (D.view disk.old).reached (w.journal.end + 1)) }
         // However it ends: in the order of the records, and no further than the one at which it stops.
         ensures no_further { Each (D.view disk.old).reads
             (ReadsInOrder (D.view disk.old).reached (D.view disk.new).reached) }

@@ -1,6 +1,8 @@
 -- What is known of the images of a store, and how a state that a disk stands for is carried from call to call.
+use Rattle.std.specs.Option.{option_map_or}
 use Rattle.std.specs.Prelude.{[], ◌++◌, ◌∷◌, ◌≡◌, List, Some, length, option_and_then, option_map, true, ℕ}
 use Rattle.mqb_base.specs.declared.ids.Guid.{Guid}
+use Rattle.mqb_journal.specs.Store.{Base, Nothing}
 use Rattle.mqb_model.specs.records.Applying.{apply, fits, lines_of}
 use Rattle.mqb_model.specs.records.Folding.{applied}
 use Rattle.mqb_model.specs.records.Reading.{record_of}
@@ -9,29 +11,31 @@ use Rattle.mqb_model.specs.state.Durable.{durable}
 use Rattle.mqb_model.specs.state.State.{State, empty}
 use Rattle.mqb_model.specs.state.Valid.{IsValidState}
 use Rattle.mqb_store_laws.specs.Faults.{IsBadStore}
-use Rattle.mqb_store_laws.specs.Images.{OpensTo, identity_in, lines_added, state_from, state_in, with_guid}
+use Rattle.mqb_store_laws.specs.Images.{OpensTo, identity_in, last_lines, state_from, state_in, with_guid}
 
 -- The first entry stands for a manager that has nothing but its identity, where it is an identity; in a store, where that has the store's GUID.
 pub record EntriesBegin : Type 0 where
-  pub anywhere : (first : List ℕ) → state_from (first ∷ []) ≡ option_map empty (identity_in (record_of first))
+  pub anywhere : (first : List ℕ) → state_from Nothing (first ∷ []) ≡ option_map empty (identity_in (record_of first))
   pub in_store : (guid : Guid) (first : List ℕ)
-      → state_in guid (first ∷ []) ≡ option_map empty (option_and_then (with_guid guid) (identity_in (record_of first)))
+      → state_in guid Nothing (first ∷ []) ≡ option_map empty (option_and_then (with_guid guid) (identity_in (record_of first)))
 
--- One entry more stands for what its record, where it fits, makes of the state.
+-- One entry more stands for what its record, where it fits, makes of the state, and the last lines are those of its record, whatever base there is.
 pub record EntriesGoOn : Type 0 where
-  pub anywhere : (guid : Guid) (entries : List (List ℕ)) (more : List ℕ) (s : State) → state_in guid entries ≡ Some s
-      → state_from (entries ++ more ∷ []) ≡ option_and_then (applied s) (record_of more)
-  pub in_store : (guid : Guid) (entries : List (List ℕ)) (more : List ℕ) (s : State) → state_in guid entries ≡ Some s
-      → state_in guid (entries ++ more ∷ []) ≡ option_and_then (applied s) (record_of more)
+  pub anywhere : (guid : Guid) (base : Base) (entries : List (List ℕ)) (more : List ℕ) (s : State) → state_in guid base entries ≡ Some s
+      → state_from base (entries ++ more ∷ []) ≡ option_and_then (applied s) (record_of more)
+  pub in_store : (guid : Guid) (base : Base) (entries : List (List ℕ)) (more : List ℕ) (s : State) → state_in guid base entries ≡ Some s
+      → state_in guid base (entries ++ more ∷ []) ≡ option_and_then (applied s) (record_of more)
+  pub lines : (guid : Guid) (base : Base) (entries : List (List ℕ)) (more : List ℕ) (s : State) → state_in guid base entries ≡ Some s
+      → last_lines guid base (entries ++ more ∷ []) ≡ option_map_or (lines_of s) (record_of more) []
 
 -- A record that fits a valid state joins the entries that stand for what a store has of it, and adds to them the lines that it has there.
 pub record RecordsJoin : Type 0 where
-  pub state : (guid : Guid) (entries : List (List ℕ)) (more : List ℕ) (s : State) (r : Record) → IsValidState s
-      → state_in guid entries ≡ Some (durable s) → record_of more ≡ Some r → fits s r ≡ true
-      → state_in guid (entries ++ more ∷ []) ≡ Some (durable (apply s r))
-  pub lines : (guid : Guid) (entries : List (List ℕ)) (more : List ℕ) (s : State) (r : Record) → IsValidState s
-      → state_in guid entries ≡ Some (durable s) → record_of more ≡ Some r → fits s r ≡ true
-      → lines_of s r ≡ lines_added guid entries more
+  pub state : (guid : Guid) (base : Base) (entries : List (List ℕ)) (more : List ℕ) (s : State) (r : Record) → IsValidState s
+      → state_in guid base entries ≡ Some (durable s) → record_of more ≡ Some r → fits s r ≡ true
+      → state_in guid base (entries ++ more ∷ []) ≡ Some (durable (apply s r))
+  pub lines : (guid : Guid) (base : Base) (entries : List (List ℕ)) (more : List ℕ) (s : State) (r : Record) → IsValidState s
+      → state_in guid base entries ≡ Some (durable s) → record_of more ≡ Some r → fits s r ≡ true
+      → lines_of s r ≡ last_lines guid base (entries ++ more ∷ [])
 
 -- An image opens to one state at most, by one count of records.
 abbrev pub ImagesOpenToOne : Type 0

@@ -3,7 +3,7 @@ use Rattle.std.specs.Prelude.{[], ◌+◌, ◌++◌, ◌∷◌, ◌≡◌, List,
 use Rattle.mqb_outside.specs.Disk.{AtMost, IsSettled, LeavesOnly, View}
 use Rattle.mqb_journal.specs.Journals.{GoesOn}
 use Rattle.mqb_journal.specs.States.{JournalState}
-use Rattle.mqb_journal.specs.Store.{IsBeforeOrAfter}
+use Rattle.mqb_journal.specs.Store.{Base, IsBeforeOrAfter}
 use Rattle.mqb_model.specs.records.Reading.{record_of}
 use Rattle.mqb_model.specs.records.Record.{Record}
 
@@ -16,10 +16,10 @@ pub record WritesOne (d e : View) (j k : JournalState) (entry : List ℕ) (r : O
   -- with one record more, that is the record of the entry,
   pub reads : HasOneMore j k → record_of entry ≡ r
   -- and the disk stands for the entries from before, and behind them for this one,
-  pub joins : HasOneMore j k → (entries : List (List ℕ)) → GoesOn d j entries → GoesOn e k (entries ++ entry ∷ [])
+  pub joins : HasOneMore j k → (base : Base) (entries : List (List ℕ)) → GoesOn d j base entries → GoesOn e k base (entries ++ entry ∷ [])
   -- and is settled, whatever it was before
   pub durable : HasOneMore j k → IsSettled e
   -- a crash at any moment of the call leaves the entries from before it, or them and this one
-  pub images : (entries : List (List ℕ)) → GoesOn d j entries → IsSettled d → LeavesOnly d e (IsBeforeOrAfter j.guid.0 entries entry)
+  pub images : (base : Base) (entries : List (List ℕ)) → GoesOn d j base entries → IsSettled d → LeavesOnly d e (IsBeforeOrAfter j.guid.0 base entries entry)
   -- four calls of the disk at most, however it ends
   pub most : AtMost 4 d.calls e.calls

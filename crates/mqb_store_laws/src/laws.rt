@@ -1,6 +1,8 @@
 ghost use Rattle.mqb_store_laws.specs.Laws.{BadAtOnePlace, EntriesBegin, EntriesGoOn, ImagesOpenToOne, OpenedIsNotBad, RecordsJoin};
 
-use mqb_journal::{chains_begin_alike, records_are_not_bad, stands_for_one_list};
+use mqb_journal::{
+    bad_at_one_place as one_place, chains_begin_alike, records_are_not_bad, stands_for_one_list,
+};
 use mqb_model::{durable_is_applied, durable_is_fitted};
 
 /// The first entry stands for a manager that has nothing but its identity, where it is one; in a store, where that has the store's GUID.
@@ -35,6 +37,7 @@ pub fn opened_is_not_bad()
     chains_begin_alike();
     records_are_not_bad();
     stands_for_one_list();
+    one_place();
 }
 
 /// A store is bad at one place at most.
@@ -44,4 +47,5 @@ pub fn bad_at_one_place()
     chains_begin_alike();
     records_are_not_bad();
     stands_for_one_list();
+    one_place();
 }

@@ -1,8 +1,6 @@
 -- A manager on an empty disk, which then knows one peer.
-use Rattle.std.proofs.Common.{◌≡◌, ◌<◌, ℕ, Bool, true, false, cond, List, [], ◌∷◌, Option, None, Some, Result, Ok, Err, length, inl, inr, refl, sym, ap, ◌∙◌, arith}
-use Rattle.std.specs.Cmp.Lexicographic.{bytes_decides}
-use Rattle.std.specs.Prelude.{◌||◌, nat_le, option_and_then}
-use Rattle.mqb_base.specs.Same.{same_guid}
+use Rattle.std.proofs.Common.{◌≡◌, ◌<◌, ℕ, Bool, false, cond, List, [], ◌∷◌, Option, None, Some, Result, Ok, Err, length, inl, inr, sym, ap, ◌∙◌, arith}
+use Rattle.std.specs.Prelude.{◌||◌, nat_le}
 use Rattle.mqb_base.specs.declared.ids.Guid.{Guid}
 use Rattle.mqb_base.specs.declared.ids.Identity.{Identity}
 use Rattle.mqb_outside.specs.Disk.{IsSettled, View}
@@ -15,38 +13,13 @@ use Rattle.mqb_model.specs.declared.limits.TheConstants.{MAX_PEERS}
 use Rattle.mqb_model.specs.managers.Manager.{Manager, is_down, new_manager}
 use Rattle.mqb_model.specs.managers.Outcomes.{recording, succeeded, unless}
 use Rattle.mqb_model.specs.records.Peer.{is_met}
-use Rattle.mqb_model.specs.records.Reading.{all_some, record_of}
-use Rattle.mqb_model.specs.records.Record.{Record}
 use Rattle.mqb_model.specs.records.Record as entry
-use Rattle.mqb_model.specs.state.Durable.{durable}
-use Rattle.mqb_model.specs.state.State.{State, empty}
 use Rattle.mqb_moves.specs.Calling.{seat_of}
 use Rattle.mqb_moves.specs.lemmas.Calling.{not_up_of, went_well}
 use Rattle.mqb_moves.specs.Seats.{IsHeldOn}
 use Rattle.mqb_network.specs.Network.{formatted}
-use Rattle.mqb_store_laws.specs.Images.{state_by, state_in}
 use Rattle.mqb_world.specs.Making.{HasBytes, IsEmpty, KeepBytes}
 use Rattle.mqb_world.specs.declared.faults.WorldFault.{WorldFault}
-
-guid_is : (a b : Guid) → same_guid a b ≡ true → a ≡ b
-guid_is a b same = ap (λ (x : List ℕ). record { 0 = x }) ((bytes_decides a.0 b.0).0 same)
-
--- A store with one record has the GUID of its identity.
-
-state_one : (g : Guid) (own identity : Identity) (b : Bool) → same_guid identity.guid g ≡ b → cond b (Some (empty identity)) None ≡ Some (durable (empty own)) → g ≡ own.guid
-state_one g own identity true same is = let state : empty identity ≡ durable (empty own) = cc in
-    sym (guid_is identity.guid g same) ∙ ap (λ (s : State). s.identity.guid) state
-state_one g own identity false same is = absurd (let none : ⊥ = cc in none)
-
-record_one : (g : Guid) (own : Identity) (o : Option Record) → option_and_then (state_by g) (all_some (o ∷ [])) ≡ Some (durable (empty own)) → g ≡ own.guid
-record_one g own None is = absurd (let none : ⊥ = cc in none)
-record_one g own (Some (entry.Identity identity)) is = state_one g own identity (same_guid identity.guid g) refl is
-record_one g own (Some r) is = absurd (let none : ⊥ = cc in none)
-
-entries_one : (g : Guid) (own : Identity) (entries : List (List ℕ)) → length entries ≡ 1 → state_in g entries ≡ Some (durable (empty own)) → g ≡ own.guid
-entries_one g own [] one is = absurd (omega (arith, one))
-entries_one g own (e ∷ []) one is = record_one g own (record_of e) is
-entries_one g own (e ∷ f ∷ entries) one is = absurd (omega (arith, one))
 
 -- the same fault, where something else was to be made
 pub err_still : {A B : Type 0} (f g : WorldFault) → ◌≡◌ {A = Result A WorldFault} (Err f) (Err g) → ◌≡◌ {A = Result B WorldFault} (Err f) (Err g)
@@ -66,19 +39,13 @@ none_to_keep d d_now e e_now first second none_there none_here (inr bytes) = abs
 
 -- The disk of a manager that was just made is held.
 pub held_new : (d : View) (n : ManagerState) (own : Identity) → length own.guid.0 ≡ 16 → manager_of n ≡ new_manager own → IsOnDisk d n → IsUp n → IsSettled d
-    → n.store.journal.count ≡ 1 → IsHeldOn d (seat_of n)
-held_new d n own whole new on up settled one = record {
+    → n.store.journal.guid ≡ own.guid → IsHeldOn d (seat_of n)
+held_new d n own whole new on up settled guid = record {
   whole = ap (λ (g : Guid). length g.0) guid ∙ whole;
   on = λ _. on;
   settled = λ _. settled;
   opens = λ down. absurd (not_up_of n down up);
 }
-  where
-    state : n.store.state ≡ empty own
-    state = ap (λ (m : Manager). m.state) new
-
-    guid : n.store.journal.guid ≡ own.guid
-    guid = entries_one n.store.journal.guid own on.entries (sym on.goes_on.count ∙ one) (on.state ∙ ap (λ (s : State). Some (durable s)) state)
 
 -- A new manager gets to know a peer that it did not know.
 

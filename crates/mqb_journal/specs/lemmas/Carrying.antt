@@ -1,14 +1,14 @@
 -- What carries a journal's condition from call to call.
-use Rattle.std.proofs.Common.{◌≡◌, ℕ, ◌+◌, ◌<◌, List, ◌∷◌, ◌++◌, length, drop, true, false, ◌∙◌, ap, arith, length-append, length-drop}
+use Rattle.std.proofs.Common.{◌≡◌, ℕ, ◌+◌, ◌<◌, List, ◌∷◌, ◌++◌, length, drop, None, true, false, ◌∙◌, ap, arith, length-append, length-drop}
 use Rattle.mqb_outside.specs.Images.{Each}
 use Rattle.mqb_outside.specs.Disk.{View, IsSettled, Unchanged, OnlyReads}
-use Rattle.mqb_journal.specs.Store.{StandsFor, chain}
+use Rattle.mqb_journal.specs.Store.{Base, StandsFor, chain}
 use Rattle.mqb_journal.specs.States.{JournalState, ScanState, finished}
 use Rattle.mqb_journal.specs.Journals.{GoesOn, Lent}
 
 -- over a disk of which nothing new is told
-pub goes_on_told : (d e : View) (j : JournalState) (records : List (List ℕ)) → GoesOn d j records → Each e.reads d.reads → GoesOn e j records
-goes_on_told d e j records on told = record {
+pub goes_on_told : (d e : View) (j : JournalState) (base : Base) (records : List (List ℕ)) → GoesOn d j base records → Each e.reads d.reads → GoesOn e j base records
+goes_on_told d e j base records on told = record {
   first = on.first;
   behind = on.behind;
   stands = λ c reads. on.stands c (told c reads);
@@ -19,20 +19,20 @@ goes_on_told d e j records on told = record {
 }
 
 -- through a call that only reads
-pub goes_on_read : (d e : View) (j : JournalState) (records : List (List ℕ)) → GoesOn d j records → OnlyReads d e → GoesOn e j records
-goes_on_read d e j records on reads = goes_on_told d e j records on reads.unchanged.reads.none_new
+pub goes_on_read : (d e : View) (j : JournalState) (base : Base) (records : List (List ℕ)) → GoesOn d j base records → OnlyReads d e → GoesOn e j base records
+goes_on_read d e j base records on reads = goes_on_told d e j base records on reads.unchanged.reads.none_new
 
 -- through a call of the power switch
-pub goes_on_unchanged : (d e : View) (j : JournalState) (records : List (List ℕ)) → GoesOn d j records → Unchanged d e → GoesOn e j records
-goes_on_unchanged d e j records on same = goes_on_told d e j records on same.reads.none_new
+pub goes_on_unchanged : (d e : View) (j : JournalState) (base : Base) (records : List (List ℕ)) → GoesOn d j base records → Unchanged d e → GoesOn e j base records
+goes_on_unchanged d e j base records on same = goes_on_told d e j base records on same.reads.none_new
 
 -- through a restart of a settled disk
-pub goes_on_restarted : (d e : View) (j : JournalState) (records : List (List ℕ)) → GoesOn d j records → IsSettled d → Each e.reads d.leaves → GoesOn e j records
-goes_on_restarted d e j records on settled left = goes_on_told d e j records on (λ c reads. settled c (left c reads))
+pub goes_on_restarted : (d e : View) (j : JournalState) (base : Base) (records : List (List ℕ)) → GoesOn d j base records → IsSettled d → Each e.reads d.leaves → GoesOn e j base records
+goes_on_restarted d e j base records on settled left = goes_on_told d e j base records on (λ c reads. settled c (left c reads))
 
 -- through a refusal, which may leave more room
-pub goes_on_refused : (d : View) (j : JournalState) (room : ℕ) (records : List (List ℕ)) → GoesOn d j records → GoesOn d (record j { room = room }) records
-goes_on_refused d j room records on = record {
+pub goes_on_refused : (d : View) (j : JournalState) (room : ℕ) (base : Base) (records : List (List ℕ)) → GoesOn d j base records → GoesOn d (record j { room = room }) base records
+goes_on_refused d j room base records on = record {
   first = on.first;
   behind = on.behind;
   stands = on.stands;
@@ -48,31 +48,24 @@ settled_read d e settled reads c left = reads.unchanged.reads.none_lost c (settl
 pub settled_unchanged : (d e : View) → IsSettled d → Unchanged d e → IsSettled e
 settled_unchanged d e settled same c left = same.reads.none_lost c (settled c (same.leaves.none_new c left))
 
--- what a read gives stands for the records
-pub goes_on_stands : (d : View) (j : JournalState) (records : List (List ℕ)) → GoesOn d j records → Each d.reads (StandsFor j.guid.0 records)
-goes_on_stands d j records on c told =
-    let is = on.stands c told in
-    record { first = on.first; front = is.front; small = on.small; stands = is.stands }
+-- what a read gives stands for the base and the records
+pub goes_on_stands : (d : View) (j : JournalState) (base : Base) (records : List (List ℕ)) → GoesOn d j base records → Each d.reads (StandsFor j.guid.0 base records)
+goes_on_stands d j base records on c told = let is = on.stands c told in record { first = on.first; front = is.front; small = on.small; stands = is.stands }
 
 -- the gate behind the records is there, so that a record can be added
-pub goes_on_gate : (d : View) (j : JournalState) (records : List (List ℕ)) → GoesOn d j records → Each d.reads (λ c. j.end < length c)
-goes_on_gate d j records on c told =
+pub goes_on_gate : (d : View) (j : JournalState) (base : Base) (records : List (List ℕ)) → GoesOn d j base records → Each d.reads (λ c. j.end < length c)
+goes_on_gate d j base records on c told =
     let has = (on.stands c told).stands in
-    omega (
-      arith,
-      on.end,
-      ap length has.is,
-      length-drop on.first c,
-      length-append (chain records) (has.gate ∷ has.rest),
-    )
+    omega (arith, on.end, ap length has.is, length-drop on.first c, length-append (chain records) (has.gate ∷ has.rest))
 
 -- a scan that has ended goes on as a journal
-pub lent_goes_on : (d : View) (s : ScanState) (room : ℕ) (records : List (List ℕ)) → Lent d s records → s.ended ≡ true → GoesOn d (finished s room) records
-lent_goes_on d s room records lent ended = record {
+pub lent_goes_on : (d : View) (s : ScanState) (room : ℕ) (base : Base) (records : List (List ℕ)) → Lent d s base records → s.ended ≡ true → GoesOn d (finished s room) base records
+lent_goes_on d s room base records lent ended = record {
   first = lent.first;
   behind = lent.behind;
   stands = λ c told. (let shut = (lent.gate c told).when_shut (lent.shut ended) in record {
     front = lent.front c told;
+    laid = lent.laid c told;
     stands = record {
       gate = shut.byte;
       rest = drop (s.gate + 1) c;
@@ -86,17 +79,36 @@ lent_goes_on d s room records lent ended = record {
   up = λ _. false;
 }
 
+-- once its base was taken
+pub lent_taken : (d : View) (s : ScanState) (base : Base) (records : List (List ℕ)) → Lent d s base records → Lent d (record s { base = None }) base records
+lent_taken d s base records lent = record {
+  first = lent.first;
+  behind = lent.behind;
+  front = lent.front;
+  laid = lent.laid;
+  begins = lent.begins;
+  long = lent.long;
+  small = lent.small;
+  place = lent.place;
+  count = lent.count;
+  held = tt;
+  gate = lent.gate;
+  shut = lent.shut;
+}
+
 -- through calls that only read
-pub lent_read : (d e : View) (s : ScanState) (records : List (List ℕ)) → Lent d s records → OnlyReads d e → Lent e s records
-lent_read d e s records lent reads = record {
+pub lent_read : (d e : View) (s : ScanState) (base : Base) (records : List (List ℕ)) → Lent d s base records → OnlyReads d e → Lent e s base records
+lent_read d e s base records lent reads = record {
   first = lent.first;
   behind = lent.behind;
   front = λ c told. lent.front c (reads.unchanged.reads.none_new c told);
+  laid = λ c told. lent.laid c (reads.unchanged.reads.none_new c told);
   begins = λ c told. lent.begins c (reads.unchanged.reads.none_new c told);
   long = λ c told. lent.long c (reads.unchanged.reads.none_new c told);
   small = lent.small;
   place = lent.place;
   count = lent.count;
+  held = lent.held;
   gate = λ c told. lent.gate c (reads.unchanged.reads.none_new c told);
   shut = lent.shut;
 }

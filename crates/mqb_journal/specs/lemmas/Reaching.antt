@@ -1,5 +1,6 @@
 -- How far a chain of records was read.
 use Rattle.std.proofs.Common.{inl, inr, ℕ, ◌+◌, ◌≤◌, max, List, arith}
+use Rattle.mqb_journal.specs.Store.{Base, Nothing, After, HasFront}
 use Rattle.mqb_journal.specs.Scan.{GoesTo, ReadsOnlyAt}
 
 -- where the reads before them came to the gate at most
@@ -8,6 +9,13 @@ reads_on gate before mid now c so_far (inl within) = inl (omega (arith, so_far, 
 reads_on gate before mid now c so_far (inr (inl size)) = inr (inl (size.0, omega (arith, so_far, size.1)))
 reads_on gate before mid now c so_far (inr (inr next)) = inr (inr (next.0, next.1, omega (arith, so_far, next.2)))
 
--- the first gate stands behind the header, and no gate before it
-pub gate_behind : (guid : List ℕ) (records : List (List ℕ)) (at : ℕ) (image : List ℕ) → GoesTo guid records at image → 24 ≤ at
-gate_behind guid records at image goes = omega (arith, goes.place, goes.front.begins)
+-- the first gate stands behind the header
+pub first_low : (guid : List ℕ) (base : Base) (first : ℕ) (image : List ℕ) → HasFront guid base first image → 24 ≤ first
+first_low guid Nothing first image is = let begins = is.begins in omega (arith, begins)
+first_low guid (After count bytes) first image is = let begins = is.begins in let low = is.head in let behind = is.behind in omega (arith, begins, low, behind)
+
+-- and no gate before it
+pub gate_behind : (guid : List ℕ) (base : Base) (records : List (List ℕ)) (at : ℕ) (image : List ℕ) → GoesTo guid base records at image → 24 ≤ at
+gate_behind guid base records at image goes =
+    let low = first_low guid base goes.first image goes.front in
+    omega (arith, low, goes.place)

@@ -3,20 +3,20 @@ use Rattle.std.proofs.Common.{inl, inr, ap, cond, refl, sym, subst, ◌∙◌, a
 use Rattle.std.proofs.lemmas.Bool.Decides.{nat_tests}
 use Rattle.std.specs.Cmp.Lexicographic.{bytes_decides}
 use Rattle.std.specs.Option.{option_map_or}
-use Rattle.std.specs.Prelude.{[], ◌+◌, ◌++◌, ◌==◌, ◌∷◌, ◌≡◌, ◌⊎◌, Bool, IfSome, IsSome, List, None, Option, Some, false, length, map, not, option_and_then, true, ℕ}
+use Rattle.std.specs.Prelude.{[], ◌+◌, ◌==◌, ◌∷◌, ◌≡◌, ◌⊎◌, Bool, IfSome, IsSome, List, None, Option, Some, false, fold, length, map, not, option_and_then, true, ℕ}
 use Rattle.mqb_base.specs.Same.{same_guid}
 use Rattle.mqb_base.specs.declared.ids.Guid.{Guid}
 use Rattle.mqb_base.specs.declared.ledger.Line.{Line}
 use Rattle.mqb_outside.specs.Disk.{IsSettled, View}
 use Rattle.mqb_outside.specs.Images.{Each}
-use Rattle.mqb_journal.specs.Store.{StandsFor}
+use Rattle.mqb_journal.specs.Store.{After, Base, Nothing, StandsFor}
 use Rattle.mqb_model.specs.laws.Durable.{DurableIsApplied}
 use Rattle.mqb_model.specs.managers.Manager.{Condition, Down, Up, doubt_of, is_down, unlinked}
 use Rattle.mqb_model.specs.managers.Outcomes.{recorded}
 use Rattle.mqb_model.specs.managers.Restarts.{lines_in_doubt, restarted, unread}
 use Rattle.mqb_model.specs.managers.Valid.{IsValidManager, IsWritable}
 use Rattle.mqb_model.specs.records.Applying.{apply, fits, lines_of}
-use Rattle.mqb_model.specs.records.Folding.{state_of}
+use Rattle.mqb_model.specs.records.Folding.{applied_after, state_of}
 use Rattle.mqb_model.specs.records.Record.{Record}
 use Rattle.mqb_model.specs.records.Record as entry
 use Rattle.mqb_model.specs.rules.Effects.{Effect}
@@ -28,7 +28,7 @@ use Rattle.mqb_plain.specs.Plain.{PlainLists}
 use Rattle.mqb_plain.specs.declared.outgoing.Outgoing.{Outgoing}
 use Rattle.mqb_queue.specs.Places.{Queue}
 use Rattle.mqb_store_laws.specs.lemmas.Carrying.{opens_now}
-use Rattle.mqb_store_laws.specs.Images.{HasLastLines, Opens, OpensTo, begins_as, lines_added, records_in, state_by, state_in}
+use Rattle.mqb_store_laws.specs.Images.{HasLastLines, Opens, OpensTo, begins_as, last_lines, of_guid, records_in, state_at, state_by, state_in}
 use Rattle.mqb_store_laws.specs.Faults.{IsBadStore}
 use Rattle.mqb_store_laws.specs.Laws.{ImagesOpenToOne, OpenedIsNotBad}
 use Rattle.mqb_store_laws.specs.Settling.{OnlySettles}
@@ -64,9 +64,10 @@ durable_again s = ap (λ ps. with_lists s ps (map durable_queue (map durable_que
 
 -- One GUID, and one list of lines.
 
--- an image stands for one list of records (`stands_for_one_list`)
+-- an image stands for one base and one list of records (`stands_for_one_list`)
 abbrev pub StandsForOneList : Type 0
-StandsForOneList = (guid other image : List ℕ) (records later : List (List ℕ)) → StandsFor guid records image → StandsFor other later image → records ≡ later
+StandsForOneList = (guid other image : List ℕ) (base later : Base) (records more : List (List ℕ)) → StandsFor guid base records image
+    → StandsFor other later more image → (base ≡ later) × (records ≡ more)
 
 guid_is : (a b : Guid) → same_guid a b ≡ true → a ≡ b
 guid_is a b same = ap (λ (x : List ℕ). record { 0 = x }) ((bytes_decides a.0 b.0).0 same)
@@ -76,39 +77,50 @@ begins_one g h (entry.Identity identity ∷ rs) one other = sym (guid_is identit
 begins_one g h rs one other = absurd (let none : ⊥ = cc in none)
 
 -- records that stand for a state in a store begin with its GUID
-begins_by : (g : Guid) (rs : List Record) (s : State) → state_by g rs ≡ Some s → begins_as g rs ≡ true
+begins_by : (g : Guid) (rs : List Record) (s : State) → state_by g Nothing rs ≡ Some s → begins_as g rs ≡ true
 begins_by g rs s is = at (begins_as g rs) refl is
   where
     at : (b : Bool) → begins_as g rs ≡ b → cond b (state_of rs) None ≡ Some s → begins_as g rs ≡ true
     at true e is = e
     at false e is = absurd (let none : ⊥ = cc in none)
 
-one_by : (g h : Guid) (o : Option (List Record)) (s t : State) → option_and_then (state_by g) o ≡ Some s → option_and_then (state_by h) o ≡ Some t → g ≡ h
-one_by g h None s t one other = absurd (let none : ⊥ = cc in none)
-one_by g h (Some rs) s t one other = begins_one g h rs (begins_by g rs s one) (begins_by h rs t other)
+-- behind no state there is none
+none_stays : (rs : List Record) → fold applied_after None rs ≡ None
+none_stays [] = refl
+none_stays (r ∷ rs) = none_stays rs
+
+-- a state on which records stand for one has the store's GUID
+base_by : (g : Guid) (t : State) (rs : List Record) (s : State) → fold applied_after (of_guid g t) rs ≡ Some s → same_guid t.identity.guid g ≡ true
+base_by g t rs s is = at (same_guid t.identity.guid g) refl is
+  where
+    at : (b : Bool) → same_guid t.identity.guid g ≡ b → fold applied_after (cond b (Some t) None) rs ≡ Some s → same_guid t.identity.guid g ≡ true
+    at true e is = e
+    at false e is = absurd (let no : None ≡ Some s = sym (none_stays rs) ∙ is in cc)
+
+base_one : (g h : Guid) (o : Option State) (rs : List Record) (s t : State) → fold applied_after (option_and_then (of_guid g) o) rs ≡ Some s
+    → fold applied_after (option_and_then (of_guid h) o) rs ≡ Some t → g ≡ h
+base_one g h None rs s t one other = absurd (let no : None ≡ Some s = sym (none_stays rs) ∙ one in cc)
+base_one g h (Some u) rs s t one other = sym (guid_is u.identity.guid g (base_by g u rs s one)) ∙ guid_is u.identity.guid h (base_by h u rs t other)
+
+one_by : (g h : Guid) (base : Base) (o : Option (List Record)) (s t : State) → option_and_then (state_by g base) o ≡ Some s
+    → option_and_then (state_by h base) o ≡ Some t → g ≡ h
+one_by g h base None s t one other = absurd (let none : ⊥ = cc in none)
+one_by g h Nothing (Some rs) s t one other = begins_one g h rs (begins_by g rs s one) (begins_by h rs t other)
+one_by g h (After count bytes) (Some rs) s t one other = base_one g h (state_at bytes) rs s t one other
 
 -- an image opens under one GUID
 pub one_guid : StandsForOneList → (g h : Guid) (count more : ℕ) (s t : State) (c : List ℕ) → OpensTo g count s c → OpensTo h more t c → g ≡ h
-one_guid lists g h count more s t c one other = one_by g h (records_in one.entries) s t one.state
-    (ap (λ (es : List (List ℕ)). state_in h es) (lists g.0 h.0 c one.entries other.entries one.stands other.stands) ∙ other.state)
-
--- what stands before the last, and the last
-front_of : (xs ys : List (List ℕ)) (x y : List ℕ) → xs ++ x ∷ [] ≡ ys ++ y ∷ [] → (xs ≡ ys) × (x ≡ y)
-front_of [] [] x y same = (refl, let is : x ≡ y = cc in is)
-front_of [] (z ∷ []) x y same = absurd (let none : ⊥ = cc in none)
-front_of [] (z ∷ w ∷ ys) x y same = absurd (let none : ⊥ = cc in none)
-front_of (z ∷ []) [] x y same = absurd (let none : ⊥ = cc in none)
-front_of (z ∷ w ∷ xs) [] x y same = absurd (let none : ⊥ = cc in none)
-front_of (z ∷ xs) (w ∷ ys) x y same = let first : z ≡ w = cc in let rest : xs ++ x ∷ [] ≡ ys ++ y ∷ [] = cc in
-    let behind = front_of xs ys x y rest in ((let all : z ∷ xs ≡ w ∷ ys = cc (first, behind.0) in all), behind.1)
+one_guid lists g h count more s t c one other =
+    let same = lists g.0 h.0 c one.base other.base one.entries other.entries one.stands other.stands in
+    one_by g h one.base (records_in one.entries) s t one.state
+    (ap (λ (b : Base). state_in h b one.entries) same.0 ∙ ap (state_in h other.base) same.1 ∙ other.state)
 
 -- an image has one list of last lines
 pub one_lines : StandsForOneList → (g h : Guid) (a b : List Line) (c : List ℕ) → g ≡ h → HasLastLines g a c → HasLastLines h b c → a ≡ b
-one_lines lists g h a b c same one other =
-    let parts = front_of one.before other.before one.last other.last
-    (lists g.0 h.0 c (one.before ++ one.last ∷ []) (other.before ++ other.last ∷ []) one.stands other.stands) in
-    one.added ∙ ap (λ (k : Guid). lines_added k one.before one.last) same ∙ ap (λ (es : List (List ℕ)). lines_added h es one.last) parts.0
-    ∙ ap (λ (e : List ℕ). lines_added h other.before e) parts.1 ∙ sym other.added
+one_lines lists g h a b c guid one other =
+    let same = lists g.0 h.0 c one.base other.base one.entries other.entries one.stands other.stands in
+    one.added ∙ ap (λ (k : Guid). last_lines k one.base one.entries) guid ∙ ap (λ (b : Base). last_lines h b one.entries) same.0
+    ∙ ap (last_lines h other.base) same.1 ∙ sym other.added
 
 -- What an image of a disk that is held opens to.
 

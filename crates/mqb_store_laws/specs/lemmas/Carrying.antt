@@ -8,7 +8,7 @@ use Rattle.mqb_outside.specs.lemmas.Runs.{started, weaker}
 use Rattle.mqb_journal.specs.lemmas.Carrying.{goes_on_read, goes_on_refused, goes_on_stands, goes_on_told}
 use Rattle.mqb_journal.specs.Journals.{GoesOn}
 use Rattle.mqb_journal.specs.States.{JournalState}
-use Rattle.mqb_journal.specs.Store.{IsBeforeOrAfter}
+use Rattle.mqb_journal.specs.Store.{Base, IsBeforeOrAfter}
 use Rattle.mqb_model.specs.records.Applying.{apply, fits}
 use Rattle.mqb_model.specs.records.Record.{Record}
 use Rattle.mqb_model.specs.state.Durable.{durable}
@@ -19,66 +19,70 @@ use Rattle.mqb_store_laws.specs.Carrying.{Joins}
 
 -- over a disk of which nothing new is told
 pub on_told : (d e : View) (j : JournalState) (s : State) → IsOn d j s → Each e.reads d.reads → IsOn e j s
-on_told d e j s on told = record { entries = on.entries; goes_on = goes_on_told d e j on.entries on.goes_on told; state = on.state }
+on_told d e j s on told = record { base = on.base; entries = on.entries; goes_on = goes_on_told d e j on.base on.entries on.goes_on told; state = on.state }
 
 -- through a call that only reads
 pub on_read : (d e : View) (j : JournalState) (s : State) → IsOn d j s → OnlyReads d e → IsOn e j s
-on_read d e j s on reads = record { entries = on.entries; goes_on = goes_on_read d e j on.entries on.goes_on reads; state = on.state }
+on_read d e j s on reads = record { base = on.base; entries = on.entries; goes_on = goes_on_read d e j on.base on.entries on.goes_on reads; state = on.state }
 
 -- whatever room the journal has
 pub on_with_room : (d : View) (j : JournalState) (s : State) (room : ℕ) → IsOn d j s → IsOn d (record j { room = room }) s
-on_with_room d j s room on = record { entries = on.entries; goes_on = goes_on_refused d j room on.entries on.goes_on; state = on.state }
+on_with_room d j s room on = record { base = on.base; entries = on.entries; goes_on = goes_on_refused d j room on.base on.entries on.goes_on; state = on.state }
 
 -- by what is done beside a record
 pub on_beside : (d : View) (j : JournalState) (s t : State) → durable t ≡ durable s → IsOn d j s → IsOn d j t
-on_beside d j s t same on = record { entries = on.entries; goes_on = on.goes_on; state = on.state ∙ ap Some (sym same) }
+on_beside d j s t same on = record { base = on.base; entries = on.entries; goes_on = on.goes_on; state = on.state ∙ ap Some (sym same) }
 
 -- what a read gives opens to the state
 pub opens_now : (d : View) (j : JournalState) (s : State) → IsOn d j s → Each d.reads (OpensTo j.guid j.count (durable s))
 opens_now d j s on c told = record {
+  base = on.base;
   entries = on.entries;
-  stands = goes_on_stands d j on.entries on.goes_on c told;
+  stands = goes_on_stands d j on.base on.entries on.goes_on c told;
   counted = sym on.goes_on.count;
   state = on.state;
 }
 
 -- by a record that was written
 pub on_written : RecordsJoin → (d e : View) (j k : JournalState) (s : State) (entry : List ℕ) (r : Record) → IsOn d j s → Joins s entry r
-    → ((entries : List (List ℕ)) → GoesOn d j entries → GoesOn e k (entries ++ entry ∷ [])) → k.guid ≡ j.guid → IsOn e k (apply s r)
+    → ((base : Base) (entries : List (List ℕ)) → GoesOn d j base entries → GoesOn e k base (entries ++ entry ∷ [])) → k.guid ≡ j.guid
+    → IsOn e k (apply s r)
 on_written join d e j k s entry r on new goes guid = record {
+  base = on.base;
   entries = on.entries ++ entry ∷ [];
-  goes_on = goes on.entries on.goes_on;
-  state = subst (λ (g : Guid). state_in g (on.entries ++ entry ∷ []) ≡ Some (durable (apply s r))) (sym guid)
-      (join.state j.guid on.entries entry s r new.valid on.state new.reads new.fits);
+  goes_on = goes on.base on.entries on.goes_on;
+  state = subst (λ (g : Guid). state_in g on.base (on.entries ++ entry ∷ []) ≡ Some (durable (apply s r))) (sym guid)
+      (join.state j.guid on.base on.entries entry s r new.valid on.state new.reads new.fits);
 }
 
 -- images with the record or without it
 opens_after : RecordsJoin → (d : View) (j : JournalState) (s : State) (entry : List ℕ) (r : Record) (on : IsOn d j s) → Joins s entry r
-    → Each (IsBeforeOrAfter j.guid.0 on.entries entry) (Opens j s (Some r))
+    → Each (IsBeforeOrAfter j.guid.0 on.base on.entries entry) (Opens j s (Some r))
 opens_after join d j s entry r on new c stands = ⊎_elim
-    (λ before. inl (record { entries = on.entries; stands = before; counted = sym on.goes_on.count; state = on.state }))
+    (λ before. inl (record { base = on.base; entries = on.entries; stands = before; counted = sym on.goes_on.count; state = on.state }))
     (λ after. inr (
       record {
+        base = on.base;
         entries = on.entries ++ entry ∷ [];
         stands = after;
         counted = omega (arith, on.goes_on.count, length-append on.entries (entry ∷ []));
-        state = join.state j.guid on.entries entry s r new.valid on.state new.reads new.fits;
+        state = join.state j.guid on.base on.entries entry s r new.valid on.state new.reads new.fits;
       },
       record {
-        before = on.entries;
-        last = entry;
+        base = on.base;
+        entries = on.entries ++ entry ∷ [];
         stands = after;
-        added = join.lines j.guid on.entries entry s r new.valid on.state new.reads new.fits;
+        added = join.lines j.guid on.base on.entries entry s r new.valid on.state new.reads new.fits;
       },
     ))
     stands
 
 -- at each moment while it is written
 pub moments_open : RecordsJoin → (d e : View) (j : JournalState) (s : State) (entry : List ℕ) (r : Record) → IsOn d j s → Joins s entry r
-    → ((entries : List (List ℕ)) → GoesOn d j entries → IsSettled d → LeavesOnly d e (IsBeforeOrAfter j.guid.0 entries entry))
+    → ((base : Base) (entries : List (List ℕ)) → GoesOn d j base entries → IsSettled d → LeavesOnly d e (IsBeforeOrAfter j.guid.0 base entries entry))
     → IsSettled d → LeavesOnly d e (Opens j s (Some r))
 moments_open join d e j s entry r on new moments settled =
-    weaker d e _ _ (moments on.entries on.goes_on settled) (opens_after join d j s entry r on new)
+    weaker d e _ _ (moments on.base on.entries on.goes_on settled) (opens_after join d j s entry r on new)
 
 -- what a read gives opens to the state, whatever record there is beside
 opens_first : (d : View) (j : JournalState) (s : State) (r : Option Record) → IsOn d j s → Each d.reads (Opens j s r)

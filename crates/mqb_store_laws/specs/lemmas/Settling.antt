@@ -6,6 +6,7 @@ use Rattle.mqb_outside.specs.Images.{Each, Same}
 use Rattle.mqb_outside.specs.lemmas.Runs.{goes_on, started, then_on, weaker}
 use Rattle.mqb_journal.specs.Journals.{Lent}
 use Rattle.mqb_journal.specs.States.{JournalState, ScanState}
+use Rattle.mqb_journal.specs.Store.{Base}
 use Rattle.mqb_model.specs.state.State.{State}
 use Rattle.mqb_store_laws.specs.Images.{IsOn}
 use Rattle.mqb_store_laws.specs.lemmas.Carrying.{on_told}
@@ -40,16 +41,18 @@ on_settled d e j s on settles = on_told d e j s on settles.reads.none_new
 pub settled_still : (d e : View) → IsSettled d → OnlySettles d e → IsSettled e
 settled_still d e settled settles c left = settles.reads.none_lost c (settled c (settles.run.now c left))
 
-pub lent_settled : (d e : View) (s : ScanState) (records : List (List ℕ)) → Lent d s records → OnlySettles d e → Lent e s records
-lent_settled d e s records lent settles = record {
+pub lent_settled : (d e : View) (s : ScanState) (base : Base) (records : List (List ℕ)) → Lent d s base records → OnlySettles d e → Lent e s base records
+lent_settled d e s base records lent settles = record {
   first = lent.first;
   behind = lent.behind;
   front = λ c told. lent.front c (settles.reads.none_new c told);
+  laid = λ c told. lent.laid c (settles.reads.none_new c told);
   begins = λ c told. lent.begins c (settles.reads.none_new c told);
   long = λ c told. lent.long c (settles.reads.none_new c told);
   small = lent.small;
   place = lent.place;
   count = lent.count;
+  held = lent.held;
   gate = λ c told. lent.gate c (settles.reads.none_new c told);
   shut = lent.shut;
 }

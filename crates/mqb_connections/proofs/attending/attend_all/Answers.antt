@@ -37,6 +37,11 @@ returns-in_err-serve_and_tell-in-Ok-true-clause-asked g c =
     asks_then _ (omega arith) (peers_wait wait.finished wait.cause so_far.served).finished (asks_wait wait.finished so_far.asked)
     c.in_err-serve_and_tell-in-Ok-true.ensures.asked
 
+pub returns-in_err-serve_and_tell-in-Ok-true-clause-disk : goal.returns-in_err-serve_and_tell-in-Ok-true-clause-disk
+returns-in_err-serve_and_tell-in-Ok-true-clause-disk g c =
+    let so_far = c.loop-index.invariant in
+    keeping_goes_on _ _ _ _ _ _ so_far.disk so_far.up c.in_err-serve_and_tell-in-Ok-true.ensures.disk
+
 pub returns-in-Ok-false-clause-served : goal.returns-in-Ok-false-clause-served
 returns-in-Ok-false-clause-served g c =
     let so_far = c.loop-index.invariant in

@@ -32,6 +32,11 @@ returns-in_err-serve_and_tell-clause-asked g c =
     let so_far = c.loop-index.invariant in
     asks_then _ (omega arith) so_far.served.finished so_far.asked c.in_err-serve_and_tell.ensures.asked
 
+pub returns-in_err-serve_and_tell-clause-disk : goal.returns-in_err-serve_and_tell-clause-disk
+returns-in_err-serve_and_tell-clause-disk g c =
+    let so_far = c.loop-index.invariant in
+    keeping_goes_on _ _ _ _ _ _ so_far.disk so_far.up c.in_err-serve_and_tell.ensures.disk
+
 pub loop-index-preserved : goal.loop-index-preserved
 loop-index-preserved g c =
     let so_far = c.loop-index.invariant in

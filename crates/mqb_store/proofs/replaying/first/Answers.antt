@@ -1,106 +1,55 @@
-use Rattle.std.proofs.Common.{[], ◌≡◌, ◌∙◌, ap, inl, length, refl, subst, sym}
-use Rattle.std.proofs.lemmas.Result.{err_from_is_err_and}
-use Rattle.std.specs.Prelude.{Err, false, true, ℕ}
-use Rattle.mqb_base.specs.Rooms.{WithRooms}
-use Rattle.mqb_base.specs.Same.{same_guid}
+use Rattle.std.proofs.Common.{◌≡◌, ◌∙◌, ap, inl, subst, sym}
+use Rattle.std.specs.Prelude.{◌+◌, ◌≤◌, length, max}
 use Rattle.mqb_base.specs.declared.ids.Guid.{Guid}
-use Rattle.mqb_contents.specs.Rooms.{StateRooms}
-use Rattle.mqb_outside.specs.Images.{Each}
-use Rattle.mqb_model.specs.records.Reading.{record_of}
-use Rattle.mqb_model.specs.state.State.{State}
-use Rattle.mqb_journal.specs.declared.faults.OpenFault.TheVariants as opening
-use Rattle.mqb_journal.specs.declared.faults.ScanFault.{ScanFault}
-use Rattle.mqb_store.proofs.Faulty.{StandsBehind, breaks_off, other_guid}
-use Rattle.mqb_store.proofs.Read.{read_first}
-use Rattle.mqb_store.proofs.Steps.{HasEnded, HasGoneOn, bad_scan, no_identity, none_then, not_false, not_true, same_fault, same_guid_then, same_place, stands_then, unfit_then}
+use Rattle.mqb_outside.specs.lemmas.Runs.{reads_none}
+use Rattle.mqb_journal.specs.States.{ScanState}
+use Rattle.mqb_journal.specs.Store.{count_of}
+use Rattle.mqb_store.proofs.Fronts.{HasGiven, back_is_bad, back_is_read, given_by, quiet_fault, some_given, none_given, stands_first, stands_on}
+use Rattle.mqb_store.proofs.Reaching.{stops_at_first}
 use Rattle.mqb_store.proofs.replaying.first.Goals as goal
-use Rattle.mqb_store.specs.Replaying.{IsReadUpTo}
-use Rattle.mqb_store_laws.specs.Faults.{IsBadStore}
-use Rattle.mqb_store_laws.specs.Images.{identity_in}
 
-pub returns-then-not-branch-clause-bad : goal.returns-then-not-branch-clause-bad
-returns-then-not-branch-clause-bad g c at is =
-    let done : HasEnded (g.D.Disk.view c.args.disk.now) (g.D.Disk.view c.advance.new.disk) c.args.scan.now c.advance.new.self [] = record {
-      behind = record {
-        whole = subst (λ (i : Guid). length i.0 ≡ 16) c.guid-guid.ensures c.guid_is_whole.ensures;
-        within = c.requires.within;
-        lent = c.requires.begun;
-      };
-      next = c.in_ok-advance.ensures.ended c.if-not-branch.true;
-      within = c.advance.ensures.within;
-      lent = c.in_ok-advance.ensures.all [] c.requires.begun c.if-not-branch.true;
-      reads = c.advance.ensures.reads;
-    } in
-    none_then done at c.requires.place (sym (same_place c.place.result at is) ∙ c.place.ensures.place)
-
-pub returns-in_default-clause-bad : goal.returns-in_default-clause-bad
-returns-in_default-clause-bad g c at is =
-    let t = c.advance.new.self in
-    let gone : HasGoneOn (g.D.Disk.view c.args.disk.now) (g.D.Disk.view c.advance.new.disk) c.args.scan.now t [] = record {
-      behind = record {
-        whole = subst (λ (i : Guid). length i.0 ≡ 16) c.guid-guid.ensures c.guid_is_whole.ensures;
-        within = c.requires.within;
-        lent = c.requires.begun;
-      };
-      next = c.in_ok-advance.ensures.advanced c.if-not-branch.false;
-      within = c.advance.ensures.within;
-      lent = c.in_ok-advance.ensures.more [] c.requires.begun c.if-not-branch.false;
-      reads = c.advance.ensures.reads;
-    } in
-    unfit_then gone at (inl refl) (sym (same_place c.place-in_default.result at is) ∙ c.place-in_default.ensures.place)
-    (no_identity c.entries_begin.ensures t.lent (ap (λ l. identity_in (record_of l)) (sym c.record.ensures.lent) ∙ (sym c.in_ok-identity.ensures ∙ c.in_default.is)))
-
-pub returns-then-ne-clause-bad : goal.returns-then-ne-clause-bad
-returns-then-ne-clause-bad g c at is =
+pub returns-in-Some-clause-read : goal.returns-in-Some-clause-read
+returns-in-Some-clause-read g c =
     let d = g.D.Disk.view c.args.disk.now in
-    let e = g.D.Disk.view c.advance.new.disk in
-    let t = c.advance.new.self in
-    let gone : HasGoneOn d e c.args.scan.now t [] = record {
-      behind = record {
-        whole = subst (λ (i : Guid). length i.0 ≡ 16) c.guid-guid.ensures c.guid_is_whole.ensures;
-        within = c.requires.within;
-        lent = c.requires.begun;
-      };
-      next = c.in_ok-advance.ensures.advanced c.if-not-branch.false;
-      within = c.advance.ensures.within;
-      lent = c.in_ok-advance.ensures.more [] c.requires.begun c.if-not-branch.false;
-      reads = c.advance.ensures.reads;
-    } in
-    subst (λ (k : ℕ). Each d.reads (IsBadStore k)) (same_place 0 at is)
-    (other_guid d e t t.lent c.in-Some.identity (stands_then gone) c.advance.ensures.reads
-    (ap (λ l. identity_in (record_of l)) (sym c.record.ensures.lent) ∙ (sym c.in_ok-identity.ensures ∙ c.in-Some.is))
-    (subst (λ (i : Guid). same_guid c.in-Some.identity.guid i ≡ false) (c.guid-guid.ensures ∙ sym (same_guid_then gone))
-    (not_false (same_guid c.in-Some.identity.guid c.guid-guid.result) c.if-ne.ensures)))
+    let t = c.take_base.new.self in
+    let given : HasGiven d c.args.scan.now t =
+    given_by (subst (λ (i : Guid). length i.0 ≡ 16) c.guid-guid.ensures c.guid_is_whole.ensures) c.requires.within c.requires.begun c.take_base.ensures.gone in
+    let same = c.guid-guid.ensures ∙ ap (λ (s : ScanState). s.guid) (sym c.take_base.ensures.gone) in
+    back_is_read d t (count_of given.base) c.deref.result.now c.guid-guid.result c.base_state.result
+    (stands_on given c.deref.result.now (some_given _ c.in-Some.is c.deref.ensures.value c.take_base.ensures.taken))
+    same c.base_state.ensures.spelled c.base_state.ensures.durable c.base_state.ensures.own
 
-pub returns-clause-read : goal.returns-clause-read
-returns-clause-read g c =
-    let e = g.D.Disk.view c.advance.new.disk in
-    let t = c.advance.new.self in
-    let gone : HasGoneOn (g.D.Disk.view c.args.disk.now) e c.args.scan.now t [] = record {
-      behind = record {
-        whole = subst (λ (i : Guid). length i.0 ≡ 16) c.guid-guid.ensures c.guid_is_whole.ensures;
-        within = c.requires.within;
-        lent = c.requires.begun;
-      };
-      next = c.in_ok-advance.ensures.advanced c.if-not-branch.false;
-      within = c.advance.ensures.within;
-      lent = c.in_ok-advance.ensures.more [] c.requires.begun c.if-not-branch.false;
-      reads = c.advance.ensures.reads;
-    } in
-    subst (λ (w : WithRooms State StateRooms). IsReadUpTo e t w.lists []) (sym c.in_ok-empty.ensures)
-    (read_first c.entries_begin.ensures e t t.lent c.in-Some.identity (stands_then gone)
-    (ap (λ l. identity_in (record_of l)) (sym c.record.ensures.lent) ∙ (sym c.in_ok-identity.ensures ∙ c.in-Some.is))
-    (subst (λ (i : Guid). same_guid c.in-Some.identity.guid i ≡ true) (c.guid-guid.ensures ∙ sym (same_guid_then gone))
-    (not_true (same_guid c.in-Some.identity.guid c.guid-guid.result) c.if-ne.ensures)))
+pub returns-in-Some-clause-bad : goal.returns-in-Some-clause-bad
+returns-in-Some-clause-bad g c at is =
+    let d = g.D.Disk.view c.args.disk.now in
+    let t = c.take_base.new.self in
+    let given : HasGiven d c.args.scan.now t =
+    given_by (subst (λ (i : Guid). length i.0 ≡ 16) c.guid-guid.ensures c.guid_is_whole.ensures) c.requires.within c.requires.begun c.take_base.ensures.gone in
+    let same = c.guid-guid.ensures ∙ ap (λ (s : ScanState). s.guid) (sym c.take_base.ensures.gone) in
+    back_is_bad d t (count_of given.base) c.deref.result.now c.guid-guid.result c.area.result at
+    (stands_on given c.deref.result.now (some_given _ c.in-Some.is c.deref.ensures.value c.take_base.ensures.taken))
+    same c.area.ensures (c.base_state.ensures.bad at is)
 
-pub returns-in_err-advance-clause-bad : goal.returns-in_err-advance-clause-bad
-returns-in_err-advance-clause-bad g c at is =
-    let p = err_from_is_err_and c.from_residual.result c.from_residual.ensures.1 in
-    let h = c.in_err-advance.ensures.bad at (ap (λ (f : ScanFault). Err f)
-    (bad_scan c.in_err-advance.field-0.0 at (sym p.2 ∙ same_fault p.0 (opening.BadStore at) (sym p.1 ∙ is)))) in
-    let behind : StandsBehind (g.D.Disk.view c.args.disk.now) c.args.scan.now [] = record {
-      whole = subst (λ (i : Guid). length i.0 ≡ 16) c.guid-guid.ensures c.guid_is_whole.ensures;
-      within = c.requires.within;
-      lent = c.requires.begun;
-    } in
-    breaks_off (g.D.Disk.view c.args.disk.now) c.args.scan.now [] at behind (inl refl) h.0 h.1
+pub returns-in-Some-clause-reads : goal.returns-in-Some-clause-reads
+returns-in-Some-clause-reads g c = reads_none (g.D.Disk.view c.args.disk.now) (g.met.D.Disk.lawful c.args.disk.now)
+
+pub returns-in-Some-clause-no_further : goal.returns-in-Some-clause-no_further
+returns-in-Some-clause-no_further g c before front so_far content told = inl (front content told)
+
+pub returns-in-Some-clause-cause : goal.returns-in-Some-clause-cause
+returns-in-Some-clause-cause g c = quiet_fault (g.D.Disk.view c.args.disk.now).faults c.base_state.result c.base_state.ensures.no_call
+
+pub returns-in-None-clause-no_further : goal.returns-in-None-clause-no_further
+returns-in-None-clause-no_further g c before front so_far =
+    let d = g.D.Disk.view c.args.disk.now in
+    let given : HasGiven d c.args.scan.now c.take_base.new.self =
+    given_by (subst (λ (i : Guid). length i.0 ≡ 16) c.guid-guid.ensures c.guid_is_whole.ensures) c.requires.within c.requires.begun c.take_base.ensures.gone in
+    stops_at_first d (g.D.Disk.view c.first_state.new.disk) before (stands_first given (none_given _ c.in-None.is c.take_base.ensures.taken))
+    (subst (λ (s : ScanState). d.reached ≤ max before (s.gate + 1)) (sym c.take_base.ensures.gone) so_far) c.first_state.ensures.no_further
+
+pub first_state-requires-clause-begun : goal.first_state-requires-clause-begun
+first_state-requires-clause-begun g c =
+    let d = g.D.Disk.view c.args.disk.now in
+    let given : HasGiven d c.args.scan.now c.take_base.new.self =
+    given_by (subst (λ (i : Guid). length i.0 ≡ 16) c.guid-guid.ensures c.guid_is_whole.ensures) c.requires.within c.requires.begun c.take_base.ensures.gone in
+    (stands_first given (none_given _ c.in-None.is c.take_base.ensures.taken)).lent

@@ -8,40 +8,34 @@ use Rattle.mqb_journal.proofs.Records.{block_of, length-chain-push, record_stand
 use Rattle.mqb_journal.proofs.journal.Journal.append.Goals as goal
 
 pub returns-then-entry-gt-MAX_RECORD-clause-moments : goal.returns-then-entry-gt-MAX_RECORD-clause-moments
-returns-then-entry-gt-MAX_RECORD-clause-moments g c records on settled = quiet_moments _ c.args.self.now records c.args.entry.now (g.met.D.Disk.lawful c.args.disk.now) on settled
+returns-then-entry-gt-MAX_RECORD-clause-moments g c base records on settled = quiet_moments _ c.args.self.now base records c.args.entry.now (g.met.D.Disk.lawful c.args.disk.now) on settled
 
 pub returns-in_err-frame-clause-moments : goal.returns-in_err-frame-clause-moments
-returns-in_err-frame-clause-moments g c records on settled = quiet_moments _ c.args.self.now records c.args.entry.now (g.met.D.Disk.lawful c.args.disk.now) on settled
+returns-in_err-frame-clause-moments g c base records on settled = quiet_moments _ c.args.self.now base records c.args.entry.now (g.met.D.Disk.lawful c.args.disk.now) on settled
 
 pub returns-in_default-clause-moments : goal.returns-in_default-clause-moments
-returns-in_default-clause-moments g c records on settled =
+returns-in_default-clause-moments g c base records on settled =
     let at = ap (λ (j : JournalState). j.end) c.self.view_is in
-    run_before_or_after _ _ c.args.self.now records c.args.entry.now _ c.self.inside.end on
-    (omega arith) at (c.deref.ensures.value ∙ c.in_ok-frame.ensures.framed)
-    (c.write_behind.ensures.any_moment settled
-    (closed_at _ c.args.self.now records c.self.inside.end on at))
+    run_before_or_after _ _ c.args.self.now base records c.args.entry.now _ c.self.inside.end on (omega arith) at (c.deref.ensures.value ∙ c.in_ok-frame.ensures.framed)
+    (c.write_behind.ensures.any_moment settled (closed_at _ c.args.self.now base records c.self.inside.end on at))
 
 pub returns-clause-moments : goal.returns-clause-moments
-returns-clause-moments g c records on settled =
+returns-clause-moments g c base records on settled =
     let at = ap (λ (j : JournalState). j.end) c.self.view_is in
-    run_before_or_after _ _ c.args.self.now records c.args.entry.now _ c.self.inside.end on
-    (omega arith) at (c.deref.ensures.value ∙ c.in_ok-frame.ensures.framed)
-    (c.write_behind.ensures.any_moment settled
-    (closed_at _ c.args.self.now records c.self.inside.end on at))
+    run_before_or_after _ _ c.args.self.now base records c.args.entry.now _ c.self.inside.end on (omega arith) at (c.deref.ensures.value ∙ c.in_ok-frame.ensures.framed)
+    (c.write_behind.ensures.any_moment settled (closed_at _ c.args.self.now base records c.self.inside.end on at))
 
 pub returns-clause-done : goal.returns-clause-done
-returns-clause-done g c records on =
+returns-clause-done g c base records on =
     let entry = c.args.entry.now in
     let block_is : c.deref.result.now ≡ block_of entry = c.deref.ensures.value ∙ c.in_ok-frame.ensures.framed in
     let fits : IsSmall entry = omega arith in
-    let at : GoesOn (g.D.Disk.view c.args.disk.now) _ records = subst (λ (j : JournalState). GoesOn (g.D.Disk.view c.args.disk.now) j records) (sym c.self.view_is) on in
+    let at : GoesOn (g.D.Disk.view c.args.disk.now) _ base records = subst (λ (j : JournalState). GoesOn (g.D.Disk.view c.args.disk.now) j base records) (sym c.self.view_is) on in
     let written = ok_fact _ _ _ c.in-Ok.is c.write_behind.ensures.written in
     record {
       first = at.first;
       behind = at.behind;
-      stands = λ d told. (let from = written d told in
-          record_stands c.self.inside.guid.0 at.first c.self.inside.end records entry
-          c.deref.result.now from.0 d (at.stands from.0 from.1) at.end block_is from.2);
+      stands = λ d told. (let from = written d told in record_stands c.self.inside.guid.0 c.self.inside.later at.first c.self.inside.end base records entry c.deref.result.now from.0 d (at.stands from.0 from.1) at.end block_is from.2);
       small = All-push IsSmall records entry at.small fits;
       end = omega (arith, at.end, length-chain-push records entry, c.len.ensures, c.deref.ensures.len, ap length block_is);
       count = omega (arith, at.count, length-append records (entry ∷ []));

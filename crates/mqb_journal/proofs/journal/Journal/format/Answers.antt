@@ -7,7 +7,7 @@ use Rattle.mqb_journal.proofs.journal.Journal.format.Goals as goal
 pub returns-clause-formatted : goal.returns-clause-formatted
 returns-clause-formatted g c = record {
   first = 24;
-  behind = refl;
+  behind = λ _. refl;
   stands = λ d told. (let from = c.in_ok-write_durably.ensures.written d told in
       formatted_stands c.args.guid.0 _ from.0 d c.empty_store.ensures from.2);
   small = All-nil IsSmall;

@@ -9,10 +9,10 @@ returns-then-branch g c = (
     search rules,
     search rules,
     record {
-      more = λ records lent.
+      more = λ base records lent.
           let d = g.D.Disk.view c.advance.new.disk in
-          subst (λ (l : List ℕ). Lent d c.advance.new.self (records ++ l ∷ []))
-          (sym c.record.ensures.lent) (c.in_ok-advance.ensures.more records lent c.if-branch.true);
+          subst (λ (l : List ℕ). Lent d c.advance.new.self base (records ++ l ∷ []))
+          (sym c.record.ensures.lent) (c.in_ok-advance.ensures.more base records lent c.if-branch.true);
       all = search rules;
       advanced = search rules;
       ended = search rules;

@@ -6,8 +6,8 @@ use Rattle.mqb_serving.specs.declared.faults.ConnFault.{ConnFault}
 use Rattle.mqb_serving.specs.Serving.{Hears}
 use Rattle.mqb_serving.specs.Steps.{Goes, Listens}
 use Rattle.mqb_serving.proofs.Taken.{Reads, reads_end, reads_fault, reads_more, reads_out, reads_stop}
-use Rattle.mqb_serve.specs.Talking.{stored_of}
-use Rattle.mqb_serve.proofs.Keeps.{keeps_ok, keeps_then}
+use Rattle.mqb_serve.specs.Talking.{Keeps, stored_of}
+use Rattle.mqb_serve.proofs.Keeps.{keeps_err, keeps_ok, keeps_then}
 use Rattle.mqb_serve.proofs.talk.Talk.listen.Goals as goal
 
 pub returns-in_err-count-clause-listens : goal.returns-in_err-count-clause-listens
@@ -60,6 +60,17 @@ returns-in_err-ended-clause-listens g c = λ k s.
     let gave : Gave i j piece = subst (λ (o : Option (List ℕ)). Gave i o piece) (sym w.held) e.gave in
     subst (λ (r : Result End ConnFault). Listens k h j x z n r) (sym (p.1 ∙ ap Err p.2))
     (reads_stop k h i j x y z a.purpose a.moment m n a.framer reads t.purpose t.moment t.framer piece gave c.in_err-ended.field-0.0 (λ d f. w.goes d f))
+
+pub returns-in_err-ended-clause-keeps : goal.returns-in_err-ended-clause-keeps
+returns-in_err-ended-clause-keeps g c =
+    let d = g.D.Disk.view c.args.disk.now in
+    let e = g.D.Disk.view c.take_piece.new.disk in
+    let m = c.args.manager.now in
+    let n = c.take_piece.new.manager in
+    let why = c.in_err-ended.field-0.0 in
+    let p = err_from_is_err_and c.from_residual-in_err-ended.result c.from_residual-in_err-ended.ensures.1 in
+    subst (λ (r : Result End ConnFault). Keeps d e m n r) (sym (p.1 ∙ ap Err p.2))
+    (keeps_err d e m n why (keeps_then d (g.D.Disk.view c.pieces.disk) e m c.pieces.manager n 0 (Err why) c.pieces.invariant.keeps c.in_err-ended.ensures.keeps))
 
 pub returns-in-Some-clause-listens : goal.returns-in-Some-clause-listens
 returns-in-Some-clause-listens g c = λ k s.

@@ -34,6 +34,9 @@ returns-in-Ok-append_first-clause-on g c =
 pub returns-in-Ok-append_first-clause-up : goal.returns-in-Ok-append_first-clause-up
 returns-in-Ok-append_first-clause-up g c = ap (λ (k : JournalState). k.down) c.in-Ok-append_first.ensures.appended ∙ c.in-Ok.ensures.formatted.up
 
+pub returns-in-Ok-append_first-clause-guid : goal.returns-in-Ok-append_first-clause-guid
+returns-in-Ok-append_first-clause-guid g c = ap (λ (k : JournalState). k.guid) c.in-Ok-append_first.ensures.appended ∙ c.in-Ok.ensures.guid
+
 pub returns-in-Ok-append_first-clause-count : goal.returns-in-Ok-append_first-clause-count
 returns-in-Ok-append_first-clause-count g c =
     omega (arith, ap (λ (k : JournalState). k.count) c.in-Ok-append_first.ensures.appended, c.in-Ok.ensures.formatted.count)

@@ -6,7 +6,7 @@ use Rattle.mqb_outside.specs.lemmas.Runs.{reads_then}
 use Rattle.mqb_journal.specs.States.{JournalState}
 use Rattle.mqb_journal.specs.declared.faults.OpenFault.{OpenFault}
 use Rattle.mqb_journal.specs.declared.faults.OpenFault.TheVariants as opening
-use Rattle.mqb_store.proofs.Reaching.{gate_of_read, stops_at_first}
+use Rattle.mqb_store.proofs.Reaching.{in_order_before}
 use Rattle.mqb_store.proofs.Read.{read_lines, read_on, read_opens}
 use Rattle.mqb_store.proofs.Steps.{bad_before, cause_of, reads_then_settles, same_fault}
 use Rattle.mqb_store.proofs.store.Store.start.Goals as goal
@@ -95,15 +95,15 @@ returns-in-Err-clause-cause g c =
     (g.D.Disk.view c.replay_durably.new.disk).faults (c.in_ok-state.ensures.cause ∙ c.in_ok-scan.ensures.cause) c.in-Err.ensures.cause
 
 pub returns-in_err-scan-clause-no_further : goal.returns-in_err-scan-clause-no_further
-returns-in_err-scan-clause-no_further g c content told = inl (omega (arith, c.begin.ensures.reached))
+returns-in_err-scan-clause-no_further g c content told = inl (c.begin.ensures.no_further content told)
 
 pub returns-in_err-state-clause-no_further : goal.returns-in_err-state-clause-no_further
 returns-in_err-state-clause-no_further g c =
     let d = g.D.Disk.view c.args.disk.now in
     let m = g.D.Disk.view c.begin.new.disk in
     let e = g.D.Disk.view c.first.new.disk in
-    stops_at_first d m e c.first.ensures.whole c.in_ok-scan.ensures.begun c.in_ok-scan.ensures.within c.begin.ensures.reads
-    (omega (arith, c.begin.ensures.reached)) c.first.ensures.no_further
+    in_order_before d m d.reached e.reached c.begin.ensures.reads (c.first.ensures.no_further d.reached
+    (λ content told. c.begin.ensures.no_further content (c.begin.ensures.reads.unchanged.reads.none_new content told)) c.in_ok-scan.ensures.reached)
 
 pub returns-in-Err-clause-no_further : goal.returns-in-Err-clause-no_further
 returns-in-Err-clause-no_further g c content told =
@@ -111,7 +111,7 @@ returns-in-Err-clause-no_further g c content told =
     let m = g.D.Disk.view c.begin.new.disk in
     let n = g.D.Disk.view c.first.new.disk in
     inr (c.replay_durably.ensures.no_further d.reached
-    (omega (arith, c.begin.ensures.reached, c.in_ok-state.ensures.reached, gate_of_read c.in_ok-state.ensures.read))
+    (omega (arith, c.in_ok-scan.ensures.reached, c.in_ok-state.ensures.reached, c.in_ok-state.ensures.behind))
     content ((reads_then d m n c.begin.ensures.reads c.first.ensures.reads).unchanged.reads.none_lost content told))
 
 pub returns-in-Ok-clause-no_further : goal.returns-in-Ok-clause-no_further
@@ -120,5 +120,5 @@ returns-in-Ok-clause-no_further g c content told =
     let m = g.D.Disk.view c.begin.new.disk in
     let n = g.D.Disk.view c.first.new.disk in
     inr (c.replay_durably.ensures.no_further d.reached
-    (omega (arith, c.begin.ensures.reached, c.in_ok-state.ensures.reached, gate_of_read c.in_ok-state.ensures.read))
+    (omega (arith, c.in_ok-scan.ensures.reached, c.in_ok-state.ensures.reached, c.in_ok-state.ensures.behind))
     content ((reads_then d m n c.begin.ensures.reads c.first.ensures.reads).unchanged.reads.none_lost content told))

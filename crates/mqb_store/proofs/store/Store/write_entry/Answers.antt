@@ -19,7 +19,7 @@ pub append-requires-clause-gate : goal.append-requires-clause-gate
 append-requires-clause-gate g c =
     let d = g.D.Disk.view c.args.disk.now in
     let at : IsOn d c.self.inside.journal c.self.inside.state.lists = subst (λ (w : StoreState). IsStoredOn d w) (sym c.self.view_is) c.requires.on in
-    goes_on_gate d c.self.inside.journal at.entries at.goes_on
+    goes_on_gate d c.self.inside.journal at.base at.entries at.goes_on
 
 pub returns-in_err-spell-clause-moments : goal.returns-in_err-spell-clause-moments
 returns-in_err-spell-clause-moments g c settled =

@@ -1,0 +1,5 @@
+pub mod Store
+pub mod Gates
+pub mod Layouts
+pub mod Checkpoints
+pub mod lemmas
