@@ -21,3 +21,4 @@ mod Commit
 mod Send
 mod Planned
 mod Taking
+mod Based

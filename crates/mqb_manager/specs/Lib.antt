@@ -1,5 +1,6 @@
 pub mod States
 pub mod Calls
+pub mod Checkpoints
 pub mod Seen
 pub mod Writing
 pub mod Quiet

@@ -4,6 +4,7 @@
 //! called. What a connection alone knows is kept beside the store, and is forgotten where the connection ends or the disk fails.
 #![tactic(auto)]
 
+mod checkpoints;
 mod committing;
 mod hearing;
 mod links;
@@ -19,4 +20,4 @@ mod takes;
 mod writing;
 
 pub use manager::Manager;
-pub use mqb_store::OpenFault;
+pub use mqb_store::{CheckpointFault, OpenFault};

@@ -5,13 +5,12 @@ ghost use Rattle.mqb_manager.specs.States.{manager_of};
 ghost use Rattle.mqb_model.specs.calls.Link.{link, resend, session_for, unlink};
 
 use crate::manager::Manager;
-use crate::readers::linked_peer;
 use mqb_choosing::rewind;
 use mqb_model::{
     LinkFault, Role, linked_is_valid, refused_is_same, resent_is_valid, unlinked_is_valid,
 };
 use mqb_session::Session;
-use mqb_store::State;
+use mqb_store::{State, linked_peer};
 
 /// The end of a session that begins, where its peer is there.
 fn session_for(state: &State, role: Role, window: u16) -> Option<Session>

@@ -16,27 +16,17 @@ ghost use Rattle.mqb_model.specs.managers.Outcomes.{succeeded};
 ghost use Rattle.mqb_model.specs.managers.Valid.{IsValidManager};
 ghost use Rattle.mqb_packet.specs.Plain.{IsWellFormedPacket, packet_size, plain_spelling};
 ghost use Rattle.mqb_packet.specs.Values.{IsPacket};
-ghost use Rattle.mqb_session.specs.Sending.{is_ready};
 
 use crate::manager::Manager;
-use crate::readers::linked_peer;
 use crate::sending::pump_fault;
 use crate::writing::calls_can_be_written;
 use mqb_choosing::{Sending, sent_are_next, set_up_packet};
 use mqb_model::{PumpFault, applied_is_valid};
 use mqb_outside::Disk;
 use mqb_packet::{Packet, PutFault, put_packet};
-use mqb_session::{Kind, Phase, Session};
+use mqb_session::{Kind, Session};
 use mqb_setup::Internal;
-
-fn is_ready(session: &Session) -> bool
-    ensures { result ≡ is_ready session.now.phase }
-{
-    match session.phase() {
-        Phase::Ready => true,
-        _ => false,
-    }
-}
+use mqb_store::{is_ready, linked_peer};
 
 impl Manager {
     /// Its end of a session, while it is linked.

@@ -1,46 +1,13 @@
-ghost use Rattle.std.specs.List.{list_any};
-ghost use Rattle.std.specs.Option.{option_map_or};
-ghost use Rattle.std.specs.Prelude.{◌≡◌, None, Some, false, if◌then◌else◌, option_and_then, option_copied, slice_get};
+ghost use Rattle.std.specs.Prelude.{◌&&◌, ◌==◌, ◌≡◌, None, Some, if◌then◌else◌, length, not, option_and_then, option_copied};
 ghost use Rattle.mqb_manager.specs.States.{manager_of};
-ghost use Rattle.mqb_model.specs.managers.Manager.{doubt_of, is_down, linked_peer};
-ghost use Rattle.mqb_model.specs.managers.Readers.{awaits, has_plain, is_outstanding, phase_of};
+ghost use Rattle.mqb_model.specs.managers.Manager.{doubt_of, is_down};
+ghost use Rattle.mqb_model.specs.managers.Readers.{is_outstanding, phase_of};
 ghost use Rattle.mqb_model.specs.records.Reading.{record_of};
-ghost use Rattle.mqb_orders.specs.Rows.{row_of};
 
 use crate::manager::Manager;
 use mqb_base::Line;
-use mqb_orders::OutRow;
-use mqb_session::{Phase, Session};
-use mqb_store::State;
-
-/// The index of the peer to which a session leads. While it is not known, that is the index of no peer.
-pub(crate) fn linked_peer(state: &State, session: &Session) -> u32
-    ensures { result ≡ linked_peer state.now.lists session.now }
-{
-    let known = match session.peer() {
-        Some(guid) => state.contents().peer_known(guid),
-        None => None,
-    };
-    match known {
-        Some(peer) => peer,
-        None => state.contents().peers().len() as u32,
-    }
-}
-
-/// Whether plain messages wait for the peer at an index.
-fn has_plain(state: &State, peer: u32) -> bool
-    ensures { result ≡ option_map_or has_plain (slice_get state.now.lists.plain peer) false }
-{
-    (peer as usize) < state.peers().len() && !state.plain(peer).is_empty()
-}
-
-/// Whether a row leads to the peer at an index and has a number that was not acknowledged.
-fn any_awaits(rows: &[OutRow], peer: u32) -> bool
-    ensures { result ≡ list_any (λ r. awaits peer (row_of r)) rows.now }
-{
-    rows.iter()
-        .any(|row| row.peer == peer && row.has_unacknowledged())
-}
+use mqb_session::Phase;
+use mqb_store::{State, any_awaits, has_plain, linked_peer};
 
 /// What a manager tells of itself.
 impl Manager {
@@ -72,10 +39,11 @@ impl Manager {
         self.store.is_down()
     }
 
-    /// The entry that may have been written, where the disk failed.
+    /// The entry that may have been written, where the disk failed. Behind a checkpoint there is none.
+    #[tactic(auto, using(crate::proofs::Conditions::doubt_is))]
     pub fn doubt(&self) -> Option<&[u8]>
-        ensures entry { option_copied result ≡
-            if self.now.store.journal.down then Some self.now.store.entry else None }
+        ensures entry { option_copied result ≡ if self.now.store.journal.down
+            && not (length self.now.store.entry == 0) then Some self.now.store.entry else None }
         ensures record { option_and_then record_of (option_copied result) ≡
             doubt_of (manager_of self.now).condition }
     {

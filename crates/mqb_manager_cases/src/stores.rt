@@ -85,19 +85,20 @@ fn is_beta_doubted<D: Disk>(alloc: Global, disk: &mut D) -> Result<bool, Fail> {
     Ok(is_doubted?)
 }
 
-/// Whether nothing is in doubt behind a start, and how many records there are.
+/// Whether nothing is in doubt behind a start and a checkpoint is written, and how many records there are.
 fn started<D: Disk>(alloc: Global, disk: &mut D) -> Result<(bool, u64), OpenFault> {
-    let manager = Manager::start(alloc, disk)?;
+    let mut manager = Manager::start(alloc, disk)?;
     let count = manager.lsn();
     let is_settled = manager.doubt().is_none();
+    let is_written = manager.checkpoint(disk).is_ok();
     manager.close();
-    Ok((is_settled, count))
+    Ok((is_settled && is_written, count))
 }
 
 /// How many records a restart leaves where the disk stops or fails in a call of the record of a peer,
 /// or none where its entry was not in doubt, or still is.
 fn left(alloc: Global, mode: Mode, call: u32, pick: Pick) -> Result<u64, Fail> {
-    let mut disk = MemoryDisk::new(alloc, 256)?;
+    let mut disk = MemoryDisk::new(alloc, 8_192)?;
     disk.arm(call.saturating_add(FORMATTED).max(1), mode);
     let is_doubted = is_beta_doubted(alloc, &mut disk);
     disk.restart(pick);

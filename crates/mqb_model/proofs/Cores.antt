@@ -121,15 +121,15 @@ placed_core s t m = refl
 abbrev pub Any : Message → Type 0
 Any m = Unit {0}
 
-any_some : (o : Option Message) → IfSome o Any
+pub any_some : (o : Option Message) → IfSome o Any
 any_some None = tt
 any_some (Some m) = tt
 
-all_any : {X : Type 0} (xs : List X) → AllByRecursion (λ x. Unit {0}) xs
+pub all_any : {X : Type 0} (xs : List X) → AllByRecursion (λ x. Unit {0}) xs
 all_any [] = tt
 all_any (x ∷ xs) = (tt, all_any xs)
 
-if_any : {X : Type 0} (Q : X → Type 0) (o : Option X) → ((x : X) → Q x) → IfSome o Q
+pub if_any : {X : Type 0} (Q : X → Type 0) (o : Option X) → ((x : X) → Q x) → IfSome o Q
 if_any Q None f = tt
 if_any Q (Some x) f = f x
 

@@ -49,6 +49,7 @@ mod Calls
 mod Offers
 mod Pumping
 mod Cores
+mod Identities
 mod Trying
 mod Transacting
 mod Sent

@@ -5,6 +5,7 @@ ghost use Rattle.mqb_model.specs.laws.Keeping.{
   CallsKeepValid,
   KeptIsValid,
   LinkedIsValid,
+  RecordsKeepIdentities,
 };
 ghost use Rattle.mqb_model.specs.laws.Refusals.{RefusalsChangeNothing};
 ghost use Rattle.mqb_model.specs.laws.Stepwise.{StepwiseIsEffect};
@@ -38,6 +39,11 @@ pub fn new_is_valid()
 /// What a store stands for is valid where the state is.
 pub fn durable_is_valid()
     ensures { DurableIsValid }
+{}
+
+/// No record changes the identity of a manager.
+pub fn records_keep_identities()
+    ensures { RecordsKeepIdentities }
 {}
 
 /// A valid manager that goes down under a record that may have been written, or under none, is valid.

@@ -21,8 +21,9 @@ pub use laws::{
     applied_is_valid, calls_keep_valid, calls_leave_store, durable_is_applied, durable_is_fitted,
     durable_is_valid, failed_is_valid, kept_is_valid, leaving_is_durable, linked_is_valid,
     lost_is_valid, meets_durably, new_is_valid, pumped_is_readable, records_are_read,
-    records_are_spelled, records_fit, refusals_change_nothing, refused_is_same, resent_is_valid,
-    restarted_is_valid, steps_are_durable, stepwise_is_effect, unlinked_is_valid, unread_is_valid,
+    records_are_spelled, records_fit, records_keep_identities, refusals_change_nothing,
+    refused_is_same, resent_is_valid, restarted_is_valid, steps_are_durable, stepwise_is_effect,
+    unlinked_is_valid, unread_is_valid,
 };
 pub use limits::{
     FIRST_EXPRESS, MAX_EXPRESS, MAX_NUMBER, MAX_OPS, MAX_ORDINAL, MAX_PACKETS, MAX_PEERS,

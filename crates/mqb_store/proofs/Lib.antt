@@ -6,3 +6,4 @@ pub mod Read
 pub mod Steps
 pub mod Reaching
 pub mod Fronts
+pub mod Based

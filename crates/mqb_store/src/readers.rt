@@ -1,4 +1,4 @@
-ghost use Rattle.std.specs.Prelude.{◌≡◌, None, Some, if◌then◌else◌, option_copied};
+ghost use Rattle.std.specs.Prelude.{◌&&◌, ◌==◌, ◌≡◌, None, Some, if◌then◌else◌, length, not, option_copied};
 ghost use Rattle.mqb_model.specs.state.Valid.{IsValidState};
 
 use crate::store::Store;
@@ -23,19 +23,19 @@ impl Store {
         self.journal.lsn()
     }
 
-    /// Whether a write has failed.
+    /// Whether a write or a checkpoint has failed.
     pub fn is_down(&self) -> bool
         ensures { result ≡ self.now.journal.down }
     {
         self.journal.is_down()
     }
 
-    /// The entry of a write that failed.
+    /// The entry of a write that failed. Behind a checkpoint that failed there is none.
     pub fn doubt(&self) -> Option<&[u8]>
-        ensures { option_copied result
-            ≡ if self.now.journal.down then Some self.now.entry else None }
+        ensures { option_copied result ≡ if self.now.journal.down
+            && not (length self.now.entry == 0) then Some self.now.entry else None }
     {
-        if self.journal.is_down() {
+        if self.journal.is_down() && !self.entry.is_empty() {
             Some(self.entry.as_slice())
         } else {
             None

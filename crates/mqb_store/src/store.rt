@@ -10,7 +10,7 @@ use std::marker::Model;
 pub struct Store {
     pub(crate) state: State,
     pub(crate) journal: Journal,
-    // What was spelled last. Where a write failed, that may be on the disk or not.
+    // What was spelled last. Where a write failed, that may be on the disk or not. A checkpoint leaves nothing here, since nothing of it is in doubt.
     pub(crate) entry: Vec<u8>,
     pub(crate) lines: Roomed<Line>,
     pub(crate) alloc: Global,

@@ -1,8 +1,9 @@
 -- What is known of the images of a store, and how a state that a disk stands for is carried from call to call.
 use Rattle.std.specs.Option.{option_map_or}
-use Rattle.std.specs.Prelude.{[], ◌++◌, ◌∷◌, ◌≡◌, List, Some, length, option_and_then, option_map, true, ℕ}
+use Rattle.std.specs.Prelude.{[], ◌++◌, ◌∷◌, ◌≡◌, List, Ok, Some, length, option_and_then, option_map, true, ℕ}
+use Rattle.mqb_base.specs.Same.{same_guid}
 use Rattle.mqb_base.specs.declared.ids.Guid.{Guid}
-use Rattle.mqb_journal.specs.Store.{Base, Nothing}
+use Rattle.mqb_journal.specs.Store.{After, Base, Nothing}
 use Rattle.mqb_model.specs.records.Applying.{apply, fits, lines_of}
 use Rattle.mqb_model.specs.records.Folding.{applied}
 use Rattle.mqb_model.specs.records.Reading.{record_of}
@@ -10,6 +11,8 @@ use Rattle.mqb_model.specs.records.Record.{Record}
 use Rattle.mqb_model.specs.state.Durable.{durable}
 use Rattle.mqb_model.specs.state.State.{State, empty}
 use Rattle.mqb_model.specs.state.Valid.{IsValidState}
+use Rattle.mqb_snapshot.specs.Reading as snapshots
+use Rattle.mqb_snapshot.specs.Snapshot.{snapshot}
 use Rattle.mqb_store_laws.specs.Faults.{IsBadStore}
 use Rattle.mqb_store_laws.specs.Images.{OpensTo, identity_in, last_lines, state_from, state_in, with_guid}
 
@@ -49,3 +52,12 @@ OpenedIsNotBad = (guid : Guid) (count at : ℕ) (s : State) (image : List ℕ) �
 -- A store is bad at one place at most.
 abbrev pub BadAtOnePlace : Type 0
 BadAtOnePlace = (at other : ℕ) (image : List ℕ) → IsBadStore at image → IsBadStore other image → at ≡ other
+
+-- The base of a state, with no entries behind it, stands for what a store has of the state, in a store with its GUID.
+abbrev pub BasesBegin : Type 0
+BasesBegin = (guid : Guid) (count : ℕ) (s : State) → snapshots.state_of (snapshot s) ≡ Ok (durable s) → same_guid s.identity.guid guid ≡ true
+    → state_in guid (After count (snapshot s)) [] ≡ Some (durable s)
+
+-- The state that entries stand for in a store has its GUID.
+abbrev pub StatesAreOwn : Type 0
+StatesAreOwn = (guid : Guid) (base : Base) (entries : List (List ℕ)) (s : State) → state_in guid base entries ≡ Some s → same_guid s.identity.guid guid ≡ true

@@ -1,9 +1,9 @@
-ghost use Rattle.mqb_store_laws.specs.Laws.{BadAtOnePlace, EntriesBegin, EntriesGoOn, ImagesOpenToOne, OpenedIsNotBad, RecordsJoin};
+ghost use Rattle.mqb_store_laws.specs.Laws.{BadAtOnePlace, BasesBegin, EntriesBegin, EntriesGoOn, ImagesOpenToOne, OpenedIsNotBad, RecordsJoin, StatesAreOwn};
 
 use mqb_journal::{
     bad_at_one_place as one_place, chains_begin_alike, records_are_not_bad, stands_for_one_list,
 };
-use mqb_model::{durable_is_applied, durable_is_fitted};
+use mqb_model::{durable_is_applied, durable_is_fitted, records_keep_identities};
 
 /// The first entry stands for a manager that has nothing but its identity, where it is one; in a store, where that has the store's GUID.
 pub fn entries_begin()
@@ -21,6 +21,18 @@ pub fn records_join()
 {
     durable_is_applied();
     durable_is_fitted();
+}
+
+/// The base of a state, with no entries behind it, stands for what a store has of the state.
+pub fn bases_begin()
+    ensures { BasesBegin }
+{}
+
+/// The state that entries stand for in a store has its GUID, since no record changes an identity.
+pub fn states_are_own()
+    ensures { StatesAreOwn }
+{
+    records_keep_identities();
 }
 
 /// An image opens to one state at most, by one count of records.

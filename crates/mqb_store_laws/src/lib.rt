@@ -4,6 +4,6 @@
 mod laws;
 
 pub use laws::{
-    bad_at_one_place, entries_begin, entries_go_on, images_open_to_one, opened_is_not_bad,
-    records_join,
+    bad_at_one_place, bases_begin, entries_begin, entries_go_on, images_open_to_one,
+    opened_is_not_bad, records_join, states_are_own,
 };

@@ -3,6 +3,7 @@ use Rattle.std.proofs.Common.{ap, inl, inr, refl, subst, sym, ◌∙◌}
 use Rattle.std.specs.Prelude.{[], ◌∷◌, ◌≡◌, Bool, List, None, Option, Result, Some, cond, false, map, true, ℕ}
 use Rattle.mqb_outside.specs.Disk.{View}
 use Rattle.mqb_journal.specs.States.{JournalState}
+use Rattle.mqb_journal.specs.declared.faults.CheckpointFault.{CheckpointFault}
 use Rattle.mqb_plain.specs.Lists.{unmarked, unsent}
 use Rattle.mqb_plain.specs.Plain.{PlainLists}
 use Rattle.mqb_plain.specs.declared.outgoing.Outgoing.{Outgoing}
@@ -20,6 +21,7 @@ use Rattle.mqb_model.specs.state.State.{State}
 use Rattle.mqb_store_laws.specs.lemmas.Carrying.{on_beside}
 use Rattle.mqb_store_laws.specs.Images.{IsOn}
 use Rattle.mqb_manager.specs.Calls.{Ends, IsCall, Succeeds}
+use Rattle.mqb_manager.specs.Checkpoints.{EndsCheckpoint, IsCheckpoint}
 use Rattle.mqb_manager.specs.States.{IsUp, ManagerState, condition_of, manager_of}
 use Rattle.mqb_manager.specs.Keeping.{KeepsDisk}
 
@@ -70,6 +72,21 @@ calls_keep_disks memory broken d e m n o r call = record {
   up = up_before memory broken m n o r call.ends;
   on = λ on up. call.on (on (up_before memory broken m n o r call.ends up)) up;
   settled = λ on settled up. call.settled (on (up_before memory broken m n o r call.ends up)) settled up;
+  doubt = λ up on settled down. call.doubt on settled down;
+  switch = call.switch;
+}
+
+based_before : (m n : ManagerState) (r : Result (Unit {0}) CheckpointFault) → EndsCheckpoint m n r → IsUp n → IsUp m
+based_before m n r (inl h) up = up_if m n (ap (λ (k : Manager). k.condition) h.1.manager) up
+based_before m n r (inr (inl h)) up = up_if m n (ap (λ (k : Manager). k.condition) h.1.manager) up
+based_before m n r (inr (inr h)) up = absurd (never_up n.store.journal.down (record_of n.store.entry) None up (ap (λ (k : Manager). k.condition) h.1.manager))
+
+-- and a checkpoint
+pub checkpoints_keep_disks : (d e : View) (m n : ManagerState) (r : Result (Unit {0}) CheckpointFault) → IsCheckpoint d e m n r → KeepsDisk d e m n
+checkpoints_keep_disks d e m n r call = record {
+  up = based_before m n r call.ends;
+  on = λ on up. call.on (on (based_before m n r call.ends up)) up;
+  settled = λ on settled up. call.settled (on (based_before m n r call.ends up)) settled up;
   doubt = λ up on settled down. call.doubt on settled down;
   switch = call.switch;
 }

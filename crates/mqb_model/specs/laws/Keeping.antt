@@ -77,6 +77,10 @@ CommitIsValid = (s : State) (now : ℕ) (ops : List RecordOp) → IsValidState s
 abbrev pub AppliedIsValid : Type 0
 AppliedIsValid = (s : State) (r : Record) → IsValidState s → IsRead r → fits s r ≡ true → IsValidState (apply s r)
 
+-- No record changes the identity of a manager.
+abbrev pub RecordsKeepIdentities : Type 0
+RecordsKeepIdentities = (s : State) (r : Record) → (apply s r).identity ≡ s.identity
+
 -- A valid manager is valid again over a store that has the record in doubt.
 abbrev pub KeptIsValid : Type 0
 KeptIsValid = (m : Manager) → IsValidManager m → IsValidManager (restarted m true)
