@@ -123,7 +123,7 @@ out of memory
 a call of the disk failed
 no store that can be read: at 0
 a call of the disk failed
-an earlier append failed
+an earlier call failed
 the record is too large
 out of memory
 a call of the disk failed

@@ -221,14 +221,14 @@ impl Journal {
         Ok(())
     }
 
-    /// How many records there are.
+    /// How many records there were since the store was formatted.
     pub fn lsn(&self) -> u64
         ensures { result ≡ self.now.count }
     {
         self.count
     }
 
-    /// Whether an append has failed.
+    /// Whether an append or a checkpoint has failed.
     pub fn is_down(&self) -> bool
         ensures { result ≡ self.now.down }
     {

@@ -21,12 +21,14 @@ fn is_recorded(delivery: Delivery) -> bool
     !matches!(delivery, Delivery::Express)
 }
 
+/// Whether a message of this delivery is of a transaction.
 pub fn is_transactional(delivery: Delivery) -> bool
     ensures { result ≡ is_transactional delivery }
 {
     matches!(delivery, Delivery::Transactional)
 }
 
+/// Whether one of this delivery is recorded, and of no transaction.
 pub fn is_recoverable(delivery: Delivery) -> bool
     ensures { result ≡ is_recoverable delivery }
 {

@@ -13,11 +13,11 @@ pub record StoreState : Type 0 where
   pub entry : List ℕ
   pub lines : List Line
 
--- no write has failed
+-- no write and no checkpoint has failed
 abbrev pub IsUp : StoreState → Type 0
 IsUp w = w.journal.down ≡ false
 
--- a disk stands for the records of this store, and they for what it has of its state
+-- a disk stands for the base and the records of this store, and they for what it has of its state
 abbrev pub IsStoredOn : View → StoreState → Type 0
 IsStoredOn d w = IsOn d w.journal w.state
 

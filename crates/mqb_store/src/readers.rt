@@ -16,7 +16,7 @@ impl Store {
         &self.state
     }
 
-    /// How many records there are.
+    /// How many records there were since the store was formatted.
     pub fn lsn(&self) -> u64
         ensures { result ≡ self.now.journal.count }
     {
