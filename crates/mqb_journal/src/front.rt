@@ -36,8 +36,8 @@ pub(crate) fn front_at<D: Disk>(alloc: Global, disk: &mut D, len: u64) -> Result
     requires bound { len ≤ MAX_DISK }
     requires long { MIN_STORE ≤ len }
     requires length { Each (D.view disk.old).reads (λ c. len ≡ length c) }
-    ensures front { IfOk result (λ f. IsFrontOf (D.view disk.old).reads f.guid.0 f.later f.first f.count
-        (option_map (λ v. v.items) f.base)) }
+    ensures front { IfOk result (λ f. IsFrontOf (D.view disk.old).reads f.guid.0 f.later f.first
+        f.count (option_map (λ v. v.items) f.base)) }
     ensures within { IfOk result (λ f. f.first < len) }
     ensures laid { IfOk result (λ f. IsWithinStore f.later f.first) }
     ensures counted { IfOk result (λ f. f.count ≤ MOST_COUNT) }
@@ -87,8 +87,8 @@ fn later_at<D: Disk>(
     requires guid { Each (D.view disk.old).reads (λ c. part 8 16 c ≡ swapped guid.0) }
     requires head { Each (D.view disk.old).reads (λ c. head ≡ head_of c) }
     requires far { head ≤ MOST_HEAD }
-    ensures front { IfOk result (λ f. IsFrontOf (D.view disk.old).reads f.guid.0 f.later f.first f.count
-        (option_map (λ v. v.items) f.base)) }
+    ensures front { IfOk result (λ f. IsFrontOf (D.view disk.old).reads f.guid.0 f.later f.first
+        f.count (option_map (λ v. v.items) f.base)) }
     ensures within { IfOk result (λ f. f.first < len) }
     ensures laid { IfOk result (λ f. IsWithinStore f.later f.first) }
     ensures counted { IfOk result (λ f. f.count ≤ MOST_COUNT) }

@@ -54,7 +54,8 @@ impl Model for Journal {
       room = vec_capacity j.block;
     } };
 
-    ghost invariant = { λ j. (j.end < MAX_DISK) × (j.count ≤ 2 ^ 63 + j.end) × IsWithinStore j.later j.end };
+    ghost invariant = { λ j. (j.end < MAX_DISK) × (j.count ≤ 2 ^ 63 + j.end)
+        × IsWithinStore j.later j.end };
 }
 
 impl Journal {

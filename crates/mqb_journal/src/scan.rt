@@ -65,7 +65,8 @@ impl Model for Scan {
       ended = s.ended;
     } };
 
-    ghost invariant = { λ s. IsWithin s.len s.gate s.place s.count s.held (vec_len s.buffer) s.later };
+    ghost invariant = { λ s.
+        IsWithin s.len s.gate s.place s.count s.held (vec_len s.buffer) s.later };
 }
 
 impl Scan {

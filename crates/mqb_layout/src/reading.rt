@@ -70,7 +70,8 @@ pub fn fill<D: Disk>(disk: &mut D, at: u64, n: usize, buffer: &mut [u8]) -> Resu
     requires room { n < length buffer.old }
     ensures bytes { OnOk result
         (Each (D.view disk.old).reads (λ c. drop at c ≡ take n buffer.new ++ drop (at + n) c)) }
-    ensures gate { IfOk result (λ is_open. Each (D.view disk.old).reads (HasGate (at + n) is_open)) }
+    ensures gate { IfOk result
+        (λ is_open. Each (D.view disk.old).reads (HasGate (at + n) is_open)) }
     ensures reads { OnlyReads (D.view disk.old) (D.view disk.new) }
     ensures reached { (D.view disk.new).reached ≤ max (D.view disk.old).reached (at + n + 1) }
     ensures calls { Counted 1 (D.view disk.old).calls (D.view disk.new).calls }
