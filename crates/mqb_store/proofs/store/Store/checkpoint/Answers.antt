@@ -26,7 +26,7 @@ pub checkpoint-requires : goal.checkpoint-requires
 checkpoint-requires g c up =
     let d = g.D.Disk.view c.args.disk.now in
     let at : IsOn d c.self.inside.journal c.self.inside.state.lists =
-        subst (λ (w : StoreState). IsStoredOn d w) (sym c.self.view_is) (c.requires.on (subst (λ (w : StoreState). w.journal.down ≡ false) c.self.view_is up)) in
+    subst (λ (w : StoreState). IsStoredOn d w) (sym c.self.view_is) (c.requires.on (subst (λ (w : StoreState). w.journal.down ≡ false) c.self.view_is up)) in
     goes_on_gate d c.self.inside.journal at.base at.entries at.goes_on
 
 pub returns-clause-moments : goal.returns-clause-moments
