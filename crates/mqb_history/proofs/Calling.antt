@@ -45,7 +45,7 @@ use Rattle.mqb_model.specs.state.Places.{is_express}
 use Rattle.mqb_model.specs.state.Resolving.{is_for_order_layer}
 use Rattle.mqb_model.specs.state.Rows.{in_row}
 use Rattle.mqb_model.specs.calls.Link.{rewound}
-use Rattle.mqb_model.specs.calls.Call.{Answer, Asks, Call, Hear, Pump, Request, Resend, answered, outcome_of, requested}
+use Rattle.mqb_model.specs.calls.Call.{Answer, Asks, Call, Checkpoint, Hear, Pump, Request, Resend, answered, outcome_of, requested}
 use Rattle.mqb_history.specs.Made.{IsFrom, IsMade, IsOfRows}
 use Rattle.mqb_history.proofs.Opening.{AreOfRows, candidates_open, chosen_all}
 use Rattle.mqb_history.proofs.Applying.{beside_rows, recorded_manager}
@@ -244,6 +244,7 @@ calls_are_modest m (Asks given) = let h = request_laws m given in record {
   entry = if_some (RecordFor m.state given) (λ r. IsMade m.state r × IsFrom None r) (requested m given).entry (request_made m.state given) h.entry;
 }
 calls_are_modest m Resend = resend_modest m
+calls_are_modest m Checkpoint = record { session = refl; entry = tt }
 calls_are_modest m (Pump now) = without_answer calls.Pumped None m _ (unless_modest m (pump_refusal m)
     (option_map_or (pump_linked m now) m.rest.session (answering m (Err pump_fault.NotLinked)))
     (linked_or m (pump_linked m now) pump_fault.NotLinked (λ session e. session_modest m now session (ap is_some e))))

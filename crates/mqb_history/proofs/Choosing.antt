@@ -17,7 +17,7 @@ use Rattle.mqb_model.specs.managers.Outcomes.{Outcome}
 use Rattle.mqb_model.specs.records.Record.{Record}
 use Rattle.mqb_network.specs.Answers.{lines_at, reply_to}
 use Rattle.mqb_network.specs.Changes.{ended}
-use Rattle.mqb_network.specs.Choices.{Choice, Failure, Fails, Well, choice_behind, failure_in}
+use Rattle.mqb_network.specs.Choices.{Choice, Failure, Fails, TooFar, Well, choice_behind, failure_in}
 use Rattle.mqb_network.specs.Courses.{Course, called, called_unless, course_from, moved, posted, written_by}
 use Rattle.mqb_network.specs.Delivering.{Delivered, closes, delivery_reply, heard_by, heard_with, passed, unheard}
 use Rattle.mqb_network.specs.Network.{Network, Note, is_underway, manager_at}
@@ -27,7 +27,7 @@ use Rattle.mqb_network.specs.Runs.{may_fail}
 use Rattle.mqb_network.specs.Sending.{Passing, flow_by, flowed, packets_unless, passed_on, pump_by, pumped}
 use Rattle.mqb_packet.specs.declared.packet.Packet.{Packet}
 use Rattle.mqb_queue.specs.Places.{numbered}
-use Rattle.mqb_history.specs.Choosing.{Broke, Found, Missed, Quiet, Sign, sign_of, signs_of}
+use Rattle.mqb_history.specs.Choosing.{Broke, Far, Found, Missed, Quiet, Sign, base_sign, sign_of, signs_of}
 use Rattle.mqb_history.proofs.Lists.{apart_numbers, append_length, append_nothing, clash, equal_numbers}
 
 -- how many records there are
@@ -108,6 +108,7 @@ once_shown outcome read touched fails goes a m = then_shown outcome 0 (λ f left
 -- the choice that signs show to an event with one call
 abbrev pub once : List Sign → Choice
 once (Broke how ∷ signs) = Fails 0 how
+once (Far ∷ signs) = TooFar
 once _ = Well
 
 -- and a reply does
@@ -120,6 +121,7 @@ first_of (reply.DiskFailed how) = Broke how
 first_of (reply.Delivered delivery) = sign_of delivery
 first_of (reply.OpenedKept lines) = Found
 first_of reply.OpenedLost = Missed
+first_of (reply.Checkpointed given) = base_sign given
 first_of _ = Quiet
 
 -- there is one
@@ -137,6 +139,7 @@ first_shown r x = by_first once alone r x
   where
     alone : (s : Sign) (x y : List Sign) → once (s ∷ x) ≡ once (s ∷ y)
     alone (Broke how) x y = refl
+    alone Far x y = refl
     alone s x y = refl
 
 pub call_shown : {A : Type 0} (n : Network) (i : ℕ) (outcome : Outcome A) (says : A → List Line → Reply) → outcome.touches ≡ is_some outcome.entry

@@ -48,17 +48,17 @@ three_drafted = All-from_recursion IsDraftedOp three_sends (
 all_drafted : All (λ m. IsDraftedEvent m.event) moves
 all_drafted = All-from_recursion (λ (m : Move). IsDraftedEvent m.event) moves committing
   where
-    taking : AllByRecursion (λ (m : Move). IsDraftedEvent m.event) (drop 28 moves)
+    taking : AllByRecursion (λ (m : Move). IsDraftedEvent m.event) (drop 29 moves)
     taking = (tt, (record { sound = refl; destination = (refl, refl); admin = tt; response = tt }, (tt, (tt, (tt, (tt, (tt, tt)))))))
 
-    refusing : AllByRecursion (λ (m : Move). IsDraftedEvent m.event) (drop 24 moves)
+    refusing : AllByRecursion (λ (m : Move). IsDraftedEvent m.event) (drop 25 moves)
     refusing = (tt, (tt, (tt, (tt, taking))))
 
-    repeating : AllByRecursion (λ (m : Move). IsDraftedEvent m.event) (drop 14 moves)
+    repeating : AllByRecursion (λ (m : Move). IsDraftedEvent m.event) (drop 15 moves)
     repeating = (tt, (tt, (tt, (tt, (tt, (tt, (tt, (tt, (tt, (tt, refusing))))))))))
 
     losing : AllByRecursion (λ (m : Move). IsDraftedEvent m.event) (drop 5 moves)
-    losing = (tt, (tt, (tt, (tt, (tt, (tt, (tt, (tt, (tt, repeating)))))))))
+    losing = (tt, (tt, (tt, (tt, (tt, (tt, (tt, (tt, (tt, (tt, repeating))))))))))
 
     committing : AllByRecursion (λ (m : Move). IsDraftedEvent m.event) moves
     committing = (tt, (tt, (refl, (three_drafted, (tt, losing)))))

@@ -5,16 +5,18 @@ use Rattle.std.specs.List.{AllByRecursion, enumerate_from}
 use Rattle.std.specs.Option.{option_map_or}
 use Rattle.std.specs.Prelude.{[], ◌&&◌, ◌+◌, ◌++◌, ◌==◌, ◌||◌, ◌∷◌, ◌≡◌, Bool, Err, List, None, Ok, Option, Result, Some, cond, false, fold, is_none, is_some, length, not, slice_get, true, ℕ}
 use Rattle.mqb_base.specs.declared.ids.Identity.{Identity}
+use Rattle.mqb_journal.specs.declared.faults.CheckpointFault.{CheckpointFault}
+use Rattle.mqb_journal.specs.declared.faults.CheckpointFault.TheVariants as fault
 use Rattle.mqb_model.specs.calls.Link.{resend}
 use Rattle.mqb_model.specs.calls.hear.Hear.{hear}
 use Rattle.mqb_model.specs.calls.hear.Session.{HeardOutcome}
 use Rattle.mqb_model.specs.calls.pump.Pump.{PumpOutcome, pump}
 use Rattle.mqb_model.specs.declared.faults.PumpFault.{PumpFault}
-use Rattle.mqb_model.specs.managers.Manager.{doubt_of}
-use Rattle.mqb_model.specs.managers.Outcomes.{Outcome}
+use Rattle.mqb_model.specs.managers.Manager.{Manager, doubt_of, is_down}
+use Rattle.mqb_model.specs.managers.Outcomes.{Outcome, answering, unless}
 use Rattle.mqb_network.specs.Answers.{Answer, only}
 use Rattle.mqb_network.specs.Changes.{dropped, ended, succeeded_at}
-use Rattle.mqb_network.specs.Choices.{Choice, Failure, Fails, Kept, Unread, Well, choice_behind, failure_in}
+use Rattle.mqb_network.specs.Choices.{Choice, Failure, Fails, Kept, Unread, Well, choice_behind, failure_in, is_far}
 use Rattle.mqb_network.specs.Connecting.{any_connected, any_down, both_linked, connect, connected, disconnect, exchanged, resend_by, set_up}
 use Rattle.mqb_network.specs.Courses.{Course, Written, called, called_unless, moved, posted}
 use Rattle.mqb_network.specs.Delivering.{closes, deliver_packet, drop_packet, heard_by, passed, unheard}
@@ -28,8 +30,9 @@ use Rattle.mqb_network.specs.Sending.{Passing, flow, flow_by, flowed, packets_un
 use Rattle.mqb_network.specs.Step.{answer_to}
 use Rattle.mqb_packet.specs.declared.packet.Packet.{Packet}
 use Rattle.mqb_queue.specs.Places.{numbered}
-use Rattle.mqb_model.specs.calls.Call.{Asks, Call, Resend, answered, outcome_of, requested}
+use Rattle.mqb_model.specs.calls.Call.{Asks, Call, Checkpoint, Resend, answered, outcome_of, requested}
 use Rattle.mqb_model.specs.calls.Call as calls
+use Rattle.mqb_store_laws.specs.Checkpoints.{checkpoint, checkpoint_made, is_large}
 use Rattle.mqb_history.specs.Changes.{Change, changed, given_out, hearing, is_of_packets, may_change, may_hear}
 use Rattle.mqb_history.specs.Changes as change
 use Rattle.mqb_history.specs.Orderly.{IsOrderly}
@@ -284,6 +287,49 @@ restart_keeps A known P k i choice c doubt h = reopen_keeps A known P k i choice
     (λ e. parted_at (λ m. is_some (doubt_of m.condition) ≡ true) c.network i i (λ m d. ap (λ x. is_some (doubt_of x)) (parted_condition m) ∙ d) (doubt e))
     (k.keeps c (change.Ends i) (k.others (change.Ends i) tt) refl h)
 
+-- Checkpoints.
+
+-- a call that touches no disk cannot fail
+refused_well : {A : Type 0} (m : Manager) (answer : A) (choice : Choice) → failure_in choice (answering m answer) ≡ None
+refused_well m answer (Fails before how) = at (before == 0)
+  where
+    at : (first : Bool) → cond (first && false) (Some how) None ≡ None
+    at true = refl
+    at false = refl
+refused_well m answer choice = refl
+
+-- what is answered to a checkpoint changes nothing
+as_rewriting : (i : ℕ) (failure : Option Failure) (c : Course)
+    → called_unless i (outcome_of (manager_at c.network i) Checkpoint) failure c ≡ called_unless i (checkpoint_made (manager_at c.network i)) failure c
+as_rewriting i None c = refl
+as_rewriting i (Some how) c = refl
+
+checkpoint_keeps : (A : Change → Type 0) (known : List Identity) (P : Course → Type 0) → IsClosedUnder A known P → (i : ℕ) (choice : Choice) (c : Course) → P c
+    → P (called i (checkpoint (manager_at c.network i) (is_far choice)) choice c)
+checkpoint_keeps A known P k i choice c h = at (is_down m) refl (is_far choice) (is_large m.state)
+  where
+    m : Manager
+    m = manager_at c.network i
+
+    rewrites : (failure : Option Failure) → (is_none failure || not (is_down m)) ≡ true → P (called_unless i (outcome_of m Checkpoint) failure c)
+    rewrites failure may = k.keeps c (change.Calls i Checkpoint failure) (k.others (change.Calls i Checkpoint failure) tt) may h
+
+    refused : (why : CheckpointFault) → P (called i (answering {A = Result (Unit {0}) CheckpointFault} m (Err why)) choice c)
+    refused why = subst (λ f. P (called_unless i (answering {A = Result (Unit {0}) CheckpointFault} m (Err why)) f c))
+        (sym (refused_well {A = Result (Unit {0}) CheckpointFault} m (Err why) choice)) (rewrites None refl)
+
+    fails_up : is_down m ≡ false → (failure : Option Failure) → (is_none failure || not (is_down m)) ≡ true
+    fails_up up None = refl
+    fails_up up (Some how) = ap not up
+
+    at : (down : Bool) → is_down m ≡ down → (far large : Bool)
+        → P (called i (unless m (cond down (Some fault.Down) (cond far (Some fault.TooFar) (cond large (Some fault.TooLarge) None))) (checkpoint_made m)) choice c)
+    at true e far large = refused fault.Down
+    at false e true large = refused fault.TooFar
+    at false e false true = refused fault.TooLarge
+    at false e false false = subst P (as_rewriting i (failure_in choice (checkpoint_made m)) c)
+        (rewrites (failure_in choice (checkpoint_made m)) (fails_up e (failure_in choice (checkpoint_made m))))
+
 -- Every event.
 
 -- what an event asks for is given
@@ -302,6 +348,7 @@ event_keeps_under A known P k c (event.Pump i now) choice given m h = pump_keeps
 event_keeps_under A known P k c (event.Deliver number now) choice given m h = deliver_keeps A known P k number now choice c h
 event_keeps_under A known P k c (event.Drop number) choice given m h = drop_keeps A known P k number c h
 event_keeps_under A known P k c (event.Flow i now) choice given m h = flow_keeps A known P k i now choice c h
+event_keeps_under A known P k c (event.Checkpoint i) choice given m h = checkpoint_keeps A known P k i choice c h
 event_keeps_under A known P k c (event.Arm i) choice given m h = h
 event_keeps_under A known P k c (event.Restart i) choice given m h = restart_keeps A known P k i choice c (doubt choice m) h
   where

@@ -14,7 +14,7 @@ use Rattle.mqb_model.specs.managers.Manager.{doubt_of}
 use Rattle.mqb_model.specs.managers.Outcomes.{Outcome, failed}
 use Rattle.mqb_network.specs.Answers.{only}
 use Rattle.mqb_network.specs.Changes.{as_dropped, dropped, ended, note_by, succeeded_at}
-use Rattle.mqb_network.specs.Choices.{Choice, Failure, Unread, Well, choice_behind, failure_in}
+use Rattle.mqb_network.specs.Choices.{Choice, Failure, Unread, Well, choice_behind, failure_in, is_far}
 use Rattle.mqb_network.specs.Connecting.{any_connected, any_down, both_linked, connect, connecting, disconnect, exchanged, resend_by, set_up}
 use Rattle.mqb_network.specs.Courses.{Course, called, called_unless, found_kept, moved, posted}
 use Rattle.mqb_network.specs.Delivering.{closes, deliver_packet, drop_packet, heard_by, passed, unheard}
@@ -30,6 +30,7 @@ use Rattle.mqb_network.specs.Step.{answer_to}
 use Rattle.mqb_network.proofs.Joining.{move_in_course}
 use Rattle.mqb_packet.specs.declared.packet.Packet.{Packet}
 use Rattle.mqb_queue.specs.Places.{numbered}
+use Rattle.mqb_store_laws.specs.Checkpoints.{checkpoint}
 use Rattle.mqb_history.specs.Pumps.{HasPumped, NotesTellPumps, PumpsAt}
 use Rattle.mqb_history.proofs.Between.{in_either}
 use Rattle.mqb_history.proofs.Lists.{some_is}
@@ -207,6 +208,8 @@ event_notes P (event.Pump i now) pumps x choice c = pumped_notes P i now (pump (
 event_notes P (event.Deliver k now) pumps x choice c = same_notes P c (answer_to (event.Deliver k now) x choice c).after (delivered_notes P (numbered c.network.notes k) x now choice c)
 event_notes P (event.Drop k) pumps x choice c = dropped_notes P k c
 event_notes P (event.Flow i now) pumps x choice c = flow_notes P i now choice c (pumps i now (refl, refl))
+event_notes P (event.Checkpoint i) pumps x choice c = same_notes P c (answer_to (event.Checkpoint i) x choice c).after
+    (called_notes P i (checkpoint (manager_at c.network i) (is_far choice)) choice c)
 event_notes P (event.Arm i) pumps x choice c = same_notes P c c refl
 event_notes P (event.Restart i) pumps x choice c = same_notes P c (restart i choice c).after (reopened_notes P i choice (moved (ended i) c) ∙ ended_notes c.network i)
 

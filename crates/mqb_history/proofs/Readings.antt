@@ -1,18 +1,24 @@
 -- The choice is read from the reply to each event, and so a run from its events and replies.
 use Rattle.std.proofs.Common.{refl, ap, sym, subst, ◌∙◌}
 use Rattle.std.specs.List.{enumerate_from}
-use Rattle.std.specs.Prelude.{[], ◌+◌, ◌++◌, ◌∷◌, ◌≡◌, Bool, List, None, Option, Some, cond, false, is_some, length, map, true, ℕ}
+use Rattle.std.specs.Option.{option_map_or}
+use Rattle.std.specs.Prelude.{[], ◌&&◌, ◌+◌, ◌++◌, ◌==◌, ◌∷◌, ◌≡◌, Bool, List, None, Option, Result, Some, cond, false, is_some, length, map, not, true, ℕ}
 use Rattle.mqb_base.specs.declared.ids.Identity.{Identity}
+use Rattle.mqb_journal.specs.declared.faults.CheckpointFault.{CheckpointFault}
+use Rattle.mqb_journal.specs.declared.faults.CheckpointFault.TheVariants as fault
 use Rattle.mqb_model.specs.calls.Call.{requested}
 use Rattle.mqb_model.specs.calls.Link.{resend}
 use Rattle.mqb_model.specs.calls.hear.Hear.{hear}
 use Rattle.mqb_model.specs.calls.hear.Session.{HeardOutcome}
 use Rattle.mqb_model.specs.calls.pump.Pump.{PumpOutcome, pump}
 use Rattle.mqb_model.specs.laws.Refusals.{RefusalsChangeNothing}
-use Rattle.mqb_model.specs.managers.Manager.{Down, Up, is_down}
-use Rattle.mqb_network.specs.Answers.{Answer, only}
+use Rattle.mqb_model.specs.managers.Manager.{Down, Manager, Up, is_down}
+use Rattle.mqb_model.specs.managers.Outcomes.{Outcome, unless}
+use Rattle.mqb_network.specs.Answers.{Answer, only, reply_to}
 use Rattle.mqb_network.specs.Changes.{dropped, ended, succeeded_at}
-use Rattle.mqb_network.specs.Choices.{Choice, Fails, Kept, Lost, Unread, Well}
+use Rattle.mqb_store_laws.specs.Checkpoints.{checkpoint_made, is_large}
+use Rattle.mqb_network.specs.Checkpointing.{checkpoint_by, may_be_far, may_checkpoint, record_count}
+use Rattle.mqb_network.specs.Choices.{Choice, Failure, Fails, Kept, Lost, TooFar, Unread, Well}
 use Rattle.mqb_network.specs.Connecting.{any_connected, any_down, both_linked, connect, connected, set_up}
 use Rattle.mqb_network.specs.Courses.{Course, course_from, moved}
 use Rattle.mqb_network.specs.Delivering.{deliver_packet, delivered, heard_by, unheard}
@@ -20,6 +26,7 @@ use Rattle.mqb_network.specs.Events.{Event}
 use Rattle.mqb_network.specs.Events as event
 use Rattle.mqb_network.specs.Laws.{AreApart}
 use Rattle.mqb_network.specs.Network.{Network, Note, is_connected, is_underway, manager_at}
+use Rattle.mqb_network.specs.Replies.{Reply}
 use Rattle.mqb_network.specs.Replies as reply
 use Rattle.mqb_network.specs.Restarting.{reopen}
 use Rattle.mqb_network.specs.Runs.{IsRunFrom, Move, answer, beginning, may, may_fail, may_restart, moved_on, records_in, replies_from}
@@ -34,7 +41,7 @@ use Rattle.mqb_history.specs.Orderly.{IsOrderly}
 use Rattle.mqb_history.proofs.Choosing.{by_first, call_shown, first_shown, flow_shown, heard_shown, once, only_well, pump_shown, shown_by_flow, shown_once}
 use Rattle.mqb_history.proofs.Ending.{parted_at, parted_condition}
 use Rattle.mqb_history.proofs.Keeping.{IsClosed, event_keeps}
-use Rattle.mqb_history.proofs.Lists.{clash, not_true}
+use Rattle.mqb_history.proofs.Lists.{clash, equal_numbers, not_true}
 use Rattle.mqb_history.proofs.Ordering.{network_of}
 use Rattle.mqb_history.proofs.Orderly.{histories_are_orderly}
 use Rattle.mqb_history.proofs.Runs.{runs_have_histories}
@@ -97,6 +104,43 @@ deliver_read law n (Some note) (Some p) now a m = at (is_underway n note) m
     at true m = heard_shown n note.receiver outcome ((law (manager_at n note.receiver)).hear_whole p now).touches a m
     at false m = always_well 0 refl a m
 
+-- Checkpoints.
+
+checkpoint_read : (c : Course) (i : ℕ) (a : Choice) → may_checkpoint c i a ≡ true → shown_once (checkpoint_by i a (course_from c.network)).reply ≡ a
+checkpoint_read c i a m = shown a m
+  where
+    own : Manager
+    own = manager_at c.network i
+
+    -- what it comes to, by each reason against it
+    by : (down far large : Bool) → Outcome (Result (Unit {0}) CheckpointFault)
+    by down far large = unless own (cond down (Some fault.Down) (cond far (Some fault.TooFar) (cond large (Some fault.TooLarge) None))) (checkpoint_made own)
+
+    says : (down far large : Bool) → Choice → Reply
+    says down far large a = reply_to i (by down far large) a (λ answer lines. reply.Checkpointed answer) (course_from c.network)
+
+    well : (down large : Bool) → shown_once (says down false large Well) ≡ Well
+    well true large = refl
+    well false true = refl
+    well false false = refl
+
+    far : (down large : Bool) → (not down && may_be_far (record_count c i)) ≡ true → shown_once (says down true large TooFar) ≡ TooFar
+    far true large m = absurd (clash (sym m))
+    far false large m = refl
+
+    fails : (down large first : Bool) (before : ℕ) (how : Failure) → (before == 0) ≡ first → (first && (by down false large).touches) ≡ true
+        → shown_once (option_map_or reply.DiskFailed (cond (first && (by down false large).touches) (Some how) None) (reply.Checkpointed (by down false large).answer)) ≡ Fails before how
+    fails down large false before how e m = absurd (clash (sym m))
+    fails true large true before how e m = absurd (clash (sym m))
+    fails false true true before how e m = absurd (clash (sym m))
+    fails false false true before how e m = ap (λ n. Fails n how) (sym (equal_numbers before 0 e))
+
+    shown : (a : Choice) → may_checkpoint c i a ≡ true → shown_once (checkpoint_by i a (course_from c.network)).reply ≡ a
+    shown Well m = well (is_down own) (is_large own.state)
+    shown TooFar m = far (is_down own) (is_large own.state) m
+    shown (Fails before how) m = fails (is_down own) (is_large own.state) (before == 0) before how refl m
+    shown a m = absurd (clash (sym m))
+
 -- Starts.
 
 -- the choice that signs show to a start
@@ -116,10 +160,10 @@ still_down n i b e = parted_at (λ m. is_down m ≡ b) n i i (λ m h. ap (λ x. 
 
 restart_read : (n : Network) (i : ℕ) (a : Choice) → may_restart n i a ≡ true → shown_by_start (signs_of (reopen i a (moved (ended i) (course_from n))).reply) ≡ a
 restart_read n i Well m = ap (λ b. shown_by_start (signs_of (cond b reply.OpenedLost reply.Opened))) (still_down n i false (not_true (is_down (manager_at n i)) m))
-restart_read n i (Fails before how) m = absurd (clash (sym m))
 restart_read n i Kept m = refl
 restart_read n i Lost m = ap (λ b. shown_by_start (signs_of (cond b reply.OpenedLost reply.Opened))) (still_down n i true m)
 restart_read n i Unread m = refl
+restart_read n i a m = absurd (clash (sym m))
 
 -- Every event.
 
@@ -148,6 +192,7 @@ each_read law known c o (event.Flow i now) = record {
   where
     outcome : PumpOutcome
     outcome = pump (manager_at c.network i) now
+each_read law known c o (event.Checkpoint i) = by_once c (event.Checkpoint i) (checkpoint_read c i)
 each_read law known c o (event.Arm i) = unwritten c (event.Arm i) (always_well (records_in c (event.Arm i)) refl)
 each_read law known c o (event.Restart i) = record {
   read = shown_by_start;

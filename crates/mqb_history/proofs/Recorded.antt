@@ -58,7 +58,7 @@ use Rattle.mqb_model.specs.state.Resolving.{is_for_order_layer}
 use Rattle.mqb_model.specs.state.Rows.{in_row}
 use Rattle.mqb_model.specs.state.State.{State}
 use Rattle.mqb_history.specs.Acked.{is_order_ack}
-use Rattle.mqb_model.specs.calls.Call.{Answer, Asks, Call, Hear, Pump, Request, Resend, answered, outcome_of, requested}
+use Rattle.mqb_model.specs.calls.Call.{Answer, Asks, Call, Checkpoint, Hear, Pump, Request, Resend, answered, outcome_of, requested}
 use Rattle.mqb_history.proofs.Lists.{clash, if_some, none_some, split_and}
 use Rattle.mqb_history.proofs.Names.{same_guid_is}
 use Rattle.mqb_history.proofs.Requests.{BesideFor, IsCommitOf, IsPlainOf, IsSentBeside, RecordFor, request_laws}
@@ -336,6 +336,7 @@ calls_are_of m (Asks given) = let h = request_laws m given in record {
   beside = request_beside m.state given (requested m given).beside h.beside;
 }
 calls_are_of m Resend = record { entry = tt; beside = tt }
+calls_are_of m Checkpoint = record { entry = tt; beside = tt }
 calls_are_of m (Pump now) = same_of calls.Pumped m.state (Pump now) _ (unless_of m (Pump now) (pump_refusal m) _ tt
     (or_of m.state (Pump now) (pump_linked m now) m.rest.session _ (pump_of m now) (nothing_of m (Pump now) (Err pump_fault.NotLinked) tt)))
 calls_are_of m (Hear now x) = same_of calls.Heard m.state (Hear now x) _ (unless_of m (Hear now x) (hear_refusal m) _ tt

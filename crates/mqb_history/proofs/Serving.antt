@@ -20,7 +20,7 @@ use Rattle.mqb_model.specs.state.State.{State}
 use Rattle.mqb_network.specs.Choices.{Failure}
 use Rattle.mqb_network.specs.Courses.{Course, Written, written_by}
 use Rattle.mqb_network.specs.Network.{Network, manager_at, with_manager}
-use Rattle.mqb_model.specs.calls.Call.{Answer, Asks, Call, Hear, Pump, Request, Resend, answered, outcome_of, requested}
+use Rattle.mqb_model.specs.calls.Call.{Answer, Asks, Call, Checkpoint, Hear, Pump, Request, Resend, answered, outcome_of, requested}
 use Rattle.mqb_history.specs.Changes.{calling, is_of_packets}
 use Rattle.mqb_history.specs.Orderly.{AreAllDisjoint}
 use Rattle.mqb_history.proofs.Between.{from_sender}
@@ -72,6 +72,7 @@ calls_work own m (Asks given) e f = let h = request_laws m given in record {
   beside = request_beside m.state given (requested m given).beside h.beside;
 }
 calls_work own m Resend e f = resend_works own m
+calls_work own m Checkpoint e f = record { session = refl; entry = tt; beside = tt }
 calls_work own m (Pump now) e f = absurd (clash f)
 calls_work own m (Hear now p) e f = absurd (clash f)
 

@@ -4,6 +4,7 @@ use Rattle.std.proofs.lemmas.List.Elements.{recursion_from_All}
 use Rattle.std.specs.List.{AllByRecursion, enumerate_from, range_with_len}
 use Rattle.std.specs.Option.{option_map_or}
 use Rattle.std.specs.Prelude.{[], ◌+◌, ◌-◌, ◌==◌, ◌∷◌, ◌≡◌, All, Bool, Err, List, None, Ok, Option, Result, Some, cond, false, fold, is_none, is_some, length, slice_get, suc, true, unwrap_or, zero, ℕ}
+use Rattle.mqb_journal.specs.declared.faults.CheckpointFault.TheVariants as fault
 use Rattle.mqb_model.specs.calls.Call.{requested}
 use Rattle.mqb_model.specs.calls.Link.{link, resend, unlink}
 use Rattle.mqb_model.specs.calls.hear.Hear.{IsReadable, hear}
@@ -13,14 +14,15 @@ use Rattle.mqb_model.specs.declared.answers.Role.TheVariants as role
 use Rattle.mqb_model.specs.declared.faults.PumpFault.{PumpFault}
 use Rattle.mqb_model.specs.laws.Fitting.{PumpedIsReadable}
 use Rattle.mqb_model.specs.laws.Keeping.{CallsKeepValid, KeptIsValid, LinkedIsValid, StaysValid}
-use Rattle.mqb_model.specs.laws.Validity.{LostIsValid, ResentIsValid, UnlinkedIsValid, UnreadIsValid}
+use Rattle.mqb_model.specs.laws.Validity.{FailedIsValid, LostIsValid, RefusedIsSame, ResentIsValid, UnlinkedIsValid, UnreadIsValid}
 use Rattle.mqb_model.specs.managers.Manager.{Manager, doubt_of, is_down}
-use Rattle.mqb_model.specs.managers.Outcomes.{Outcome, failed, succeeded}
+use Rattle.mqb_model.specs.managers.Outcomes.{Outcome, answering, failed, failed_under, succeeded, unless}
 use Rattle.mqb_model.specs.managers.Restarts.{restarted, unread}
 use Rattle.mqb_model.specs.managers.Valid.{IsValidManager}
+use Rattle.mqb_store_laws.specs.Checkpoints.{checkpoint, checkpoint_made, is_large}
 use Rattle.mqb_network.specs.Answers.{only}
 use Rattle.mqb_network.specs.Changes.{dropped, ended, parted, succeeded_at}
-use Rattle.mqb_network.specs.Choices.{Choice, Failure, Kept, Unread, Well, choice_behind, failure_in}
+use Rattle.mqb_network.specs.Choices.{Choice, Failure, Kept, Unread, Well, choice_behind, failure_in, is_far}
 use Rattle.mqb_network.specs.Connecting.{any_connected, any_down, asking, both_linked, connect, connected, exchanged, linked_to, set_up}
 use Rattle.mqb_network.specs.Courses.{Course, called, called_unless, found_kept, moved, posted}
 use Rattle.mqb_network.specs.Delivering.{closes, deliver_packet, heard_by, passed, unheard}
@@ -52,6 +54,8 @@ pub record ManagerLaws : Type 0 where
   pub lost : LostIsValid
   pub kept : KeptIsValid
   pub unread : UnreadIsValid
+  pub failed : FailedIsValid
+  pub refused : RefusedIsSame
 
 -- All managers of a network are valid.
 abbrev pub AllValid : Network → Type 0
@@ -245,6 +249,21 @@ call_sound : {A : Type 0} → ManagerLaws → (i : ℕ) (outcome : Outcome A) (c
     → IsSound (called i outcome choice c)
 call_sound law i outcome choice c stays h = called_sound law i outcome (failure_in choice outcome) c stays h
 
+checkpoint_valid : ManagerLaws → (m : Manager) (far : Bool) → IsValidManager m → StaysValid m (checkpoint m far)
+checkpoint_valid law m far valid = at (is_down m) far (is_large m.state)
+  where
+    fails : IsValidManager (failed_under m None)
+    fails = law.failed m None valid tt
+
+    stays : IsValidManager (succeeded m (answering m true))
+    stays = subst IsValidManager (sym (law.refused m true valid)) valid
+
+    at : (down far large : Bool) → StaysValid m (unless m (cond down (Some fault.Down) (cond far (Some fault.TooFar) (cond large (Some fault.TooLarge) None))) (checkpoint_made m))
+    at true far large = record { succeeds = stays; fails = fails }
+    at false true large = record { succeeds = stays; fails = fails }
+    at false false true = record { succeeds = stays; fails = fails }
+    at false false false = record { succeeds = stays; fails = fails }
+
 event_sound : ManagerLaws → (c : Course) (e : Event) (choice : Choice) → IsDraftedEvent e → IsSound c → IsSound (answer_to e (packet_of c.sent e) choice c).after
 event_sound law c (event.Asks i request) choice d h = call_sound law i (requested (manager_at c.network i) request) choice c ((law.calls (manager_at c.network i) (h.valid i)).requests request d) h
 event_sound law c (event.Connect a b now window_a window_b) choice d h = connect_sound law a b now window_a window_b c h
@@ -254,6 +273,8 @@ event_sound law c (event.Pump i now) choice d h = pump_sound law i now choice c 
 event_sound law c (event.Deliver k now) choice d h = deliver_sound law (numbered c.network.notes k) k now choice c h
 event_sound law c (event.Drop k) choice d h = drop_sound (is_some (numbered c.network.notes k)) k c h
 event_sound law c (event.Flow i now) choice d h = flow_sound law i now choice c h
+event_sound law c (event.Checkpoint i) choice d h = let m = manager_at c.network i in
+    call_sound law i (checkpoint m (is_far choice)) choice c (checkpoint_valid law m (is_far choice) (h.valid i)) h
 event_sound law c (event.Arm i) choice d h = h
 event_sound law c (event.Restart i) choice d h = reopen_sound law i choice (moved (ended i) c) (sound_moved c (ended i) (ended_valid law c.network i h.valid) h)
 

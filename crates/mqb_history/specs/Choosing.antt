@@ -1,6 +1,8 @@
 -- What replies show of the choices.
-use Rattle.std.specs.Prelude.{[], ◌++◌, ◌∷◌, ◌≡◌, Bool, IsTrue, List, map, ℕ}
+use Rattle.std.specs.Prelude.{[], ◌++◌, ◌∷◌, ◌≡◌, Bool, Err, IsTrue, List, Result, map, ℕ}
 use Rattle.mqb_base.specs.declared.ids.Identity.{Identity}
+use Rattle.mqb_journal.specs.declared.faults.CheckpointFault.{CheckpointFault}
+use Rattle.mqb_journal.specs.declared.faults.CheckpointFault.TheVariants as fault
 use Rattle.mqb_network.specs.Choices.{Choice, Failure}
 use Rattle.mqb_network.specs.Courses.{Course}
 use Rattle.mqb_network.specs.Doubts.{settled}
@@ -10,17 +12,23 @@ use Rattle.mqb_network.specs.Replies.{Delivery, Reply}
 use Rattle.mqb_network.specs.Replies as reply
 use Rattle.mqb_network.specs.Runs.{IsRun, Move, after_run, answer, beginning, may, replies_from}
 
--- how a disk behaved, as an answer tells it: it failed; the record in doubt was kept, or lost; or none of these
+-- how a disk behaved, as an answer tells it: it failed; the record in doubt was kept, or lost; the store was too far on; or none of these
 pub data Sign : Type 0 where
   Broke : Failure → Sign
   Found : Sign
   Missed : Sign
+  Far : Sign
   Quiet : Sign
 
 -- of a packet that was delivered
 abbrev pub sign_of : Delivery → Sign
 sign_of (reply.Unheard how) = Broke how
 sign_of _ = Quiet
+
+-- of a base that was written, or not
+abbrev pub base_sign : Result (Unit {0}) CheckpointFault → Sign
+base_sign (Err fault.TooFar) = Far
+base_sign _ = Quiet
 
 -- of an event, and behind it those of the packets that flowed, in order
 abbrev pub signs_of : Reply → List Sign
@@ -29,6 +37,7 @@ signs_of (reply.Delivered delivery) = sign_of delivery ∷ []
 signs_of (reply.Flowed arrivals) = Quiet ∷ map (λ a. sign_of a.delivery) arrivals
 signs_of (reply.OpenedKept lines) = Found ∷ []
 signs_of reply.OpenedLost = Missed ∷ []
+signs_of (reply.Checkpointed given) = base_sign given ∷ []
 signs_of _ = Quiet ∷ []
 
 -- Two choices that may be made in an event are one where the answers give the same signs, whatever follows these.

@@ -1,6 +1,6 @@
 -- A run of two managers that has each kind of event and each choice of the disks, with the reply to each.
 use Rattle.std.specs.List.{range_with_len}
-use Rattle.std.specs.Prelude.{[], ◌++◌, ◌∷◌, ◌≡◌, All, List, Ok, codes, map, true, ℕ}
+use Rattle.std.specs.Prelude.{[], ◌++◌, ◌∷◌, ◌≡◌, All, Err, List, Ok, codes, map, true, ℕ}
 use Rattle.mqb_base.specs.declared.bits.TheConstants.{DEAD_LETTER}
 use Rattle.mqb_base.specs.declared.class.TheConstants.Class.{QUOTA_EXCEEDED}
 use Rattle.mqb_base.specs.declared.draft.Op.{Op}
@@ -11,6 +11,7 @@ use Rattle.mqb_base.specs.declared.ledger.Line.TheVariants as line
 use Rattle.mqb_base.specs.declared.message.Delivery.TheVariants.{Transactional}
 use Rattle.mqb_base.specs.declared.queues.Place.TheVariants as named
 use Rattle.mqb_base.specs.declared.times.TheConstants.{UNLIMITED}
+use Rattle.mqb_journal.specs.declared.faults.CheckpointFault.TheVariants as fault
 use Rattle.mqb_model.specs.calls.Call.{Commit, Purge, Send, Set, Take, Tick}
 use Rattle.mqb_model.specs.calls.Call as answer
 use Rattle.mqb_model.specs.records.Record.{Roll}
@@ -67,11 +68,12 @@ committing = record { move = a_queue 1; reply = reply.Called (answer.Created (Ok
     ∷ asks (event.Asks 0 (Tick 1010)) (reply.Called (answer.Ticked (Ok (record { durable = 1; express = 0 }))) (line.Expired (to_orders 1) 2 (of_alpha 2) 1010 ∷ []))
     ∷ []
 
--- Alpha's disk stops under the record of a pump. It cannot be read, and then the record is lost: nothing went.
+-- Alpha's disk stops under the record of a pump. While alpha is down, no state is written anew. The disk cannot be read, and then the record is lost: nothing went.
 abbrev pub losing : List Exchange
 losing = connects 1010 1
     ∷ asks (event.Arm 0) reply.Armed
     ∷ chooses (event.Pump 0 1011) (Fails 0 Stopped) (reply.DiskFailed Stopped)
+    ∷ asks (event.Checkpoint 0) (reply.Checkpointed (Err fault.Down))
     ∷ chooses (event.Restart 0) Unread (reply.DiskFailed Failed)
     ∷ chooses (event.Restart 0) Lost reply.OpenedLost
     ∷ []

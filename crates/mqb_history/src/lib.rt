@@ -26,8 +26,8 @@ ghost use Rattle.mqb_history.specs.Drafted.{AlwaysValid};
 
 use mqb_model::{
     calls_keep_valid, failed_is_valid, kept_is_valid, linked_is_valid, lost_is_valid, new_is_valid,
-    pumped_is_readable, refusals_change_nothing, resent_is_valid, unlinked_is_valid,
-    unread_is_valid,
+    pumped_is_readable, refusals_change_nothing, refused_is_same, resent_is_valid,
+    unlinked_is_valid, unread_is_valid,
 };
 use mqb_network::ledger_is_written;
 use mqb_orders::link_is_before;
@@ -318,4 +318,5 @@ pub fn always_valid()
     lost_is_valid();
     kept_is_valid();
     unread_is_valid();
+    refused_is_same();
 }

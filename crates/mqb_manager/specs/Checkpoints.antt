@@ -1,29 +1,17 @@
--- The call checkpoint: the state is written anew as one base, and the manager stays as it is.
-use Rattle.std.specs.Prelude.{◌≡◌, ◌⊎◌, Bool, Err, None, Ok, Option, Result, Some, if◌then◌else◌, true}
+-- The call checkpoint of a manager on its store: the state is written anew as one base, and the manager stays as it is.
+use Rattle.std.specs.Prelude.{◌≡◌, ◌⊎◌, Err, None, Result, true}
 use Rattle.mqb_outside.specs.Disk.{AtMost, IsSettled, LeavesOnly, View}
 use Rattle.mqb_outside.specs.Images.{Each}
 use Rattle.mqb_journal.specs.States.{is_too_far}
 use Rattle.mqb_journal.specs.declared.faults.CheckpointFault.{CheckpointFault}
 use Rattle.mqb_journal.specs.declared.faults.CheckpointFault.TheVariants as fault
-use Rattle.mqb_model.specs.managers.Manager.{Manager, is_down}
-use Rattle.mqb_model.specs.managers.Outcomes.{Outcome, answering, failed_under, unless}
+use Rattle.mqb_model.specs.managers.Outcomes.{Outcome, failed_under}
 use Rattle.mqb_model.specs.records.Reading.{record_of}
 use Rattle.mqb_outside.specs.Faults.{Rose}
-use Rattle.mqb_store.specs.Bases.{is_large}
+use Rattle.mqb_store_laws.specs.Checkpoints.{checkpoint}
 use Rattle.mqb_store_laws.specs.Images.{Opens}
 use Rattle.mqb_manager.specs.Calls.{Succeeds}
 use Rattle.mqb_manager.specs.States.{IsOnDisk, IsSame, IsUp, ManagerState, manager_of}
-
--- the first reason against it, where the store is too far on for another base or not
-abbrev pub checkpoint_refusal : Manager → (far : Bool) → Option CheckpointFault
-checkpoint_refusal m far = if is_down m then Some fault.Down else if far then Some fault.TooFar else if is_large m.state then Some fault.TooLarge else None
-
--- it calls the disk, and writes no record
-abbrev pub checkpoint_made : Manager → Outcome (Result (Unit {0}) CheckpointFault)
-checkpoint_made m = record (answering m (Ok tt)) { touches = true }
-
-abbrev pub checkpoint : Manager → (far : Bool) → Outcome (Result (Unit {0}) CheckpointFault)
-checkpoint m far = unless m (checkpoint_refusal m far) (checkpoint_made m)
 
 -- that of a manager on its store
 abbrev pub checkpoint_of : ManagerState → Outcome (Result (Unit {0}) CheckpointFault)

@@ -1,3 +1,4 @@
 pub mod Calling
+pub mod Checkpointing
 pub mod Stored
 pub mod Restarting

@@ -15,7 +15,8 @@ use Rattle.mqb_model.specs.calls.Link.{resend}
 use Rattle.mqb_model.specs.calls.pump.Pump.{PumpOutcome, pump}
 use Rattle.mqb_model.specs.declared.faults.PumpFault.{PumpFault}
 use Rattle.mqb_model.specs.calls.Call.{requested}
-use Rattle.mqb_network.specs.Choices.{Choice, Failure, Kept, Well, choice_behind, failure_in}
+use Rattle.mqb_store_laws.specs.Checkpoints.{checkpoint}
+use Rattle.mqb_network.specs.Choices.{Choice, Failure, Kept, Well, choice_behind, failure_in, is_far}
 use Rattle.mqb_network.specs.Events.{Event}
 use Rattle.mqb_network.specs.Events as event
 use Rattle.mqb_network.specs.Replies.{Reply}
@@ -203,6 +204,7 @@ answer_joins b (event.Deliver k now) p choice c = ap (λ a. a.after) (deliver_jo
 answer_joins b (event.Drop k) p choice c = ap (λ a. a.after) (drop_joins b k c)
 answer_joins b (event.Flow i now) p choice c = ap (λ a. a.after) (flowing_joins b i now choice c)
 answer_joins b (event.Resend i) p choice c = ap (λ a. a.after) (resend_joins b i c)
+answer_joins b (event.Checkpoint i) p choice c = called_joins b i (checkpoint (manager_at c.network i) (is_far choice)) choice c
 answer_joins b (event.Arm i) p choice c = refl
 answer_joins b (event.Restart i) p choice c = reopen_joins b i choice (moved (ended i) c)
 

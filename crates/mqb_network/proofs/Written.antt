@@ -8,6 +8,7 @@ use Rattle.std.proofs.lemmas.Grind.{flat_map-append}
 use Rattle.std.proofs.lemmas.List.{append-nil, append_assoc}
 use Rattle.mqb_base.specs.declared.ledger.Line.{Line}
 use Rattle.mqb_packet.specs.declared.packet.Packet.{Packet}
+use Rattle.mqb_journal.specs.declared.faults.CheckpointFault.{CheckpointFault}
 use Rattle.mqb_model.specs.records.Applying.{lines_of}
 use Rattle.mqb_model.specs.records.Record.{Record}
 use Rattle.mqb_model.specs.managers.Manager.{Manager, doubt_of, is_down}
@@ -16,7 +17,8 @@ use Rattle.mqb_model.specs.calls.hear.Session.{HeardOutcome}
 use Rattle.mqb_model.specs.calls.hear.Hear.{hear}
 use Rattle.mqb_model.specs.calls.pump.Pump.{PumpOutcome, pump}
 use Rattle.mqb_model.specs.declared.faults.PumpFault.{PumpFault}
-use Rattle.mqb_network.specs.Choices.{Choice, Failure, Kept, Well, failure_in, choice_behind}
+use Rattle.mqb_store_laws.specs.Checkpoints.{checkpoint}
+use Rattle.mqb_network.specs.Choices.{Choice, Failure, Kept, Well, failure_in, choice_behind, is_far}
 use Rattle.mqb_network.specs.Events.{Event}
 use Rattle.mqb_network.specs.Events as event
 use Rattle.mqb_network.specs.Network.{Connection, Network, Note, connection_of, is_connected, is_underway, manager_at, with_manager}
@@ -32,7 +34,8 @@ use Rattle.mqb_network.specs.Restarting.{reopen}
 use Rattle.mqb_network.specs.Step.{answer_to}
 use Rattle.mqb_network.specs.Runs.{Move, answer, after_run, beginning, packet_of, course_after, moved_on}
 use Rattle.mqb_network.specs.Doubts.{settled_at}
-use Rattle.mqb_network.specs.Laws.{LedgerIsWritten, lines_written}
+use Rattle.mqb_network.specs.Laws.{CheckpointsWriteNothing, LedgerIsWritten, WritesNothing, lines_written}
+use Rattle.mqb_network.specs.lemmas.Checkpointing.{unrecorded}
 use Rattle.mqb_model.specs.calls.Link.{link, link_refusal, linking, resend}
 use Rattle.mqb_model.specs.declared.answers.Role.{Role}
 use Rattle.mqb_model.specs.declared.answers.Role.TheVariants.{Acceptor}
@@ -208,6 +211,29 @@ reopen_extends : (l : List Line) (i : ℕ) (choice : Choice) (c : Course) → Ex
 reopen_extends l i Kept c h = kept_extends l i c h
 reopen_extends l i choice c h = h
 
+-- Checkpoints.
+
+pub checkpoints_write_nothing : CheckpointsWriteNothing
+checkpoints_write_nothing c i choice = at (failure_in choice outcome)
+  where
+    outcome : Outcome (Result (Unit {0}) CheckpointFault)
+    outcome = checkpoint (manager_at c.network i) (is_far choice)
+
+    none : outcome.entry ≡ None
+    none = unrecorded (manager_at c.network i) (is_far choice)
+
+    at : (o : Option Failure) → WritesNothing c (called_unless i outcome o c)
+    at None = record {
+      written = ap (λ r. c.written ++ written_by i (manager_at c.network i) r) none ∙ append-nil c.written;
+      ledger = no_lines i outcome c.network none;
+      sent = refl;
+    }
+    at (Some how) = record {
+      written = refl;
+      ledger = ended_ledger i (with_manager c.network i (failed (manager_at c.network i) outcome));
+      sent = refl;
+    }
+
 -- Every event.
 
 answer_extends : (l : List Line) (e : Event) (p : Option Packet) (choice : Choice) (c : Course) → Extends l c → Extends l (answer_to e p choice c).after
@@ -219,6 +245,7 @@ answer_extends l (event.Deliver k now) p choice c h = deliver_extends l (numbere
 answer_extends l (event.Drop k) p choice c h = drop_extends l k c h
 answer_extends l (event.Flow i now) p choice c h = flowing l i now choice c h
 answer_extends l (event.Resend i) p choice c h = resend_extends l i c h
+answer_extends l (event.Checkpoint i) p choice c h = called_extends l i (checkpoint (manager_at c.network i) (is_far choice)) choice c h
 answer_extends l (event.Arm i) p choice c h = h
 answer_extends l (event.Restart i) p choice c h = reopen_extends l i choice (moved (ended i) c) (moved_extends l (ended i) c (ended_ledger i c.network) h)
 

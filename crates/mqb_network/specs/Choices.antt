@@ -1,5 +1,5 @@
--- What is free in an event: how the disks behave. All else follows from the network and the event.
-use Rattle.std.specs.Prelude.{◌&&◌, ◌-◌, ◌==◌, None, Option, Some, if◌then◌else◌, ℕ}
+-- What is free in an event: how the disks behave, and which stores are too far on. All else follows from the network and the event.
+use Rattle.std.specs.Prelude.{◌&&◌, ◌-◌, ◌==◌, Bool, None, Option, Some, false, if◌then◌else◌, true, ℕ}
 use Rattle.mqb_model.specs.managers.Outcomes.{Outcome}
 
 -- how a disk fails: it stops for good, or in one call
@@ -18,6 +18,13 @@ pub data Choice : Type 0 where
   Lost : Choice
   -- a manager is not started, since its disk fails
   Unread : Choice
+  -- a store is too far on for another base
+  TooFar : Choice
+
+-- this was chosen
+abbrev pub is_far : Choice → Bool
+is_far TooFar = true
+is_far _ = false
 
 -- how the disk fails in a call: only where the call touches it
 abbrev pub failure_in : {A : Type 0} → Choice → Outcome A → Option Failure

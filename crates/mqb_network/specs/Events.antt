@@ -13,6 +13,8 @@ pub data Event : Type 0 where
   Deliver : (packet now : ℕ) → Event
   Drop : (packet : ℕ) → Event
   Flow : (manager now : ℕ) → Event
+  -- a manager writes its state anew, in place of its records
+  Checkpoint : (manager : ℕ) → Event
   -- a call of the manager's disk is going to fail
   Arm : (manager : ℕ) → Event
   Restart : (manager : ℕ) → Event

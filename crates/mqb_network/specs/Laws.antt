@@ -4,6 +4,8 @@ use Rattle.mqb_base.specs.declared.ids.Identity.{Identity}
 use Rattle.mqb_base.specs.declared.ledger.Line.{Line}
 use Rattle.mqb_model.specs.records.Applying.{lines_of}
 use Rattle.mqb_model.specs.records.Peer.{is_met}
+use Rattle.mqb_network.specs.Checkpointing.{checkpoint_by}
+use Rattle.mqb_network.specs.Choices.{Choice}
 use Rattle.mqb_network.specs.Courses.{Course, Written}
 use Rattle.mqb_network.specs.Doubts.{settled}
 use Rattle.mqb_network.specs.Runs.{IsRun, Move, after_run, moved_on, packet_of}
@@ -25,6 +27,15 @@ lines_written written = flat_map (λ w. lines_of w.before w.entry) written
 -- The ledger has the lines of the records that were written or found kept, in order.
 abbrev pub LedgerIsWritten : Type 0
 LedgerIsWritten = Always (λ c. c.network.ledger ≡ lines_written c.written)
+
+-- A checkpoint writes no record, adds no line to the ledger and sends no packet, whether it goes well, is refused or its disk fails.
+pub record WritesNothing (c d : Course) : Type 0 where
+  pub written : d.written ≡ c.written
+  pub ledger : d.network.ledger ≡ c.network.ledger
+  pub sent : d.sent ≡ c.sent
+
+abbrev pub CheckpointsWriteNothing : Type 0
+CheckpointsWriteNothing = (c : Course) (i : ℕ) (choice : Choice) → WritesNothing c (checkpoint_by i choice c).after
 
 -- A move of a run is its event in the course of the run.
 abbrev pub MovesAreEvents : Type 0

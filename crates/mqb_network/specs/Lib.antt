@@ -9,9 +9,11 @@ pub mod Delivering
 pub mod Sending
 pub mod Connecting
 pub mod Restarting
+pub mod Checkpointing
 pub mod Step
 pub mod Runs
 pub mod Doubts
 pub mod Laws
 pub mod Scripts
 pub mod Worked
+pub mod lemmas

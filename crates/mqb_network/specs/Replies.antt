@@ -1,7 +1,8 @@
 -- What is answered to an event.
-use Rattle.std.specs.Prelude.{List, ℕ}
+use Rattle.std.specs.Prelude.{List, Result, ℕ}
 use Rattle.mqb_base.specs.declared.heard.Heard as base
 use Rattle.mqb_base.specs.declared.ledger.Line.{Line}
+use Rattle.mqb_journal.specs.declared.faults.CheckpointFault.{CheckpointFault}
 use Rattle.mqb_model.specs.calls.Call.{Answer}
 use Rattle.mqb_model.specs.declared.faults.PumpFault.{PumpFault}
 use Rattle.mqb_network.specs.Choices.{Failure}
@@ -42,6 +43,8 @@ pub data Reply : Type 0 where
   NoPacket : Reply
   Delivered : Delivery → Reply
   Dropped : Reply
+  -- the state was written anew, or why it was not
+  Checkpointed : Result (Unit {0}) CheckpointFault → Reply
   Armed : Reply
   -- started again: it was up, or the record in doubt was kept or lost
   Opened : Reply

@@ -5,9 +5,10 @@ use Rattle.mqb_model.specs.managers.Manager.{doubt_of, is_down}
 use Rattle.mqb_packet.specs.declared.packet.Packet.{Packet}
 use Rattle.mqb_queue.specs.Places.{numbered}
 use Rattle.mqb_network.specs.Answers.{Answer}
+use Rattle.mqb_network.specs.Checkpointing.{may_checkpoint}
 use Rattle.mqb_network.specs.Choices.{Choice, Fails, Kept, Lost, Unread, Well}
 use Rattle.mqb_network.specs.Courses.{Course, course_from}
-use Rattle.mqb_network.specs.Events.{Deliver, Event, Restart}
+use Rattle.mqb_network.specs.Events.{Checkpoint, Deliver, Event, Restart}
 use Rattle.mqb_network.specs.Network.{Network, manager_at, start}
 use Rattle.mqb_network.specs.Replies.{Reply}
 use Rattle.mqb_network.specs.Step.{step}
@@ -38,7 +39,8 @@ joined before c = record {
 abbrev pub moved_on : Course → Move → Course
 moved_on c m = joined c (answer c m).after
 
--- What may be chosen: a disk fails only where a call touches it, and a record is kept only where one is in doubt.
+-- What may be chosen: a disk fails only where a call touches it, a record is kept only where one is in doubt, and a store is too far on only
+-- behind many records.
 
 -- what may be chosen when a manager is started again
 abbrev pub may_restart : Network → ℕ → Choice → Bool
@@ -46,7 +48,7 @@ may_restart n i Well = not (is_down (manager_at n i))
 may_restart n i Kept = is_some (doubt_of (manager_at n i).condition)
 may_restart n i Lost = is_down (manager_at n i)
 may_restart n i Unread = true
-may_restart n i (Fails before how) = false
+may_restart n i _ = false
 
 -- how many records an event writes where no disk fails
 abbrev pub records_in : Course → Event → ℕ
@@ -61,6 +63,7 @@ may_fail records _ = false
 -- what may be chosen in an event
 abbrev pub may : Course → Event → Choice → Bool
 may c (Restart i) choice = may_restart c.network i choice
+may c (Checkpoint i) choice = may_checkpoint c i choice
 may c e choice = may_fail (records_in c e) choice
 
 -- each move is one that may be chosen behind those before it

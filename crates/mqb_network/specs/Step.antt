@@ -2,6 +2,7 @@
 use Rattle.std.specs.Prelude.{Option}
 use Rattle.mqb_packet.specs.declared.packet.Packet.{Packet}
 use Rattle.mqb_network.specs.Answers.{Answer, asked_by, only}
+use Rattle.mqb_network.specs.Checkpointing.{checkpoint_by}
 use Rattle.mqb_network.specs.Choices.{Choice}
 use Rattle.mqb_network.specs.Connecting.{connect, disconnect, resend_by}
 use Rattle.mqb_network.specs.Courses.{Course, course_from}
@@ -22,6 +23,7 @@ answer_to (event.Pump i now) p choice c = pump_out i now choice c
 answer_to (event.Deliver k now) p choice c = deliver k p now choice c
 answer_to (event.Drop k) p choice c = drop_packet k c
 answer_to (event.Flow i now) p choice c = flow i now choice c
+answer_to (event.Checkpoint i) p choice c = checkpoint_by i choice c
 answer_to (event.Arm i) p choice c = only c reply.Armed
 answer_to (event.Restart i) p choice c = restart i choice c
 

@@ -6,5 +6,5 @@
 mod laws;
 mod runs;
 
-pub use laws::{ledger_is_written, moves_are_events};
+pub use laws::{checkpoints_write_nothing, ledger_is_written, moves_are_events};
 pub use runs::{one_arrives, one_closes, one_is_kept, one_is_lost, one_is_unheard};

@@ -17,7 +17,7 @@ use Rattle.mqb_model.specs.state.Durable.{durable}
 use Rattle.mqb_model.specs.state.State.{State}
 use Rattle.mqb_snapshot.specs.Reading as snapshots
 use Rattle.mqb_snapshot.specs.Snapshot.{snapshot}
-use Rattle.mqb_store.specs.Bases.{is_large}
+use Rattle.mqb_store_laws.specs.Checkpoints.{is_large}
 use Rattle.mqb_store_laws.specs.Images.{IsOn, Opens, state_in}
 use Rattle.mqb_store_laws.specs.Laws.{BasesBegin, StatesAreOwn}
 

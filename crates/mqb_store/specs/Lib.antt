@@ -2,7 +2,6 @@ pub mod States
 pub mod Writing
 pub mod Replaying
 pub mod Reaching
-pub mod Bases
 pub use Rattle.mqb_state.specs.Together
 pub use Rattle.mqb_state.specs.Work
 pub use Rattle.mqb_state.specs.Noting

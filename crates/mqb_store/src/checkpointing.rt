@@ -5,7 +5,7 @@ ghost use Rattle.mqb_journal.specs.Causes.{FaultsAsSaid, checkpoint_failed};
 ghost use Rattle.mqb_journal.specs.Journals.{RefusedBase};
 ghost use Rattle.mqb_journal.specs.States.{checkpointed, is_too_far};
 ghost use Rattle.mqb_snapshot.specs.Snapshot.{snapshot};
-ghost use Rattle.mqb_store.specs.Bases.{is_large};
+ghost use Rattle.mqb_store_laws.specs.Checkpoints.{is_large};
 ghost use Rattle.mqb_store.specs.States.{IsSameStore, IsStoredOn, IsUp};
 ghost use Rattle.mqb_store_laws.specs.Images.{Opens};
 

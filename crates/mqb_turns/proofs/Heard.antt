@@ -200,7 +200,7 @@ module _ (which : Which) (x : Side) (note : Note) (p : Packet) (now : ℕ) (rece
         ∙ ap (λ (k : Network). delivered_as choice (reply.Unheard (failure_of how)) (course_in k sent before)) (network_by (closes o.answer))
         ∙ ap (λ (ws : List Written). delivered_as choice (reply.Unheard (failure_of how)) (course_in (network_at which y) sent ws)) (sym (append-nil before));
     would = would_so law is;
-    touches = λ _. ((law (seated x.own)).hear_whole p now).touches ∙ mv.record_failed refl;
+    touches = λ _. ((law (seated x.own)).hear_whole p now).touches ∙ mv.fails_where refl;
     idle = λ none. absurd (never_underway is none);
     stays = λ none. absurd (never_underway is none);
     cut = λ _. parted.none;

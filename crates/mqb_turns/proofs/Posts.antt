@@ -101,7 +101,7 @@ module _ (which : Which) (s t b : SeatState) (tr : TrafficState) (d e : View) (s
   )
 
   pub leaves_broke : (y : Side) (how : HowItFailed) → IsPumped d e stopped s t o (Broke how) → IsParted which (side t b tr) y → Leaves which x y o now (Broke how)
-  leaves_broke y how (mv, stops) parted = (mv.record_failed refl, broke_so which s t b tr d e o (failure_of how) mv ∙ parted.network which)
+  leaves_broke y how (mv, stops) parted = (mv.fails_where refl, broke_so which s t b tr d e o (failure_of how) mv ∙ parted.network which)
 
 -- What is left of it.
 

@@ -133,7 +133,7 @@ module _ (which : Which) (s t b : SeatState) (tr : TrafficState) (y : Side) (d e
       f = failure_of how
 
       some : is_some (make (seated s)).entry ≡ true
-      some = mv.record_failed refl
+      some = mv.fails_where refl
 
       touches : (make own).touches ≡ true
       touches = ap (λ (k : Manager). (make k).touches) me ∙ whole ∙ some

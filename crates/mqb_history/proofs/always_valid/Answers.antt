@@ -11,4 +11,6 @@ returns c = starting.always_valid c.new_is_valid.ensures c.failed_is_valid.ensur
   lost = c.lost_is_valid.ensures;
   kept = c.kept_is_valid.ensures;
   unread = c.unread_is_valid.ensures;
+  failed = c.failed_is_valid.ensures;
+  refused = c.refused_is_same.ensures;
 })

@@ -1,5 +1,5 @@
 -- The calls of a manager that knows its peers, and what each of them comes to.
-use Rattle.std.specs.Prelude.{Bool, Err, List, Result, false, is_err, ℕ}
+use Rattle.std.specs.Prelude.{Bool, Err, List, Result, false, is_err, not, ℕ}
 use Rattle.mqb_base.specs.declared.draft.Op.{Op}
 use Rattle.mqb_base.specs.declared.draft.Parts.{Parts}
 use Rattle.mqb_base.specs.declared.heard.Heard as arrivals
@@ -34,8 +34,8 @@ use Rattle.mqb_model.specs.declared.faults.StoreFault.{StoreFault}
 use Rattle.mqb_model.specs.declared.faults.StoreFault.TheVariants as stores
 use Rattle.mqb_model.specs.declared.faults.TakeFault.{TakeFault}
 use Rattle.mqb_model.specs.declared.faults.TakeFault.TheVariants as takes
-use Rattle.mqb_model.specs.managers.Manager.{Manager}
-use Rattle.mqb_model.specs.managers.Outcomes.{Outcome}
+use Rattle.mqb_model.specs.managers.Manager.{Manager, is_down}
+use Rattle.mqb_model.specs.managers.Outcomes.{Outcome, answering}
 use Rattle.mqb_model.specs.records.Record.{Setting}
 
 -- what a manager is asked for by those whom it serves, which has nothing to do with packets
@@ -52,6 +52,8 @@ pub data Request : Type 0 where
 pub data Call : Type 0 where
   Asks : Request → Call
   Resend : Call
+  -- its state is written anew, in place of its records
+  Checkpoint : Call
   Pump : (now : ℕ) → Call
   Hear : (now : ℕ) → Packet → Call
 
@@ -65,6 +67,7 @@ pub data Answer : Type 0 where
   Purged : Result ℕ PurgeFault → Answer
   Ticked : Result ticks.Ticked StoreFault → Answer
   Resent : Answer
+  Rewritten : Answer
   Pumped : Result ℕ PumpFault → Answer
   Heard : Result arrivals.Heard HearFault → Answer
 
@@ -78,6 +81,7 @@ is_refusal (Took r) = is_err r
 is_refusal (Purged r) = is_err r
 is_refusal (Ticked r) = is_err r
 is_refusal Resent = false
+is_refusal Rewritten = false
 is_refusal (Pumped r) = is_err r
 is_refusal (Heard r) = is_err r
 
@@ -112,9 +116,14 @@ requested m (Take now place) = answered Took (take_message m place now)
 requested m (Purge now place) = answered Purged (purge m place now)
 requested m (Tick now) = answered Ticked (tick m now)
 
+-- A checkpoint where nothing stands against it but that the manager is down: the disk is called, and no record is written.
+abbrev pub rewriting : Manager → Outcome Answer
+rewriting m = record (answering m Rewritten) { touches = not (is_down m) }
+
 -- what a call comes to
 abbrev pub outcome_of : Manager → Call → Outcome Answer
 outcome_of m (Asks request) = requested m request
 outcome_of m Resend = answered (λ done. Resent) (resend m)
+outcome_of m Checkpoint = rewriting m
 outcome_of m (Pump now) = answered Pumped (pump m now)
 outcome_of m (Hear now p) = answered Heard (hear m p now)

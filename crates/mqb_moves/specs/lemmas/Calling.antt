@@ -61,7 +61,7 @@ well memory broken d e m n o r call up whole answer left = record {
   left = left;
   move = record {
     manager = left.manager;
-    record_failed = λ none. absurd (let no : ⊥ = cc in no);
+    fails_where = λ none. absurd (let no : ⊥ = cc in no);
     held = λ held. record {
       whole = ap (λ (g : Guid). length g.0) left.guid ∙ held.whole;
       on = λ _. call.on (held.on up) still_up;
@@ -98,7 +98,7 @@ broke {V} {E} memory broken d e m n o r call up differ never failed_so how = at 
     by : FailsUnder m n o → IsMove d e (seat_of m) (seat_of n) o (Some how)
     by f = record {
       manager = f.manager;
-      record_failed = λ _. f.entry;
+      fails_where = λ _. f.entry;
       held = λ held. record {
         whole = ap (λ (g : Guid). length g.0) f.guid ∙ held.whole;
         on = λ now. absurd (never_both true refl (sym (ap is_down f.manager) ∙ now));
@@ -130,7 +130,7 @@ pub refused_while_down : {V E : Type 0} → RefusedIsSame → (d : View) (s : Se
     → IsMove d d s s o None
 refused_while_down {V} {E} same d s o r valid is = record {
   manager = sym (ap (λ (q : Outcome (Result V E)). succeeded (seated s) q) is ∙ same (seated s) true valid);
-  record_failed = λ none. absurd (let no : ⊥ = cc in no);
+  fails_where = λ none. absurd (let no : ⊥ = cc in no);
   held = λ held. held;
   faults = refl;
   switch = refl;

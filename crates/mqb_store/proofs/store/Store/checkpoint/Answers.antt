@@ -5,7 +5,7 @@ use Rattle.mqb_journal.specs.lemmas.Carrying.{goes_on_gate}
 use Rattle.mqb_snapshot.specs.Snapshot.{snapshot}
 use Rattle.mqb_store.proofs.Based.{IsBaseOf, large_by, moments_based, on_based, small_by, small_where_ok}
 use Rattle.mqb_store.proofs.store.Store.checkpoint.Goals as goal
-use Rattle.mqb_store.specs.Bases.{is_large}
+use Rattle.mqb_store_laws.specs.Checkpoints.{is_large}
 use Rattle.mqb_store.specs.States.{IsStoredOn, StoreState}
 use Rattle.mqb_store_laws.specs.Images.{IsOn, Opens}
 use Rattle.mqb_store_laws.specs.lemmas.Carrying.{quiet_opens}
