@@ -17,3 +17,4 @@ pub mod Laws
 pub mod Scripts
 pub mod Worked
 pub mod lemmas
+pub use Rattle.mqb_store_laws.specs.Checkpoints

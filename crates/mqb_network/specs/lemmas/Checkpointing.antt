@@ -1,11 +1,13 @@
--- A checkpoint has no record.
-use Rattle.std.proofs.Common.{cond, refl}
-use Rattle.std.specs.Prelude.{◌≡◌, Bool, None, Some, false, true}
+-- What a checkpoint comes to, by the reasons that are against it.
+use Rattle.std.proofs.Common.{ap, cond, refl}
+use Rattle.std.specs.Prelude.{◌≡◌, Bool, Err, None, Ok, Result, Some, false, true}
+use Rattle.mqb_journal.specs.declared.faults.CheckpointFault.{CheckpointFault}
 use Rattle.mqb_journal.specs.declared.faults.CheckpointFault.TheVariants as fault
 use Rattle.mqb_model.specs.managers.Manager.{Manager, is_down}
-use Rattle.mqb_model.specs.managers.Outcomes.{unless}
+use Rattle.mqb_model.specs.managers.Outcomes.{answering, unless}
 use Rattle.mqb_store_laws.specs.Checkpoints.{checkpoint, checkpoint_made, is_large}
 
+-- It has no record.
 pub unrecorded : (m : Manager) (far : Bool) → (checkpoint m far).entry ≡ None
 unrecorded m far = at (is_down m) far (is_large m.state)
   where
@@ -15,3 +17,17 @@ unrecorded m far = at (is_down m) far (is_large m.state)
     at false true large = refl
     at false false true = refl
     at false false false = refl
+
+-- A manager that is down says so, whether its store is too far on or not.
+pub refused_down : (m : Manager) (far : Bool) → is_down m ≡ true → checkpoint m far ≡ answering m (Err fault.Down)
+refused_down m far down =
+    ap (λ (b : Bool). unless m (cond b (Some fault.Down) (cond far (Some fault.TooFar) (cond (is_large m.state) (Some fault.TooLarge) None))) (checkpoint_made m)) down
+
+-- One whose store is not too far on answers one of these.
+pub answers_near : (P : Result (Unit {0}) CheckpointFault → Type 0) → P (Ok tt) → P (Err fault.Down) → P (Err fault.TooLarge) → (m : Manager) → P (checkpoint m false).answer
+answers_near P made down large m = at (is_down m) (is_large m.state)
+  where
+    at : (b c : Bool) → P (unless m (cond b (Some fault.Down) (cond c (Some fault.TooLarge) None)) (checkpoint_made m)).answer
+    at true c = down
+    at false true = large
+    at false false = made
