@@ -7,4 +7,5 @@ pub mod Calling
 pub mod Holding
 pub use Rattle.mqb_manager.specs.States
 pub use Rattle.mqb_manager.specs.Calls
+pub use Rattle.mqb_manager.specs.Checkpoints
 pub mod lemmas

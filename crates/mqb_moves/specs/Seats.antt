@@ -1,7 +1,8 @@
 -- A manager with its disk in a network: what is held of it, and what the disk has.
-use Rattle.std.specs.Prelude.{◌≡◌, Bool, false, if◌then◌else◌, length, true}
+use Rattle.std.specs.Prelude.{◌≡◌, Bool, false, if◌then◌else◌, length, true, ℕ}
 use Rattle.mqb_outside.specs.Disk.{IsSettled, View}
 use Rattle.mqb_outside.specs.Images.{Each}
+use Rattle.mqb_journal.specs.States.{is_too_far}
 use Rattle.mqb_manager.specs.States.{IsOnDisk, ManagerState, manager_of}
 use Rattle.mqb_model.specs.managers.Manager.{Manager, doubt_of, is_down}
 use Rattle.mqb_model.specs.managers.Restarts.{unread}
@@ -11,6 +12,14 @@ use Rattle.mqb_store_laws.specs.Images.{Opens}
 pub record SeatState : Type 0 where
   pub manager : ManagerState
   pub unread : Bool
+
+-- how many records its store has had since it was formatted, the one in doubt left out
+abbrev pub records_of : SeatState → ℕ
+records_of s = s.manager.store.journal.count
+
+-- its store is too far on for another base
+abbrev pub is_far_on : SeatState → Bool
+is_far_on s = is_too_far s.manager.store.journal
 
 -- The manager of the network. One that could not be started is down, with the doubt that there was.
 abbrev pub seated : SeatState → Manager

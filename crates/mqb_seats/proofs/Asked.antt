@@ -12,7 +12,8 @@ use Rattle.mqb_model.specs.managers.Valid.{IsValidManager}
 use Rattle.mqb_moves.specs.Calls.{IsCall}
 use Rattle.mqb_moves.specs.Downs.{DownRefusesAll}
 use Rattle.mqb_moves.specs.Moves.{IsMove}
-use Rattle.mqb_moves.specs.Seats.{IsHeldOn, SeatState, seated}
+use Rattle.mqb_moves.specs.Seats.{IsHeldOn, SeatState, records_of, seated}
+use Rattle.mqb_moves.specs.lemmas.Calling.{none_more}
 use Rattle.mqb_moves.specs.States.{ManagerState, manager_of}
 use Rattle.mqb_network.specs.Choices.{Failure as HowItFailed}
 use Rattle.mqb_outside.specs.Disk.{Lawful, View}
@@ -40,7 +41,7 @@ pub down_called : DownRefusesAll → RefusedIsSame → (d : View) (stopped : Boo
     → IsCalled d d stopped s s (requested (seated s) request) (Told reply.Down false)
 down_called downs same d stopped s valid down request =
     subst (λ (o : Outcome Answer). IsCalled d d stopped s s o (Told reply.Down false)) (sym ((downs (seated s) down).requests request)) (
-      record { manager = sym (same (seated s) true valid); fails_where = λ some. some; held = λ held. held; faults = refl; switch = refl },
+      record { manager = sym (same (seated s) true valid); counted = none_more (records_of s); fails_where = λ some. some; held = λ held. held; faults = refl; switch = refl },
       down_replied request [],
       refl,
     )
@@ -57,8 +58,8 @@ never law request k = apart (requested k request).answer (reply_of (requested k 
 -- What is told of an answer does not move a manager.
 
 moved : {A B : Type 0} (d e : View) (s t : SeatState) (o : Outcome A) (told : B) (failure : Option HowItFailed) → IsMove d e s t (told_as o told) failure → IsMove d e s t o failure
-moved d e s t o told None h = record { manager = h.manager; fails_where = h.fails_where; held = h.held; faults = h.faults; switch = h.switch }
-moved d e s t o told (Some how) h = record { manager = h.manager; fails_where = h.fails_where; held = h.held; faults = h.faults; switch = h.switch }
+moved d e s t o told None h = record { manager = h.manager; counted = h.counted; fails_where = h.fails_where; held = h.held; faults = h.faults; switch = h.switch }
+moved d e s t o told (Some how) h = record { manager = h.manager; counted = h.counted; fails_where = h.fails_where; held = h.held; faults = h.faults; switch = h.switch }
 
 turned : (b : Bool) (ls : List Line) → cond b [] ls ≡ cond (not b) ls []
 turned true ls = refl

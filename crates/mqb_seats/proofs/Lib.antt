@@ -2,4 +2,5 @@ mod Asked
 mod Lasting
 mod Opening
 mod Pumping
+mod Rewriting
 mod Telling

@@ -53,13 +53,13 @@ module _ (d e : View) (m n : ManagerState) (u stopped : Bool) (s : SeatState) (i
       seat_with : ManagerState → Bool → SeatState
       seat_with m b = record { manager = m; unread = b }
 
-  manager_up : is_down (manager_of m) ≡ false
+  pub manager_up : is_down (manager_of m) ≡ false
   manager_up = ap (λ (s : SeatState). is_down (seated s)) seat_is ∙ up
 
-  abbrev after : SeatState
+  abbrev pub after : SeatState
   after = record { manager = n; unread = u }
 
-  after_is : seat_of n ≡ after
+  pub after_is : seat_of n ≡ after
   after_is = ap (λ (b : Bool). seat_after b) (sym read)
     where
       seat_after : Bool → SeatState

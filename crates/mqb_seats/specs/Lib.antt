@@ -9,3 +9,4 @@ pub use Rattle.mqb_moves.specs.Moves
 pub use Rattle.mqb_moves.specs.Counting
 pub use Rattle.mqb_moves.specs.Holding
 pub use Rattle.mqb_moves.specs.lemmas.Stored
+pub use Rattle.mqb_moves.specs.lemmas.Far

@@ -5,6 +5,7 @@
 
 mod asking;
 mod called;
+mod checkpoints;
 mod links;
 mod packets;
 mod restarting;

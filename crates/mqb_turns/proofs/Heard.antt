@@ -17,7 +17,7 @@ use Rattle.mqb_model.specs.managers.Outcomes.{answering, lines_after}
 use Rattle.mqb_model.specs.records.Record.{Record}
 use Rattle.mqb_seats.specs.Holding.{StaysStored}
 use Rattle.mqb_seats.specs.Stored.{same_stores, stored_held}
-use Rattle.mqb_seats.specs.Seats.{IsHeldOn, SeatState, seated}
+use Rattle.mqb_seats.specs.Seats.{IsHeldOn, SeatState, records_of, seated}
 use Rattle.mqb_network.specs.Changes.{ended, failed_at, succeeded_at, with_lines}
 use Rattle.mqb_network.specs.Choices.{Choice, Failure, Fails, Kept, Lost, Unread, Well, choice_behind, failure_in}
 use Rattle.mqb_network.specs.Courses.{Course, Written, called_unless, moved, written_by}
@@ -37,10 +37,12 @@ use Rattle.mqb_traffic.specs.Networks.{index_of, network_with}
 use Rattle.mqb_traffic.specs.States.{TrafficState}
 use Rattle.mqb_transcript.specs.declared.arrivals.Outcome.{Outcome}
 use Rattle.mqb_transcript.specs.declared.arrivals.Outcome.TheVariants as outcome
+use Rattle.mqb_turns.specs.Counts.{counts_at}
 use Rattle.mqb_turns.specs.Passes.{IsPassed, course_in, touched}
 use Rattle.mqb_turns.specs.Replies.{outcome_of}
 use Rattle.mqb_turns.specs.Settling.{EndedWhere, IsNoted, IsParted}
 use Rattle.mqb_turns.specs.Sides.{Side, network_at, side}
+use Rattle.mqb_turns.specs.lemmas.Counting.{counts_called, counts_quiet, counts_same, none_more, stored_count}
 use Rattle.mqb_turns.proofs.Turning.{broke_so, own_at, went_so}
 
 -- the records of a call, where the disk does not fail
@@ -103,6 +105,7 @@ module _ (which : Which) (x : Side) (note : Note) (p : Packet) (now : ℕ) (rece
     idle = λ _. (refl, refl);
     stays = λ _. refl;
     cut = λ some. absurd (let none : ⊥ = cc in none);
+    counted = counts_same (counts_at which x);
     held = λ held. held;
     beside = same_stores x.other;
     faults = refl;
@@ -151,9 +154,9 @@ module _ (which : Which) (x : Side) (note : Note) (p : Packet) (now : ℕ) (rece
   -- It went well.
   pub heard_well : RefusalsChangeNothing → is_underway n note ≡ true → (d e : View) (stopped : Bool) (y1 y : Side) → succeeded_at i o n ≡ network_at which y1
       → (delivery : Delivery) → heard_with o.answer (lines_after (seated x.own) o) ≡ delivery → (closed : Bool) → closes o.answer ≡ closed → EndedWhere which closed y1 y
-      → (given : Outcome) → outcome_of delivery ≡ given → (IsHeldOn d x.own → IsHeldOn e y.own) → StaysStored x.other y.other → e.faults ≡ d.faults
-      → IsPassed which x y d e stopped note p now given
-  heard_well law is d e stopped y1 y left delivery delivery_is closed closed_is ended_so given told held beside same = record {
+      → (given : Outcome) → outcome_of delivery ≡ given → records_of y.own ≡ records_of x.own + option_map_or (λ _. 1) o.entry 0
+      → (IsHeldOn d x.own → IsHeldOn e y.own) → StaysStored x.other y.other → e.faults ≡ d.faults → IsPassed which x y d e stopped note p now given
+  heard_well law is d e stopped y1 y left delivery delivery_is closed closed_is ended_so given told own held beside same = record {
     delivery = delivery;
     failure = None;
     outcome = o;
@@ -169,6 +172,7 @@ module _ (which : Which) (x : Side) (note : Note) (p : Packet) (now : ℕ) (rece
     idle = λ none. absurd (never_underway is none);
     stays = λ none. absurd (never_underway is none);
     cut = λ some. absurd (let none : ⊥ = cc in none);
+    counted = counts_called which x y (manager_at n i) o.entry own beside;
     held = held;
     beside = beside;
     faults = same;
@@ -204,6 +208,7 @@ module _ (which : Which) (x : Side) (note : Note) (p : Packet) (now : ℕ) (rece
     idle = λ none. absurd (never_underway is none);
     stays = λ none. absurd (never_underway is none);
     cut = λ _. parted.none;
+    counted = counts_quiet which x y (stored_count parted.own ∙ mv.counted ∙ sym (none_more (records_of x.own))) parted.beside;
     held = λ held. stored_held e t y.own parted.own (mv.held held);
     beside = parted.beside;
     faults = (mv.faults, ap failure_of stops, refl);
@@ -237,12 +242,16 @@ module _ (which : Which) (s t b : SeatState) (tr : TrafficState) (note : Note) (
       (reply.Heard heard lines)
       (ap (λ (r : Result Heard HearFault). heard_with r (lines_after (seated s) here)) answer ∙ ap (λ (ls : List Line). reply.Heard heard ls) (sym (lines_are ∙ are)))
       (closes (Ok heard)) (ap closes answer) ended_so (outcome.Heard heard lines) refl
-      (λ held. stays (closes (Ok heard)) ended_so (subst (IsHeldOn e) (sym noted.1) (mv.held held)))
+      (own_so (closes (Ok heard)) ended_so ∙ ap records_of noted.1 ∙ mv.counted) (λ held. stays (closes (Ok heard)) ended_so (subst (IsHeldOn e) (sym noted.1) (mv.held held)))
       (beside_so (closes (Ok heard)) ended_so) mv.faults
     where
       stays : (c : Bool) → EndedWhere which c y1 y → IsHeldOn e y1.own → IsHeldOn e y.own
       stays true parted held = stored_held e y1.own y.own parted.own held
       stays false same held = subst (λ (z : Side). IsHeldOn e z.own) (sym same) held
+
+      own_so : (c : Bool) → EndedWhere which c y1 y → records_of y.own ≡ records_of y1.own
+      own_so true parted = stored_count parted.own
+      own_so false same = ap (λ (z : Side). records_of z.own) same
 
       beside_so : (c : Bool) → EndedWhere which c y1 y → StaysStored b y.other
       beside_so true parted = subst (λ (z : SeatState). StaysStored z y.other) noted.2 parted.beside
@@ -253,7 +262,7 @@ module _ (which : Which) (s t b : SeatState) (tr : TrafficState) (note : Note) (
       heard_well which (side s b tr) note p now receiver law is d e stopped (side t b tr) (side t b tr)
       (went_so which s t b tr d e here mv [] (sym (ap (λ (q : HeardOutcome). lines_after (seated s) q) unchanged)) ∙ no_lines (network_at which (side t b tr)))
       reply.Gone (ap (λ (r : Result Heard HearFault). heard_with r (lines_after (seated s) here)) said.1) false (ap closes said.1) refl (outcome_of reply.Gone) refl
-      mv.held (same_stores b) mv.faults
+      mv.counted mv.held (same_stores b) mv.faults
     where
       unchanged : here ≡ answering (seated s) (Err said.0)
       unchanged = subst (λ (r : Result Heard HearFault). IfErr r (λ f. here ≡ answering (seated s) (Err f))) said.1 ((law (seated s)).hear_whole p now).refused

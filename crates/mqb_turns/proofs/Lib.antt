@@ -2,6 +2,7 @@ mod Heard
 mod Parting
 mod Posts
 mod Quiet
+mod Rewriting
 mod Rows
 mod Started
 mod Turning

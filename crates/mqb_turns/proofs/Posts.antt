@@ -14,7 +14,7 @@ use Rattle.mqb_model.specs.managers.Outcomes.{lines_after, succeeded}
 use Rattle.mqb_model.specs.managers.Valid.{IsValidManager}
 use Rattle.mqb_seats.specs.Counting.{PumpsAreCounted}
 use Rattle.mqb_seats.specs.Stored.{same_stores, stored_held}
-use Rattle.mqb_seats.specs.Seats.{SeatState, seated}
+use Rattle.mqb_seats.specs.Seats.{SeatState, records_of, seated}
 use Rattle.mqb_network.specs.Answers.{Answer}
 use Rattle.mqb_network.specs.Changes.{failed_at, note_by, noted, succeeded_at, with_lines}
 use Rattle.mqb_network.specs.Choices.{Choice, Failure, Fails, Well, failure_in}
@@ -36,11 +36,13 @@ use Rattle.mqb_traffic.specs.Networks.{index_of, network_with, note_of}
 use Rattle.mqb_traffic.specs.States.{TrafficState}
 use Rattle.mqb_transcript.specs.declared.replies.Reply.{Reply}
 use Rattle.mqb_transcript.specs.declared.replies.Reply.TheVariants as reply
+use Rattle.mqb_turns.specs.Counts.{CountsGo, counts_at}
 use Rattle.mqb_turns.specs.Replies.{failure_reply, told}
 use Rattle.mqb_turns.specs.Sends.{IsPumpTurn, IsSent, Leaves, pump_at}
 use Rattle.mqb_turns.specs.Settling.{IsNoted, IsParted}
 use Rattle.mqb_turns.specs.Sides.{Side, network_at, side}
 use Rattle.mqb_turns.specs.Turns.{FailsAsAnswered}
+use Rattle.mqb_turns.specs.lemmas.Counting.{counts_called, counts_quiet, none_more, stored_count}
 use Rattle.mqb_turns.proofs.Turning.{broke_so, one_written, own_at, went_so}
 
 -- no packet is noted
@@ -118,6 +120,7 @@ module _ (which : Which) (s t b : SeatState) (tr : TrafficState) (d e : View) (s
     posted = posted_so.0;
     within = posted_so.1;
     writable = posted_so.2;
+    counted = went.0.counted;
     held = went.0.held;
     beside = same_stores b;
     faults = went.0.faults;
@@ -136,6 +139,7 @@ module _ (which : Which) (s t b : SeatState) (tr : TrafficState) (d e : View) (s
     posted = posted_so.0;
     within = posted_so.1;
     writable = posted_so.2;
+    counted = refused.0.counted;
     held = refused.0.held;
     beside = same_stores b;
     faults = refused.0.faults;
@@ -154,6 +158,7 @@ module _ (which : Which) (s t b : SeatState) (tr : TrafficState) (d e : View) (s
     posted = posted_so.0;
     within = posted_so.1;
     writable = posted_so.2;
+    counted = stored_count parted.own ∙ broke.0.counted;
     held = λ held. stored_held e t y.own parted.own (broke.0.held held);
     beside = parted.beside;
     faults = (broke.0.faults, broke.1);
@@ -214,6 +219,7 @@ module _ (which : Which) (x y : Side) (d e : View) (stopped : Bool) (strings str
     posted = sent.posted;
     within = sent.within;
     writable = sent.writable;
+    counted = counts_called which x y (manager_at n i) out.entry sent.counted sent.beside;
     held = sent.held;
     beside = sent.beside;
     faults = subst (FailsAsAnswered stopped d.faults e.faults) (sym reply_is) sent.faults;
@@ -231,6 +237,7 @@ module _ (which : Which) (x y : Side) (d e : View) (stopped : Bool) (strings str
     posted = sent.posted ∙ ap (λ (ps : List Packet). strings ++ map plain_spelling ps) (sym none);
     within = sent.within;
     writable = subst AreWritable (sym none) sent.writable;
+    counted = counts_called which x y (manager_at n i) out.entry sent.counted sent.beside;
     held = sent.held;
     beside = sent.beside;
     faults = subst (FailsAsAnswered stopped d.faults e.faults) (sym reply_is) sent.faults;
@@ -255,6 +262,8 @@ module _ (which : Which) (x y : Side) (d e : View) (stopped : Bool) (strings str
     posted = sent.posted ∙ ap (λ (o : Option Failure). strings ++ map plain_spelling (after o).sent) (sym fails);
     within = sent.within;
     writable = subst (λ (o : Option Failure). AreWritable (after o).sent) (sym fails) sent.writable;
+    counted = subst (λ (o : Option Failure). CountsGo (counts_at which x) (counts_at which y) (after o).written) (sym fails)
+        (counts_quiet which x y (sent.counted ∙ sym (none_more (records_of x.own))) sent.beside);
     held = sent.held;
     beside = sent.beside;
     faults = subst (FailsAsAnswered stopped d.faults e.faults) (sym reply_is) (sent.faults.0, ap failure_of sent.faults.1);

@@ -1,14 +1,16 @@
 -- A manager that is started again.
-use Rattle.std.proofs.Common.{◌≡◌, ℕ, Bool, true, false, cond, List, [], Ok, refl, sym, ap, subst, ◌∙◌}
+use Rattle.std.proofs.Common.{◌≡◌, ℕ, Bool, true, false, cond, List, [], None, Ok, Option, Some, refl, sym, ap, subst, ◌∙◌}
 use Rattle.std.proofs.lemmas.List.{append-nil}
+use Rattle.std.specs.Option.{option_map_or}
 use Rattle.std.specs.Prelude.{◌+◌, is_some, not}
 use Rattle.mqb_base.specs.declared.ledger.Line.{Line}
 use Rattle.mqb_outside.specs.Disk.{View}
 use Rattle.mqb_journal.specs.States.{JournalState}
 use Rattle.mqb_model.specs.managers.Manager.{Condition, Down, Manager, Up, doubt_of, is_down}
 use Rattle.mqb_model.specs.managers.Restarts.{lines_in_doubt, restarted, unread}
+use Rattle.mqb_model.specs.records.Record.{Record}
 use Rattle.mqb_seats.specs.Holding.{StaysStored}
-use Rattle.mqb_seats.specs.Seats.{IsHeldOn, SeatState, seated}
+use Rattle.mqb_seats.specs.Seats.{IsHeldOn, SeatState, records_of, seated}
 use Rattle.mqb_network.specs.Changes.{ended, with_lines}
 use Rattle.mqb_network.specs.Choices as choice
 use Rattle.mqb_network.specs.Courses.{Course, course_from, moved}
@@ -25,12 +27,18 @@ use Rattle.mqb_transcript.specs.declared.replies.Reply.{Reply}
 use Rattle.mqb_transcript.specs.declared.replies.Reply.TheVariants as reply
 use Rattle.mqb_turns.specs.Replies.{told}
 use Rattle.mqb_turns.specs.Settling.{IsNoted, IsParted}
-use Rattle.mqb_turns.specs.Starts.{FailsInStart, IsStarted, IsToldByRecords, opened_reply, records_of, was_kept}
+use Rattle.mqb_turns.specs.Starts.{FailsInStart, IsStarted, IsToldByRecords, opened_reply, was_kept}
 use Rattle.mqb_turns.specs.Sides.{Side, network_at, side}
+use Rattle.mqb_turns.specs.lemmas.Counting.{counts_called, counts_quiet}
 use Rattle.mqb_turns.proofs.Turning.{own_at, with_own}
 
 no_lines : (m : Network) → with_lines [] m ≡ m
 no_lines m = ap (λ (ls : List Line). record m { ledger = ls }) (append-nil m.ledger)
+
+-- a record that there is, is one
+one_record : (q : Option Record) → is_some q ≡ true → option_map_or (λ _. 1) q 0 ≡ 1
+one_record (Some r) some = refl
+one_record None some = absurd (let none : ⊥ = cc in none)
 
 -- one that is up has no doubt
 up_has_none : (c : Condition) → elim c [ Up ↦ false | Down doubt ↦ true ] ≡ false → is_some (doubt_of c) ≡ true → ⊥
@@ -93,6 +101,7 @@ module _ (which : Which) (s s1 t o o1 : SeatState) (u u1 : TrafficState) (y : Si
     reply = ap told told_lost ∙ ap Ok (sym given_is);
     network = ap (λ (m : Manager). with_manager c1.network i (restarted m false)) own_is ∙ ap (with_manager c1.network i) (sym same.manager) ∙ placed ∙ sym (no_lines left) ∙ sym noted.0;
     sent = refl;
+    counted = counts_quiet which (side s o u) y (same_records same.count noted.1) (beside_so noted.2);
     held = held_so same.held noted.1;
     beside = beside_so noted.2;
     records = subst (λ (r : Reply). IsToldByRecords r (records_of s) (records_of y.own)) (sym given_is) (same_records same.count noted.1);
@@ -107,6 +116,7 @@ module _ (which : Which) (s s1 t o o1 : SeatState) (u u1 : TrafficState) (y : Si
     reply = ap told told_opened ∙ ap Ok (sym given_is);
     network = ap (λ (m : Manager). with_manager c1.network i (restarted m false)) own_is ∙ ap (with_manager c1.network i) (sym same.manager) ∙ placed ∙ sym (no_lines left) ∙ sym noted.0;
     sent = refl;
+    counted = counts_quiet which (side s o u) y (same_records same.count noted.1) (beside_so noted.2);
     held = held_so same.held noted.1;
     beside = beside_so noted.2;
     records = subst (λ (r : Reply). IsToldByRecords r (records_of s) (records_of y.own)) (sym given_is) (same_records same.count noted.1);
@@ -127,11 +137,15 @@ module _ (which : Which) (s s1 t o o1 : SeatState) (u u1 : TrafficState) (y : Si
         ∙ ap (λ (m : Manager). with_lines (lines_in_doubt (seated s1)) (with_manager c1.network i m)) (sym kept.manager)
         ∙ ap (with_lines (lines_in_doubt (seated s1))) placed ∙ ap (λ (ls : List Line). with_lines ls left) (sym kept.lines) ∙ sym noted.0;
     sent = refl;
+    counted = counts_called which (side s o u) y own (doubt_of own.condition) (records_so 1 kept.count noted.1 ∙ ap (λ (k : ℕ). records_of s + k) (sym one)) (beside_so noted.2);
     held = held_so kept.held noted.1;
     beside = beside_so noted.2;
     records = subst (λ (r : Reply). IsToldByRecords r (records_of s) (records_of y.own)) (sym given_is) (records_so 1 kept.count noted.1);
     faults = kept.faults;
   }
+    where
+      one : option_map_or (λ _. 1) (doubt_of own.condition) 0 ≡ 1
+      one = one_record (doubt_of own.condition) (subst (λ (m : Manager). is_some (doubt_of m.condition) ≡ true) (sym own_is) kept.doubt)
 
   not_opened : (was_down : Bool) → NotOpened d e s1 t → IsNoted which (side t o1 u1) y false
       → given ≡ opened_reply was_down y.own.manager.store.lines opened.Unread → IsStarted which (side s o u) y d e given
@@ -141,6 +155,7 @@ module _ (which : Which) (s s1 t o o1 : SeatState) (u u1 : TrafficState) (y : Si
     reply = ap Ok (sym given_is);
     network = ap (λ (m : Manager). with_manager c1.network i (unread m)) own_is ∙ ap (with_manager c1.network i) (sym failed.manager) ∙ placed ∙ sym (no_lines left) ∙ sym noted.0;
     sent = refl;
+    counted = counts_quiet which (side s o u) y (same_records failed.count noted.1) (beside_so noted.2);
     held = held_so failed.held noted.1;
     beside = beside_so noted.2;
     records = subst (λ (r : Reply). IsToldByRecords r (records_of s) (records_of y.own)) (sym given_is) (same_records failed.count noted.1);

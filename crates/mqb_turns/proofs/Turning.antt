@@ -1,5 +1,5 @@
 -- A call of one manager with its disk is a turn of the world.
-use Rattle.std.proofs.Common.{◌≡◌, ℕ, Bool, true, cond, List, [], ◌++◌, Option, Some, None, Result, Ok, Err, refl, sym, ap, subst, ◌∙◌}
+use Rattle.std.proofs.Common.{◌≡◌, ℕ, Bool, true, cond, List, [], ◌+◌, ◌++◌, Option, Some, None, Result, Ok, Err, refl, sym, ap, subst, ◌∙◌}
 use Rattle.std.specs.Option.{option_map_or}
 use Rattle.std.specs.Prelude.{IfOk, is_some, length, nat_lt, if◌then◌else◌}
 use Rattle.mqb_base.specs.declared.ledger.Line.{Line}
@@ -11,8 +11,8 @@ use Rattle.mqb_model.specs.managers.Outcomes.{Outcome, failed, lines_after, succ
 use Rattle.mqb_model.specs.records.Record.{Record}
 use Rattle.mqb_seats.specs.Holding.{StaysStored}
 use Rattle.mqb_seats.specs.Stored.{same_stores, stored_held}
-use Rattle.mqb_seats.specs.Moves.{IsMove}
-use Rattle.mqb_seats.specs.Seats.{IsHeldOn, SeatState, seated}
+use Rattle.mqb_seats.specs.Moves.{IsMoveWhere}
+use Rattle.mqb_seats.specs.Seats.{IsHeldOn, SeatState, records_of, seated}
 use Rattle.mqb_network.specs.Answers.{Answer, call}
 use Rattle.mqb_network.specs.Changes.{ended, failed_at, succeeded_at, with_lines}
 use Rattle.mqb_network.specs.Choices.{Choice, Failure, Fails, Well, failure_in}
@@ -31,10 +31,12 @@ use Rattle.mqb_seats.specs.declared.called.Failure.{Failure as HowItFailed}
 use Rattle.mqb_traffic.specs.Networks.{index_of, network_with}
 use Rattle.mqb_traffic.specs.States.{TrafficState}
 use Rattle.mqb_transcript.specs.declared.replies.Reply.{Reply}
+use Rattle.mqb_turns.specs.Counts.{CountsGo, counts_at}
 use Rattle.mqb_turns.specs.Replies.{told}
 use Rattle.mqb_turns.specs.Settling.{Settles}
 use Rattle.mqb_turns.specs.Turns.{FailsAsAnswered, IsTurn, answers_to}
 use Rattle.mqb_turns.specs.Sides.{Side, network_at, side}
+use Rattle.mqb_turns.specs.lemmas.Counting.{counts_called, counts_quiet, none_more, stored_count}
 
 -- what follows of a result
 pub if_ok : {A E : Type 0} {P Q : A → Type 0} (q : Result A E) → ((x : A) → P x → Q x) → IfOk q P → IfOk q Q
@@ -63,7 +65,7 @@ one_written i m (Some r) some = refl
 one_written i m None some = absurd (let none : ⊥ = cc in none)
 
 -- a call that went well, with the lines of its record
-pub went_so : {A : Type 0} (which : Which) (s t b : SeatState) (tr : TrafficState) (d e : View) (o : Outcome A) → IsMove d e s t o None → (ls : List Line) → ls ≡ lines_after (seated s) o
+pub went_so : {A Reason : Type 0} (which : Which) (s t b : SeatState) (tr : TrafficState) (d e : View) (o : Outcome A) → IsMoveWhere Reason d e s t o None → (ls : List Line) → ls ≡ lines_after (seated s) o
     → succeeded_at (index_of which) o (network_at which (side s b tr)) ≡ with_lines ls (network_at which (side t b tr))
 went_so which s t b tr d e o mv ls lines =
     ap (λ (m : Manager). with_lines (lines_after m o) (with_manager (network_at which (side s b tr)) (index_of which) (succeeded m o))) (own_at which (side s b tr))
@@ -72,7 +74,7 @@ went_so which s t b tr d e o mv ls lines =
     ∙ ap (λ (ls : List Line). with_lines ls (network_at which (side t b tr))) (sym lines)
 
 -- one in which the disk failed
-pub broke_so : {A : Type 0} (which : Which) (s t b : SeatState) (tr : TrafficState) (d e : View) (o : Outcome A) (how : Failure) → IsMove d e s t o (Some how)
+pub broke_so : {A Reason : Type 0} (which : Which) (s t b : SeatState) (tr : TrafficState) (d e : View) (o : Outcome A) (how : Failure) → IsMoveWhere Reason d e s t o (Some how)
     → failed_at (index_of which) o (network_at which (side s b tr)) ≡ ended (index_of which) (network_at which (side t b tr))
 broke_so which s t b tr d e o how mv =
     ap (λ (m : Manager). ended (index_of which) (with_manager (network_at which (side s b tr)) (index_of which) (failed m o))) (own_at which (side s b tr))
@@ -110,10 +112,15 @@ module _ (which : Which) (s t b : SeatState) (tr : TrafficState) (y : Side) (d e
     reply = ap said me ∙ is_told ∙ ap Ok (sym given_is);
     network = ap (λ (k : Manager). succeeded_at i (make k) n) me ∙ went_so which s t b tr d e (make (seated s)) mv (cond recorded t.manager.store.lines []) lines ∙ sym noted.0;
     sent = refl;
+    counted = counts_called which (side s b tr) y own (make own).entry
+        (ap records_of noted.1 ∙ mv.counted ∙ ap (λ (k : Manager). records_of s + option_map_or (λ _. 1) (make k).entry 0) (sym me)) beside;
     held = λ held. subst (IsHeldOn e) (sym noted.1) (mv.held held);
-    beside = subst (StaysStored b) (sym noted.2) (same_stores b);
+    beside = beside;
     faults = mv.faults;
   }
+    where
+      beside : StaysStored b y.other
+      beside = subst (StaysStored b) (sym noted.2) (same_stores b)
 
   broke_turn : (how : HowItFailed) (given : Reply) → IsCalled d e stopped s t (make (seated s)) (Broke how)
       → Settles which (side t b tr) y (Broke how) given → IsTurn which (side s b tr) y d e stopped answers given
@@ -124,6 +131,8 @@ module _ (which : Which) (s t b : SeatState) (tr : TrafficState) (y : Side) (d e
     network = ap (λ (o : Option Failure). (called_unless i (make own) o (course_from n)).network) fails ∙ ap (λ (k : Manager). failed_at i (make k) n) me
         ∙ broke_so which s t b tr d e (make (seated s)) f mv ∙ parted.network which;
     sent = ap (λ (o : Option Failure). (called_unless i (make own) o (course_from n)).sent) fails;
+    counted = subst (λ (o : Option Failure). CountsGo (counts_at which (side s b tr)) (counts_at which y) (called_unless i (make own) o (course_from n)).written) (sym fails)
+        (counts_quiet which (side s b tr) y (stored_count parted.own ∙ mv.counted ∙ sym (none_more (records_of s))) parted.beside);
     held = λ held. stored_held e t y.own parted.own (mv.held held);
     beside = parted.beside;
     faults = subst (FailsAsAnswered stopped d.faults e.faults) (sym reply_is) (mv.faults, ap failure_of stops);

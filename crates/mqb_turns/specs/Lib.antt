@@ -1,10 +1,13 @@
 pub mod Replies
 pub mod Sides
+pub mod Counts
 pub mod Settling
 pub mod Turns
 pub mod Starts
 pub mod Sends
 pub mod Passes
+pub mod Rewrites
+pub mod lemmas
 pub use Rattle.mqb_seats.specs.Moves
 pub use Rattle.mqb_seats.specs.Seats
 pub use Rattle.mqb_seats.specs.Pumped

@@ -14,6 +14,7 @@ use Rattle.mqb_packet.specs.declared.packet.Packet.{Packet}
 use Rattle.mqb_script.specs.declared.managers.Which.{Which}
 use Rattle.mqb_seats.specs.Called.{failure_of, how_by}
 use Rattle.mqb_transcript.specs.declared.arrivals.Outcome.{Outcome}
+use Rattle.mqb_turns.specs.Counts.{CountsGo, counts_at}
 use Rattle.mqb_turns.specs.Replies.{outcome_of}
 use Rattle.mqb_turns.specs.Sides.{Side, network_at}
 
@@ -44,6 +45,7 @@ pub record IsPassed (which : Which) (x y : Side) (d e : View) (stopped : Bool) (
   pub idle : (network_at which x).connections ≡ [] → (outcome.touches ≡ false) × (failure ≡ None)
   pub stays : (network_at which x).connections ≡ [] → network_at which x ≡ network_at which y
   pub cut : IsSome failure → (network_at which y).connections ≡ []
+  pub counted : CountsGo (counts_at which x) (counts_at which y) written
   pub held : IsHeldOn d x.own → IsHeldOn e y.own
   pub beside : StaysStored x.other y.other
   pub faults : MatchOption failure (e.faults ≡ d.faults) (λ how. Rose d.faults e.faults × (how ≡ failure_of (how_by stopped)) × (delivery ≡ Unheard how))

@@ -2,6 +2,7 @@
 use Rattle.std.specs.Prelude.{[], ◌∷◌, Err, List, Ok, Result, map, ℕ}
 use Rattle.mqb_network.specs.Choices as choice
 use Rattle.mqb_network.specs.Replies as network
+use Rattle.mqb_replies.specs.Replies.{checkpoint_reply}
 use Rattle.mqb_replies.specs.Requests.{reply_of}
 use Rattle.mqb_replies.specs.declared.faults.AnswerFault.{AnswerFault}
 use Rattle.mqb_replies.specs.declared.faults.AnswerFault.TheVariants.{Memory}
@@ -54,6 +55,7 @@ told (network.Flowed arrivals) = Ok (reply.Flowed (map arrival_of arrivals))
 told network.NoPacket = Ok reply.NoPacket
 told (network.Delivered delivery) = Ok (delivery_reply delivery)
 told network.Dropped = Ok reply.Dropped
+told (network.Checkpointed given) = checkpoint_reply given
 told network.Armed = Ok reply.Armed
 told network.Opened = Ok reply.Opened
 told (network.OpenedKept lines) = Ok (reply.OpenedKept lines)

@@ -1,9 +1,10 @@
 -- What the packets that a manager gives out are to the network, and to the medium.
-use Rattle.std.specs.Prelude.{[], ◌++◌, ◌≡◌, Bool, Err, IsSome, IsTrue, List, Ok, Result, length, map, ℕ}
+use Rattle.std.specs.Option.{option_map_or}
+use Rattle.std.specs.Prelude.{[], ◌+◌, ◌++◌, ◌≡◌, Bool, Err, IsSome, IsTrue, List, Ok, Result, length, map, ℕ}
 use Rattle.mqb_outside.specs.Disk.{View}
 use Rattle.mqb_model.specs.calls.pump.Pump.{PumpOutcome, pump}
 use Rattle.mqb_seats.specs.Holding.{StaysStored}
-use Rattle.mqb_seats.specs.Seats.{IsHeldOn, seated}
+use Rattle.mqb_seats.specs.Seats.{IsHeldOn, records_of, seated}
 use Rattle.mqb_network.specs.Answers.{Answer}
 use Rattle.mqb_network.specs.Changes.{failed_at, noted, succeeded_at}
 use Rattle.mqb_network.specs.Choices.{Choice, Well}
@@ -21,6 +22,7 @@ use Rattle.mqb_seats.specs.declared.packets.Pumped.{Pumped}
 use Rattle.mqb_seats.specs.declared.packets.Pumped.TheVariants.{Broke, Refused, Went}
 use Rattle.mqb_traffic.specs.Networks.{index_of}
 use Rattle.mqb_transcript.specs.declared.replies.Reply.{Reply}
+use Rattle.mqb_turns.specs.Counts.{CountsGo, counts_at}
 use Rattle.mqb_turns.specs.Replies.{told}
 use Rattle.mqb_turns.specs.Sides.{Side, network_at}
 use Rattle.mqb_turns.specs.Turns.{FailsAsAnswered}
@@ -42,12 +44,18 @@ abbrev pub FailsAsTold : Bool → (before after : ℕ) → Pumped → Type 0
 FailsAsTold stopped before after (Broke how) = Rose before after × (how ≡ how_by stopped)
 FailsAsTold stopped before after _ = after ≡ before
 
+-- how many records that added
+abbrev pub records_by : PumpOutcome → Pumped → ℕ
+records_by o (Broke how) = 0
+records_by o _ = option_map_or (λ _. 1) o.entry 0
+
 -- The packets of a manager went: each is a string of the medium.
 pub record IsSent (which : Which) (x y : Side) (d e : View) (stopped : Bool) (strings strings_now : List (List ℕ)) (now : ℕ) (pumped : Pumped) : Type 0 where
   pub leaves : Leaves which x y (pump_at which x now) now pumped
   pub posted : strings_now ≡ strings ++ map plain_spelling (packets_by (pump_at which x now) pumped)
   pub within : IsWithin strings_now
   pub writable : AreWritable (packets_by (pump_at which x now) pumped)
+  pub counted : records_of y.own ≡ records_of x.own + records_by (pump_at which x now) pumped
   pub held : IsHeldOn d x.own → IsHeldOn e y.own
   pub beside : StaysStored x.other y.other
   pub faults : FailsAsTold stopped d.faults e.faults pumped
@@ -67,6 +75,7 @@ pub record IsPumpTurn (which : Which) (x y : Side) (d e : View) (stopped : Bool)
   pub posted : strings_now ≡ strings ++ map plain_spelling (answers choice).after.sent
   pub within : IsWithin strings_now
   pub writable : AreWritable (answers choice).after.sent
+  pub counted : CountsGo (counts_at which x) (counts_at which y) (answers choice).after.written
   pub held : IsHeldOn d x.own → IsHeldOn e y.own
   pub beside : StaysStored x.other y.other
   pub faults : FailsAsAnswered stopped d.faults e.faults (answers choice).reply

@@ -3,7 +3,7 @@ use Rattle.std.specs.Prelude.{[], ◌+◌, ◌≡◌, Bool, IsTrue, List, Ok, fa
 use Rattle.mqb_base.specs.declared.ledger.Line.{Line}
 use Rattle.mqb_outside.specs.Disk.{View}
 use Rattle.mqb_seats.specs.Holding.{StaysStored}
-use Rattle.mqb_seats.specs.Seats.{IsHeldOn, SeatState}
+use Rattle.mqb_seats.specs.Seats.{IsHeldOn, records_of}
 use Rattle.mqb_network.specs.Choices.{Choice}
 use Rattle.mqb_network.specs.Events.{Restart}
 use Rattle.mqb_network.specs.Replies as network
@@ -15,6 +15,7 @@ use Rattle.mqb_seats.specs.declared.restarting.Opened.TheVariants.{Kept, Same, U
 use Rattle.mqb_traffic.specs.Networks.{index_of}
 use Rattle.mqb_transcript.specs.declared.replies.Reply.{Reply}
 use Rattle.mqb_transcript.specs.declared.replies.Reply.TheVariants as reply
+use Rattle.mqb_turns.specs.Counts.{CountsGo, counts_at}
 use Rattle.mqb_turns.specs.Replies.{told}
 use Rattle.mqb_turns.specs.Turns.{answers_to}
 use Rattle.mqb_turns.specs.Sides.{Side, network_at}
@@ -36,11 +37,7 @@ abbrev pub FailsInStart : (before after : ℕ) → network.Reply → Type 0
 FailsInStart before after (network.DiskFailed how) = Rose before after
 FailsInStart before after _ = after ≡ before
 
--- how many records a manager has, the one in doubt left out
-abbrev pub records_of : SeatState → ℕ
-records_of s = s.manager.store.journal.count
-
--- A start is told by them: one more where the record in doubt was kept, and as many where it was lost, where there was none, or where the disk failed.
+-- A start is told by the records of its manager: one more where the record in doubt was kept, and as many where it was lost, where there was none, or where the disk failed.
 abbrev pub IsToldByRecords : Reply → (before after : ℕ) → Type 0
 IsToldByRecords (reply.OpenedKept lines) before after = after ≡ before + 1
 IsToldByRecords reply.OpenedLost before after = after ≡ before
@@ -55,6 +52,7 @@ pub record IsStarted (which : Which) (x y : Side) (d e : View) (given : Reply) :
   pub reply : told (answers_to which x (Restart (index_of which)) choice).reply ≡ Ok given
   pub network : (answers_to which x (Restart (index_of which)) choice).after.network ≡ network_at which y
   pub sent : (answers_to which x (Restart (index_of which)) choice).after.sent ≡ []
+  pub counted : CountsGo (counts_at which x) (counts_at which y) (answers_to which x (Restart (index_of which)) choice).after.written
   pub held : IsHeldOn e y.own
   pub beside : StaysStored x.other y.other
   pub records : IsToldByRecords given (records_of x.own) (records_of y.own)

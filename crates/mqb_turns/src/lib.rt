@@ -5,6 +5,7 @@
 
 mod asking;
 mod between;
+mod checkpoints;
 mod links;
 mod passing;
 mod sending;
@@ -12,6 +13,7 @@ mod starting;
 
 pub use asking::ask;
 pub use between::{failure_reply, note, part, part_where, settle};
+pub use checkpoints::checkpoint;
 pub use links::{disconnect, drop_packet, resend};
 pub use passing::pass;
 pub use sending::{numbers, pump, send_out};

@@ -2,7 +2,7 @@
 use Rattle.std.proofs.Common.{inl, inr, ap, refl, sym, subst, ◌∙◌, arith, cond}
 use Rattle.std.proofs.lemmas.Bool.Decides.{nat_tests}
 use Rattle.std.specs.Option.{option_map_or}
-use Rattle.std.specs.Prelude.{[], ◌+◌, ◌==◌, ◌≡◌, Bool, Err, None, Option, Result, Some, false, length, true}
+use Rattle.std.specs.Prelude.{[], ◌+◌, ◌==◌, ◌≡◌, Bool, Err, None, Option, Result, Some, false, length, true, ℕ}
 use Rattle.mqb_base.specs.declared.ids.Guid.{Guid}
 use Rattle.mqb_outside.specs.Disk.{View}
 use Rattle.mqb_outside.specs.Images.{Each}
@@ -18,7 +18,7 @@ use Rattle.mqb_manager.specs.Calls.{Ends, FailsUnder, IsCall, Succeeds}
 use Rattle.mqb_manager.specs.States.{IsUp, ManagerState, manager_of}
 use Rattle.mqb_store_laws.specs.Images.{Opens}
 use Rattle.mqb_moves.specs.Moves.{IsMove}
-use Rattle.mqb_moves.specs.Seats.{SeatState, seated}
+use Rattle.mqb_moves.specs.Seats.{SeatState, records_of, seated}
 use Rattle.mqb_moves.specs.Calling.{seat_of, Went}
 
 -- Up and down.
@@ -61,6 +61,7 @@ well memory broken d e m n o r call up whole answer left = record {
   left = left;
   move = record {
     manager = left.manager;
+    counted = left.count;
     fails_where = λ none. absurd (let no : ⊥ = cc in no);
     held = λ held. record {
       whole = ap (λ (g : Guid). length g.0) left.guid ∙ held.whole;
@@ -89,6 +90,10 @@ went_well memory broken d e m n o r call up rich whole = at call.ends
 errs : {V E : Type 0} (f g : E) → ◌≡◌ {A = Result V E} (Err f) (Err g) → f ≡ g
 errs f g same = cc
 
+-- no record is added
+pub none_more : (n : ℕ) → n ≡ n + 0
+none_more n = omega arith
+
 -- one that answers that it failed, which the definition never answers
 pub broke : {V E : Type 0} (memory broken : E) (d e : View) (m n : ManagerState) (o : Outcome (Result V E)) (r : Result V E) → IsCall memory broken d e m n o r
     → is_down (manager_of m) ≡ false → (memory ≡ broken → ⊥) → (o.answer ≡ Err broken → ⊥) → r ≡ Err broken → (how : Failure)
@@ -98,6 +103,7 @@ broke {V} {E} memory broken d e m n o r call up differ never failed_so how = at 
     by : FailsUnder m n o → IsMove d e (seat_of m) (seat_of n) o (Some how)
     by f = record {
       manager = f.manager;
+      counted = f.count ∙ none_more m.store.journal.count;
       fails_where = λ _. f.entry;
       held = λ held. record {
         whole = ap (λ (g : Guid). length g.0) f.guid ∙ held.whole;
@@ -130,6 +136,7 @@ pub refused_while_down : {V E : Type 0} → RefusedIsSame → (d : View) (s : Se
     → IsMove d d s s o None
 refused_while_down {V} {E} same d s o r valid is = record {
   manager = sym (ap (λ (q : Outcome (Result V E)). succeeded (seated s) q) is ∙ same (seated s) true valid);
+  counted = none_more (records_of s) ∙ ap (λ (q : Outcome (Result V E)). records_of s + option_map_or (λ _. 1) q.entry 0) (sym is);
   fails_where = λ none. absurd (let no : ⊥ = cc in no);
   held = λ held. held;
   faults = refl;

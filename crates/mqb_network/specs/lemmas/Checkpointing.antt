@@ -1,5 +1,6 @@
 -- What a checkpoint comes to, by the reasons that are against it.
-use Rattle.std.proofs.Common.{ap, cond, refl}
+use Rattle.std.proofs.Common.{ap, cond, refl, sym, ◌∙◌}
+use Rattle.std.proofs.lemmas.Bool.{true≢false}
 use Rattle.std.specs.Prelude.{◌≡◌, Bool, Err, None, Ok, Result, Some, false, true}
 use Rattle.mqb_journal.specs.declared.faults.CheckpointFault.{CheckpointFault}
 use Rattle.mqb_journal.specs.declared.faults.CheckpointFault.TheVariants as fault
@@ -31,3 +32,27 @@ answers_near P made down large m = at (is_down m) (is_large m.state)
     at true c = down
     at false true = large
     at false false = made
+
+-- an answer says that the disk failed
+abbrev says_failed : Result (Unit {0}) CheckpointFault → Bool
+says_failed (Err fault.DiskFault) = true
+says_failed _ = false
+
+-- It never says so: that is for the code alone.
+pub never_failed : (m : Manager) (far : Bool) → (checkpoint m far).answer ≡ Err fault.DiskFault → ⊥
+never_failed m far same = true≢false (sym (ap says_failed same) ∙ at (is_down m) far (is_large m.state))
+  where
+    at : (down far large : Bool)
+        → says_failed (unless m (cond down (Some fault.Down) (cond far (Some fault.TooFar) (cond large (Some fault.TooLarge) None))) (checkpoint_made m)).answer ≡ false
+    at true far large = refl
+    at false true large = refl
+    at false false true = refl
+    at false false false = refl
+
+-- One of a store that is too far on calls no disk.
+pub far_calls_none : (m : Manager) → (checkpoint m true).touches ≡ false
+far_calls_none m = at (is_down m)
+  where
+    at : (down : Bool) → (unless m (cond down (Some fault.Down) (Some fault.TooFar)) (checkpoint_made m)).touches ≡ false
+    at true = refl
+    at false = refl
