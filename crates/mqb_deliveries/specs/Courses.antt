@@ -6,10 +6,12 @@ use Rattle.mqb_network.specs.Runs.{joined}
 use Rattle.mqb_packet.specs.Plain.{plain_spelling}
 use Rattle.mqb_posts.specs.Packets.{AreWritable}
 use Rattle.mqb_posts.specs.Posting.{IsWithin}
+use Rattle.mqb_turns.specs.Counts.{CountsGo}
 
--- It comes to the network, and each packet that was sent in it is a string of the medium.
-pub record ComesTo (c : Course) (n_now : Network) (strings strings_now : List (List ℕ)) : Type 0 where
+-- It comes to the network, each manager has had as many records more as were written in it, and each packet that was sent in it is a string of the medium.
+pub record ComesTo (c : Course) (counts : ℕ → ℕ) (n_now : Network) (counts_now : ℕ → ℕ) (strings strings_now : List (List ℕ)) : Type 0 where
   pub network : c.network ≡ n_now
+  pub counted : CountsGo counts counts_now c.written
   pub posted : strings_now ≡ strings ++ map plain_spelling c.sent
   pub writable : AreWritable c.sent
   pub within : IsWithin strings_now

@@ -13,6 +13,7 @@ use Rattle.mqb_transcript.specs.declared.arrivals.Outcome.{Outcome}
 use Rattle.mqb_transcript.specs.declared.arrivals.Outcome.TheVariants as outcome
 use Rattle.mqb_transcript.specs.declared.replies.Reply.{Reply}
 use Rattle.mqb_transcript.specs.declared.replies.Reply.TheVariants as reply
+use Rattle.mqb_turns.specs.Counts.{CountsGo}
 use Rattle.mqb_turns.specs.Passes.{course_in, touched}
 use Rattle.mqb_turns.specs.Replies.{outcome_of}
 use Rattle.mqb_deliveries.specs.Failing.{failure_told}
@@ -23,7 +24,7 @@ delivered_at n k p now choice sent before = option_map_or (λ note. passed note 
     (unheard choice (course_in n sent before))
 
 -- What becomes of it, and of the course and of the choices: with each choice by which the disk fails in it, or not, as is told.
-pub record Delivers (n n_now : Network) (k : ℕ) (p : Packet) (now : ℕ) (given : Outcome) : Type 0 where
+pub record Delivers (n : Network) (counts : ℕ → ℕ) (n_now : Network) (counts_now : ℕ → ℕ) (k : ℕ) (p : Packet) (now : ℕ) (given : Outcome) : Type 0 where
   pub delivery : Delivery
   pub outcome : HeardOutcome
   pub written : List Written
@@ -35,6 +36,7 @@ pub record Delivers (n n_now : Network) (k : ℕ) (p : Packet) (now : ℕ) (give
   pub would : (sent : List Packet) (before : List Written)
       → length (delivered_at n k p now Well sent before).after.written ≡ length before + touched outcome.touches
   pub touches : IsSome (failure_told given) → outcome.touches ≡ true
+  pub counted : CountsGo counts counts_now written
   pub notes : n_now.notes ≡ n.notes
   -- without a connection nothing is heard, and where the disk failed there is none behind it
   pub idle : n.connections ≡ [] → (outcome.touches ≡ false) × (failure_told given ≡ None)
@@ -42,9 +44,10 @@ pub record Delivers (n n_now : Network) (k : ℕ) (p : Packet) (now : ℕ) (give
   pub cut : IsSome (failure_told given) → n_now.connections ≡ []
 
 -- There is no packet of this number; or it is delivered.
-abbrev pub WasDelivered : Network → Network → List Packet → ℕ → ℕ → Option Outcome → Type 0
-WasDelivered n n_now packets k now None = (numbered n.notes k ≡ None) × (n_now ≡ n)
-WasDelivered n n_now packets k now (Some given) = (p : Packet) × (numbered packets k ≡ Some p) × IsSome (numbered n.notes k) × Delivers n n_now k p now given
+abbrev pub WasDelivered : Network → (ℕ → ℕ) → Network → (ℕ → ℕ) → List Packet → ℕ → ℕ → Option Outcome → Type 0
+WasDelivered n counts n_now counts_now packets k now None = (numbered n.notes k ≡ None) × (n_now ≡ n) × CountsGo counts counts_now []
+WasDelivered n counts n_now counts_now packets k now (Some given) = (p : Packet) × (numbered packets k ≡ Some p) × IsSome (numbered n.notes k)
+    × Delivers n counts n_now counts_now k p now given
 
 -- what became of a packet that was delivered alone is told so
 abbrev pub outcome_reply : Outcome → Reply

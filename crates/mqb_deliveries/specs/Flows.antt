@@ -8,6 +8,7 @@ use Rattle.mqb_network.specs.Replies as network
 use Rattle.mqb_network.specs.Sending.{Passing, passed_on}
 use Rattle.mqb_packet.specs.declared.packet.Packet.{Packet}
 use Rattle.mqb_transcript.specs.declared.arrivals.Arrival.{Arrival}
+use Rattle.mqb_turns.specs.Counts.{CountsGo}
 use Rattle.mqb_turns.specs.Passes.{course_in}
 use Rattle.mqb_turns.specs.Replies.{arrival_of}
 
@@ -37,7 +38,7 @@ LeadsTo c now given t passed after (Some how) = (flowing c now given (Fails t ho
     × (length c.written + t < length (flowing c now given Well).after.written)
 
 -- Packets were delivered.
-pub record Flown (c : Course) (now : ℕ) (given : List (ℕ × Packet)) (arrivals : List Arrival) (n_now : Network) : Type 0 where
+pub record Flown (counts counts_now : ℕ → ℕ) (c : Course) (now : ℕ) (given : List (ℕ × Packet)) (arrivals : List Arrival) (n_now : Network) : Type 0 where
   pub passed : List network.Arrival
   pub failure : Option Failure
   pub written : List Written
@@ -45,5 +46,6 @@ pub record Flown (c : Course) (now : ℕ) (given : List (ℕ × Packet)) (arriva
   pub told : map arrival_of passed ≡ arrivals
   pub leads : LeadsTo c now given records passed (course_in n_now c.sent (c.written ++ written)) failure
   pub count : failure ≡ None → length written ≡ records
+  pub counted : CountsGo counts counts_now written
   pub notes : n_now.notes ≡ c.network.notes
   pub cut : IsSome failure → n_now.connections ≡ []

@@ -5,7 +5,7 @@ use Rattle.std.specs.Fmt.{decimal}
 use Rattle.mqb_base.specs.declared.heard.Heard.{Heard}
 use Rattle.mqb_base.specs.declared.heard.Heard.TheVariants as heard
 use Rattle.mqb_base.specs.declared.ids.Identity.{Identity}
-use Rattle.mqb_history.specs.Choosing.{Broke, Found, Missed, Quiet, Sign}
+use Rattle.mqb_history.specs.Choosing.{Broke, Far, Found, Missed, Quiet, Sign}
 use Rattle.mqb_network.specs.Choices as choice
 use Rattle.mqb_transcript.specs.declared.arrivals.Arrival.{Arrival}
 use Rattle.mqb_transcript.specs.declared.arrivals.Outcome.{Outcome}
@@ -29,6 +29,7 @@ shown_by reply.Failed = Broke choice.Failed ∷ []
 shown_by (reply.Flowed arrivals) = Quiet ∷ map (λ a. outcome_sign a.outcome) arrivals
 shown_by (reply.OpenedKept lines) = Found ∷ []
 shown_by reply.OpenedLost = Missed ∷ []
+shown_by reply.TooFar = Far ∷ []
 shown_by _ = Quiet ∷ []
 
 -- The signs of a text.
@@ -38,6 +39,7 @@ first_read text = if starts_with ◌==◌ text (codes "stopped") then Broke choi
     else if starts_with ◌==◌ text (codes "failed") then Broke choice.Failed
     else if starts_with ◌==◌ text (codes "opened kept") then Found
     else if starts_with ◌==◌ text (codes "opened lost") then Missed
+    else if starts_with ◌==◌ text (codes "toofar") then Far
     else Quiet
 
 -- behind a colon
@@ -122,4 +124,5 @@ reply_read hosts (reply.Flowed arrivals) rest none = let flow = flow_read hosts 
 )
 reply_read hosts (reply.OpenedKept lines) rest none = alone (reply_text hosts (reply.OpenedKept lines) ++ 10 ∷ rest) Found refl
 reply_read hosts reply.OpenedLost rest none = alone (reply_text hosts reply.OpenedLost ++ 10 ∷ rest) Missed refl
+reply_read hosts reply.TooFar rest none = alone (reply_text hosts reply.TooFar ++ 10 ∷ rest) Far refl
 reply_read hosts r rest none = alone (reply_text hosts r ++ 10 ∷ rest) Quiet refl

@@ -3,7 +3,9 @@ use Rattle.std.proofs.Common.{◌≡◌, ◌∷◌, ◌∙◌, ap, ap₂, List, 
 use Rattle.std.proofs.lemmas.Bool.{true≢false}
 use Rattle.std.specs.Prelude.{Err, IfOk, Ok, Result, false}
 use Rattle.mqb_base.specs.declared.ledger.Line.{Line}
-use Rattle.mqb_history.specs.Choosing.{Quiet, Sign, sign_of, signs_of}
+use Rattle.mqb_history.specs.Choosing.{Quiet, Sign, base_sign, sign_of, signs_of}
+use Rattle.mqb_journal.specs.declared.faults.CheckpointFault.{CheckpointFault}
+use Rattle.mqb_journal.specs.declared.faults.CheckpointFault.TheVariants as fault
 use Rattle.mqb_model.specs.calls.Call.{Answer}
 use Rattle.mqb_model.specs.declared.faults.PumpFault.{PumpFault}
 use Rattle.mqb_model.specs.declared.faults.PumpFault.TheVariants as pump
@@ -11,6 +13,7 @@ use Rattle.mqb_network.specs.Choices as choice
 use Rattle.mqb_network.specs.Replies as network
 use Rattle.mqb_replies.proofs.Definitions.{tells_of_disk}
 use Rattle.mqb_replies.proofs.Faulted.{tells_no_disk}
+use Rattle.mqb_replies.specs.Replies.{checkpoint_reply}
 use Rattle.mqb_replies.specs.Requests.{reply_of}
 use Rattle.mqb_replies.specs.declared.faults.AnswerFault.{AnswerFault}
 use Rattle.mqb_runs.specs.Pumped.{pump_fault_reply}
@@ -35,6 +38,11 @@ unpumped why = refl
 connected : (packets : List ℕ) → IsQuiet (connected_reply packets)
 connected (a ∷ b ∷ c ∷ d ∷ []) = refl
 connected packets = refl
+
+rewritten : (r : Result (Unit {0}) CheckpointFault) → told_signs (checkpoint_reply r) ≡ base_sign r ∷ []
+rewritten (Err fault.TooFar) = refl
+rewritten (Err fault.Down) = refl
+rewritten r = refl
 
 -- Packets.
 
@@ -61,6 +69,7 @@ answered a lines = at (reply_of a lines) (tells_no_disk a lines)
     at (Ok (reply.Flowed arrivals)) none = absurd (true≢false none)
     at (Ok (reply.OpenedKept lines)) none = absurd (true≢false none)
     at (Ok reply.OpenedLost) none = absurd (true≢false none)
+    at (Ok reply.TooFar) none = absurd (true≢false none)
     at q none = refl
 
 each_told : (r : network.Reply) → told_signs (told r) ≡ signs_of r
@@ -69,6 +78,7 @@ each_told (network.Called answer lines) = answered answer lines
 each_told (network.Connected packets) = connected packets
 each_told (network.NotPumped fault) = unpumped fault
 each_told (network.Flowed arrivals) = ap (λ (ss : List Sign). Quiet ∷ ss) (arrivals_shown arrivals)
+each_told (network.Checkpointed r) = rewritten r
 each_told (network.Delivered delivery) = delivery_shown delivery
 each_told r = refl
 

@@ -24,6 +24,7 @@ apart (event.Deliver packet now) = network.Deliver packet now
 apart (event.Drop packet) = network.Drop packet
 apart (event.Flow manager now) = network.Flow (index_of manager) now
 apart (event.Resend manager) = network.Resend (index_of manager)
+apart (event.Checkpoint manager) = network.Checkpoint (index_of manager)
 apart (event.Arm manager call mode) = network.Arm (index_of manager)
 apart (event.Restart manager pick) = network.Restart (index_of manager)
 apart _ = network.Disconnect 0

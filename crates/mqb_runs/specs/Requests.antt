@@ -28,6 +28,7 @@ actor (event.Purge manager now place) = manager
 actor (event.Tick manager now) = manager
 actor (event.Resend manager) = manager
 actor (event.Pump manager now) = manager
+actor (event.Checkpoint manager) = manager
 actor (event.Arm manager call mode) = manager
 actor (event.Restart manager pick) = manager
 actor (event.Roll manager count) = manager

@@ -14,8 +14,8 @@ counts_with alpha beta i = if i == 0 then records_of alpha else records_of beta
 
 -- as one of the two sees it
 abbrev pub counts_at : Which → Side → ℕ → ℕ
-counts_at Alpha x i = counts_with x.own x.other i
-counts_at Beta x i = counts_with x.other x.own i
+counts_at Alpha x = counts_with x.own x.other
+counts_at Beta x = counts_with x.other x.own
 
 -- Each store has had as many more as were written of its manager.
 abbrev pub CountsGo : (counts counts_now : ℕ → ℕ) → List Written → Type 0

@@ -12,11 +12,13 @@ use Rattle.mqb_model.specs.calls.pump.Pump.{PumpOutcome, pump}
 use Rattle.mqb_model.specs.declared.faults.PumpFault.{PumpFault}
 use Rattle.mqb_model.specs.managers.Manager.{Manager, is_down}
 use Rattle.mqb_moves.specs.lemmas.Stored.{same_stores, stored_held}
-use Rattle.mqb_moves.specs.Seats.{IsHeldOn, seated}
+use Rattle.mqb_moves.specs.Seats.{IsHeldOn, SeatState, records_of, seated}
 use Rattle.mqb_network.specs.Answers.{Answer, lines_at}
 use Rattle.mqb_network.specs.Changes.{ended}
 use Rattle.mqb_network.specs.Courses.{course_from}
-use Rattle.mqb_network.specs.Choices.{Choice, Failure, Kept, Unread, Well, failure_in}
+use Rattle.mqb_network.specs.Checkpointing.{may_rewrite}
+use Rattle.mqb_network.specs.Checkpoints.{checkpoint}
+use Rattle.mqb_network.specs.Choices.{Choice, Failure, Kept, Unread, Well, failure_in, is_far}
 use Rattle.mqb_network.specs.Events as network
 use Rattle.mqb_network.specs.Network.{Network, manager_at}
 use Rattle.mqb_network.specs.Replies as answer
@@ -40,13 +42,16 @@ use Rattle.mqb_seats.specs.Called.{failure_of, how_by}
 use Rattle.mqb_traffic.specs.Networks.{index_of}
 use Rattle.mqb_transcript.specs.declared.replies.Reply.{Reply}
 use Rattle.mqb_transcript.specs.declared.replies.Reply.TheVariants as reply
+use Rattle.mqb_turns.specs.Counts.{counts_at}
 use Rattle.mqb_turns.specs.Replies.{told}
+use Rattle.mqb_turns.specs.Rewrites.{IsRewriteTurn}
 use Rattle.mqb_turns.specs.Sends.{ComesShort, IsPumpTurn, pump_at}
 use Rattle.mqb_turns.specs.Sides.{Side, network_at}
-use Rattle.mqb_turns.specs.Starts.{FailsInStart, IsStarted, records_of}
-use Rattle.mqb_turns.specs.Turns.{IsQuiet, IsTurn, answers_to}
+use Rattle.mqb_turns.specs.Starts.{FailsInStart, IsStarted}
+use Rattle.mqb_turns.specs.Turns.{IsQuiet, IsTurn, IsTurnWhere, answers_to}
+use Rattle.mqb_turns.specs.lemmas.Counting.{own_count}
 use Rattle.mqb_world.specs.Acting.{IsActed, IsCallOf, IsOf}
-use Rattle.mqb_world.specs.Disks.{Arms, FaultsGo, IsToldSo, LeavesIt, RecordsGo, Restarts, StaysAsLeft, SwitchGoes, Switching, calls_disk_of, failures_alone, failures_of, is_same, switching}
+use Rattle.mqb_world.specs.Disks.{Arms, FarGoes, FaultsGo, IsToldSo, LeavesIt, RecordsGo, Restarts, StaysAsLeft, SwitchGoes, Switching, calls_disk_of, failures_alone, failures_of, is_same, rewrites, switching}
 use Rattle.mqb_world.proofs.Told.{IsNoDelivery, failures_in_told, faults_so, faults_told, none_delivered}
 
 -- no packet joins the medium
@@ -73,10 +78,10 @@ asks_so which asked request is request_is =
     let so = asked_of which asked is (Some request) request_is in
     so.2 ∙ ap (network.Asks (index_of which)) (sym (some_same request so.0 so.1))
 
-may_of_call : (which : Which) (n : Network) (asked : Event) → IsCallOf which asked → (choice : Choice)
-    → may_at n None (event_of asked) choice ≡ may_fail (length (step n None (event_of asked) Well).after.written) choice
-may_of_call which n asked is choice =
-    subst (λ (e : network.Event). may_at n None e choice ≡ may_fail (length (step n None e Well).after.written) choice) (sym (asked_of which asked is (request_of asked) refl).2) refl
+may_of_call : (which : Which) (n : Network) (counts : ℕ → ℕ) (asked : Event) → IsCallOf which asked → (choice : Choice)
+    → may_at n counts None (event_of asked) choice ≡ may_fail (length (step n None (event_of asked) Well).after.written) choice
+may_of_call which n counts asked is choice =
+    subst (λ (e : network.Event). may_at n counts None e choice ≡ may_fail (length (step n None e Well).after.written) choice) (sym (asked_of which asked is (request_of asked) refl).2) refl
 
 asked_none : (n : Network) (i : ℕ) (request : Request) (choice : Choice) → IsNoDelivery (step n None (network.Asks i request) choice).reply
 asked_none n i request choice = let outcome = requested (manager_at n i) request in
@@ -100,6 +105,7 @@ called_by_own false which m some is = some
 
 calls_own : (which : Which) (asked : Event) → IsCallOf which asked → calls_disk_of which asked ≡ true
 calls_own which (event.Pump m now) is = absurd (none_some is.0)
+calls_own which (event.Checkpoint m) is = absurd (none_some is.0)
 calls_own which (event.Restart m pick) is = absurd (none_some is.0)
 calls_own which asked is = called_by_own (is_some (request_of asked)) which (actor asked) is.0 is.1
 
@@ -111,6 +117,14 @@ alone_so which asked stopped before after given is go = subst (λ (b : Bool). Fa
 -- No switch is asked for anything, so nothing is told of records.
 pub leaves_records : (asks : Switching) (given : Reply) (before after : ℕ) → asks ≡ LeavesIt → RecordsGo asks given before after
 leaves_records asks given before after leaves = subst (λ (s : Switching). RecordsGo s given before after) (sym leaves) tt
+
+-- No state is written anew, so nothing is told of that.
+pub none_far : (b : Bool) (s : SeatState) (given : Reply) → b ≡ false → FarGoes b s given
+none_far b s given none = subst (λ (b : Bool). FarGoes b s given) (sym none) tt
+
+call_rewrites : (which : Which) (asked : Event) → IsCallOf which asked → rewrites which asked ≡ false
+call_rewrites which (event.Checkpoint m) is = absurd (none_some is.0)
+call_rewrites which asked is = refl
 
 call_leaves : (which : Which) (asked : Event) → IsCallOf which asked → switching which asked ≡ LeavesIt
 call_leaves which (event.Arm m call mode) is = absurd (none_some is.0)
@@ -126,9 +140,10 @@ module _ (which : Which) (x y : Side) (asked : Event) (strings : List (List ℕ)
   call_acted is d e stopped held t = record {
     step = record {
       choice = t.choice;
-      may = may_of_call which (network_at which x) asked is t.choice ∙ t.may;
+      may = may_of_call which (network_at which x) (counts_at which x) asked is t.choice ∙ t.may;
       reply = t.reply;
       network = t.network;
+      counted = t.counted;
       posted = none_posted strings (answers t.choice).after.sent t.sent;
       writable = none_written (answers t.choice).after.sent t.sent;
       within = within;
@@ -139,6 +154,7 @@ module _ (which : Which) (x y : Side) (asked : Event) (strings : List (List ℕ)
         (faults_told asked stopped d.faults e.faults (told (answers t.choice).reply) given t.reply
         (faults_so asked stopped d.faults e.faults (call_says which asked is stopped) (answers t.choice).reply (call_none which (network_at which x) asked is t.choice) t.faults));
     records = leaves_records (switching which asked) given (records_of x.own) (records_of y.own) (call_leaves which asked is);
+    far = none_far (rewrites which asked) x.own given (call_rewrites which asked is);
   }
 
 -- A pump.
@@ -156,6 +172,7 @@ pump_acted which x y now strings strings_now given d e stopped held t = record {
     may = t.may;
     reply = t.reply;
     network = t.network;
+    counted = t.counted;
     posted = t.posted;
     writable = t.writable;
     within = t.within;
@@ -167,6 +184,7 @@ pump_acted which x y now strings strings_now given d e stopped held t = record {
       (faults_so (event.Pump which now) stopped d.faults e.faults (λ how so. so) (answers_to which x (network.Pump (index_of which) now) t.choice).reply
       (none_delivered (failure_in t.choice o) (pumped (length (network_at which x).notes) o.answer ls) (pump_none (length (network_at which x).notes) o.answer ls)) t.faults));
   records = tt;
+  far = tt;
 }
   where
     o : PumpOutcome
@@ -204,6 +222,7 @@ start_acted which x y pick strings within given d e stopped t = record {
     may = t.may;
     reply = t.reply;
     network = t.network;
+    counted = t.counted;
     posted = none_posted strings (answers_to which x (network.Restart (index_of which)) t.choice).after.sent t.sent;
     writable = none_written (answers_to which x (network.Restart (index_of which)) t.choice).after.sent t.sent;
     within = within;
@@ -214,7 +233,41 @@ start_acted which x y pick strings within given d e stopped t = record {
       (faults_told (event.Restart which pick) stopped d.faults e.faults (told (answers_to which x (network.Restart (index_of which)) t.choice).reply) given t.reply
       (start_faults which pick stopped d.faults e.faults (network_at which x) (index_of which) t.choice t.faults));
   records = subst (λ (b : Bool). RecordsGo (cond b (Restarts pick) LeavesIt) given (records_of x.own) (records_of y.own)) (sym (same_self which)) t.records;
+  far = tt;
 }
+
+-- A checkpoint.
+
+checkpoint_none : (n : Network) (i : ℕ) (choice : Choice) → IsNoDelivery (step n None (network.Checkpoint i) choice).reply
+checkpoint_none n i choice = let outcome = checkpoint (manager_at n i) (is_far choice) in none_delivered (failure_in choice outcome) (answer.Checkpointed outcome.answer) tt
+
+pub rewrite_acted : (which : Which) (x y : Side) (strings : List (List ℕ)) → IsWithin strings → (given : Reply) (d e : View) (stopped : Bool) → IsHeldOn d x.own
+    → IsRewriteTurn which x y d e stopped given → IsActed which x y d e stopped (event.Checkpoint which) strings strings given
+rewrite_acted which x y strings within given d e stopped held r = record {
+  step = record {
+    choice = t.choice;
+    may = subst (λ (k : ℕ). may_rewrite (network_at which x) (index_of which) k t.choice ≡ true) (sym (own_count which x)) t.may;
+    reply = t.reply;
+    network = t.network;
+    counted = t.counted;
+    posted = none_posted strings (answers t.choice).after.sent t.sent;
+    writable = none_written (answers t.choice).after.sent t.sent;
+    within = within;
+  };
+  held = t.held held;
+  beside = t.beside;
+  faults = alone_so which (event.Checkpoint which) stopped d.faults e.faults given (same_self which)
+      (faults_told (event.Checkpoint which) stopped d.faults e.faults (told (answers t.choice).reply) given t.reply
+      (faults_so (event.Checkpoint which) stopped d.faults e.faults (λ how so. so) (answers t.choice).reply (checkpoint_none (network_at which x) (index_of which) t.choice) t.faults));
+  records = tt;
+  far = subst (λ (b : Bool). FarGoes b x.own given) (sym (same_self which)) r.far;
+}
+  where
+    answers : Choice → Answer
+    answers = answers_to which x (network.Checkpoint (index_of which))
+
+    t : IsTurnWhere (may_rewrite (network_at which x) (index_of which) (records_of x.own)) which x y d e stopped answers given
+    t = r.turn
 
 -- An arming.
 
@@ -224,14 +277,15 @@ module _ (which : Which) (x y : Side) (strings : List (List ℕ)) (within : IsWi
   abbrev n : Network
   n = network_at which x
 
-  quiet_acted : (asked : Event) → may_at n None (event_of asked) Well ≡ true → calls_disk_of which asked ≡ false → switching which asked ≡ LeavesIt
+  quiet_acted : (asked : Event) → may_at n (counts_at which x) None (event_of asked) Well ≡ true → calls_disk_of which asked ≡ false → switching which asked ≡ LeavesIt → rewrites which asked ≡ false
       → IsQuiet which x y (step n None (event_of asked) Well) given → IsActed which x y d d stopped asked strings strings given
-  quiet_acted asked may none leaves t = record {
+  quiet_acted asked may none leaves unwritten t = record {
     step = record {
       choice = Well;
       may = may;
       reply = t.reply;
       network = t.network;
+      counted = t.counted;
       posted = none_posted strings (step n None (event_of asked) Well).after.sent t.sent;
       writable = none_written (step n None (event_of asked) Well).after.sent t.sent;
       within = within;
@@ -240,16 +294,17 @@ module _ (which : Which) (x y : Side) (strings : List (List ℕ)) (within : IsWi
     beside = t.beside;
     faults = subst (λ (b : Bool). FaultsGo asked stopped d.faults d.faults (cond b (failures_of given) [])) (sym none) refl;
     records = leaves_records (switching which asked) given (records_of x.own) (records_of y.own) leaves;
+    far = none_far (rewrites which asked) x.own given unwritten;
   }
 
   pub disconnect_acted : IsQuiet which x y (step n None (network.Disconnect 0) Well) given → IsActed which x y d d stopped event.Disconnect strings strings given
-  disconnect_acted = quiet_acted event.Disconnect refl refl refl
+  disconnect_acted = quiet_acted event.Disconnect refl refl refl refl
 
   pub resend_acted : IsQuiet which x y (step n None (network.Resend (index_of which)) Well) given → IsActed which x y d d stopped (event.Resend which) strings strings given
-  resend_acted = quiet_acted (event.Resend which) refl refl refl
+  resend_acted = quiet_acted (event.Resend which) refl refl refl refl
 
   pub drop_acted : (k : ℕ) → IsQuiet which x y (step n None (network.Drop k) Well) given → IsActed which x y d d stopped (event.Drop k) strings strings given
-  drop_acted k = quiet_acted (event.Drop k) refl refl refl
+  drop_acted k = quiet_acted (event.Drop k) refl refl refl refl
 
 -- What the event is.
 
@@ -266,16 +321,20 @@ pump_is which m now asked is of = is ∙ ap (λ (m : Which). event.Pump m now) (
 pub restart_is : (which m : Which) (pick : Pick) (asked : Event) → asked ≡ event.Restart m pick → IsOf which asked → asked ≡ event.Restart which pick
 restart_is which m pick asked is of = is ∙ ap (λ (m : Which). event.Restart m pick) (subst (IsOf which) is of)
 
+pub checkpoint_is : (which m : Which) (asked : Event) → asked ≡ event.Checkpoint m → IsOf which asked → asked ≡ event.Checkpoint which
+checkpoint_is which m asked is of = is ∙ ap (λ (m : Which). event.Checkpoint m) (subst (IsOf which) is of)
+
 pub is_call : (which : Which) (asked : Event) → (asked ≡ event.Disconnect → ⊥) → ((m : Which) → asked ≡ event.Resend m → ⊥) → ((k : ℕ) → asked ≡ event.Drop k → ⊥)
     → ((m : Which) (now : ℕ) → asked ≡ event.Pump m now → ⊥) → ((m : Which) (call : ℕ) (mode : Mode) → asked ≡ event.Arm m call mode → ⊥)
-    → ((m : Which) (pick : Pick) → asked ≡ event.Restart m pick → ⊥) → IsOf which asked → IsCallOf which asked
-is_call which event.Disconnect a b c d e f is = absurd (a refl)
-is_call which (event.Pump m now) a b c d e f is = absurd (d m now refl)
-is_call which (event.Drop k) a b c d e f is = absurd (c k refl)
-is_call which (event.Resend m) a b c d e f is = absurd (b m refl)
-is_call which (event.Arm m call mode) a b c d e f is = absurd (e m call mode refl)
-is_call which (event.Restart m pick) a b c d e f is = absurd (f m pick refl)
-is_call which asked a b c d e f is = is
+    → ((m : Which) (pick : Pick) → asked ≡ event.Restart m pick → ⊥) → ((m : Which) → asked ≡ event.Checkpoint m → ⊥) → IsOf which asked → IsCallOf which asked
+is_call which event.Disconnect a b c d e f g is = absurd (a refl)
+is_call which (event.Pump m now) a b c d e f g is = absurd (d m now refl)
+is_call which (event.Drop k) a b c d e f g is = absurd (c k refl)
+is_call which (event.Resend m) a b c d e f g is = absurd (b m refl)
+is_call which (event.Arm m call mode) a b c d e f g is = absurd (e m call mode refl)
+is_call which (event.Restart m pick) a b c d e f g is = absurd (f m pick refl)
+is_call which (event.Checkpoint m) a b c d e f g is = absurd (g m refl)
+is_call which asked a b c d e f g is = is
 
 pub call_switch : (which : Which) (asked : Event) → IsCallOf which asked → (armed : Option (ℕ × Mode)) (s t : Switch) → t ≡ s → SwitchGoes (switching which asked) armed s t
 call_switch which asked is armed s t same = subst (λ (x : Switching). SwitchGoes x armed s t) (sym (call_leaves which asked is)) same

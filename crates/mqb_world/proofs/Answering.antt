@@ -31,26 +31,27 @@ module _ (w0 w : WorldState) (is : w0 ≡ w) (strings : List (List ℕ)) where
     happened given h (ms, stands) = h (after_run hosts ms).sent stands.stands.writable stands.stands.spelled
 
     -- each run goes on
-    pub applied_so : (given : Reply) → HappensAmong w0 w_now asked strings strings_now first first_now second second_now first_stopped second_stopped given
+    pub applied_so : RunsHaveHistories → HistoriesAreOrderly → (given : Reply)
+        → HappensAmong w0 w_now asked strings strings_now first first_now second second_now first_stopped second_stopped given
         → (ms : List Move) → Stands w strings ms → Applied ms (event_of asked) w_now strings strings_now (Ok given)
-    applied_so given h ms stands = goes_on w strings ms (event_of asked) given w_now strings_now stands
+    applied_so runs orderly given h ms stands = goes_on w strings ms (event_of asked) given w_now strings_now stands (is_ordered runs orderly w strings ms stands)
         (subst (λ (w : WorldState). HappensAmong w w_now asked strings strings_now first first_now second second_now first_stopped second_stopped given) is h
         (after_run hosts ms).sent stands.stands.writable stands.stands.spelled).step
 
-    pub short_so : (f : PostFault) (g : WorldFault) → g ≡ world_fault f → ShortAmong {T = Reply} w0 asked strings strings_now (Err f)
+    pub short_so : RunsHaveHistories → HistoriesAreOrderly → (f : PostFault) (g : WorldFault) → g ≡ world_fault f → ShortAmong {T = Reply} w0 asked strings strings_now (Err f)
         → (ms : List Move) → Stands w strings ms → Applied ms (event_of asked) w_now strings strings_now (Err g)
-    short_so f g so short ms stands = subst (λ (g : WorldFault). Applied ms (event_of asked) w_now strings strings_now (Err g)) (sym so)
-        (falls_short w strings ms (event_of asked) reply.Done w_now strings_now stands f
+    short_so runs orderly f g so short ms stands = subst (λ (g : WorldFault). Applied ms (event_of asked) w_now strings strings_now (Err g)) (sym so)
+        (falls_short w strings ms (event_of asked) reply.Done w_now strings_now stands (is_ordered runs orderly w strings ms stands) f
         (subst (λ (w : WorldState). ShortAmong {T = Reply} w asked strings strings_now (Err f)) is short (after_run hosts ms).sent stands.stands.writable stands.stands.spelled))
 
     module _ (r : Result Reply PostFault) (t : Result Reply WorldFault) where
-      pub ok_applied : (given : Reply) → r ≡ Ok given → t ≡ Ok given
+      pub ok_applied : RunsHaveHistories → HistoriesAreOrderly → (given : Reply) → r ≡ Ok given → t ≡ Ok given
           → IfOk r (HappensAmong w0 w_now asked strings strings_now first first_now second second_now first_stopped second_stopped)
           → (ms : List Move) → Stands w strings ms → Applied ms (event_of asked) w_now strings strings_now t
-      ok_applied given is_r is_t h ms stands = subst (Applied ms (event_of asked) w_now strings strings_now) (sym is_t)
-          (applied_so given (subst (λ (r : Result Reply PostFault). IfOk r (HappensAmong w0 w_now asked strings strings_now first first_now second second_now first_stopped second_stopped)) is_r h) ms stands)
+      ok_applied runs orderly given is_r is_t h ms stands = subst (Applied ms (event_of asked) w_now strings strings_now) (sym is_t)
+          (applied_so runs orderly given (subst (λ (r : Result Reply PostFault). IfOk r (HappensAmong w0 w_now asked strings strings_now first first_now second second_now first_stopped second_stopped)) is_r h) ms stands)
 
-      pub err_applied : (f : PostFault) (g : WorldFault) → r ≡ Err f → g ≡ world_fault f → t ≡ Err g → ShortAmong w0 asked strings strings_now r
+      pub err_applied : RunsHaveHistories → HistoriesAreOrderly → (f : PostFault) (g : WorldFault) → r ≡ Err f → g ≡ world_fault f → t ≡ Err g → ShortAmong w0 asked strings strings_now r
           → (ms : List Move) → Stands w strings ms → Applied ms (event_of asked) w_now strings strings_now t
-      err_applied f g is_r so is_t short ms stands = subst (Applied ms (event_of asked) w_now strings strings_now) (sym is_t)
-          (short_so f g so (subst (ShortAmong w0 asked strings strings_now) is_r short) ms stands)
+      err_applied runs orderly f g is_r so is_t short ms stands = subst (Applied ms (event_of asked) w_now strings strings_now) (sym is_t)
+          (short_so runs orderly f g so (subst (ShortAmong w0 asked strings strings_now) is_r short) ms stands)

@@ -1,6 +1,7 @@
 -- A manager on an empty disk, which then knows one peer.
 use Rattle.std.proofs.Common.{◌≡◌, ◌<◌, ℕ, Bool, false, cond, List, [], ◌∷◌, Option, None, Some, Result, Ok, Err, length, inl, inr, sym, ap, ◌∙◌, arith}
-use Rattle.std.specs.Prelude.{◌||◌, nat_le}
+use Rattle.std.specs.Option.{option_map_or}
+use Rattle.std.specs.Prelude.{◌+◌, ◌||◌, nat_le}
 use Rattle.mqb_base.specs.declared.ids.Guid.{Guid}
 use Rattle.mqb_base.specs.declared.ids.Identity.{Identity}
 use Rattle.mqb_outside.specs.Disk.{IsSettled, View}
@@ -11,7 +12,7 @@ use Rattle.mqb_model.specs.declared.faults.AddPeerFault.{AddPeerFault}
 use Rattle.mqb_model.specs.declared.faults.AddPeerFault.TheVariants as fault
 use Rattle.mqb_model.specs.declared.limits.TheConstants.{MAX_PEERS}
 use Rattle.mqb_model.specs.managers.Manager.{Manager, is_down, new_manager}
-use Rattle.mqb_model.specs.managers.Outcomes.{recording, succeeded, unless}
+use Rattle.mqb_model.specs.managers.Outcomes.{Outcome, recording, succeeded, unless}
 use Rattle.mqb_model.specs.records.Peer.{is_met}
 use Rattle.mqb_model.specs.records.Record as entry
 use Rattle.mqb_moves.specs.Calling.{seat_of}
@@ -59,6 +60,9 @@ module _ (own peer : Identity) (apart : is_met own peer ≡ false) where
   abbrev added : Option AddPeerFault → Manager
   added o = succeeded new (unless {V = ℕ} new o (recording new (entry.Peer peer) (Ok 0)))
 
+  abbrev added_by : Option AddPeerFault → Outcome (Result ℕ AddPeerFault)
+  added_by o = unless {V = ℕ} new o (recording new (entry.Peer peer) (Ok 0))
+
   known : succeeded new (add_peer new peer) ≡ formatted own (peer ∷ [])
   known = ap added not_refused
 
@@ -90,3 +94,9 @@ module _ (own peer : Identity) (apart : is_met own peer ≡ false) where
 
       pub met_held : IsHeldOn d (seat_of m) → IsHeldOn e (seat_of n)
       met_held = (went_well fault.Memory fault.DiskFault d e m n (add_peer (manager_of m) peer) r call up (λ x. ok_errs index fault.Memory (sym is ∙ x)) (λ x. ok_errs index fault.DiskFault (sym is ∙ x))).move.held
+
+      -- its peer is its second record
+      pub met_count : m.store.journal.count ≡ 1 → n.store.journal.count ≡ 2
+      met_count one = (went_well fault.Memory fault.DiskFault d e m n (add_peer (manager_of m) peer) r call up (λ x. ok_errs index fault.Memory (sym is ∙ x)) (λ x. ok_errs index fault.DiskFault (sym is ∙ x))).left.count
+          ∙ ap (λ (k : Manager). m.store.journal.count + option_map_or (λ _. 1) (add_peer k peer).entry 0) is_new
+          ∙ ap (λ (o : Option AddPeerFault). m.store.journal.count + option_map_or (λ _. 1) (added_by o).entry 0) not_refused ∙ ap (λ (k : ℕ). k + 1) one

@@ -14,7 +14,8 @@ use Rattle.mqb_model.specs.declared.faults.PumpFault.{PumpFault}
 use Rattle.mqb_model.specs.managers.Outcomes.{Outcome, failed}
 use Rattle.mqb_network.specs.Answers.{Answer, only}
 use Rattle.mqb_network.specs.Changes.{as_dropped, dropped, ended, ended_by, note_by, noted, succeeded_at}
-use Rattle.mqb_network.specs.Choices.{Choice, Failure, Fails, Kept, Lost, Unread, Well, choice_behind, failure_in}
+use Rattle.mqb_network.specs.Checkpoints.{checkpoint}
+use Rattle.mqb_network.specs.Choices.{Choice, Failure, Fails, Kept, Lost, Unread, Well, choice_behind, failure_in, is_far}
 use Rattle.mqb_network.specs.Connecting.{any_connected, any_down, both_linked, connecting, exchanged, set_up}
 use Rattle.mqb_network.specs.Courses.{Course, called, called_unless, course_from, moved}
 use Rattle.mqb_network.specs.Delivering.{closes, deliver_packet, heard_by, passed, unheard}
@@ -217,5 +218,6 @@ step_begun n q (event.Pump i now) choice given is begun = grown_begun n (step n 
 step_begun n q (event.Deliver k now) choice given is begun = grown_begun n (step n q (event.Deliver k now) choice).after.network (deliver_grown (numbered n.notes k) q now choice (course_from n)) begun
 step_begun n q (event.Drop k) choice given is begun = grown_begun n (step n q (event.Drop k) choice).after.network (where_so (is_some (numbered n.notes k)) (record { reply = network.Dropped; after = moved (dropped k) (course_from n) }) (only (course_from n) network.NoPacket) n (dropped_grown k n) (same_grown n)) begun
 step_begun n q (event.Flow i now) choice given is begun = grown_begun n (step n q (event.Flow i now) choice).after.network (flow_grown i now choice (course_from n)) begun
+step_begun n q (event.Checkpoint i) choice given is begun = grown_begun n (step n q (event.Checkpoint i) choice).after.network (called_grown i (checkpoint (manager_at n i) (is_far choice)) choice (course_from n)) begun
 step_begun n q (event.Arm i) choice given is begun = grown_begun n (step n q (event.Arm i) choice).after.network (same_grown n) begun
 step_begun n q (event.Restart i) choice given is begun = grown_begun n (step n q (event.Restart i) choice).after.network (restart_grown i n choice) begun

@@ -20,9 +20,10 @@ use Rattle.mqb_traffic.specs.States.{TrafficState}
 use Rattle.mqb_traffic.specs.declared.notes.Note.{Note}
 use Rattle.mqb_transcript.specs.declared.arrivals.Outcome.{Outcome}
 use Rattle.mqb_transcript.specs.declared.arrivals.Outcome.TheVariants as outcome
+use Rattle.mqb_turns.specs.Counts.{counts_at}
 use Rattle.mqb_turns.specs.Passes.{IsPassed}
 use Rattle.mqb_turns.specs.Sides.{Side, network_at}
-use Rattle.mqb_world.specs.Worlds.{WorldState, network_of}
+use Rattle.mqb_world.specs.Worlds.{WorldState, counts_of, network_of}
 
 -- Numbers.
 
@@ -72,12 +73,12 @@ some_note : {X : Type 0} (o : Option X) (x : X) → o ≡ Some x → IsSome o
 some_note o x is = subst (λ p. IsSome p) (sym is) refl
 
 pub gone_delivered : (w : WorldState) (k now : ℕ) (sent : Note) (packets : List Packet) → numbered (notes_of w.traffic) k ≡ Some (note_of sent)
-    → (p : Packet) × (numbered packets k ≡ Some p) → is_underway (network_of w) (note_of sent) ≡ false → WasDelivered (network_of w) (network_of w) packets k now (Some outcome.Gone)
-gone_delivered w k now sent packets is (p, there) gone = (p, there, some_note (numbered (notes_of w.traffic) k) (note_of sent) is, gone_delivers (network_of w) (note_of sent) k p now is gone)
+    → (p : Packet) × (numbered packets k ≡ Some p) → is_underway (network_of w) (note_of sent) ≡ false → WasDelivered (network_of w) (counts_of w) (network_of w) (counts_of w) packets k now (Some outcome.Gone)
+gone_delivered w k now sent packets is (p, there) gone = (p, there, some_note (numbered (notes_of w.traffic) k) (note_of sent) is, gone_delivers (network_of w) (counts_of w) (note_of sent) k p now is gone)
 
 pub passed_delivered : (which : Which) (x y : Side) (d e : View) (stopped : Bool) (k now : ℕ) (sent : Note) (p : Packet) (given : Outcome) (packets : List Packet)
     → numbered (network_at which x).notes k ≡ Some (note_of sent) → numbered packets k ≡ Some p → IsPassed which x y d e stopped (note_of sent) p now given
-    → WasDelivered (network_at which x) (network_at which y) packets k now (Some given)
+    → WasDelivered (network_at which x) (counts_at which x) (network_at which y) (counts_at which y) packets k now (Some given)
 passed_delivered which x y d e stopped k now sent p given packets is there one = (
   p,
   there,

@@ -40,12 +40,13 @@ use Rattle.mqb_traffic.specs.declared.notes.Link.{Link}
 use Rattle.mqb_transcript.specs.declared.arrivals.Arrival.{Arrival}
 use Rattle.mqb_transcript.specs.declared.replies.Reply.{Reply}
 use Rattle.mqb_transcript.specs.declared.replies.Reply.TheVariants as reply
+use Rattle.mqb_turns.specs.Counts.{counts_at}
 use Rattle.mqb_turns.specs.Replies.{failure_reply}
 use Rattle.mqb_turns.specs.Sends.{ComesShort, IsSent, pump_at}
 use Rattle.mqb_turns.specs.Sides.{Side, network_at}
 use Rattle.mqb_world.specs.Flowing.{Flows}
 use Rattle.mqb_world.specs.Sides.{AreUnlinked, SentBy, side_of}
-use Rattle.mqb_world.specs.Worlds.{WorldState, network_of}
+use Rattle.mqb_world.specs.Worlds.{WorldState, counts_of, network_of}
 
 -- How many notes there are.
 
@@ -147,11 +148,12 @@ module _ (which : Which) (x y : Side) (d e : View) (stopped : Bool) (strings str
     abbrev course : Course
     course = pumped_course which x y d e stopped strings strings_now now law count recorded sent is_noted packets
 
-    went_at : (m : Network) (arrivals : List Arrival) (before : ℕ) → before ≡ length x.traffic.notes
-        → ((ps : List Packet) → AreWritable ps → strings_now ≡ map plain_spelling ps → (c : Course) → c.network ≡ network_at which y → Flown c now (sent_behind ps before count) arrivals m)
-        → IsStep (network_at which x) None (Flow (index_of which) now) m strings strings_now (reply.Flowed arrivals)
-    went_at m arrivals before number flown = went_step which x y d e stopped strings strings_now now law count recorded sent is_noted packets m arrivals
-        (subst (λ (k : ℕ). Flown course now (sent_behind all k count) arrivals m) (number ∙ sym (notes_at which x))
+    went_at : (m : Network) (counts_now : ℕ → ℕ) (arrivals : List Arrival) (before : ℕ) → before ≡ length x.traffic.notes
+        → ((ps : List Packet) → AreWritable ps → strings_now ≡ map plain_spelling ps → (c : Course) → c.network ≡ network_at which y
+        → Flown (counts_at which y) counts_now c now (sent_behind ps before count) arrivals m)
+        → IsStep (network_at which x) (counts_at which x) None (Flow (index_of which) now) m counts_now strings strings_now (reply.Flowed arrivals)
+    went_at m counts_now arrivals before number flown = went_step which x y d e stopped strings strings_now now law count recorded sent is_noted packets m counts_now arrivals
+        (subst (λ (k : ℕ). Flown (counts_at which y) counts_now course now (sent_behind all k count) arrivals m) (number ∙ sym (notes_at which x))
         (flown all (all_writable which x y d e stopped strings strings_now now law count recorded sent is_noted packets)
         (all_spelled which x y d e stopped strings strings_now now law count recorded sent is_noted packets) course refl))
 
@@ -181,7 +183,7 @@ module _ (which : Which) (w v : WorldState) (d e f g : View) (s t : Bool) (strin
   By q = SentBy which w v d e f g s t strings strings_now now q
 
   abbrev Steps : WorldState → Reply → Type 0
-  Steps u given = IsStep (network_of w) None (Flow (index_of which) now) (network_of u) strings strings_now given
+  Steps u given = IsStep (network_of w) (counts_of w) None (Flow (index_of which) now) (network_of u) (counts_of u) strings strings_now given
 
 -- none went
 pub refused_flow : (which : Which) (w v : WorldState) (d e f g : View) (s t : Bool) (strings strings_now : List (List ℕ)) (now : ℕ) (given : Reply)
@@ -223,9 +225,9 @@ module _ (w v : WorldState) (d e f g : View) (s t : Bool) (strings strings_now :
 
     module _ (u : WorldState) (e1 g1 : View) (s1 t1 : Bool) (before : ℕ) (arrivals : List Arrival) (number : before ≡ length w.traffic.notes)
         (flows : Flows v u e e1 g g1 s1 t1 strings_now now before count arrivals) where
-      pub went_flow : (which : Which) → WentBy which → IsStep (network_of w) None (Flow (index_of which) now) (network_of u) strings strings_now (reply.Flowed arrivals)
-      went_flow Alpha sent = went_at Alpha (side_of w Alpha) (side_of v Alpha) d e s strings strings_now now law count recorded sent.0 noted packets (network_of u) arrivals before number flows.flown
-      went_flow Beta sent = went_at Beta (side_of w Beta) (side_of v Beta) f g t strings strings_now now law count recorded sent.0 noted packets (network_of u) arrivals before number flows.flown
+      pub went_flow : (which : Which) → WentBy which → IsStep (network_of w) (counts_of w) None (Flow (index_of which) now) (network_of u) (counts_of u) strings strings_now (reply.Flowed arrivals)
+      went_flow Alpha sent = went_at Alpha (side_of w Alpha) (side_of v Alpha) d e s strings strings_now now law count recorded sent.0 noted packets (network_of u) (counts_of u) arrivals before number flows.flown
+      went_flow Beta sent = went_at Beta (side_of w Beta) (side_of v Beta) f g t strings strings_now now law count recorded sent.0 noted packets (network_of u) (counts_of u) arrivals before number flows.flown
 
       -- how the disks failed
       pub went_alpha : (which : Which) → WentBy which → FailsAs (failures_at (notes_of u.traffic) 0 arrivals) s1 d.faults e1.faults
@@ -306,7 +308,7 @@ flow_short_as which w strings strings_now now r why is short = flow_short which 
 
 pub broke_told : (which : Which) (w v : WorldState) (d e f g : View) (s t : Bool) (strings strings_now : List (List ℕ)) (now : ℕ) (how : HowItFailed) (given : Reply)
     → RefusalsChangeNothing → given ≡ failure_reply (failure_of how) → SentBy which w v d e f g s t strings strings_now now (Broke how)
-    → IsStep (network_of w) None (Flow (index_of which) now) (network_of v) strings strings_now given
+    → IsStep (network_of w) (counts_of w) None (Flow (index_of which) now) (network_of v) (counts_of v) strings strings_now given
 broke_told which w v d e f g s t strings strings_now now how given law is sent =
-    subst (λ (r : Reply). IsStep (network_of w) None (Flow (index_of which) now) (network_of v) strings strings_now r) (sym is)
+    subst (λ (r : Reply). IsStep (network_of w) (counts_of w) None (Flow (index_of which) now) (network_of v) (counts_of v) strings strings_now r) (sym is)
     (broke_flow law which w v d e f g s t strings strings_now now how sent)

@@ -34,7 +34,7 @@ use Rattle.mqb_turns.specs.Sides.{side}
 use Rattle.mqb_world.proofs.Delivering.{number_there}
 use Rattle.mqb_world.specs.Flowing.{Flows}
 use Rattle.mqb_world.specs.Sides.{SentBy, side_of, world}
-use Rattle.mqb_world.specs.Worlds.{WorldState, network_of}
+use Rattle.mqb_world.specs.Worlds.{WorldState, counts_of, network_of}
 
 -- How packets are sent.
 
@@ -93,7 +93,7 @@ cut_of n false f cut = tt
 pub flows_begin : (w : WorldState) (d f : View) (s t : Bool) (strings : List (List ℕ)) (now before : ℕ) → IsHeldOn d w.alpha → IsHeldOn f w.beta
     → Flows w w d d f f s t strings now before 0 []
 flows_begin w d f s t strings now before alpha beta = record {
-  flown = λ packets writable are c is. subst (λ (n : Network). Flown c now [] [] n) is (flown_none c now);
+  flown = λ packets writable are c is. subst (λ (n : Network). Flown (counts_of w) (counts_of w) c now [] [] n) is (flown_none (counts_of w) c now);
   notes = refl;
   alpha = lasts_same alpha;
   beta = lasts_same beta;
@@ -114,7 +114,7 @@ module _ (w v u : WorldState) (d e e1 f g g1 : View) (s t s1 t1 : Bool) (strings
   one = record { packet = k; outcome = outcome } ∷ []
 
   pub flows_more : Flows w v d e f g s t strings now before i arrivals → ArePackets strings
-      → ((packets : List Packet) → AreWritable packets → strings ≡ map plain_spelling packets → WasDelivered (network_of v) (network_of u) packets k now (Some outcome))
+      → ((packets : List Packet) → AreWritable packets → strings ≡ map plain_spelling packets → WasDelivered (network_of v) (counts_of v) (network_of u) (counts_of u) packets k now (Some outcome))
       → Lasts e e1 v.alpha u.alpha → Lasts g g1 v.beta u.beta
       → FailsAs (failures_at (network_of v).notes 0 (arrived k (Some outcome))) s1 e.faults e1.faults
       → FailsAs (failures_at (network_of v).notes 1 (arrived k (Some outcome))) t1 g.faults g1.faults
@@ -122,7 +122,7 @@ module _ (w v u : WorldState) (d e e1 f g g1 : View) (s t s1 t1 : Bool) (strings
       → e1.switch ≡ e.switch → g1.switch ≡ g.switch
       → Flows w u d e1 f g1 s1 t1 strings now before (i + 1) (arrivals ++ record { packet = before + 1 + i; outcome = outcome } ∷ [])
   flows_more flows packets delivered alpha beta alpha_faults beta_faults alpha_idle beta_idle alpha_switch beta_switch = record {
-    flown = λ ps writable are c is. flown_next c now ps before i arrivals (network_of v) (network_of u) outcome (flows.flown ps writable are c is) (delivered ps writable are);
+    flown = λ ps writable are c is. flown_next (counts_of w) (counts_of v) (counts_of u) c now ps before i arrivals (network_of v) (network_of u) outcome (flows.flown ps writable are c is) (delivered ps writable are);
     notes = it.notes ∙ flows.notes;
     alpha = lasts_then flows.alpha alpha;
     beta = lasts_then flows.beta beta;
@@ -134,10 +134,10 @@ module _ (w v u : WorldState) (d e e1 f g g1 : View) (s t s1 t1 : Bool) (strings
     beta_switch = beta_switch ∙ flows.beta_switch;
   }
     where
-      was : WasDelivered (network_of v) (network_of u) packets.packets k now (Some outcome)
+      was : WasDelivered (network_of v) (counts_of v) (network_of u) (counts_of u) packets.packets k now (Some outcome)
       was = delivered packets.packets packets.writable packets.are
 
-      it : Delivers (network_of v) (network_of u) k was.0 now outcome
+      it : Delivers (network_of v) (counts_of v) (network_of u) (counts_of u) k was.0 now outcome
       it = was.3
 
       split : (q : ℕ) → failures_at (network_of w).notes q (arrivals ++ one) ≡ failures_at (network_of w).notes q arrivals ++ failures_at (network_of w).notes q one
@@ -187,11 +187,11 @@ flows_last w v d e f g s t strings now before i count arrivals flows all = subst
 
 module _ (w v u : WorldState) (packets : List Packet) (before i now count : ℕ) (given : Option Outcome) where
   pub never_missing : (network_of v).notes ≡ (network_of w).notes → before + count ≡ length w.traffic.notes → i < count → given ≡ None
-      → WasDelivered (network_of v) (network_of u) packets (before + 1 + i) now given → ⊥
+      → WasDelivered (network_of v) (counts_of v) (network_of u) (counts_of u) packets (before + 1 + i) now given → ⊥
   never_missing same all less is delivered = never_none w v before i count same all less (none.0)
     where
-      none : WasDelivered (network_of v) (network_of u) packets (before + 1 + i) now None
-      none = subst (λ (q : Option Outcome). WasDelivered (network_of v) (network_of u) packets (before + 1 + i) now q) is delivered
+      none : WasDelivered (network_of v) (counts_of v) (network_of u) (counts_of u) packets (before + 1 + i) now None
+      none = subst (λ (q : Option Outcome). WasDelivered (network_of v) (counts_of v) (network_of u) (counts_of u) packets (before + 1 + i) now q) is delivered
 
 -- no link, no connection
 pub unlinked_so : (o : Option Link) → connections_of o ≡ [] → o ≡ None
@@ -201,7 +201,7 @@ unlinked_so (Some l) none = absurd (let no : ⊥ = cc in no)
 module _ (w v u : WorldState) (d e e1 f g g1 : View) (s t s1 t1 : Bool) (strings : List (List ℕ)) (now before i : ℕ) (arrivals arrivals_now : List Arrival) (outcome : Outcome) (given : Option Outcome)
     (is : given ≡ Some outcome) (added : arrivals_now ≡ arrivals ++ record { packet = before + 1 + i; outcome = outcome } ∷ []) where
   pub flows_next : Flows w v d e f g s t strings now before i arrivals → ArePackets strings
-      → ((packets : List Packet) → AreWritable packets → strings ≡ map plain_spelling packets → WasDelivered (network_of v) (network_of u) packets (before + 1 + i) now given)
+      → ((packets : List Packet) → AreWritable packets → strings ≡ map plain_spelling packets → WasDelivered (network_of v) (counts_of v) (network_of u) (counts_of u) packets (before + 1 + i) now given)
       → Lasts e e1 v.alpha u.alpha → Lasts g g1 v.beta u.beta
       → FailsAs (failures_at (notes_of v.traffic) 0 (arrived (before + 1 + i) given)) s1 e.faults e1.faults
       → FailsAs (failures_at (notes_of v.traffic) 1 (arrived (before + 1 + i) given)) t1 g.faults g1.faults
@@ -211,7 +211,7 @@ module _ (w v u : WorldState) (d e e1 f g g1 : View) (s t s1 t1 : Bool) (strings
   flows_next flows packets delivered alpha beta alpha_faults beta_faults alpha_idle beta_idle alpha_switch beta_switch =
       subst (λ (so : List Arrival). Flows w u d e1 f g1 s1 t1 strings now before (i + 1) so) (sym added)
       (flows_more w v u d e e1 f g g1 s t s1 t1 strings now before i arrivals outcome flows packets
-      (λ ps writable are. subst (λ (o : Option Outcome). WasDelivered (network_of v) (network_of u) ps (before + 1 + i) now o) is (delivered ps writable are))
+      (λ ps writable are. subst (λ (o : Option Outcome). WasDelivered (network_of v) (counts_of v) (network_of u) (counts_of u) ps (before + 1 + i) now o) is (delivered ps writable are))
       alpha beta
       (subst (λ (o : Option Outcome). FailsAs (failures_at (notes_of v.traffic) 0 (arrived (before + 1 + i) o)) s1 e.faults e1.faults) is alpha_faults)
       (subst (λ (o : Option Outcome). FailsAs (failures_at (notes_of v.traffic) 1 (arrived (before + 1 + i) o)) t1 g.faults g1.faults) is beta_faults)

@@ -4,7 +4,7 @@ use Rattle.std.specs.Prelude.{is_some}
 use Rattle.mqb_outside.specs.Disk.{Switch, View}
 use Rattle.mqb_outside.specs.declared.power.Mode.{Mode}
 use Rattle.mqb_moves.specs.lemmas.Stored.{stored_held}
-use Rattle.mqb_moves.specs.Seats.{IsHeldOn, SeatState}
+use Rattle.mqb_moves.specs.Seats.{IsHeldOn, SeatState, records_of}
 use Rattle.mqb_network.specs.Network.{Note}
 use Rattle.mqb_script.specs.Managers.{other}
 use Rattle.mqb_script.specs.declared.events.Event.{Event}
@@ -15,13 +15,12 @@ use Rattle.mqb_traffic.specs.Networks.{notes_of}
 use Rattle.mqb_traffic.specs.States.{TrafficState}
 use Rattle.mqb_transcript.specs.declared.replies.Reply.{Reply}
 use Rattle.mqb_turns.specs.Sides.{side}
-use Rattle.mqb_turns.specs.Starts.{records_of}
 use Rattle.mqb_runs.specs.lemmas.Asked.{none_some}
 use Rattle.mqb_world.specs.Acting.{Happens, IsActed, IsOf}
-use Rattle.mqb_world.specs.Disks.{Arms, FaultsGo, LeavesIt, Restarts, StaysAsLeft, SwitchGoes, Switching, calls_disk_of, failures_alone, failures_of, failures_told, is_same, switching}
+use Rattle.mqb_world.specs.Disks.{Arms, FaultsGo, LeavesIt, Restarts, StaysAsLeft, SwitchGoes, Switching, calls_disk_of, failures_alone, failures_of, failures_told, is_same, rewrites, switching}
 use Rattle.mqb_runs.specs.Requests.{actor, request_of}
 use Rattle.mqb_world.specs.Worlds.{WorldState}
-use Rattle.mqb_world.proofs.Actions.{leaves_records}
+use Rattle.mqb_world.proofs.Actions.{leaves_records, none_far}
 
 not_other : (which : Which) → is_same (other which) which ≡ false
 not_other Alpha = refl
@@ -38,6 +37,7 @@ called_by_none false same is = refl
 other_rests : (which : Which) (asked : Event) → IsOf which asked → calls_disk_of (other which) asked ≡ false
 other_rests which (event.Pump m now) is = not_own which m is
 other_rests which (event.Restart m pick) is = not_own which m is
+other_rests which (event.Checkpoint m) is = not_own which m is
 other_rests which (event.Resend m) is = refl
 other_rests which (event.Arm m call mode) is = refl
 other_rests which event.Disconnect is = refl
@@ -65,6 +65,11 @@ switch_stays which asked is armed s = subst (λ (x : Switching). SwitchGoes x ar
 pub left_stays : (which : Which) (asked : Event) → IsOf which asked → (d : View) → StaysAsLeft (switching (other which) asked) d
 left_stays which asked is d = subst (λ (x : Switching). StaysAsLeft x d) (sym (switch_rests which asked is)) tt
 
+-- and its state is not written anew
+far_rests : (which : Which) (asked : Event) → IsOf which asked → rewrites (other which) asked ≡ false
+far_rests which (event.Checkpoint m) is = not_own which m is
+far_rests which asked is = refl
+
 module _ (a b c d : SeatState) (t u : TrafficState) (asked : Event) (strings strings_now : List (List ℕ)) (given : Reply) where
   abbrev before : WorldState
   before = record { alpha = a; beta = b; traffic = t }
@@ -84,6 +89,8 @@ module _ (a b c d : SeatState) (t u : TrafficState) (asked : Event) (strings str
     beta_faults = subst (FaultsGo asked second_stopped second.faults second.faults) (sym (told_of_other (notes_of u) Alpha asked given is)) refl;
     alpha_records = x.records;
     beta_records = leaves_records (switching Beta asked) given (records_of b) (records_of d) (switch_rests Alpha asked is);
+    alpha_far = x.far;
+    beta_far = none_far (rewrites Beta asked) b given (far_rests Alpha asked is);
   }
 
   -- Beta acts.
@@ -98,4 +105,6 @@ module _ (a b c d : SeatState) (t u : TrafficState) (asked : Event) (strings str
     beta_faults = subst (FaultsGo asked second_stopped second.faults second_now.faults) (sym (told_alone (notes_of u) Beta Beta asked given is)) x.faults;
     alpha_records = leaves_records (switching Alpha asked) given (records_of a) (records_of c) (switch_rests Beta asked is);
     beta_records = x.records;
+    alpha_far = none_far (rewrites Alpha asked) a given (far_rests Beta asked is);
+    beta_far = x.far;
   }

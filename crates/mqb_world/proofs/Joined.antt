@@ -16,6 +16,7 @@ use Rattle.mqb_model.specs.declared.answers.Role.TheVariants as role
 use Rattle.mqb_model.specs.declared.faults.LinkFault.{LinkFault}
 use Rattle.mqb_model.specs.managers.Manager.{Manager, is_down}
 use Rattle.mqb_model.specs.managers.Outcomes.{lines_after, succeeded, unless}
+use Rattle.mqb_moves.specs.Holding.{StaysStored}
 use Rattle.mqb_moves.specs.Seats.{SeatState, seated}
 use Rattle.mqb_network.specs.Changes.{begun}
 use Rattle.mqb_network.specs.Choices.{Failure, Well}
@@ -37,7 +38,9 @@ use Rattle.mqb_traffic.specs.States.{TrafficState}
 use Rattle.mqb_traffic.specs.declared.notes.Link.{Link}
 use Rattle.mqb_transcript.specs.declared.replies.Reply.{Reply}
 use Rattle.mqb_transcript.specs.declared.replies.Reply.TheVariants as reply
+use Rattle.mqb_turns.specs.Counts.{counts_with}
 use Rattle.mqb_turns.specs.Sides.{network_at, side}
+use Rattle.mqb_turns.specs.lemmas.Counting.{both_stored, counts_from}
 use Rattle.mqb_world.specs.Sides.{AreUnlinked, network_in}
 use Rattle.mqb_world.specs.Worlds.{WorldState, network_of}
 
@@ -97,15 +100,15 @@ pair_linked which s b s1 b1 t u wa wb peers own far says = begins_so which s1 b1
 
 -- A flow that writes no record.
 
-module _ (n n_now : Network) (i now : ℕ) (strings strings_now : List (List ℕ)) (quiet : (flow i now Well (course_from n)).after.written ≡ []) where
-  pub quiet_comes : (given : Reply) → IsStep n None (Flow i now) n_now strings strings_now given → ComesTo (flow i now Well (course_from n)).after n_now strings strings_now
-  quiet_comes given step = flow_comes n n_now i now strings strings_now given step quiet
+module _ (n : Network) (counts : ℕ → ℕ) (n_now : Network) (counts_now : ℕ → ℕ) (i now : ℕ) (strings strings_now : List (List ℕ)) (quiet : (flow i now Well (course_from n)).after.written ≡ []) where
+  pub quiet_comes : (given : Reply) → IsStep n counts None (Flow i now) n_now counts_now strings strings_now given → ComesTo (flow i now Well (course_from n)).after counts n_now counts_now strings strings_now
+  quiet_comes given step = flow_comes n counts n_now counts_now i now strings strings_now given step quiet
 
   -- in which no disk failed
-  pub quiet_faults : (given : Reply) → IsStep n None (Flow i now) n_now strings strings_now given → (notes : List Note) (q : ℕ) (stopped : Bool) (before after : ℕ)
+  pub quiet_faults : (given : Reply) → IsStep n counts None (Flow i now) n_now counts_now strings strings_now given → (notes : List Note) (q : ℕ) (stopped : Bool) (before after : ℕ)
       → FailsAs (failures_in notes i q given) stopped before after → after ≡ before
   quiet_faults given step notes q stopped before after fails = subst (λ (hows : List Failure). FailsAs hows stopped before after)
-      (flow_tells_none n i now given (flow_told n n_now i now strings strings_now given step quiet) notes q) fails
+      (flow_tells_none n i now given (flow_told n counts n_now counts_now i now strings strings_now given step quiet) notes q) fails
 
 -- One part of a course after the other.
 
@@ -117,7 +120,7 @@ module _ (f g : Course → Course) (f_is : IsJoined f) (n : Network) (quiet : (f
   pub first_stands : (g (course_from n)).network.connections ≡ [] → ⊥
   first_stands none = stands (stays (g (course_from n)) none)
 
-  module _ (n1 : Network) (strings strings1 : List (List ℕ)) (first : ComesTo (g (course_from n)) n1 strings strings1) where
+  module _ (counts : ℕ → ℕ) (n1 : Network) (counts1 : ℕ → ℕ) (strings strings1 : List (List ℕ)) (first : ComesTo (g (course_from n)) counts n1 counts1 strings strings1) where
     pub second_quiet : (f (course_from n1)).written ≡ []
     second_quiet = subst (λ (m : Network). (f (course_from m)).written ≡ []) first.network (quiet_parts f f_is (g (course_from n)) quiet).1
 
@@ -150,8 +153,9 @@ pub short_first : (T : Type 0) (f : Course → Course) → IsJoined f → (c : C
 short_first T f f_is c strings strings_now r e is short = subst (IsShort {T = T} (map plain_spelling (f c).sent) strings strings_now) is (short_before f f_is {T = T} c strings strings_now r short)
 
 -- packets join packets
-pub packets_then : (c : Course) (n : Network) (strings strings_now : List (List ℕ)) → ArePackets strings → ComesTo c n strings strings_now → ArePackets strings_now
-packets_then c n strings strings_now packets comes = record {
+pub packets_then : (c : Course) (counts : ℕ → ℕ) (n : Network) (counts_now : ℕ → ℕ) (strings strings_now : List (List ℕ)) → ArePackets strings → ComesTo c counts n counts_now strings strings_now
+    → ArePackets strings_now
+packets_then c counts n counts_now strings strings_now packets comes = record {
   packets = packets.packets ++ c.sent;
   writable = both packets.packets packets.writable;
   are = comes.posted ∙ ap (λ (ss : List (List ℕ)). ss ++ map plain_spelling c.sent) packets.are ∙ sym (map-append plain_spelling packets.packets c.sent);
@@ -224,11 +228,11 @@ on_any (Err e) p = tt
 pub never_ok : {A E : Type 0} (P : Type 0) (r : Result A E) (e : E) → r ≡ Err e → OnOk r P
 never_ok {A} {E} P r e is = subst (λ (r : Result A E). OnOk r P) (sym is) tt
 
-pub quiet_ok : (n n_now : Network) (i now : ℕ) (strings strings_now : List (List ℕ)) → (flow i now Well (course_from n)).after.written ≡ [] → (r : Result Reply PostFault)
-    → IfOk r (IsStep n None (Flow i now) n_now strings strings_now) → (notes : List Note) (q : ℕ) (stopped : Bool) (before after : ℕ)
+pub quiet_ok : (n : Network) (counts : ℕ → ℕ) (n_now : Network) (counts_now : ℕ → ℕ) (i now : ℕ) (strings strings_now : List (List ℕ)) → (flow i now Well (course_from n)).after.written ≡ [] → (r : Result Reply PostFault)
+    → IfOk r (IsStep n counts None (Flow i now) n_now counts_now strings strings_now) → (notes : List Note) (q : ℕ) (stopped : Bool) (before after : ℕ)
     → IfOk r (λ given. FailsAs (failures_in notes i q given) stopped before after) → OnOk r (after ≡ before)
-quiet_ok n n_now i now strings strings_now quiet (Ok given) step notes q stopped before after fails = quiet_faults n n_now i now strings strings_now quiet given step notes q stopped before after fails
-quiet_ok n n_now i now strings strings_now quiet (Err f) step notes q stopped before after fails = tt
+quiet_ok n counts n_now counts_now i now strings strings_now quiet (Ok given) step notes q stopped before after fails = quiet_faults n counts n_now counts_now i now strings strings_now quiet given step notes q stopped before after fails
+quiet_ok n counts n_now counts_now i now strings strings_now quiet (Err f) step notes q stopped before after fails = tt
 
 pub none_linked : (l : Option Link) → is_some l ≡ false → l ≡ None
 none_linked None is = refl
@@ -252,15 +256,29 @@ module _ (which : Which) (a b : SeatState) (t : TrafficState) (strings : List (L
   pub connected_short : (S : Type 0) (strings_now : List (List ℕ)) (r : Result S PostFault) (f : PostFault) → r ≡ Err f
       → IsShort {T = S} (map plain_spelling (set_up (index_of which) (index_of (other which)) now (course_from n_then)).sent) strings strings_now r
       → FallsShort {T = Reply} (network_in a b t) None (Connect (index_of which) (index_of (other which)) now wa wb) strings strings_now (Err f)
-  connected_short S strings_now r f is short = connect_short which n now wa wb strings up free {T = Reply} strings_now (Err f)
+  connected_short S strings_now r f is short = connect_short which n (counts_with a b) now wa wb strings up free {T = Reply} strings_now (Err f)
       (subst (λ (m : Network). IsShort {T = Reply} (map plain_spelling (set_up (index_of which) (index_of (other which)) now (course_from m)).sent) strings strings_now (Err f)) linked
       (err_short S Reply (map plain_spelling (set_up (index_of which) (index_of (other which)) now (course_from n_then)).sent) strings strings_now r f is short))
 
-  pub connected_so : (is_up : IsSetUp which now (course_from (both_linked (index_of which) (index_of (other which)) wa wb n)) (length (notes_of t))) (n_now : Network) (strings_now : List (List ℕ))
-      → ComesTo (set_up (index_of which) (index_of (other which)) now (course_from n_then)) n_now strings strings_now → (before : ℕ) → before ≡ length t.notes
-      → IsStep n None (Connect (index_of which) (index_of (other which)) now wa wb) n_now strings strings_now
+  -- what the managers have had stays where they are linked
+  from_linked : (counts_then : ℕ → ℕ) → ((either : Which) → counts_then (index_of either) ≡ counts_with a b (index_of either)) → (c : Course) (n_now : Network) (counts_now : ℕ → ℕ) (strings_now : List (List ℕ))
+      → ComesTo c counts_then n_now counts_now strings strings_now → ComesTo c (counts_with a b) n_now counts_now strings strings_now
+  from_linked counts_then same c n_now counts_now strings_now comes = record {
+    network = comes.network;
+    counted = counts_from (counts_with a b) counts_then counts_now c.written same comes.counted;
+    posted = comes.posted;
+    writable = comes.writable;
+    within = comes.within;
+  }
+
+  pub connected_so : (is_up : IsSetUp which now (course_from (both_linked (index_of which) (index_of (other which)) wa wb n)) (length (notes_of t)))
+      (a1 b1 : SeatState) → StaysStored a a1 → StaysStored b b1 → (n_now : Network) (counts_now : ℕ → ℕ) (strings_now : List (List ℕ))
+      → ComesTo (set_up (index_of which) (index_of (other which)) now (course_from n_then)) (counts_with a1 b1) n_now counts_now strings strings_now → (before : ℕ) → before ≡ length t.notes
+      → IsStep n (counts_with a b) None (Connect (index_of which) (index_of (other which)) now wa wb) n_now counts_now strings strings_now
       (reply.Connected ((before + 1) ∷ (before + 2) ∷ (before + 3) ∷ (before + 4) ∷ []))
-  connected_so is_up n_now strings_now comes before count = subst (λ (ks : List ℕ). IsStep n None (Connect (index_of which) (index_of (other which)) now wa wb) n_now strings strings_now (reply.Connected ks))
+  connected_so is_up a1 b1 own far n_now counts_now strings_now comes before count =
+      subst (λ (ks : List ℕ). IsStep n (counts_with a b) None (Connect (index_of which) (index_of (other which)) now wa wb) n_now counts_now strings strings_now (reply.Connected ks))
       (ap (λ (k : ℕ). numbers_behind k 4) (length-map t.notes note_of ∙ sym count) ∙ sym (four_numbers before))
-      (connect_step which n now wa wb strings up free n_now strings_now
-      (subst (λ (m : Network). ComesTo (set_up (index_of which) (index_of (other which)) now (course_from m)) n_now strings strings_now) linked comes) is_up.notes)
+      (connect_step which n (counts_with a b) now wa wb strings up free n_now counts_now strings_now
+      (subst (λ (m : Network). ComesTo (set_up (index_of which) (index_of (other which)) now (course_from m)) (counts_with a b) n_now counts_now strings strings_now) linked
+      (from_linked (counts_with a1 b1) (both_stored a b a1 b1 own far) (set_up (index_of which) (index_of (other which)) now (course_from n_then)) n_now counts_now strings_now comes)) is_up.notes)

@@ -37,7 +37,7 @@ use Rattle.mqb_world.specs.Ordered.{IsOrdered}
 use Rattle.mqb_runs.specs.Requests.{actor}
 use Rattle.mqb_world.specs.Sides.{AreUnlinked}
 use Rattle.mqb_world.specs.Disks.{FaultsGo, IsToldSo, failures_of}
-use Rattle.mqb_world.specs.Worlds.{WorldState, network_of}
+use Rattle.mqb_world.specs.Worlds.{WorldState, counts_of, network_of}
 
 -- An event of one manager delivers no packet.
 none_of : (which : Which) (asked : Event) → IsOf which asked → (packets : List Packet) → packet_of packets (event_of asked) ≡ None
@@ -81,7 +81,7 @@ module _ (w w_now : WorldState) (strings strings_now : List (List ℕ)) (first f
   acting_short which asked is r short = λ packets writable spelled. subst (λ (q : Option Packet). FallsShort (network_of w) q (event_of asked) strings strings_now r) (sym (none_of which asked is packets)) short
 
   -- A flow.
-  pub flow_happens : (m : Which) (now : ℕ) (r : Result Reply PostFault) → IfOk r (IsStep (network_of w) None (event_of (event.Flow m now)) (network_of w_now) strings strings_now)
+  pub flow_happens : (m : Which) (now : ℕ) (r : Result Reply PostFault) → IfOk r (IsStep (network_of w) (counts_of w) None (event_of (event.Flow m now)) (network_of w_now) (counts_of w_now) strings strings_now)
       → IsHeldOn first_now w_now.alpha → IsHeldOn second_now w_now.beta
       → IfOk r (λ given. FailsAs (failures_in (network_of w_now).notes (index_of m) 0 given) first_stopped first.faults first_now.faults)
       → IfOk r (λ given. FailsAs (failures_in (network_of w_now).notes (index_of m) 1 given) second_stopped second.faults second_now.faults)
@@ -94,11 +94,13 @@ module _ (w w_now : WorldState) (strings strings_now : List (List ℕ)) (first f
     beta_faults = faults_as (event.Flow m now) second_stopped (λ how so. so) second.faults second_now.faults (failures_in (network_of w_now).notes (index_of m) 1 given) beta_fails;
     alpha_records = tt;
     beta_records = tt;
+    alpha_far = tt;
+    beta_far = tt;
   }
   flow_happens m now (Err f) step alpha beta alpha_fails beta_fails = tt
 
   -- A connection.
-  pub connect_happens : (m : Which) (now a b : ℕ) (r : Result Reply PostFault) → IfOk r (IsStep (network_of w) None (event_of (event.Connect m now a b)) (network_of w_now) strings strings_now)
+  pub connect_happens : (m : Which) (now a b : ℕ) (r : Result Reply PostFault) → IfOk r (IsStep (network_of w) (counts_of w) None (event_of (event.Connect m now a b)) (network_of w_now) (counts_of w_now) strings strings_now)
       → IsHeldOn first_now w_now.alpha → IsHeldOn second_now w_now.beta → OnOk r (first_now.faults ≡ first.faults) → OnOk r (second_now.faults ≡ second.faults)
       → IfOk r (HappensSo (event.Connect m now a b) strings_now)
   connect_happens m now a b (Ok given) step alpha beta alpha_same beta_same = λ packets writable spelled. record {
@@ -109,6 +111,8 @@ module _ (w w_now : WorldState) (strings strings_now : List (List ℕ)) (first f
     beta_faults = beta_same;
     alpha_records = tt;
     beta_records = tt;
+    alpha_far = tt;
+    beta_far = tt;
   }
   connect_happens m now a b (Err f) step alpha beta alpha_same beta_same = tt
 
@@ -125,41 +129,45 @@ module _ (w w_now : WorldState) (strings strings_now : List (List ℕ)) (first f
         (subst (λ (hows : List Failure). FailsAs hows stopped before after)
         (told_same (is_for notes i k) given ∙ ap (λ (ns : List Note). cond (is_for ns i k) (failures_of (outcome_reply given)) []) (sym same)) fails)
 
-    delivers_happens : (packets : List Packet) (r : Option Outcome) → WasDelivered (network_of w) (network_of w_now) packets k now r → IsHeldOn first_now w_now.alpha → IsHeldOn second_now w_now.beta
+    delivers_happens : (packets : List Packet) (r : Option Outcome) → WasDelivered (network_of w) (counts_of w) (network_of w_now) (counts_of w_now) packets k now r → IsHeldOn first_now w_now.alpha → IsHeldOn second_now w_now.beta
         → FailsAs (failures_at (network_of w).notes 0 (arrived k r)) first_stopped first.faults first_now.faults
         → FailsAs (failures_at (network_of w).notes 1 (arrived k r)) second_stopped second.faults second_now.faults
         → HappensTo (numbered packets k) (event.Deliver k now) strings (delivery_told r)
-    delivers_happens packets None (none, same) alpha beta alpha_fails beta_fails = record {
-      step = subst (λ (n : Network). IsStep (network_of w) (numbered packets k) (event_of (event.Deliver k now)) n strings strings reply.NoPacket) (sym same)
-          (none_step (network_of w) k (numbered packets k) now strings within none);
+    delivers_happens packets None (none, same, counted) alpha beta alpha_fails beta_fails = record {
+      step = subst (λ (n : Network). IsStep (network_of w) (counts_of w) (numbered packets k) (event_of (event.Deliver k now)) n (counts_of w_now) strings strings reply.NoPacket) (sym same)
+          (none_step (network_of w) (counts_of w) (counts_of w_now) k (numbered packets k) now strings within none counted);
       alpha = alpha;
       beta = beta;
       alpha_faults = told_by (network_of w).notes (network_of w_now).notes (ap (λ (n : Network). n.notes) same) 0 first_stopped first.faults first_now.faults None alpha_fails;
       beta_faults = told_by (network_of w).notes (network_of w_now).notes (ap (λ (n : Network). n.notes) same) 1 second_stopped second.faults second_now.faults None beta_fails;
       alpha_records = tt;
       beta_records = tt;
+      alpha_far = tt;
+      beta_far = tt;
     }
     delivers_happens packets (Some given) (p, is, some, one) alpha beta alpha_fails beta_fails = record {
-      step = subst (λ (q : Option Packet). IsStep (network_of w) q (event_of (event.Deliver k now)) (network_of w_now) strings strings (outcome_reply given)) (sym is)
-          (deliver_step (network_of w) (network_of w_now) k p now given strings within some one);
+      step = subst (λ (q : Option Packet). IsStep (network_of w) (counts_of w) q (event_of (event.Deliver k now)) (network_of w_now) (counts_of w_now) strings strings (outcome_reply given)) (sym is)
+          (deliver_step (network_of w) (counts_of w) (network_of w_now) (counts_of w_now) k p now given strings within some one);
       alpha = alpha;
       beta = beta;
       alpha_faults = told_by (network_of w).notes (network_of w_now).notes one.notes 0 first_stopped first.faults first_now.faults (Some given) alpha_fails;
       beta_faults = told_by (network_of w).notes (network_of w_now).notes one.notes 1 second_stopped second.faults second_now.faults (Some given) beta_fails;
       alpha_records = tt;
       beta_records = tt;
+      alpha_far = tt;
+      beta_far = tt;
     }
 
     -- by what the call answers
     pub some_happens : (r : Option Outcome) (o : Outcome) → r ≡ Some o → (told : Reply) → told ≡ outcome_reply o
-        → ((packets : List Packet) → AreWritable packets → strings ≡ map plain_spelling packets → WasDelivered (network_of w) (network_of w_now) packets k now r)
+        → ((packets : List Packet) → AreWritable packets → strings ≡ map plain_spelling packets → WasDelivered (network_of w) (counts_of w) (network_of w_now) (counts_of w_now) packets k now r)
         → IsHeldOn first_now w_now.alpha → IsHeldOn second_now w_now.beta
         → FailsAs (failures_at (network_of w).notes 0 (arrived k r)) first_stopped first.faults first_now.faults
         → FailsAs (failures_at (network_of w).notes 1 (arrived k r)) second_stopped second.faults second_now.faults
         → HappensSo (event.Deliver k now) strings told
     some_happens r o is told told_is was alpha beta alpha_fails beta_fails = λ packets writable spelled.
         subst (λ (given : Reply). HappensTo (numbered packets k) (event.Deliver k now) strings given) (sym told_is)
-        (delivers_happens packets (Some o) (subst (λ (r : Option Outcome). WasDelivered (network_of w) (network_of w_now) packets k now r) is (was packets writable spelled)) alpha beta
+        (delivers_happens packets (Some o) (subst (λ (r : Option Outcome). WasDelivered (network_of w) (counts_of w) (network_of w_now) (counts_of w_now) packets k now r) is (was packets writable spelled)) alpha beta
         (subst (λ (r : Option Outcome). FailsAs (failures_at (network_of w).notes 0 (arrived k r)) first_stopped first.faults first_now.faults) is alpha_fails)
         (subst (λ (r : Option Outcome). FailsAs (failures_at (network_of w).notes 1 (arrived k r)) second_stopped second.faults second_now.faults) is beta_fails))
 

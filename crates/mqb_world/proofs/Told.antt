@@ -4,6 +4,8 @@ use Rattle.std.proofs.lemmas.Bool.{true≢false}
 use Rattle.std.specs.Option.{option_map_or}
 use Rattle.std.specs.Prelude.{IfOk}
 use Rattle.mqb_base.specs.declared.ledger.Line.{Line}
+use Rattle.mqb_journal.specs.declared.faults.CheckpointFault.{CheckpointFault}
+use Rattle.mqb_journal.specs.declared.faults.CheckpointFault.TheVariants as base
 use Rattle.mqb_model.specs.calls.Call.{Answer}
 use Rattle.mqb_model.specs.declared.faults.PumpFault.{PumpFault}
 use Rattle.mqb_model.specs.declared.faults.PumpFault.TheVariants as pumps
@@ -11,6 +13,7 @@ use Rattle.mqb_network.specs.Choices.{Failed, Failure, Stopped}
 use Rattle.mqb_network.specs.Replies as network
 use Rattle.mqb_replies.proofs.Definitions.{tells_of_disk}
 use Rattle.mqb_replies.proofs.Faulted.{tells_no_disk}
+use Rattle.mqb_replies.specs.Replies.{checkpoint_reply}
 use Rattle.mqb_replies.specs.Requests.{reply_of}
 use Rattle.mqb_replies.specs.declared.faults.AnswerFault.{AnswerFault}
 use Rattle.mqb_script.specs.declared.events.Event.{Event}
@@ -44,6 +47,14 @@ of_pump : (f : PumpFault) → failures_in_told (pump_fault_reply f) ≡ []
 of_pump pumps.Down = refl
 of_pump f = refl
 
+of_checkpoint : (r : Result (Unit {0}) CheckpointFault) → failures_in_told (checkpoint_reply r) ≡ []
+of_checkpoint (Ok done) = refl
+of_checkpoint (Err base.Down) = refl
+of_checkpoint (Err base.TooFar) = refl
+of_checkpoint (Err base.TooLarge) = refl
+of_checkpoint (Err base.Memory) = refl
+of_checkpoint (Err base.DiskFault) = refl
+
 -- no packet was delivered alone
 abbrev pub IsNoDelivery : network.Reply → Type 0
 IsNoDelivery (network.Delivered delivery) = ⊥
@@ -63,6 +74,7 @@ faults_so asked stopped before after says r none fails = at r none fails
     at (network.Called answer ls) none same = quiet (reply_of answer ls) (of_answer answer ls) same
     at (network.Connected ks) none same = quiet (connected_reply ks) (of_connected ks) same
     at (network.NotPumped f) none same = quiet (pump_fault_reply f) (of_pump f) same
+    at (network.Checkpointed r) none same = quiet (checkpoint_reply r) (of_checkpoint r) same
     at (network.Delivered d) none same = absurd none
     at r none same = same
 

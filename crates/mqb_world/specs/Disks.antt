@@ -11,11 +11,13 @@ use Rattle.mqb_script.specs.declared.events.Event.{Event}
 use Rattle.mqb_script.specs.declared.events.Event.TheVariants as event
 use Rattle.mqb_script.specs.declared.managers.Which.{Which}
 use Rattle.mqb_script.specs.declared.managers.Which.TheVariants.{Alpha, Beta}
+use Rattle.mqb_moves.specs.Seats.{SeatState}
 use Rattle.mqb_seats.specs.Called.{failure_of, how_by}
 use Rattle.mqb_seats.specs.Opened.{IsAsLeft}
 use Rattle.mqb_traffic.specs.Networks.{index_of}
 use Rattle.mqb_transcript.specs.declared.replies.Reply.{Reply}
 use Rattle.mqb_transcript.specs.declared.replies.Reply.TheVariants as reply
+use Rattle.mqb_turns.specs.Rewrites.{IsFarAsSaid}
 use Rattle.mqb_turns.specs.Starts.{IsToldByRecords}
 use Rattle.mqb_runs.specs.Requests.{actor, request_of}
 
@@ -57,6 +59,18 @@ abbrev pub RecordsGo : Switching → Reply → (before after : ℕ) → Type 0
 RecordsGo (Restarts pick) given before after = IsToldByRecords given before after
 RecordsGo _ given before after = Unit {0}
 
+-- Bases.
+
+-- an event asks this manager to write its state anew
+abbrev pub rewrites : Which → Event → Bool
+rewrites which (event.Checkpoint manager) = is_same which manager
+rewrites which _ = false
+
+-- That is told as too far on exactly where the manager is up and its journal says so, and no other event speaks of it.
+abbrev pub FarGoes : Bool → SeatState → Reply → Type 0
+FarGoes true s given = IsFarAsSaid s given
+FarGoes false s given = Unit {0}
+
 -- Failures.
 
 -- how a disk failed, as the reply to an event of one manager tells
@@ -68,6 +82,7 @@ failures_of _ = []
 -- an event is one of this manager alone that may call its disk
 abbrev pub calls_disk_of : Which → Event → Bool
 calls_disk_of which (event.Pump manager now) = is_same which manager
+calls_disk_of which (event.Checkpoint manager) = is_same which manager
 calls_disk_of which (event.Restart manager pick) = is_same which manager
 calls_disk_of which e = is_some (request_of e) && is_same which (actor e)
 

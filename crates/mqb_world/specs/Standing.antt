@@ -1,5 +1,6 @@
 -- The run of a network that stands behind a world and its medium, and what an event makes of it.
-use Rattle.std.specs.Prelude.{[], ◌++◌, ◌∷◌, ◌≡◌, ◌≤◌, Err, IsTrue, List, Ok, Result, length, map, ℕ}
+use Rattle.std.specs.Prelude.{[], ◌+◌, ◌++◌, ◌∷◌, ◌≡◌, ◌≤◌, Err, IsTrue, List, Ok, Result, length, map, ℕ}
+use Rattle.mqb_network.specs.Checkpointing.{written_count}
 use Rattle.mqb_network.specs.Choices.{Choice, Well}
 use Rattle.mqb_network.specs.Courses.{Course}
 use Rattle.mqb_network.specs.Events.{Event}
@@ -7,10 +8,12 @@ use Rattle.mqb_network.specs.Runs.{IsRun, Move, after_run, answer, may}
 use Rattle.mqb_packet.specs.Plain.{plain_spelling}
 use Rattle.mqb_posts.specs.Packets.{AreWritable}
 use Rattle.mqb_posts.specs.Posting.{HasFront, IsCutOff, IsWithin}
+use Rattle.mqb_script.specs.declared.managers.Which.{Which}
+use Rattle.mqb_traffic.specs.Networks.{index_of}
 use Rattle.mqb_transcript.specs.declared.replies.Reply.{Reply}
 use Rattle.mqb_runs.specs.Hosts.{hosts}
 use Rattle.mqb_turns.specs.Replies.{told}
-use Rattle.mqb_world.specs.Worlds.{WorldState, network_of}
+use Rattle.mqb_world.specs.Worlds.{WorldState, counts_of, network_of}
 use Rattle.mqb_world.specs.declared.faults.WorldFault.{WorldFault}
 use Rattle.mqb_world.specs.declared.faults.WorldFault.TheVariants as fault
 
@@ -20,6 +23,8 @@ pub record StandsIn (w : WorldState) (strings : List (List ℕ)) (c : Course) : 
   pub spelled : strings ≡ map plain_spelling c.sent
   pub writable : AreWritable c.sent
   pub within : IsWithin strings
+  -- each store has had the records of its identity and of its peer, and those that were written
+  pub counted : (which : Which) → counts_of w (index_of which) ≡ 2 + written_count (index_of which) c.written
   -- no more connections ever began than packets were sent
   pub begun : w.traffic.connected ≤ length w.traffic.notes
 

@@ -25,7 +25,7 @@ use mqb_script::{Event, Which};
 use mqb_seats::Seat;
 use mqb_traffic::Traffic;
 use mqb_transcript::Reply;
-use mqb_turns::{ask, disconnect, drop_packet, pump, resend, restart};
+use mqb_turns::{ask, checkpoint, disconnect, drop_packet, pump, resend, restart};
 
 /// The manager that acts in an event, or alpha where none does.
 pub(crate) fn actor(event: &Event) -> Which
@@ -40,6 +40,7 @@ pub(crate) fn actor(event: &Event) -> Which
         Event::Tick { manager, .. } => *manager,
         Event::Resend { manager } => *manager,
         Event::Pump { manager, .. } => *manager,
+        Event::Checkpoint { manager } => *manager,
         Event::Arm { manager, .. } => *manager,
         Event::Restart { manager, .. } => *manager,
         Event::Roll { manager, .. } => *manager,
@@ -158,6 +159,7 @@ pub(crate) fn act<P: Power, M: Medium>(
         Event::Restart { manager: _, pick } => {
             Ok(restart(own, other, traffic, which, disk, *pick)?)
         }
+        Event::Checkpoint { manager: _ } => Ok(checkpoint(own, other, traffic, which, disk)?),
         _ => Ok(call_own(own, other, traffic, which, disk, event)?),
     }
 }

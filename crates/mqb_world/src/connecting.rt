@@ -18,6 +18,7 @@ ghost use Rattle.mqb_script.specs.Managers as managers;
 ghost use Rattle.mqb_script.specs.declared.events.Event.TheVariants as event;
 ghost use Rattle.mqb_seats.specs.Lasting.{Lasts};
 ghost use Rattle.mqb_traffic.specs.Networks.{index_of};
+ghost use Rattle.mqb_turns.specs.Counts.{counts_with};
 ghost use Rattle.mqb_turns.specs.Sides.{network_at, side};
 ghost use Rattle.mqb_world.specs.Ordered.{IsOrdered};
 ghost use Rattle.mqb_world.specs.Sides.{network_in, world};
@@ -118,7 +119,8 @@ fn flow_quietly<P: Power, M: Medium>(
         (course_from (network_in alpha.old beta.old traffic.old))).after.network.connections ≡ [] → ⊥ }
     ensures comes { OnOk result (ComesTo (sending.flow (index_of which) now Well
         (course_from (network_in alpha.old beta.old traffic.old))).after
-        (network_in alpha.new beta.new traffic.new) (M.strings medium.old) (M.strings medium.new)) }
+        (counts_with alpha.old beta.old) (network_in alpha.new beta.new traffic.new)
+        (counts_with alpha.new beta.new) (M.strings medium.old) (M.strings medium.new)) }
     ensures short { IsShort (map plain_spelling (sending.flow (index_of which) now Well
         (course_from (network_in alpha.old beta.old traffic.old))).after.sent)
         (M.strings medium.old) (M.strings medium.new) result }
@@ -163,7 +165,8 @@ fn exchange<P: Power, M: Medium>(
     ensures comes { OnOk result (ComesTo (network.exchanged (index_of which)
         (index_of (managers.other which)) now
         (course_from (network_in alpha.old beta.old traffic.old)))
-        (network_in alpha.new beta.new traffic.new) (M.strings medium.old) (M.strings medium.new)) }
+        (counts_with alpha.old beta.old) (network_in alpha.new beta.new traffic.new)
+        (counts_with alpha.new beta.new) (M.strings medium.old) (M.strings medium.new)) }
     ensures short { IsShort (map plain_spelling (network.exchanged (index_of which)
         (index_of (managers.other which)) now
         (course_from (network_in alpha.old beta.old traffic.old))).sent)
@@ -219,7 +222,8 @@ fn set_up<P: Power, M: Medium>(
     ensures comes { OnOk result (ComesTo (network.set_up (index_of which)
         (index_of (managers.other which)) now
         (course_from (network_in alpha.old beta.old traffic.old)))
-        (network_in alpha.new beta.new traffic.new) (M.strings medium.old) (M.strings medium.new)) }
+        (counts_with alpha.old beta.old) (network_in alpha.new beta.new traffic.new)
+        (counts_with alpha.new beta.new) (M.strings medium.old) (M.strings medium.new)) }
     ensures short { IsShort (map plain_spelling (network.set_up (index_of which)
         (index_of (managers.other which)) now
         (course_from (network_in alpha.old beta.old traffic.old))).sent)
@@ -260,9 +264,11 @@ pub(crate) fn connect<P: Power, M: Medium>(
     requires ordered { IsOrdered (world alpha.old beta.old traffic.old) (M.strings medium.old) }
     requires alpha { IsHeldOn (P.view first.old) alpha.old }
     requires beta { IsHeldOn (P.view second.old) beta.old }
-    ensures step { IfOk result (IsStep (network_in alpha.old beta.old traffic.old) None
+    ensures step { IfOk result (IsStep (network_in alpha.old beta.old traffic.old)
+        (counts_with alpha.old beta.old) None
         (event_of (event.Connect which now alpha_window beta_window))
-        (network_in alpha.new beta.new traffic.new) (M.strings medium.old) (M.strings medium.new)) }
+        (network_in alpha.new beta.new traffic.new) (counts_with alpha.new beta.new)
+        (M.strings medium.old) (M.strings medium.new)) }
     ensures short { FallsShort (network_in alpha.old beta.old traffic.old) None
         (event_of (event.Connect which now alpha_window beta_window))
         (M.strings medium.old) (M.strings medium.new) result }

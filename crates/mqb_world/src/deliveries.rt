@@ -8,6 +8,7 @@ ghost use Rattle.mqb_packet.specs.declared.packet.Packet.{Packet};
 ghost use Rattle.mqb_posts.specs.Packets.{ArePackets, AreWritable};
 ghost use Rattle.mqb_seats.specs.Lasting.{Lasts};
 ghost use Rattle.mqb_traffic.specs.Networks.{notes_of};
+ghost use Rattle.mqb_turns.specs.Counts.{counts_with};
 ghost use Rattle.mqb_world.specs.Sides.{network_in};
 
 use mqb_base::Memory;
@@ -49,8 +50,9 @@ pub(crate) fn deliver<P: Power, M: Medium>(
     requires beta { IsHeldOn (P.view second.old) beta.old }
     ensures delivered { IfOk result (λ given. (packets : List Packet) → AreWritable packets →
         M.strings medium.now ≡ map plain_spelling packets →
-        WasDelivered (network_in alpha.old beta.old traffic.old)
-        (network_in alpha.new beta.new traffic.new) packets k now given) }
+        WasDelivered (network_in alpha.old beta.old traffic.old) (counts_with alpha.old beta.old)
+        (network_in alpha.new beta.new traffic.new) (counts_with alpha.new beta.new)
+        packets k now given) }
     ensures alpha { Lasts (P.view first.old) (P.view first.new) alpha.old alpha.new }
     ensures beta { Lasts (P.view second.old) (P.view second.new) beta.old beta.new }
     ensures alpha_faults { IfOk result (λ given. FailsAs

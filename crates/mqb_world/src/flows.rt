@@ -8,6 +8,7 @@ ghost use Rattle.mqb_posts.specs.Packets.{ArePackets};
 ghost use Rattle.mqb_posts.specs.Posting.{IsWithin};
 ghost use Rattle.mqb_seats.specs.Lasting.{Lasts};
 ghost use Rattle.mqb_traffic.specs.Networks.{index_of, notes_of};
+ghost use Rattle.mqb_turns.specs.Counts.{counts_with};
 ghost use Rattle.mqb_turns.specs.Sends.{ComesShort, pump_at};
 ghost use Rattle.mqb_world.specs.Flowing.{Flows};
 ghost use Rattle.mqb_world.specs.Sides.{AreUnlinked, SentBy, network_in, side_of, world};
@@ -114,8 +115,9 @@ pub(crate) fn flow<P: Power, M: Medium>(
     requires within { IsWithin (M.strings medium.old) }
     requires alpha { IsHeldOn (P.view first.old) alpha.old }
     requires beta { IsHeldOn (P.view second.old) beta.old }
-    ensures step { IfOk result (IsStep (network_in alpha.old beta.old traffic.old) None
-        (event.Flow (index_of which) now) (network_in alpha.new beta.new traffic.new)
+    ensures step { IfOk result (IsStep (network_in alpha.old beta.old traffic.old)
+        (counts_with alpha.old beta.old) None (event.Flow (index_of which) now)
+        (network_in alpha.new beta.new traffic.new) (counts_with alpha.new beta.new)
         (M.strings medium.old) (M.strings medium.new)) }
     ensures short { FallsShort (network_in alpha.old beta.old traffic.old) None
         (event.Flow (index_of which) now) (M.strings medium.old) (M.strings medium.new) result }

@@ -6,7 +6,7 @@ ghost use Rattle.mqb_moves.specs.States.{manager_of};
 ghost use Rattle.mqb_model.specs.managers.Manager.{new_manager};
 ghost use Rattle.mqb_model.specs.records.Peer.{is_met};
 ghost use Rattle.mqb_moves.specs.Calling.{seat_of};
-ghost use Rattle.mqb_moves.specs.Seats.{IsHeldOn, seated};
+ghost use Rattle.mqb_moves.specs.Seats.{IsHeldOn, records_of, seated};
 ghost use Rattle.mqb_network.specs.Network.{formatted};
 ghost use Rattle.mqb_world.specs.Faults.{making_failed};
 ghost use Rattle.mqb_world.specs.Making.{HasBytes, IsEmpty};
@@ -42,6 +42,7 @@ pub(crate) fn find_empty<P: Power>(disk: &mut P) -> Result<(), WorldFault>
 fn format<P: Power>(alloc: Global, disk: &mut P, own: &Identity) -> Result<Manager, WorldFault>
     requires whole { length own.now.guid.0 ≡ 16 }
     ensures manager { IfOk result (λ n. manager_of n ≡ new_manager own.now) }
+    ensures count { IfOk result (λ n. n.store.journal.count ≡ 1) }
     ensures held { IfOk result (λ n. IsHeldOn (P.view disk.new) (seat_of n)) }
     ensures not_empty { result ≡ Err WorldFault.NotEmpty → HasBytes (P.view disk.old) }
     ensures never { result ≢ Err WorldFault.NetFull }
@@ -67,8 +68,10 @@ fn meet<P: Power>(
     requires apart { is_met own.now peer.now ≡ false }
     requires new { manager_of manager.old ≡ new_manager own.now }
     requires held { IsHeldOn (P.view disk.old) (seat_of manager.old) }
+    requires one { manager.old.store.journal.count ≡ 1 }
     ensures manager { OnOk result (manager_of manager.new ≡ formatted own.now (peer.now ∷ [])) }
     ensures held { OnOk result (IsHeldOn (P.view disk.new) (seat_of manager.new)) }
+    ensures count { OnOk result (manager.new.store.journal.count ≡ 2) }
     ensures not_empty { result ≢ Err WorldFault.NotEmpty }
     ensures never { result ≢ Err WorldFault.NetFull }
     ensures switch { (P.view disk.new).switch ≡ (P.view disk.old).switch }
@@ -95,6 +98,7 @@ pub(crate) fn make<P: Power>(
     requires apart { is_met own.now peer.now ≡ false }
     ensures manager { IfOk result (λ seat. seated seat ≡ formatted own.now (peer.now ∷ [])) }
     ensures held { IfOk result (IsHeldOn (P.view disk.new)) }
+    ensures count { IfOk result (λ seat. records_of seat ≡ 2) }
     ensures not_empty { result ≡ Err WorldFault.NotEmpty → HasBytes (P.view disk.old) }
     ensures never { result ≢ Err WorldFault.NetFull }
     ensures switch { (P.view disk.new).switch ≡ (P.view disk.old).switch }

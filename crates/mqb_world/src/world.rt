@@ -1,6 +1,6 @@
 ghost use Rattle.std.specs.Prelude.{[], ◌≡◌, ◌≢◌, ◌⊎◌, Err, IfOk, List, None, OnOk, Some, false, option_copied, true};
 ghost use Rattle.mqb_model.specs.managers.Manager.{is_down};
-ghost use Rattle.mqb_moves.specs.Seats.{IsHeldOn, seated};
+ghost use Rattle.mqb_moves.specs.Seats.{IsHeldOn, records_of, seated};
 ghost use Rattle.mqb_network.specs.Runs.{Move};
 ghost use Rattle.mqb_outside.specs.Faults.{Rose};
 ghost use Rattle.mqb_runs.specs.Events.{event_of};
@@ -9,8 +9,7 @@ ghost use Rattle.mqb_runs.specs.Streams.{AlwaysShowsStreams};
 ghost use Rattle.mqb_script.specs.Formed.{IsFormed};
 ghost use Rattle.mqb_seats.specs.Lasting.{Lasts};
 ghost use Rattle.mqb_traffic.specs.Networks.{notes_of};
-ghost use Rattle.mqb_turns.specs.Starts.{records_of};
-ghost use Rattle.mqb_world.specs.Disks.{FaultsGo, RecordsGo, StaysAsLeft, SwitchGoes, failures_told, switching};
+ghost use Rattle.mqb_world.specs.Disks.{FarGoes, FaultsGo, RecordsGo, StaysAsLeft, SwitchGoes, failures_told, rewrites, switching};
 ghost use Rattle.mqb_world.specs.Making.{HasBytes, IsEmpty, KeepBytes};
 ghost use Rattle.mqb_world.specs.Standing.{Applied, Stands};
 ghost use Rattle.mqb_world.specs.Worlds.{seat_at};
@@ -130,6 +129,10 @@ impl World {
             given (records_of self.old.alpha) (records_of self.new.alpha)) }
         ensures beta_records { IfOk result (λ given. RecordsGo (switching Which.Beta event.now)
             given (records_of self.old.beta) (records_of self.new.beta)) }
+        ensures alpha_far { IfOk result (λ given. FarGoes (rewrites Which.Alpha event.now)
+            self.old.alpha given) }
+        ensures beta_far { IfOk result (λ given. FarGoes (rewrites Which.Beta event.now)
+            self.old.beta given) }
         ensures alpha_left { StaysAsLeft (switching Which.Alpha event.now) (P.view first.new) }
         ensures beta_left { StaysAsLeft (switching Which.Beta event.now) (P.view second.new) }
         ensures alpha_full { result ≡ Err WorldFault.NetFull

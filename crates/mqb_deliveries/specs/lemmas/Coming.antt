@@ -35,7 +35,9 @@ use Rattle.mqb_posts.specs.declared.faults.PostFault.{PostFault}
 use Rattle.mqb_posts.specs.declared.faults.PostFault.TheVariants as post
 use Rattle.mqb_queue.specs.Places.{numbered}
 use Rattle.mqb_transcript.specs.declared.replies.Reply.{Reply}
+use Rattle.mqb_turns.specs.Counts.{CountsGo}
 use Rattle.mqb_turns.specs.Replies.{arrival_of, outcome_of, told}
+use Rattle.mqb_turns.specs.lemmas.Counting.{counts_joined}
 use Rattle.mqb_deliveries.specs.Courses.{ComesTo, IsJoined}
 use Rattle.mqb_deliveries.specs.Failing.{failure_at, failure_told, failures_at, failures_in, is_for}
 use Rattle.mqb_deliveries.specs.Steps.{IsShort, IsStep}
@@ -69,7 +71,7 @@ module _ (f : Course → Course) (f_is : IsJoined f) where
   pub quiet_parts : (c : Course) → (f c).written ≡ [] → (c.written ≡ []) × ((f (course_from c.network)).written ≡ [])
   quiet_parts c none = none_left c.written (f (course_from c.network)).written (sym (ap (λ (d : Course). d.written) (f_is c)) ∙ none)
 
-  module _ (c : Course) (n : Network) (strings strings_then : List (List ℕ)) (first : ComesTo c n strings strings_then) where
+  module _ (c : Course) (counts : ℕ → ℕ) (n : Network) (counts_then : ℕ → ℕ) (strings strings_then : List (List ℕ)) (first : ComesTo c counts n counts_then strings strings_then) where
     f_at : f c ≡ joined c (f (course_from n))
     f_at = f_is c ∙ ap (λ (m : Network). joined c (f (course_from m))) first.network
 
@@ -84,9 +86,12 @@ module _ (f : Course → Course) (f_is : IsJoined f) where
     written_twice (p ∷ ps) qs a b = (a.0, written_twice ps qs a.1 b)
 
     -- the second part went well too
-    pub comes_then : (n_now : Network) (strings_now : List (List ℕ)) → ComesTo (f (course_from n)) n_now strings_then strings_now → ComesTo (f c) n_now strings strings_now
-    comes_then n_now strings_now second = record {
+    pub comes_then : (n_now : Network) (counts_now : ℕ → ℕ) (strings_now : List (List ℕ)) → ComesTo (f (course_from n)) counts_then n_now counts_now strings_then strings_now
+        → ComesTo (f c) counts n_now counts_now strings strings_now
+    comes_then n_now counts_now strings_now second = record {
       network = ap (λ (d : Course). d.network) f_at ∙ second.network;
+      counted = subst (λ (d : Course). CountsGo counts counts_now d.written) (sym f_at)
+          (counts_joined counts counts_then counts_now c.written (f (course_from n)).written first.counted second.counted);
       posted = second.posted ∙ ap (λ (ss : List (List ℕ)). ss ++ map plain_spelling (f (course_from n)).sent) first.posted
           ∙ append_assoc strings (map plain_spelling c.sent) (map plain_spelling (f (course_from n)).sent) ∙ ap (λ (ss : List (List ℕ)). strings ++ ss) (sym strings_at);
       writable = subst AreWritable (sym sent_at) (written_twice c.sent (f (course_from n)).sent first.writable second.writable);
@@ -149,15 +154,17 @@ only_well Well may = refl
 only_well (Fails a how) may = absurd (never_below a may)
 only_well l may = absurd (let no : ⊥ = cc in no)
 
-module _ (n n_now : Network) (i now : ℕ) (strings strings_now : List (List ℕ)) (given : Reply) (step : IsStep n None (Flow i now) n_now strings strings_now given)
+module _ (n : Network) (counts : ℕ → ℕ) (n_now : Network) (counts_now : ℕ → ℕ) (i now : ℕ) (strings strings_now : List (List ℕ)) (given : Reply)
+    (step : IsStep n counts None (Flow i now) n_now counts_now strings strings_now given)
     (quiet : (flow i now Well (course_from n)).after.written ≡ []) where
   choice_is : step.choice ≡ Well
   choice_is = only_well step.choice (ap (λ (ws : List Written). may_fail (length ws) step.choice) (sym quiet) ∙ step.may)
 
   -- no disk failed in it
-  pub flow_comes : ComesTo (flow i now Well (course_from n)).after n_now strings strings_now
-  flow_comes = subst (λ (l : Choice). ComesTo (flow i now l (course_from n)).after n_now strings strings_now) choice_is (record {
+  pub flow_comes : ComesTo (flow i now Well (course_from n)).after counts n_now counts_now strings strings_now
+  flow_comes = subst (λ (l : Choice). ComesTo (flow i now l (course_from n)).after counts n_now counts_now strings strings_now) choice_is (record {
     network = step.network;
+    counted = step.counted;
     posted = step.posted;
     writable = step.writable;
     within = step.within;

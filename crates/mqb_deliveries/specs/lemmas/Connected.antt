@@ -19,12 +19,14 @@ use Rattle.mqb_script.specs.declared.managers.Which.{Which}
 use Rattle.mqb_traffic.specs.Networks.{index_of}
 use Rattle.mqb_transcript.specs.declared.replies.Reply.{Reply}
 use Rattle.mqb_transcript.specs.declared.replies.Reply.TheVariants as reply
+use Rattle.mqb_turns.specs.Counts.{CountsGo}
 use Rattle.mqb_turns.specs.Replies.{told}
+use Rattle.mqb_turns.specs.lemmas.Counting.{counts_same}
 use Rattle.mqb_deliveries.specs.Courses.{ComesTo}
 use Rattle.mqb_deliveries.specs.Steps.{FallsShort, IsShort, IsStep}
 use Rattle.mqb_deliveries.specs.lemmas.Unsent.{none_posted, none_written}
 
-module _ (which : Which) (n : Network) (now window_a window_b : ℕ) (strings : List (List ℕ)) where
+module _ (which : Which) (n : Network) (counts : ℕ → ℕ) (now window_a window_b : ℕ) (strings : List (List ℕ)) where
   abbrev a : ℕ
   a = index_of which
 
@@ -35,26 +37,27 @@ module _ (which : Which) (n : Network) (now window_a window_b : ℕ) (strings : 
   answer_is = connect a b now window_a window_b (course_from n)
 
   quiet_step : (given : Reply) (said : network.Reply) → IsWithin strings → answer_is ≡ only (course_from n) said → told said ≡ Ok given
-      → IsStep n None (Connect a b now window_a window_b) n strings strings given
+      → IsStep n counts None (Connect a b now window_a window_b) n counts strings strings given
   quiet_step given said within is tells = record {
     choice = Well;
     may = refl;
     reply = ap (λ (r : Answer). told r.reply) is ∙ tells;
     network = ap (λ (r : Answer). r.after.network) is;
+    counted = subst (λ (r : Answer). CountsGo counts counts r.after.written) (sym is) (counts_same counts);
     posted = none_posted strings answer_is.after.sent (ap (λ (r : Answer). r.after.sent) is);
     writable = none_written answer_is.after.sent (ap (λ (r : Answer). r.after.sent) is);
     within = within;
   }
 
   -- one of them is down
-  pub down_step : IsWithin strings → any_down n a b ≡ true → IsStep n None (Connect a b now window_a window_b) n strings strings reply.Down
+  pub down_step : IsWithin strings → any_down n a b ≡ true → IsStep n counts None (Connect a b now window_a window_b) n counts strings strings reply.Down
   down_step within down = quiet_step reply.Down network.NotUp within
       (ap (λ (c : Bool). if c then only (course_from n) network.NotUp
       else if any_connected n a b then only (course_from n) network.Linked
       else connecting a b now window_a window_b (course_from n)) down) refl
 
   -- they have a connection
-  pub linked_step : IsWithin strings → any_down n a b ≡ false → any_connected n a b ≡ true → IsStep n None (Connect a b now window_a window_b) n strings strings reply.Linked
+  pub linked_step : IsWithin strings → any_down n a b ≡ false → any_connected n a b ≡ true → IsStep n counts None (Connect a b now window_a window_b) n counts strings strings reply.Linked
   linked_step within up linked = quiet_step reply.Linked network.Linked within
       (ap (λ (c : Bool). if c then only (course_from n) network.NotUp
       else if any_connected n a b then only (course_from n) network.Linked
@@ -75,14 +78,16 @@ module _ (which : Which) (n : Network) (now window_a window_b : ℕ) (strings : 
         else connecting a b now window_a window_b (course_from n)) free
 
     -- they are connected
-    pub connect_step : (n_now : Network) (strings_now : List (List ℕ)) → ComesTo set_up_course n_now strings strings_now → length set_up_course.network.notes ≡ length n.notes + 4
-        → IsStep n None (Connect a b now window_a window_b) n_now strings strings_now (reply.Connected (numbers_behind (length n.notes) 4))
-    connect_step n_now strings_now comes four = record {
+    pub connect_step : (n_now : Network) (counts_now : ℕ → ℕ) (strings_now : List (List ℕ)) → ComesTo set_up_course counts n_now counts_now strings strings_now
+        → length set_up_course.network.notes ≡ length n.notes + 4
+        → IsStep n counts None (Connect a b now window_a window_b) n_now counts_now strings strings_now (reply.Connected (numbers_behind (length n.notes) 4))
+    connect_step n_now counts_now strings_now comes four = record {
       choice = Well;
       may = refl;
       reply = ap (λ (r : Answer). told r.reply) connects ∙ ap (λ (k : ℕ). told (network.Connected (numbers_behind (length n.notes) (k - length n.notes)))) four
           ∙ ap (λ (k : ℕ). told (network.Connected (numbers_behind (length n.notes) k))) more;
       network = ap (λ (r : Answer). r.after.network) connects ∙ comes.network;
+      counted = subst (λ (r : Answer). CountsGo counts counts_now r.after.written) (sym connects) comes.counted;
       posted = comes.posted ∙ ap (λ (ps : List Packet). strings ++ map plain_spelling ps) (sym (ap (λ (r : Answer). r.after.sent) connects));
       writable = subst AreWritable (sym (ap (λ (r : Answer). r.after.sent) connects)) comes.writable;
       within = comes.within;

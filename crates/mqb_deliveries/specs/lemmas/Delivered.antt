@@ -32,9 +32,11 @@ use Rattle.mqb_seats.specs.Called.{failure_of, how_by}
 use Rattle.mqb_transcript.specs.declared.arrivals.Outcome.{Outcome}
 use Rattle.mqb_transcript.specs.declared.arrivals.Outcome.TheVariants as outcome
 use Rattle.mqb_transcript.specs.declared.replies.Reply.TheVariants as reply
+use Rattle.mqb_turns.specs.Counts.{CountsGo, counts_at}
 use Rattle.mqb_turns.specs.Passes.{IsPassed, course_in, touched}
 use Rattle.mqb_turns.specs.Replies.{outcome_of, told}
 use Rattle.mqb_turns.specs.Sides.{Side, network_at}
+use Rattle.mqb_turns.specs.lemmas.Counting.{counts_same}
 use Rattle.mqb_deliveries.specs.Delivers.{Delivers, delivered_at, outcome_reply}
 use Rattle.mqb_deliveries.specs.Failing.{FailsAs, arrived, failure_told, failures_at, is_for}
 use Rattle.mqb_deliveries.specs.Steps.{IsStep}
@@ -126,7 +128,7 @@ module _ (which : Which) (x y : Side) (d e : View) (stopped : Bool) (note : Note
   chosen : failure_in (choice_of one.failure) one.outcome ≡ one.failure
   chosen = fails_by one.outcome one.failure one.touches
 
-  pub delivers_so : Delivers n (network_at which y) k p now given
+  pub delivers_so : Delivers n (counts_at which x) (network_at which y) (counts_at which y) k p now given
   delivers_so = record {
     delivery = one.delivery;
     outcome = one.outcome;
@@ -135,6 +137,7 @@ module _ (which : Which) (x y : Side) (d e : View) (stopped : Bool) (note : Note
     passes = λ choice fails sent before. at choice sent before ∙ one.passes choice (fails ∙ failure_is) sent before;
     would = λ sent before. ap (λ (q : Delivered). length q.after.written) (at Well sent before) ∙ one.would sent before;
     touches = λ some. one.touches (subst (λ (o : Option Failure). IsSome o) failure_is some);
+    counted = one.counted;
     notes = sym (ap (λ (q : Delivered). q.after.network.notes) (one.passes (choice_of one.failure) chosen [] []))
         ∙ passed_notes note p now (choice_of one.failure) (course_in n [] []);
     idle = λ none. ((one.idle none).0, failure_is ∙ (one.idle none).1);
@@ -158,7 +161,7 @@ others_fail notes i k None stopped before other = refl
 others_fail notes i k (Some given) stopped before other = subst (λ (b : Bool). FailsAs (cons_option (cond b (failure_told given) None) []) stopped before before) (sym other) refl
 
 -- A packet that is not underway is gone.
-module _ (n : Network) (note : Note) (k : ℕ) (p : Packet) (now : ℕ) (is : numbered n.notes k ≡ Some note) (gone : is_underway n note ≡ false) where
+module _ (n : Network) (counts : ℕ → ℕ) (note : Note) (k : ℕ) (p : Packet) (now : ℕ) (is : numbered n.notes k ≡ Some note) (gone : is_underway n note ≡ false) where
   -- what calls no disk
   abbrev idle_as : HeardOutcome
   idle_as = answering nobody (Err fault.NotLinked)
@@ -174,7 +177,7 @@ module _ (n : Network) (note : Note) (k : ℕ) (p : Packet) (now : ℕ) (is : nu
   abbrev gone_so : Choice → List Packet → List Written → Delivered
   gone_so choice sent ws = record { delivery = network.Gone; after = course_in n sent ws; left = choice }
 
-  pub gone_delivers : Delivers n n k p now outcome.Gone
+  pub gone_delivers : Delivers n counts n counts k p now outcome.Gone
   gone_delivers = record {
     delivery = network.Gone;
     outcome = idle_as;
@@ -184,6 +187,7 @@ module _ (n : Network) (note : Note) (k : ℕ) (p : Packet) (now : ℕ) (is : nu
         ∙ ap (λ (l : Choice). gone_so l sent (before ++ [])) (left_is choice);
     would = λ sent before. ap (λ (q : Delivered). length q.after.written) (unheard_so Well sent before) ∙ omega arith;
     touches = λ some. absurd (let none : ⊥ = cc in none);
+    counted = counts_same counts;
     notes = refl;
     idle = λ _. (refl, refl);
     stays = λ _. refl;
@@ -205,8 +209,8 @@ reply_so network.Gone = refl
 reply_so (network.Unheard Stopped) = refl
 reply_so delivery = refl
 
-module _ (n n_now : Network) (k : ℕ) (p : Packet) (now : ℕ) (given : Outcome) (strings : List (List ℕ)) (within : IsWithin strings) (some : IsSome (numbered n.notes k))
-    (one : Delivers n n_now k p now given) where
+module _ (n : Network) (counts : ℕ → ℕ) (n_now : Network) (counts_now : ℕ → ℕ) (k : ℕ) (p : Packet) (now : ℕ) (given : Outcome) (strings : List (List ℕ)) (within : IsWithin strings)
+    (some : IsSome (numbered n.notes k)) (one : Delivers n counts n_now counts_now k p now given) where
   -- the answer of the event, whose packet has a note
   abbrev answers : Choice → Answer
   answers choice = deliver_packet (numbered n.notes k) (Some p) now choice (course_in n [] [])
@@ -230,25 +234,27 @@ module _ (n n_now : Network) (k : ℕ) (p : Packet) (now : ℕ) (given : Outcome
   comes_to : answers shown ≡ record { reply = delivery_reply one.delivery; after = course_in n_now [] ([] ++ one.written) }
   comes_to = answers_are shown ∙ ap delivered (one.passes shown (fails_by one.outcome (failure_told given) one.touches) [] [])
 
-  pub deliver_step : IsStep n (Some p) (Deliver k now) n_now strings strings (outcome_reply given)
+  pub deliver_step : IsStep n counts (Some p) (Deliver k now) n_now counts_now strings strings (outcome_reply given)
   deliver_step = record {
     choice = shown;
     may = may_by (failure_told given) one.touches;
     reply = ap (λ (a : Answer). told a.reply) comes_to ∙ reply_so one.delivery ∙ ap (λ (o : Outcome). Ok (outcome_reply o)) one.told;
     network = ap (λ (a : Answer). a.after.network) comes_to;
+    counted = subst (λ (a : Answer). CountsGo counts counts_now a.after.written) (sym comes_to) one.counted;
     posted = none_posted strings (answers shown).after.sent (ap (λ (a : Answer). a.after.sent) comes_to);
     writable = none_written (answers shown).after.sent (ap (λ (a : Answer). a.after.sent) comes_to);
     within = within;
   }
 
 -- There is no packet.
-pub none_step : (n : Network) (k : ℕ) (o : Option Packet) (now : ℕ) (strings : List (List ℕ)) → IsWithin strings → numbered n.notes k ≡ None
-    → IsStep n o (Deliver k now) n strings strings reply.NoPacket
-none_step n k o now strings within none = record {
+pub none_step : (n : Network) (counts counts_now : ℕ → ℕ) (k : ℕ) (o : Option Packet) (now : ℕ) (strings : List (List ℕ)) → IsWithin strings → numbered n.notes k ≡ None
+    → CountsGo counts counts_now [] → IsStep n counts o (Deliver k now) n counts_now strings strings reply.NoPacket
+none_step n counts counts_now k o now strings within none same = record {
   choice = Well;
   may = refl;
   reply = ap (λ (a : Answer). told a.reply) at;
   network = ap (λ (a : Answer). a.after.network) at;
+  counted = subst (λ (a : Answer). CountsGo counts counts_now a.after.written) (sym at) same;
   posted = none_posted strings (deliver_packet (numbered n.notes k) o now Well (course_in n [] [])).after.sent (ap (λ (a : Answer). a.after.sent) at);
   writable = none_written (deliver_packet (numbered n.notes k) o now Well (course_in n [] [])).after.sent (ap (λ (a : Answer). a.after.sent) at);
   within = within;

@@ -14,7 +14,7 @@ use Rattle.mqb_model.specs.declared.faults.PumpFault.{PumpFault}
 use Rattle.mqb_model.specs.laws.Refusals.{RefusalsChangeNothing}
 use Rattle.mqb_model.specs.managers.Manager.{Manager}
 use Rattle.mqb_model.specs.records.Record.{Record}
-use Rattle.mqb_turns.specs.Seats.{seated}
+use Rattle.mqb_turns.specs.Seats.{records_of, seated}
 use Rattle.mqb_network.specs.Answers.{Answer, lines_at}
 use Rattle.mqb_network.specs.Changes.{ended, failed_at, note_by, noted, succeeded_at}
 use Rattle.mqb_network.specs.Choices.{Choice, Failure, Fails, Well, choice_behind, failure_in}
@@ -43,10 +43,12 @@ use Rattle.mqb_traffic.specs.Networks.{index_of}
 use Rattle.mqb_transcript.specs.declared.arrivals.Arrival.{Arrival}
 use Rattle.mqb_transcript.specs.declared.replies.Reply.{Reply}
 use Rattle.mqb_transcript.specs.declared.replies.Reply.TheVariants as reply
+use Rattle.mqb_turns.specs.Counts.{CountsGo, counts_at}
 use Rattle.mqb_turns.specs.Passes.{course_in, touched}
 use Rattle.mqb_turns.specs.Replies.{failure_reply, told}
 use Rattle.mqb_turns.specs.Sends.{ComesShort, IsSent, pump_at}
 use Rattle.mqb_turns.specs.Sides.{Side, network_at}
+use Rattle.mqb_turns.specs.lemmas.Counting.{counts_called, counts_joined, counts_quiet, none_more}
 use Rattle.mqb_deliveries.specs.lemmas.Flowing.{more_flows, works_by}
 use Rattle.mqb_deliveries.specs.Flows.{Flown, LeadsTo, flowing, later, sent_behind}
 use Rattle.mqb_deliveries.specs.Steps.{FallsShort, IsStep}
@@ -115,7 +117,7 @@ flow_sends n i now = at o.answer
     at (Err why) = refl
     at (Ok count) = flowing_sends now (record { arrivals = []; after = (pump_by i now o Well (course_from n)).after; left = Well }) (enumerate_from (length n.notes + 1) o.packets)
 
-module _ (n n_now : Network) (i now : ℕ) (o : PumpOutcome) (strings strings_now : List (List ℕ)) (given : Reply) where
+module _ (n : Network) (counts : ℕ → ℕ) (n_now : Network) (counts_now : ℕ → ℕ) (i now : ℕ) (o : PumpOutcome) (strings strings_now : List (List ℕ)) (given : Reply) where
   abbrev answers : PumpOutcome → Choice → Answer
   answers q choice = flow_with i now q choice (course_from n)
 
@@ -125,30 +127,34 @@ module _ (n n_now : Network) (i now : ℕ) (o : PumpOutcome) (strings strings_no
     pub may : may_fail (length (answers q Well).after.written) choice ≡ true
     pub reply : told (answers q choice).reply ≡ Ok given
     pub network : (answers q choice).after.network ≡ n_now
+    pub counted : CountsGo counts counts_now (answers q choice).after.written
     pub posted : strings_now ≡ strings ++ map plain_spelling (answers q choice).after.sent
     pub writable : AreWritable (answers q choice).after.sent
 
-  step_of : pump (manager_at n i) now ≡ o → IsWithin strings_now → Comes o → IsStep n None (Flow i now) n_now strings strings_now given
+  step_of : pump (manager_at n i) now ≡ o → IsWithin strings_now → Comes o → IsStep n counts None (Flow i now) n_now counts_now strings strings_now given
   step_of is within c = at (subst Comes (sym is) c)
     where
-      at : Comes (pump (manager_at n i) now) → IsStep n None (Flow i now) n_now strings strings_now given
+      at : Comes (pump (manager_at n i) now) → IsStep n counts None (Flow i now) n_now counts_now strings strings_now given
       at k = record {
         choice = k.choice;
         may = k.may;
         reply = k.reply;
         network = k.network;
+        counted = k.counted;
         posted = k.posted;
         writable = k.writable;
         within = within;
       }
 
   -- The pump is refused.
-  refused_comes : (why : PumpFault) → o.answer ≡ Err why → o.packets ≡ [] → pump_fault_reply why ≡ Ok given → succeeded_at i o n ≡ n_now → strings_now ≡ strings ++ [] → Comes o
-  refused_comes why is none told_so left added = record {
+  refused_comes : (why : PumpFault) → o.answer ≡ Err why → o.packets ≡ [] → pump_fault_reply why ≡ Ok given → succeeded_at i o n ≡ n_now → CountsGo counts counts_now (written_by i (manager_at n i) o.entry)
+      → strings_now ≡ strings ++ [] → Comes o
+  refused_comes why is none told_so left count added = record {
     choice = Well;
     may = refl;
     reply = ap (λ (a : Answer). told a.reply) so ∙ ap (λ (r : Result ℕ PumpFault). told (pumped (length n.notes) r (lines_at i o (course_from n)))) is ∙ told_so;
     network = ap (λ (a : Answer). a.after.network) so ∙ ap (λ (ps : List Packet). noted i now (length ps) (succeeded_at i o n)) none ∙ noted_none i now (succeeded_at i o n) ∙ left;
+    counted = subst (λ (a : Answer). CountsGo counts counts_now a.after.written) (sym so) count;
     posted = added ∙ ap (λ (ps : List Packet). strings ++ map plain_spelling ps) (sym (ap (λ (a : Answer). a.after.sent) so ∙ none));
     writable = subst AreWritable (sym (ap (λ (a : Answer). a.after.sent) so ∙ none)) tt;
   }
@@ -157,14 +163,16 @@ module _ (n n_now : Network) (i now : ℕ) (o : PumpOutcome) (strings strings_no
       so = ap (flow_by i now o Well (course_from n)) is
 
   -- The disk fails in the pump.
-  broke_comes : (how : Failure) → IsSome o.entry → o.touches ≡ is_some o.entry → given ≡ failure_reply how → failed_at i o n ≡ n_now → strings_now ≡ strings ++ [] → Comes o
-  broke_comes how some whole given_is left added = record {
+  broke_comes : (how : Failure) → IsSome o.entry → o.touches ≡ is_some o.entry → given ≡ failure_reply how → failed_at i o n ≡ n_now → CountsGo counts counts_now []
+      → strings_now ≡ strings ++ [] → Comes o
+  broke_comes how some whole given_is left count added = record {
     choice = Fails 0 how;
     may = below 0 (length (answers o Well).after.written) (records o.answer refl);
     reply = ap (λ (a : Answer). told a.reply) (so o.answer refl)
         ∙ ap (λ (f : Option Failure). told (option_map_or network.DiskFailed f (pumped (length n.notes) o.answer (lines_at i o (course_from n))))) fails
         ∙ failure_told_so how ∙ ap Ok (sym given_is);
     network = ap (λ (a : Answer). a.after.network) (so o.answer refl) ∙ ap (λ (f : Option Failure). (behind f).network) fails ∙ noted_none i now (failed_at i o n) ∙ left;
+    counted = subst (CountsGo counts counts_now) (sym writes) count;
     posted = added ∙ ap (λ (ps : List Packet). strings ++ map plain_spelling ps) (sym sends);
     writable = subst AreWritable (sym sends) tt;
   }
@@ -184,6 +192,9 @@ module _ (n n_now : Network) (i now : ℕ) (o : PumpOutcome) (strings strings_no
           ∙ ap (λ (f : Option Failure). cond (is_some f) (pump_by i now o (Fails 0 how) (course_from n))
           (flowed (all_passed now (choice_behind (Fails 0 how) o) (pump_by i now o (Fails 0 how) (course_from n)).after (enumerate_from (length n.notes + 1) o.packets)))) fails
 
+      writes : (answers o (Fails 0 how)).after.written ≡ []
+      writes = ap (λ (a : Answer). a.after.written) (so o.answer refl) ∙ ap (λ (f : Option Failure). (behind f).written) fails
+
       sends : (answers o (Fails 0 how)).after.sent ≡ []
       sends = ap (λ (a : Answer). a.after.sent) (so o.answer refl) ∙ ap (λ (f : Option Failure). (behind f).sent) fails
 
@@ -195,9 +206,10 @@ module _ (n n_now : Network) (i now : ℕ) (o : PumpOutcome) (strings strings_no
           let more = more_flows (pump_by i now o Well (course_from n)).after now (enumerate_from (length n.notes + 1) o.packets) Well in omega (arith, one, all, more)
 
 -- Its packets flow.
-module _ (n n_sent n_now : Network) (i now : ℕ) (o : PumpOutcome) (count : ℕ) (answered : o.answer ≡ Ok count) (went : noted i now (length o.packets) (succeeded_at i o n) ≡ n_sent)
+module _ (n : Network) (counts : ℕ → ℕ) (n_sent : Network) (counts_sent : ℕ → ℕ) (n_now : Network) (counts_now : ℕ → ℕ) (i now : ℕ) (o : PumpOutcome) (count : ℕ) (answered : o.answer ≡ Ok count)
+    (went : noted i now (length o.packets) (succeeded_at i o n) ≡ n_sent) (pumped_count : CountsGo counts counts_sent (written_by i (manager_at n i) o.entry))
     (whole : o.touches ≡ is_some o.entry) (arrivals : List Arrival)
-    (flown : Flown (course_in n_sent o.packets (written_by i (manager_at n i) o.entry)) now (enumerate_from (length n.notes + 1) o.packets) arrivals n_now) where
+    (flown : Flown counts_sent counts_now (course_in n_sent o.packets (written_by i (manager_at n i) o.entry)) now (enumerate_from (length n.notes + 1) o.packets) arrivals n_now) where
   abbrev sent : Course
   sent = course_in n_sent o.packets (written_by i (manager_at n i) o.entry)
 
@@ -272,12 +284,14 @@ module _ (n n_sent n_now : Network) (i now : ℕ) (o : PumpOutcome) (count : ℕ
       at (Some how) is = broke_behaves how is
 
   pub went_comes : (strings strings_now : List (List ℕ)) → strings_now ≡ strings ++ map plain_spelling o.packets → AreWritable o.packets
-      → Comes n n_now i now o strings strings_now (reply.Flowed arrivals) o
+      → Comes n counts n_now counts_now i now o strings strings_now (reply.Flowed arrivals) o
   went_comes strings strings_now added writable = record {
     choice = behaves.choice;
     may = behaves.may;
     reply = ap (λ (a : Answer). told a.reply) behaves.comes ∙ ap (λ (arrived : List Arrival). Ok (reply.Flowed arrived)) flown.told;
     network = ap (λ (a : Answer). a.after.network) behaves.comes;
+    counted = subst (λ (a : Answer). CountsGo counts counts_now a.after.written) (sym behaves.comes)
+        (counts_joined counts counts_sent counts_now (written_by i (manager_at n i) o.entry) flown.written pumped_count flown.counted);
     posted = added ∙ ap (λ (ps : List Packet). strings ++ map plain_spelling ps) (sym (ap (λ (a : Answer). a.after.sent) behaves.comes));
     writable = subst AreWritable (sym (ap (λ (a : Answer). a.after.sent) behaves.comes)) writable;
   }
@@ -292,6 +306,9 @@ module _ (which : Which) (x y : Side) (d e : View) (stopped : Bool) (strings str
   abbrev before : Network
   before = network_at which x
 
+  abbrev counts : ℕ → ℕ
+  counts = counts_at which x
+
   abbrev i : ℕ
   i = index_of which
 
@@ -304,19 +321,19 @@ module _ (which : Which) (x y : Side) (d e : View) (stopped : Bool) (strings str
   abbrev SentBy : Pumped → Type 0
   SentBy q = IsSent which x y d e stopped strings strings_now now q
 
-  pub refused_step : (given : Reply) → SentBy (Refused given) → IsStep before None (Flow i now) (network_at which y) strings strings_now given
-  refused_step given sent = step_of before (network_at which y) i now out strings strings_now given out_is sent.within
-      (refused_comes before (network_at which y) i now out strings strings_now given refused.why (ap (λ (q : PumpOutcome). q.answer) refused.unchanged)
-      (ap (λ (q : PumpOutcome). q.packets) refused.unchanged) refused.told sent.leaves.1 sent.posted)
+  pub refused_step : (given : Reply) → SentBy (Refused given) → IsStep before counts None (Flow i now) (network_at which y) (counts_at which y) strings strings_now given
+  refused_step given sent = step_of before counts (network_at which y) (counts_at which y) i now out strings strings_now given out_is sent.within
+      (refused_comes before counts (network_at which y) (counts_at which y) i now out strings strings_now given refused.why (ap (λ (q : PumpOutcome). q.answer) refused.unchanged)
+      (ap (λ (q : PumpOutcome). q.packets) refused.unchanged) refused.told sent.leaves.1 (counts_called which x y (manager_at before i) out.entry sent.counted sent.beside) sent.posted)
     where
       refused : IsRefused x.own out given
       refused = sent.leaves.0
 
   pub broke_step : RefusalsChangeNothing → (how : HowItFailed) → SentBy (Broke how)
-      → IsStep before None (Flow i now) (network_at which y) strings strings_now (failure_reply (failure_of how))
-  broke_step law how sent = step_of before (network_at which y) i now out strings strings_now (failure_reply (failure_of how)) out_is sent.within
-      (broke_comes before (network_at which y) i now out strings strings_now (failure_reply (failure_of how)) (failure_of how) sent.leaves.0 ((law (seated x.own)).pump_whole now).touches refl
-      sent.leaves.1 sent.posted)
+      → IsStep before counts None (Flow i now) (network_at which y) (counts_at which y) strings strings_now (failure_reply (failure_of how))
+  broke_step law how sent = step_of before counts (network_at which y) (counts_at which y) i now out strings strings_now (failure_reply (failure_of how)) out_is sent.within
+      (broke_comes before counts (network_at which y) (counts_at which y) i now out strings strings_now (failure_reply (failure_of how)) (failure_of how) sent.leaves.0
+      ((law (seated x.own)).pump_whole now).touches refl sent.leaves.1 (counts_quiet which x y (sent.counted ∙ sym (none_more (records_of x.own))) sent.beside) sent.posted)
 
   -- The packets that were sent are delivered.
   module _ (law : RefusalsChangeNothing) (count : ℕ) (recorded : Bool) (sent : SentBy (Went count recorded)) (noted : length before.notes ≡ length strings) (packets : ArePackets strings) where
@@ -348,11 +365,13 @@ module _ (which : Which) (x y : Side) (d e : View) (stopped : Bool) (strings str
     abbrev pub pumped_course : Course
     pumped_course = course_in (network_at which y) out.packets (written_by i (manager_at before i) out.entry)
 
-    pub went_step : (n_now : Network) (arrivals : List Arrival) → Flown pumped_course now (sent_behind all_packets (length before.notes) count) arrivals n_now
-        → IsStep before None (Flow i now) n_now strings strings_now (reply.Flowed arrivals)
-    went_step n_now arrivals flown = step_of before n_now i now out strings strings_now (reply.Flowed arrivals) out_is sent.within
-        (went_comes before (network_at which y) n_now i now out count sent.leaves.0 sent.leaves.2 ((law (seated x.own)).pump_whole now).touches arrivals
-        (subst (λ (given : List (ℕ × Packet)). Flown pumped_course now given arrivals n_now) behind_is flown) strings strings_now sent.posted sent.writable)
+    pub went_step : (n_now : Network) (counts_now : ℕ → ℕ) (arrivals : List Arrival)
+        → Flown (counts_at which y) counts_now pumped_course now (sent_behind all_packets (length before.notes) count) arrivals n_now
+        → IsStep before counts None (Flow i now) n_now counts_now strings strings_now (reply.Flowed arrivals)
+    went_step n_now counts_now arrivals flown = step_of before counts n_now counts_now i now out strings strings_now (reply.Flowed arrivals) out_is sent.within
+        (went_comes before counts (network_at which y) (counts_at which y) n_now counts_now i now out count sent.leaves.0 sent.leaves.2
+        (counts_called which x y (manager_at before i) out.entry sent.counted sent.beside) ((law (seated x.own)).pump_whole now).touches arrivals
+        (subst (λ (given : List (ℕ × Packet)). Flown (counts_at which y) counts_now pumped_course now given arrivals n_now) behind_is flown) strings strings_now sent.posted sent.writable)
 
     -- where memory runs out then, all of them are on the medium
     pub went_short : HasFront strings strings_now (map plain_spelling (flow i now Well (course_from before)).after.sent)

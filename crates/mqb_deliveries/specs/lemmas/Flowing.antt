@@ -20,8 +20,10 @@ use Rattle.mqb_packet.specs.declared.packet.Packet.{Packet}
 use Rattle.mqb_queue.specs.Places.{numbered}
 use Rattle.mqb_transcript.specs.declared.arrivals.Arrival.{Arrival}
 use Rattle.mqb_transcript.specs.declared.arrivals.Outcome.{Outcome}
+use Rattle.mqb_turns.specs.Counts.{CountsGo}
 use Rattle.mqb_turns.specs.Passes.{course_in, touched}
 use Rattle.mqb_turns.specs.Replies.{arrival_of}
+use Rattle.mqb_turns.specs.lemmas.Counting.{counts_joined, counts_same}
 use Rattle.mqb_deliveries.specs.Delivers.{Delivers, WasDelivered}
 use Rattle.mqb_deliveries.specs.Failing.{failure_told}
 use Rattle.mqb_deliveries.specs.Flows.{Flown, IsFailing, LeadsTo, flowing, later, sent_behind}
@@ -96,8 +98,8 @@ still_failing t Well fails = tt
 still_failing t (Fails x how) fails = tt
 still_failing t l fails = fails
 
-module _ (c : Course) (now : ℕ) (given : List (ℕ × Packet)) (arrivals : List Arrival) (n n_now : Network) (flown : Flown c now given arrivals n) (k : ℕ) (p : Packet) (outcome : Outcome)
-    (one : Delivers n n_now k p now outcome) where
+module _ (counts counts_then counts_now : ℕ → ℕ) (c : Course) (now : ℕ) (given : List (ℕ × Packet)) (arrivals : List Arrival) (n n_now : Network)
+    (flown : Flown counts counts_then c now given arrivals n) (k : ℕ) (p : Packet) (outcome : Outcome) (one : Delivers n counts_then n_now counts_now k p now outcome) where
   abbrev all : List (ℕ × Packet)
   all = given ++ (k, p) ∷ []
 
@@ -126,12 +128,15 @@ module _ (c : Course) (now : ℕ) (given : List (ℕ × Packet)) (arrivals : Lis
       ∙ ap (λ (told : List Arrival). told ++ map arrival_of (record { packet = k; delivery = one.delivery } ∷ [])) flown.told
       ∙ ap (λ (o : Outcome). arrivals ++ record { packet = k; outcome = o } ∷ []) one.told
 
+  counted : CountsGo counts counts_now (flown.written ++ one.written)
+  counted = counts_joined counts counts_then counts_now flown.written one.written flown.counted one.counted
+
   -- No disk failed so far.
 
   well_then : flown.failure ≡ None → (l : Choice) → IsFailing l → flowing c now given (later flown.records l) ≡ record { arrivals = flown.passed; after = before; left = l }
   well_then is l fails = subst (LeadsTo c now given flown.records flown.passed before) is flown.leads l fails
 
-  well_still : flown.failure ≡ None → failure_told outcome ≡ None → Flown c now all (arrivals ++ record { packet = k; outcome = outcome } ∷ []) n_now
+  well_still : flown.failure ≡ None → failure_told outcome ≡ None → Flown counts counts_now c now all (arrivals ++ record { packet = k; outcome = outcome } ∷ []) n_now
   well_still is works = record {
     passed = arrived;
     failure = None;
@@ -145,6 +150,7 @@ module _ (c : Course) (now : ℕ) (given : List (ℕ × Packet)) (arrivals : Lis
         ∙ ap (λ (x : Choice). record { arrivals = arrived; after = after; left = x }) by.1;
     notes = one.notes ∙ flown.notes;
     count = λ _. length-append flown.written one.written ∙ ap (λ (x : ℕ). x + length one.written) (flown.count is) ∙ ap (λ (x : ℕ). flown.records + x) one_written;
+    counted = counted;
     cut = λ some. absurd (let none : ⊥ = cc in none);
   }
     where
@@ -155,7 +161,7 @@ module _ (c : Course) (now : ℕ) (given : List (ℕ × Packet)) (arrivals : Lis
           all_of ∙ omega arith
 
   -- It fails now.
-  fails_now : (how : Failure) → flown.failure ≡ None → failure_told outcome ≡ Some how → Flown c now all (arrivals ++ record { packet = k; outcome = outcome } ∷ []) n_now
+  fails_now : (how : Failure) → flown.failure ≡ None → failure_told outcome ≡ Some how → Flown counts counts_now c now all (arrivals ++ record { packet = k; outcome = outcome } ∷ []) n_now
   fails_now how is fails = record {
     passed = arrived;
     failure = Some how;
@@ -170,6 +176,7 @@ module _ (c : Course) (now : ℕ) (given : List (ℕ × Packet)) (arrivals : Lis
     );
     notes = one.notes ∙ flown.notes;
     count = λ none. absurd (let no : ⊥ = cc in no);
+    counted = counted;
     cut = λ some. one.cut (subst (λ (o : Option Failure). IsSome o) (sym fails) refl);
   }
     where
@@ -188,7 +195,7 @@ module _ (c : Course) (now : ℕ) (given : List (ℕ × Packet)) (arrivals : Lis
           ∙ one.would c.sent (c.written ++ flown.written) ∙ ap (λ (b : Bool). length (c.written ++ flown.written) + touched b) touches
 
   -- It failed before, and no connection stands any more.
-  failed_before : (how : Failure) → flown.failure ≡ Some how → Flown c now all (arrivals ++ record { packet = k; outcome = outcome } ∷ []) n_now
+  failed_before : (how : Failure) → flown.failure ≡ Some how → Flown counts counts_now c now all (arrivals ++ record { packet = k; outcome = outcome } ∷ []) n_now
   failed_before how is = record {
     passed = arrived;
     failure = Some how;
@@ -202,6 +209,7 @@ module _ (c : Course) (now : ℕ) (given : List (ℕ × Packet)) (arrivals : Lis
     );
     notes = one.notes ∙ flown.notes;
     count = λ none. absurd (let no : ⊥ = cc in no);
+    counted = counted;
     cut = λ some. subst (λ (m : Network). m.connections ≡ []) still cut;
   }
     where
@@ -222,17 +230,17 @@ module _ (c : Course) (now : ℕ) (given : List (ℕ × Packet)) (arrivals : Lis
           (sym (fold_more (passed_on now) (record { arrivals = []; after = c; left = Well }) given (k, p))) (more_passed now (flowing c now given Well) (k, p))
 
   -- One packet more was delivered.
-  pub flown_more : Flown c now all (arrivals ++ record { packet = k; outcome = outcome } ∷ []) n_now
+  pub flown_more : Flown counts counts_now c now all (arrivals ++ record { packet = k; outcome = outcome } ∷ []) n_now
   flown_more = at flown.failure (failure_told outcome) refl refl
     where
-      at : (o q : Option Failure) → flown.failure ≡ o → failure_told outcome ≡ q → Flown c now all (arrivals ++ record { packet = k; outcome = outcome } ∷ []) n_now
+      at : (o q : Option Failure) → flown.failure ≡ o → failure_told outcome ≡ q → Flown counts counts_now c now all (arrivals ++ record { packet = k; outcome = outcome } ∷ []) n_now
       at None None is works = well_still is works
       at None (Some how) is fails = fails_now how is fails
       at (Some how) q is any = failed_before how is
 
 -- none yet
-pub flown_none : (c : Course) (now : ℕ) → Flown c now [] [] c.network
-flown_none c now = record {
+pub flown_none : (counts : ℕ → ℕ) (c : Course) (now : ℕ) → Flown counts counts c now [] [] c.network
+flown_none counts c now = record {
   passed = [];
   failure = None;
   written = [];
@@ -241,6 +249,7 @@ flown_none c now = record {
   leads = λ l fails. ap (λ (x : Choice). record { arrivals = []; after = c; left = x }) (never_later l)
       ∙ ap (λ (ws : List Written). record { arrivals = []; after = course_in c.network c.sent ws; left = l }) (sym (append-nil c.written));
   count = λ _. refl;
+  counted = counts_same counts;
   notes = refl;
   cut = λ some. absurd (let none : ⊥ = cc in none);
 }
@@ -290,9 +299,9 @@ behind_more packets b i p is = let there = sym (numbered_at packets b i) ∙ is 
     ∙ ap (λ (k : ℕ). sent_behind packets b i ++ (b + 1 + k, p) ∷ []) (taken_count packets b i p there)
 
 -- The next packet was delivered.
-pub flown_next : (c : Course) (now : ℕ) (packets : List Packet) (b i : ℕ) (arrivals : List Arrival) (n n_now : Network) (outcome : Outcome)
-    → Flown c now (sent_behind packets b i) arrivals n → WasDelivered n n_now packets (b + 1 + i) now (Some outcome)
-    → Flown c now (sent_behind packets b (i + 1)) (arrivals ++ record { packet = b + 1 + i; outcome = outcome } ∷ []) n_now
-flown_next c now packets b i arrivals n n_now outcome flown (p, is, there, one) =
-    subst (λ (given : List (ℕ × Packet)). Flown c now given (arrivals ++ record { packet = b + 1 + i; outcome = outcome } ∷ []) n_now) (sym (behind_more packets b i p is))
-    (flown_more c now (sent_behind packets b i) arrivals n n_now flown (b + 1 + i) p outcome one)
+pub flown_next : (counts counts_then counts_now : ℕ → ℕ) (c : Course) (now : ℕ) (packets : List Packet) (b i : ℕ) (arrivals : List Arrival) (n n_now : Network) (outcome : Outcome)
+    → Flown counts counts_then c now (sent_behind packets b i) arrivals n → WasDelivered n counts_then n_now counts_now packets (b + 1 + i) now (Some outcome)
+    → Flown counts counts_now c now (sent_behind packets b (i + 1)) (arrivals ++ record { packet = b + 1 + i; outcome = outcome } ∷ []) n_now
+flown_next counts counts_then counts_now c now packets b i arrivals n n_now outcome flown (p, is, there, one) =
+    subst (λ (given : List (ℕ × Packet)). Flown counts counts_now c now given (arrivals ++ record { packet = b + 1 + i; outcome = outcome } ∷ []) n_now) (sym (behind_more packets b i p is))
+    (flown_more counts counts_then counts_now c now (sent_behind packets b i) arrivals n n_now flown (b + 1 + i) p outcome one)

@@ -14,7 +14,7 @@ use Rattle.mqb_script.specs.declared.managers.Which.TheVariants.{Alpha, Beta}
 use Rattle.mqb_seats.specs.Holding.{StaysStored}
 use Rattle.mqb_seats.specs.Seats.{SeatState, records_of}
 use Rattle.mqb_traffic.specs.Networks.{index_of}
-use Rattle.mqb_turns.specs.Counts.{CountsGo, counts_at}
+use Rattle.mqb_turns.specs.Counts.{CountsGo, counts_at, counts_with}
 use Rattle.mqb_turns.specs.Sides.{Side}
 
 -- no record more
@@ -35,6 +35,15 @@ counts_joined a b c ws vs first second which =
     let two = second which in
     let all = written_joined (index_of which) ws vs in
     omega (arith, one, two, all)
+
+-- from counts that are the same
+pub counts_from : (a b c : ℕ → ℕ) (ws : List Written) → ((which : Which) → b (index_of which) ≡ a (index_of which)) → CountsGo b c ws → CountsGo a c ws
+counts_from a b c ws same go which = go which ∙ ap (λ (k : ℕ). k + written_count (index_of which) ws) (same which)
+
+-- that of a manager
+pub own_count : (which : Which) (x : Side) → counts_at which x (index_of which) ≡ records_of x.own
+own_count Alpha x = refl
+own_count Beta x = refl
 
 -- what a store has stays
 pub stored_count : {s t : SeatState} → StaysStored s t → records_of t ≡ records_of s
@@ -76,6 +85,10 @@ counts_quiet Alpha x y own beside Alpha = own ∙ none_more (records_of x.own)
 counts_quiet Alpha x y own beside Beta = stored_count beside ∙ none_more (records_of x.other)
 counts_quiet Beta x y own beside Alpha = stored_count beside ∙ none_more (records_of x.other)
 counts_quiet Beta x y own beside Beta = own ∙ none_more (records_of x.own)
+
+pub both_stored : (a b c d : SeatState) → StaysStored a c → StaysStored b d → (which : Which) → counts_with c d (index_of which) ≡ counts_with a b (index_of which)
+both_stored a b c d first second Alpha = stored_count first
+both_stored a b c d first second Beta = stored_count second
 
 pub counts_stored : (which : Which) (x y : Side) → StaysStored x.own y.own → StaysStored x.other y.other → CountsGo (counts_at which x) (counts_at which y) []
 counts_stored which x y own beside = counts_quiet which x y (stored_count own) beside

@@ -1,7 +1,7 @@
 use Rattle.mqb_moves.specs.lemmas.Stored.{same_stores}
 use Rattle.mqb_seats.specs.lemmas.Keeping.{lasts_held, lasts_same, lasts_stored}
 use Rattle.mqb_turns.specs.Sides.{side}
-use Rattle.mqb_world.proofs.Actions.{acted_as, call_acted, call_left, call_switch, disconnect_acted, if_ok, is_call, ok_is_full, pump_acted, pump_is, resend_acted, resend_is, restart_is, start_acted}
+use Rattle.mqb_world.proofs.Actions.{acted_as, call_acted, call_left, call_switch, checkpoint_is, disconnect_acted, if_ok, is_call, ok_is_full, pump_acted, pump_is, resend_acted, resend_is, restart_is, rewrite_acted, start_acted}
 use Rattle.mqb_world.proofs.acting.act.Goals as goal
 
 pub returns-in-Disconnect-clause-acted : goal.returns-in-Disconnect-clause-acted
@@ -28,11 +28,17 @@ returns-in_ok-restart-in-Restart-clause-acted g c = let x = side c.args.own.now 
     acted_as c.args.which x y _ _ _ _ _ c.in_ok-restart-in-Restart.field-0 c.args.event.now _ (restart_is c.args.which _ _ c.args.event.now c.in-Restart.is c.requires.acts)
     (start_acted c.args.which x y _ _ c.requires.within c.in_ok-restart-in-Restart.field-0 _ _ _ (c.in_ok-restart-in-Restart.ensures {u = tt}).turn)
 
+pub returns-in_ok-checkpoint-in-Checkpoint-clause-acted : goal.returns-in_ok-checkpoint-in-Checkpoint-clause-acted
+returns-in_ok-checkpoint-in-Checkpoint-clause-acted g c = let x = side c.args.own.now c.args.other.now c.args.traffic.now in
+    let y = side c.checkpoint.new.own c.checkpoint.new.other c.checkpoint.new.traffic in
+    acted_as c.args.which x y _ _ _ _ _ c.in_ok-checkpoint-in-Checkpoint.field-0 c.args.event.now _ (checkpoint_is c.args.which _ c.args.event.now c.in-Checkpoint.is c.requires.acts)
+    (rewrite_acted c.args.which x y _ c.requires.within c.in_ok-checkpoint-in-Checkpoint.field-0 _ _ _ c.requires.held (c.in_ok-checkpoint-in-Checkpoint.ensures {u = tt}).turn)
+
 pub returns-in_ok-call_own-in_default : goal.returns-in_ok-call_own-in_default
 returns-in_ok-call_own-in_default g c = let x = side c.args.own.now c.args.other.now c.args.traffic.now in
     let y = side c.call_own.new.own c.call_own.new.other c.call_own.new.traffic in
     let call = is_call c.args.which c.args.event.now c.in_default.not-Disconnect c.in_default.not-Resend c.in_default.not-Drop c.in_default.not-Pump c.in_default.not-Arm c.in_default.not-Restart
-    c.requires.acts in
+    c.in_default.not-Checkpoint c.requires.acts in
     record {
       acted = call_acted c.args.which x y c.args.event.now _ c.requires.within c.in_ok-call_own-in_default.field-0 call _ _ _ c.requires.held (c.in_ok-call_own-in_default.ensures {u = tt}).turn;
       short = tt;
@@ -69,4 +75,4 @@ returns-in-Arm-clause-beside g c = same_stores c.args.other.now
 
 pub returns-in_err-call_own-in_default-clause-left : goal.returns-in_err-call_own-in_default-clause-left
 returns-in_err-call_own-in_default-clause-left g c = call_left c.args.which c.args.event.now (is_call c.args.which c.args.event.now c.in_default.not-Disconnect c.in_default.not-Resend c.in_default.not-Drop
-    c.in_default.not-Pump c.in_default.not-Arm c.in_default.not-Restart c.requires.acts) _
+    c.in_default.not-Pump c.in_default.not-Arm c.in_default.not-Restart c.in_default.not-Checkpoint c.requires.acts) _

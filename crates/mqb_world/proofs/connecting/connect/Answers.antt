@@ -44,7 +44,7 @@ returns-clause-step g c = let a_up : is_down (seated c.args.alpha.now) ≡ false
     (window_of (other c.args.which) c.args.alpha_window c.args.beta_window) none (known_so w _ c.requires.ordered) a_up b_up (free.alpha none) (free.beta none) in
     connected_so c.args.which c.args.alpha.now c.args.beta.now c.args.traffic.now (g.M.Medium.strings c.args.medium.now) c.args.now (window_of c.args.which c.args.alpha_window c.args.beta_window)
     (window_of (other c.args.which) c.args.alpha_window c.args.beta_window) a_up b_up none (network_in c.link_both.new.alpha c.link_both.new.beta c.link_both.new.traffic) c.link_both.ensures.network
-    is_up _ _ (ok_of c.set_up.result c.in_default.not-Err c.set_up.ensures.comes) c.count-before.result c.count-before.ensures
+    is_up c.link_both.new.alpha c.link_both.new.beta c.link_both.ensures.alpha c.link_both.ensures.beta _ _ _ (ok_of c.set_up.result c.in_default.not-Err c.set_up.ensures.comes) c.count-before.result c.count-before.ensures
 
 pub returns-in-Err-clause-alpha : goal.returns-in-Err-clause-alpha
 returns-in-Err-clause-alpha g c = stored_then_lasts c.requires.alpha c.link_both.ensures.alpha c.set_up.ensures.alpha

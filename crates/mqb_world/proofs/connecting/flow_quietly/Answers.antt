@@ -11,7 +11,7 @@ pub returns-clause-alpha_faults : goal.returns-clause-alpha_faults
 returns-clause-alpha_faults g c = let n = network_in c.args.alpha.now c.args.beta.now c.args.traffic.now in let n_now = network_in c.flow.new.alpha c.flow.new.beta c.flow.new.traffic in
     elim c.match-flow.branch [
       | in-Ok w ↦ on_any c.match-flow.result (from_ok c.flow.result _ w.in-Ok.is
-          (quiet_ok n n_now (index_of c.args.which) c.args.now _ _ c.requires.quiet c.flow.result c.flow.ensures.step (notes_of c.flow.new.traffic) 0 _ _ _ c.flow.ensures.alpha_faults))
+          (quiet_ok n _ n_now _ (index_of c.args.which) c.args.now _ _ c.requires.quiet c.flow.result c.flow.ensures.step (notes_of c.flow.new.traffic) 0 _ _ _ c.flow.ensures.alpha_faults))
       | in-Err w ↦ never_ok _ c.match-flow.result _ w.result-is
     ]
 
@@ -19,6 +19,6 @@ pub returns-clause-beta_faults : goal.returns-clause-beta_faults
 returns-clause-beta_faults g c = let n = network_in c.args.alpha.now c.args.beta.now c.args.traffic.now in let n_now = network_in c.flow.new.alpha c.flow.new.beta c.flow.new.traffic in
     elim c.match-flow.branch [
       | in-Ok w ↦ on_any c.match-flow.result (from_ok c.flow.result _ w.in-Ok.is
-          (quiet_ok n n_now (index_of c.args.which) c.args.now _ _ c.requires.quiet c.flow.result c.flow.ensures.step (notes_of c.flow.new.traffic) 1 _ _ _ c.flow.ensures.beta_faults))
+          (quiet_ok n _ n_now _ (index_of c.args.which) c.args.now _ _ c.requires.quiet c.flow.result c.flow.ensures.step (notes_of c.flow.new.traffic) 1 _ _ _ c.flow.ensures.beta_faults))
       | in-Err w ↦ never_ok _ c.match-flow.result _ w.result-is
     ]

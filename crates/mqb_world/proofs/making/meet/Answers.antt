@@ -1,6 +1,6 @@
 use Rattle.std.proofs.Common.{◌≡◌, Err, rules}
 use Rattle.mqb_model.specs.declared.faults.AddPeerFault.TheVariants as fault
-use Rattle.mqb_world.proofs.Beginnings.{met, met_held, never_refused}
+use Rattle.mqb_world.proofs.Beginnings.{met, met_count, met_held, never_refused}
 use Rattle.mqb_world.proofs.making.meet.Goals as goal
 
 pub returns-in-Ok-clause-manager : goal.returns-in-Ok-clause-manager
@@ -10,6 +10,10 @@ returns-in-Ok-clause-manager g c = met c.args.own.now c.args.peer.now c.requires
 pub returns-in-Ok-clause-held : goal.returns-in-Ok-clause-held
 returns-in-Ok-clause-held g c = met_held c.args.own.now c.args.peer.now c.requires.apart _ _ c.args.manager.now c.add_peer.new.self c.add_peer.result c.requires.new c.add_peer.ensures.call
     c.in-Ok.field-0 c.in-Ok.is c.requires.held
+
+pub returns-in-Ok-clause-count : goal.returns-in-Ok-clause-count
+returns-in-Ok-clause-count g c = met_count c.args.own.now c.args.peer.now c.requires.apart _ _ c.args.manager.now c.add_peer.new.self c.add_peer.result c.requires.new c.add_peer.ensures.call
+    c.in-Ok.field-0 c.in-Ok.is c.requires.one
 
 pub unreachable-requires : goal.unreachable-requires
 unreachable-requires g c = let is : c.add_peer.result ≡ Err fault.Down = search rules in

@@ -15,10 +15,10 @@ returns-clause-applied g c = let w = world c.self.inside.alpha c.self.inside.bet
     let w_now = world c.proceed-proceeded.new.alpha c.proceed-proceeded.new.beta c.proceed-proceeded.new.traffic in
     elim c.match-proceeded.branch [
       | in-Ok x ↦ ok_applied w c.args.self.now c.self.view_is (g.M.Medium.strings c.args.medium.now) w_now (g.M.Medium.strings c.proceed-proceeded.new.medium) c.args.event.now _ _ _ _ _ _
-          c.proceed-proceeded.result c.match-proceeded.result x.in-Ok.reply x.in-Ok.is x.result-is c.proceed-proceeded.ensures.happens
+          c.proceed-proceeded.result c.match-proceeded.result c.runs_have_histories.ensures c.histories_are_orderly.ensures x.in-Ok.reply x.in-Ok.is x.result-is c.proceed-proceeded.ensures.happens
       | in-Err x ↦ err_applied w c.args.self.now c.self.view_is (g.M.Medium.strings c.args.medium.now) w_now (g.M.Medium.strings c.proceed-proceeded.new.medium) c.args.event.now
           (g.P.Disk.view c.args.first.now) (g.P.Disk.view c.args.first.now) (g.P.Disk.view c.args.first.now) (g.P.Disk.view c.args.first.now) (g.P.Power.is_stopped c.args.first.now) (g.P.Power.is_stopped c.args.first.now)
-          c.proceed-proceeded.result c.match-proceeded.result x.in-Err.fault x.from.result x.in-Err.is x.from.ensures x.result-is c.proceed-proceeded.ensures.short
+          c.proceed-proceeded.result c.match-proceeded.result c.runs_have_histories.ensures c.histories_are_orderly.ensures x.in-Err.fault x.from.result x.in-Err.is x.from.ensures x.result-is c.proceed-proceeded.ensures.short
     ]
 
 pub returns-clause-alpha : goal.returns-clause-alpha
