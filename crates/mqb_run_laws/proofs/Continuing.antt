@@ -1,6 +1,6 @@
 -- Behind a run of the first lines all others can be played.
 use Rattle.std.proofs.Common.{List, [], ◌∷◌, ◌++◌, append-nil, append_assoc, sym, subst, ℕ}
-use Rattle.mqb_replies.specs.Asked.{RequestsAreReplied}
+use Rattle.mqb_replies.specs.Asked.{CheckpointsAreReplied, RequestsAreReplied}
 use Rattle.mqb_history.specs.Laws.{HistoriesAreOrderly, RunsHaveHistories}
 use Rattle.mqb_history.specs.Orderly.{IsOrderly}
 use Rattle.mqb_network.specs.Runs.{IsRun, Move, after_run}
@@ -12,7 +12,7 @@ use Rattle.mqb_script.specs.declared.events.Event.{Event}
 use Rattle.mqb_run_laws.specs.Continuing.{Continues, RunsContinue}
 use Rattle.mqb_run_laws.proofs.Events.{CanBePlayed, can_be_played}
 
-module _ (told : RequestsAreReplied) (runs : RunsHaveHistories) (histories : HistoriesAreOrderly) where
+module _ (told : RequestsAreReplied) (based : CheckpointsAreReplied) (runs : RunsHaveHistories) (histories : HistoriesAreOrderly) where
   orderly : (ms : List Move) → IsRun hosts ms → IsOrderly hosts (after_run hosts ms)
   orderly ms run = run_is_orderly runs histories ms run
 
@@ -22,7 +22,7 @@ module _ (told : RequestsAreReplied) (runs : RunsHaveHistories) (histories : His
     whole = subst (λ (ls : List (ℕ × Event)). IsRunOf ls (run ++ [])) (sym (append-nil first)) (subst (IsRunOf first) (sym (append-nil run)) is);
   }
   go_on (line ∷ rest) first run is =
-      let can : CanBePlayed told (course_of run) (orderly (moves_of run) is.moves) line.1 = can_be_played told (course_of run) (orderly (moves_of run) is.moves) line.1 in
+      let can : CanBePlayed told based (course_of run) (orderly (moves_of run) is.moves) line.1 = can_be_played told based (course_of run) (orderly (moves_of run) is.moves) line.1 in
       let one : Played = played line can.choice can.tells.0 in
       let so : Continues ((first ++ line ∷ []) ++ rest) (run ++ one ∷ []) =
       go_on rest (first ++ line ∷ []) (run ++ one ∷ []) (run_more first run line can.choice can.tells.0 is can.may_be can.tells.1) in

@@ -1,7 +1,7 @@
 -- Each event can be played: a choice may be made in it, and what is answered is told.
 use Rattle.std.proofs.Common.{◌≡◌, Bool, true, false, None, Option, Some, refl, sym, ap, subst, ℕ}
 use Rattle.std.specs.Prelude.{Err, IsSome, IsTrue, Ok, Result, if◌then◌else◌, is_some, length, not}
-use Rattle.mqb_replies.specs.Asked.{RequestsAreReplied}
+use Rattle.mqb_replies.specs.Asked.{CheckpointsAreReplied, RequestsAreReplied}
 use Rattle.mqb_packet.specs.declared.packet.Packet.{Packet}
 use Rattle.mqb_queue.specs.Places.{numbered}
 use Rattle.mqb_history.specs.Orderly.{IsOrderly}
@@ -11,7 +11,6 @@ use Rattle.mqb_model.specs.declared.faults.PumpFault.{PumpFault}
 use Rattle.mqb_model.specs.managers.Manager.{Manager, is_down}
 use Rattle.mqb_network.specs.Answers.{lines_at, only}
 use Rattle.mqb_network.specs.Changes.{dropped, ended, succeeded_at}
-use Rattle.mqb_network.specs.Checkpoints.{checkpoint}
 use Rattle.mqb_network.specs.Choices.{Choice, Lost, Well}
 use Rattle.mqb_network.specs.Connecting.{disconnect, resend_by}
 use Rattle.mqb_network.specs.Courses.{Course, course_from, moved}
@@ -23,7 +22,6 @@ use Rattle.mqb_network.specs.Replies as network
 use Rattle.mqb_network.specs.Restarting.{opened}
 use Rattle.mqb_network.specs.Runs.{answer, may}
 use Rattle.mqb_network.specs.Sending.{flow, flow_by}
-use Rattle.mqb_network.specs.lemmas.Checkpointing.{answers_near}
 use Rattle.mqb_runs.specs.Events.{event_of, window_of}
 use Rattle.mqb_runs.specs.Requests.{actor, request_of}
 use Rattle.mqb_runs.specs.lemmas.Asked.{asked_so}
@@ -34,7 +32,7 @@ use Rattle.mqb_script.specs.declared.events.Event.TheVariants as event
 use Rattle.mqb_script.specs.declared.managers.Which.{Which}
 use Rattle.mqb_traffic.specs.Networks.{index_of}
 use Rattle.mqb_transcript.specs.declared.replies.Reply.TheVariants as reply
-use Rattle.mqb_run_laws.proofs.Calls.{answered}
+use Rattle.mqb_run_laws.proofs.Calls.{answered, rewritten}
 use Rattle.mqb_run_laws.proofs.Connects.{connect_told}
 use Rattle.mqb_run_laws.proofs.Pumps.{pump_told}
 use Rattle.mqb_run_laws.proofs.Tellable.{IsTold}
@@ -80,9 +78,6 @@ flow_told i now c = by (pump (manager_at c.network i) now).answer
     by (Ok count) = (_, refl)
     by (Err why) = pump_told (manager_at c.network i) now (length c.network.notes) (lines_at i (pump (manager_at c.network i) now) c)
 
-checkpoint_told : (m : Manager) → IsTold (network.Checkpointed (checkpoint m false).answer)
-checkpoint_told m = answers_near (λ r. IsTold (network.Checkpointed r)) (reply.Done, refl) (reply.Down, refl) (reply.TooLarge, refl) m
-
 opened_told : (n : Network) (i : ℕ) → IsTold (opened n i)
 opened_told n i = by (is_down (manager_at n i))
   where
@@ -90,7 +85,7 @@ opened_told n i = by (is_down (manager_at n i))
     by true = (reply.OpenedLost, refl)
     by false = (reply.Opened, refl)
 
-module _ (law : RequestsAreReplied) (c : Course) (orderly : IsOrderly hosts c) where
+module _ (law : RequestsAreReplied) (based : CheckpointsAreReplied) (c : Course) (orderly : IsOrderly hosts c) where
   -- an event can be played
   pub record CanBePlayed (e : Event) : Type 0 where
     pub choice : Choice
@@ -119,7 +114,7 @@ module _ (law : RequestsAreReplied) (c : Course) (orderly : IsOrderly hosts c) w
   can_be_played (event.Drop packet) = goes_well (event.Drop packet) refl (drop_told packet (course_from c.network))
   can_be_played (event.Flow manager now) = goes_well (event.Flow manager now) refl (flow_told (index_of manager) now (course_from c.network))
   can_be_played (event.Resend manager) = goes_well (event.Resend manager) refl (resend_told (index_of manager) (course_from c.network))
-  can_be_played (event.Checkpoint manager) = goes_well (event.Checkpoint manager) refl (checkpoint_told (at manager))
+  can_be_played (event.Checkpoint manager) = goes_well (event.Checkpoint manager) refl (rewritten based (at manager))
   can_be_played (event.Arm manager call mode) = goes_well (event.Arm manager call mode) refl (reply.Armed, refl)
   can_be_played (event.Restart manager pick) = by (is_down (at manager)) refl
     where

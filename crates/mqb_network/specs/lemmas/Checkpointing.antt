@@ -1,7 +1,7 @@
 -- What a checkpoint comes to, by the reasons that are against it.
 use Rattle.std.proofs.Common.{ap, cond, refl, sym, ◌∙◌}
 use Rattle.std.proofs.lemmas.Bool.{true≢false}
-use Rattle.std.specs.Prelude.{◌≡◌, Bool, Err, None, Ok, Result, Some, false, true}
+use Rattle.std.specs.Prelude.{◌≡◌, Bool, Err, None, Result, Some, false, true}
 use Rattle.mqb_journal.specs.declared.faults.CheckpointFault.{CheckpointFault}
 use Rattle.mqb_journal.specs.declared.faults.CheckpointFault.TheVariants as fault
 use Rattle.mqb_model.specs.managers.Manager.{Manager, is_down}
@@ -23,15 +23,6 @@ unrecorded m far = at (is_down m) far (is_large m.state)
 pub refused_down : (m : Manager) (far : Bool) → is_down m ≡ true → checkpoint m far ≡ answering m (Err fault.Down)
 refused_down m far down =
     ap (λ (b : Bool). unless m (cond b (Some fault.Down) (cond far (Some fault.TooFar) (cond (is_large m.state) (Some fault.TooLarge) None))) (checkpoint_made m)) down
-
--- One whose store is not too far on answers one of these.
-pub answers_near : (P : Result (Unit {0}) CheckpointFault → Type 0) → P (Ok tt) → P (Err fault.Down) → P (Err fault.TooLarge) → (m : Manager) → P (checkpoint m false).answer
-answers_near P made down large m = at (is_down m) (is_large m.state)
-  where
-    at : (b c : Bool) → P (unless m (cond b (Some fault.Down) (cond c (Some fault.TooLarge) None)) (checkpoint_made m)).answer
-    at true c = down
-    at false true = large
-    at false false = made
 
 -- an answer says that the disk failed
 abbrev says_failed : Result (Unit {0}) CheckpointFault → Bool
