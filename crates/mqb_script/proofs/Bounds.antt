@@ -12,13 +12,13 @@ use Rattle.mqb_forms.proofs.Tests.{both}
 use Rattle.mqb_forms.proofs.Formed.{then_gives, choice_gives, number_bounds, IsSent, word_sent, AreFormed, ops_formed}
 use Rattle.mqb_script.specs.declared.faults.ScriptFault.{ScriptFault}
 use Rattle.mqb_script.specs.declared.forms.Form.{Form}
-use Rattle.mqb_script.specs.declared.forms.Form.TheVariants.{Queue, Commit, Send, Take, Purge, Tick, Connect, Disconnect, Pump, Deliver, Drop, Flow, Resend, Arm, Restart, Roll}
+use Rattle.mqb_script.specs.declared.forms.Form.TheVariants.{Queue, Commit, Send, Take, Purge, Tick, Connect, Disconnect, Pump, Deliver, Drop, Flow, Resend, Arm, Restart, Roll, Checkpoint}
 use Rattle.mqb_script.specs.declared.events.Event.{Event}
 use Rattle.mqb_script.specs.Lines.{words_of, is_skipped, is_printable, is_some_word, are_counted, event_of_words, event_of}
 use Rattle.mqb_script.specs.Script.{lines_of, numbered, script_from, script_of}
 use Rattle.mqb_script.specs.Managers.{manager_of}
 use Rattle.mqb_script.specs.Forms.{form_of, has_count}
-use Rattle.mqb_script.specs.Grammar.{at_of, queue_from, commit_from, sent_with, send_event, take_event, purge_from, tick_from, connect_from, disconnect_from, pump_from, deliver_from, drop_from, flow_from, resend_from, arm_from, restart_from, roll_from, event_from}
+use Rattle.mqb_script.specs.Grammar.{at_of, queue_from, commit_from, sent_with, send_event, take_event, purge_from, tick_from, connect_from, disconnect_from, pump_from, deliver_from, drop_from, flow_from, resend_from, arm_from, restart_from, roll_from, checkpoint_from, event_from}
 use Rattle.mqb_script.specs.Reading.{begun, line_count}
 use Rattle.mqb_script.specs.Formed.{IsFormed}
 
@@ -124,6 +124,11 @@ roll_formed (manager ∷ count ∷ []) =
     (λ most is. let bounds = number_bounds 1 MOST_ROLL most count is in (bounds.low, bounds.high)))
 roll_formed _ = tt
 
+checkpoint_formed : (words : List (List ℕ)) → IfOk (checkpoint_from words) IsFormed
+unfolding checkpoint_from
+checkpoint_formed (manager ∷ []) = then_gives IsFormed _ (manager_of manager) (λ which _. tt)
+checkpoint_formed _ = tt
+
 tick_formed : (words : List (List ℕ)) → IfOk (tick_from words) IsFormed
 unfolding tick_from
 tick_formed (manager ∷ now ∷ []) = then_gives IsFormed _ (at_of manager now) (λ at _. tt)
@@ -160,6 +165,7 @@ event_formed Resend words counted = resend_formed words
 event_formed Arm words counted = arm_formed words
 event_formed Restart words counted = restart_formed words
 event_formed Roll words counted = roll_formed words
+event_formed Checkpoint words counted = checkpoint_formed words
 
 has_its_count : (which : Form) (words : List (List ℕ)) → are_counted which words ≡ true → has_count which (length words) ≡ true
 unfolding are_counted

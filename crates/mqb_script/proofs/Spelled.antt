@@ -23,10 +23,10 @@ use Rattle.mqb_script.specs.declared.managers.Which.{Which}
 use Rattle.mqb_script.specs.declared.forms.Form.{Form}
 use Rattle.mqb_script.specs.declared.forms.Form.TheVariants as form
 use Rattle.mqb_script.specs.declared.events.Event.{Event}
-use Rattle.mqb_script.specs.declared.events.Event.TheVariants.{Queue, Commit, Send, Take, Purge, Tick, Connect, Disconnect, Pump, Deliver, Drop, Flow, Resend, Arm, Restart, Roll}
+use Rattle.mqb_script.specs.declared.events.Event.TheVariants.{Queue, Commit, Send, Take, Purge, Tick, Connect, Disconnect, Pump, Deliver, Drop, Flow, Resend, Arm, Restart, Roll, Checkpoint}
 use Rattle.mqb_script.specs.Managers.{host_of}
 use Rattle.mqb_script.specs.Forms.{word_of, has_count}
-use Rattle.mqb_script.specs.Grammar.{queue_from, commit_from, sent_with, send_event, take_event, purge_from, tick_from, connect_from, disconnect_from, pump_from, deliver_from, drop_from, flow_from, resend_from, arm_from, restart_from, roll_from, event_from}
+use Rattle.mqb_script.specs.Grammar.{queue_from, commit_from, sent_with, send_event, take_event, purge_from, tick_from, connect_from, disconnect_from, pump_from, deliver_from, drop_from, flow_from, resend_from, arm_from, restart_from, roll_from, checkpoint_from, event_from}
 use Rattle.mqb_script.specs.Lines.{is_skipped, event_of}
 use Rattle.mqb_script.specs.Spelling.{choice_text, mode_text, pick_text, place_text, public_words, op_text, words_from, line_of, IsTold, IsSpelledOp, IsPlaceName, IsSpelled}
 use Rattle.mqb_script.proofs.Decimals.{number_up_to, number_back}
@@ -178,8 +178,8 @@ drop_back : (packet : ℕ) → 1 ≤ packet → packet ≤ MOST → drop_from (d
 unfolding drop_from
 drop_back packet some p = rw (number_back 1 packet some p) refl
 
-resend_words : (which : Which) → are_words (host_of which ∷ []) ≡ true
-resend_words which = rw (host_word which) refl
+host_words : (which : Which) → are_words (host_of which ∷ []) ≡ true
+host_words which = rw (host_word which) refl
 
 resend_back : (which : Which) → resend_from (host_of which ∷ []) ≡ Ok (Resend which)
 unfolding resend_from
@@ -207,6 +207,10 @@ roll_words which count most = rw (host_word which, number_word count (omega arit
 roll_back : (which : Which) (count : ℕ) → 1 ≤ count → count ≤ MOST_ROLL → roll_from (host_of which ∷ decimal count ∷ []) ≡ Ok (Roll which count)
 unfolding roll_from
 roll_back which count some most = rw (manager_back which, number_up_to 1 MOST_ROLL count some most (omega arith)) refl
+
+checkpoint_back : (which : Which) → checkpoint_from (host_of which ∷ []) ≡ Ok (Checkpoint which)
+unfolding checkpoint_from
+checkpoint_back which = rw (manager_back which) refl
 
 -- Every event that a line can tell.
 
@@ -249,7 +253,7 @@ read_back (IsSpelled.drop packet some p) =
 read_back (IsSpelled.flow which now most) =
     line_back form.Flow (host_of which ∷ decimal now ∷ []) (Flow which now) (at_words which now most) refl (flow_back which now most)
 read_back (IsSpelled.resend which) =
-    line_back form.Resend (host_of which ∷ []) (Resend which) (resend_words which) refl (resend_back which)
+    line_back form.Resend (host_of which ∷ []) (Resend which) (host_words which) refl (resend_back which)
 read_back (IsSpelled.arm which call mode some most) =
     line_back form.Arm (host_of which ∷ decimal call ∷ mode_text mode ∷ []) (Arm which call mode) (arm_words which call mode most) refl
     (arm_back which call mode some most)
@@ -257,6 +261,8 @@ read_back (IsSpelled.restart which pick) =
     line_back form.Restart (host_of which ∷ pick_text pick ∷ []) (Restart which pick) (restart_words which pick) refl (restart_back which pick)
 read_back (IsSpelled.roll which count some most) =
     line_back form.Roll (host_of which ∷ decimal count ∷ []) (Roll which count) (roll_words which count most) refl (roll_back which count some most)
+read_back (IsSpelled.checkpoint which) =
+    line_back form.Checkpoint (host_of which ∷ []) (Checkpoint which) (host_words which) refl (checkpoint_back which)
 
 -- the first word begins with a letter
 kept_line : (b : ℕ) (word : List ℕ) (words : List (List ℕ)) → (b == 0x23) ≡ false → is_skipped (join_with_byte 32 ((b ∷ word) ∷ words)) ≡ false
@@ -280,6 +286,7 @@ form_kept form.Resend words = kept_line 114 (codes "esend") words refl
 form_kept form.Arm words = kept_line 97 (codes "rm") words refl
 form_kept form.Restart words = kept_line 114 (codes "estart") words refl
 form_kept form.Roll words = kept_line 114 (codes "oll") words refl
+form_kept form.Checkpoint words = kept_line 99 (codes "heckpoint") words refl
 
 pub line_kept : (event : Event) → is_skipped (line_of event) ≡ false
 line_kept (Queue which plan) = form_kept form.Queue (drop 1 (words_from (Queue which plan)))
@@ -298,6 +305,7 @@ line_kept (Resend which) = form_kept form.Resend (drop 1 (words_from (Resend whi
 line_kept (Arm which call mode) = form_kept form.Arm (drop 1 (words_from (Arm which call mode)))
 line_kept (Restart which pick) = form_kept form.Restart (drop 1 (words_from (Restart which pick)))
 line_kept (Roll which count) = form_kept form.Roll (drop 1 (words_from (Roll which count)))
+line_kept (Checkpoint which) = form_kept form.Checkpoint (drop 1 (words_from (Checkpoint which)))
 
 same_event : (a b : Event) (r s : Result Event LineKind) → r ≡ Ok a → s ≡ Ok b → r ≡ s → a ≡ b
 same_event a b r s is_a is_b same = cc

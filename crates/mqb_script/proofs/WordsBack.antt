@@ -122,6 +122,7 @@ form_word form.Resend = refl
 form_word form.Arm = refl
 form_word form.Restart = refl
 form_word form.Roll = refl
+form_word form.Checkpoint = refl
 
 form_back : (f : Form) → form_of (word_of f) ≡ Ok f
 unfolding form_of
@@ -141,6 +142,7 @@ form_back form.Resend = refl
 form_back form.Arm = refl
 form_back form.Restart = refl
 form_back form.Roll = refl
+form_back form.Checkpoint = refl
 
 counted_words : (f : Form) (words : List (List ℕ)) → are_words words ≡ true → has_count f (length words) ≡ true → are_counted f words ≡ true
 unfolding are_counted

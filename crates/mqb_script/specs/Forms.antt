@@ -4,10 +4,10 @@ use Rattle.mqb_base.specs.Same.{same_bytes}
 use Rattle.mqb_forms.specs.declared.faults.LineKind.{LineKind}
 use Rattle.mqb_forms.specs.declared.faults.LineKind.TheVariants.{Word}
 use Rattle.mqb_script.specs.declared.forms.Form.{Form}
-use Rattle.mqb_script.specs.declared.forms.Form.TheVariants.{Queue, Commit, Send, Take, Purge, Tick, Connect, Disconnect, Pump, Deliver, Drop, Flow, Resend, Arm, Restart, Roll}
+use Rattle.mqb_script.specs.declared.forms.Form.TheVariants.{Queue, Commit, Send, Take, Purge, Tick, Connect, Disconnect, Pump, Deliver, Drop, Flow, Resend, Arm, Restart, Roll, Checkpoint}
 
 abbrev pub forms : List Form
-forms = Queue ∷ Commit ∷ Send ∷ Take ∷ Purge ∷ Tick ∷ Connect ∷ Disconnect ∷ Pump ∷ Deliver ∷ Drop ∷ Flow ∷ Resend ∷ Arm ∷ Restart ∷ Roll ∷ []
+forms = Queue ∷ Commit ∷ Send ∷ Take ∷ Purge ∷ Tick ∷ Connect ∷ Disconnect ∷ Pump ∷ Deliver ∷ Drop ∷ Flow ∷ Resend ∷ Arm ∷ Restart ∷ Roll ∷ Checkpoint ∷ []
 
 -- the first word of a line of a form
 abbrev pub word_of : Form → List ℕ
@@ -27,6 +27,7 @@ word_of Resend = codes "resend"
 word_of Arm = codes "arm"
 word_of Restart = codes "restart"
 word_of Roll = codes "roll"
+word_of Checkpoint = codes "checkpoint"
 
 abbrev pub form_among : List Form → List ℕ → Option Form
 form_among among word = find (λ form. same_bytes (word_of form) word) among
@@ -52,3 +53,4 @@ has_count Resend n = n == 1
 has_count Arm n = n == 3
 has_count Restart n = n == 2
 has_count Roll n = n == 2
+has_count Checkpoint n = n == 1

@@ -10,7 +10,7 @@ use Rattle.mqb_script.specs.declared.managers.Which.{Which}
 use Rattle.mqb_script.specs.declared.forms.Form.{Form}
 use Rattle.mqb_script.specs.declared.forms.Form.TheVariants as form
 use Rattle.mqb_script.specs.declared.events.Event.{Event}
-use Rattle.mqb_script.specs.declared.events.Event.TheVariants.{Queue, Commit, Send, Take, Purge, Tick, Connect, Disconnect, Pump, Deliver, Drop, Flow, Resend, Arm, Restart, Roll}
+use Rattle.mqb_script.specs.declared.events.Event.TheVariants.{Queue, Commit, Send, Take, Purge, Tick, Connect, Disconnect, Pump, Deliver, Drop, Flow, Resend, Arm, Restart, Roll, Checkpoint}
 use Rattle.mqb_script.specs.Managers.{manager_of}
 
 -- a manager and a moment
@@ -131,6 +131,12 @@ roll_from (manager ∷ count ∷ []) = do
   Ok (Roll which most)
 roll_from _ = Err Value
 
+unfoldable pub checkpoint_from : List (List ℕ) → Result Event LineKind
+checkpoint_from (manager ∷ []) = do
+  which ← manager_of manager
+  Ok (Checkpoint which)
+checkpoint_from _ = Err Value
+
 -- the event that the words of a form describe
 unfoldable pub event_from : Form → List (List ℕ) → Result Event LineKind
 event_from form.Queue words = queue_from words
@@ -149,3 +155,4 @@ event_from form.Resend words = resend_from words
 event_from form.Arm words = arm_from words
 event_from form.Restart words = restart_from words
 event_from form.Roll words = roll_from words
+event_from form.Checkpoint words = checkpoint_from words

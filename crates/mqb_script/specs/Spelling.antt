@@ -23,7 +23,7 @@ use Rattle.mqb_forms.specs.Sends.{AreQueues, flags_text, is_body_byte, is_starre
 use Rattle.mqb_script.specs.declared.managers.Which.{Which}
 use Rattle.mqb_script.specs.declared.forms.Form.TheVariants as form
 use Rattle.mqb_script.specs.declared.events.Event.{Event}
-use Rattle.mqb_script.specs.declared.events.Event.TheVariants.{Queue, Commit, Send, Take, Purge, Tick, Connect, Disconnect, Pump, Deliver, Drop, Flow, Resend, Arm, Restart, Roll}
+use Rattle.mqb_script.specs.declared.events.Event.TheVariants.{Queue, Commit, Send, Take, Purge, Tick, Connect, Disconnect, Pump, Deliver, Drop, Flow, Resend, Arm, Restart, Roll, Checkpoint}
 use Rattle.mqb_script.specs.Managers.{host_of}
 use Rattle.mqb_script.specs.Forms.{word_of}
 
@@ -88,6 +88,7 @@ words_from (Resend manager) = word_of form.Resend ∷ host_of manager ∷ []
 words_from (Arm manager call mode) = word_of form.Arm ∷ host_of manager ∷ decimal call ∷ mode_text mode ∷ []
 words_from (Restart manager pick) = word_of form.Restart ∷ host_of manager ∷ pick_text pick ∷ []
 words_from (Roll manager count) = word_of form.Roll ∷ host_of manager ∷ decimal count ∷ []
+words_from (Checkpoint manager) = word_of form.Checkpoint ∷ host_of manager ∷ []
 
 -- the line of an event
 abbrev pub line_of : Event → List ℕ
@@ -138,3 +139,4 @@ pub data IsSpelled : Event → Type 0 where
   arm : (manager : Which) (call : ℕ) (mode : Mode) → 1 ≤ call → call ≤ MOST_CALL → IsSpelled (Arm manager call mode)
   restart : (manager : Which) (pick : Pick) → IsSpelled (Restart manager pick)
   roll : (manager : Which) (count : ℕ) → 1 ≤ count → count ≤ MOST_ROLL → IsSpelled (Roll manager count)
+  checkpoint : (manager : Which) → IsSpelled (Checkpoint manager)

@@ -89,4 +89,8 @@ pub enum Event {
         manager: Which,
         count: u32,
     },
+    /// `checkpoint M`
+    Checkpoint {
+        manager: Which,
+    },
 }

@@ -24,9 +24,10 @@ pub enum Form {
     Arm,
     Restart,
     Roll,
+    Checkpoint,
 }
 
-const FORMS: [Form; 16] = [
+const FORMS: [Form; 17] = [
     Form::Queue,
     Form::Commit,
     Form::Send,
@@ -43,6 +44,7 @@ const FORMS: [Form; 16] = [
     Form::Arm,
     Form::Restart,
     Form::Roll,
+    Form::Checkpoint,
 ];
 
 impl Form {
@@ -66,6 +68,7 @@ impl Form {
             Form::Arm => b"arm",
             Form::Restart => b"restart",
             Form::Roll => b"roll",
+            Form::Checkpoint => b"checkpoint",
         }
     }
 
@@ -81,7 +84,7 @@ impl Form {
             Form::Take | Form::Purge | Form::Arm => count == 3,
             Form::Tick | Form::Pump | Form::Deliver | Form::Flow | Form::Restart | Form::Roll =>
                 count == 2,
-            Form::Drop | Form::Resend => count == 1,
+            Form::Drop | Form::Resend | Form::Checkpoint => count == 1,
             Form::Disconnect => count == 0,
         }
     }

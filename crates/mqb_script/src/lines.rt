@@ -3,7 +3,7 @@ ghost use Rattle.std.specs.List.{list_all};
 ghost use Rattle.mqb_forms.specs.Faults.{Adds, Reads};
 ghost use Rattle.mqb_forms.specs.Plans.{public_of, plan_of, how_of};
 ghost use Rattle.mqb_script.specs.Lines.{words_of, is_skipped, is_printable, is_some_word, are_counted, event_of_words, event_of};
-ghost use Rattle.mqb_script.specs.Grammar.{at_of, queue_from, commit_from, sent_with, send_event, take_event, purge_from, tick_from, connect_from, disconnect_from, pump_from, deliver_from, drop_from, flow_from, resend_from, arm_from, restart_from, roll_from, event_from};
+ghost use Rattle.mqb_script.specs.Grammar.{at_of, queue_from, commit_from, sent_with, send_event, take_event, purge_from, tick_from, connect_from, disconnect_from, pump_from, deliver_from, drop_from, flow_from, resend_from, arm_from, restart_from, roll_from, checkpoint_from, event_from};
 
 use crate::events::Event;
 use crate::forms::{Form, form_of};
@@ -246,6 +246,17 @@ fn roll_from(words: &[&[u8]]) -> Result<Event, LineKind>
     Ok(Event::Roll { manager, count })
 }
 
+#[tactic(auto, unfolding(crate::specs::Grammar::checkpoint_from))]
+fn checkpoint_from(words: &[&[u8]]) -> Result<Event, LineKind>
+    ensures { result ≡ checkpoint_from (map (λ word. word.now) words.now) }
+{
+    let [manager] = words else {
+        return Err(LineKind::Value);
+    };
+    let manager = manager_of(manager)?;
+    Ok(Event::Checkpoint { manager })
+}
+
 /// Adds the event of a line of this form, from the words behind the first one.
 #[tactic(auto, unfolding(crate::specs::Grammar::event_from))]
 fn add_from(
@@ -275,6 +286,7 @@ fn add_from(
         Form::Arm => arm_from(words)?,
         Form::Restart => restart_from(words)?,
         Form::Roll => roll_from(words)?,
+        Form::Checkpoint => checkpoint_from(words)?,
     };
     script.push(number, event)?;
     Ok(())
