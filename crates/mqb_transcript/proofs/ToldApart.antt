@@ -19,6 +19,7 @@ read_from text = if same_bytes text (codes "stopped") then Told.stopped
     else if same_bytes text (codes "failed") then Told.failed
     else if starts_with ◌==◌ text (codes "opened kept") then Told.kept
     else if same_bytes text (codes "opened lost") then Told.lost
+    else if same_bytes text (codes "toofar") then Told.far
     else Told.answered
 
 heard_told : (hosts : List Identity) (h : Heard) (lines : List Line) → read_from (heard_reply hosts h lines) ≡ Told.answered
@@ -58,6 +59,7 @@ reply_told hosts reply.TooManyQueues = refl
 reply_told hosts (reply.Committed lines) = refl
 reply_told hosts reply.TooManyOps = refl
 reply_told hosts reply.TooLarge = refl
+reply_told hosts reply.TooFar = refl
 reply_told hosts reply.NumbersSpent = refl
 reply_told hosts (reply.NoQueue op) = refl
 reply_told hosts (reply.NotTransactional op) = refl

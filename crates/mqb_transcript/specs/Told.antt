@@ -8,12 +8,13 @@ use Rattle.mqb_transcript.specs.declared.arrivals.Outcome.TheVariants as outcome
 use Rattle.mqb_transcript.specs.declared.replies.Reply.{Reply}
 use Rattle.mqb_transcript.specs.declared.replies.Reply.TheVariants as reply
 
--- whether a disk stopped or failed, whether the record of a call that failed was kept or lost, or none of these
+-- whether a disk stopped or failed, whether the record of a call that failed was kept or lost, whether a store was too far on, or none of these
 pub data Told : Type 0 where
   stopped : Told
   failed : Told
   kept : Told
   lost : Told
+  far : Told
   answered : Told
 
 abbrev pub told : Reply → Told
@@ -21,6 +22,7 @@ told reply.Stopped = Told.stopped
 told reply.Failed = Told.failed
 told (reply.OpenedKept lines) = Told.kept
 told reply.OpenedLost = Told.lost
+told reply.TooFar = Told.far
 told _ = Told.answered
 
 -- the same of a packet that was delivered in its turn

@@ -7,7 +7,7 @@ ghost use Rattle.mqb_transcript.specs.declared.replies.Reply.TheVariants.{Flowed
 ghost use Rattle.mqb_transcript.specs.Texts.{outcome_text, reply_text};
 ghost use Rattle.mqb_transcript.specs.Told.{told, told_of, told_in_turn, HaveNoColon};
 
-/// A law of the texts: they tell apart what a script does not determine, which is stops and failures, and records that were kept and lost.
+/// A law of the texts: they tell apart what a script does not determine, which is stops and failures, records that were kept and lost, and stores that are too far on.
 pub fn texts_tell_apart()
     ensures reply { (hosts : List Identity) (a b : Reply) →
         reply_text hosts a ≡ reply_text hosts b → told a ≡ told b }

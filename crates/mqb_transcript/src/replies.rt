@@ -22,8 +22,10 @@ pub enum Reply {
     Committed { lines: Listed<Line> },
     /// `toomanyops`: a transaction has more steps than it may have
     TooManyOps,
-    /// `toolarge`: a packet or a record would be longer than it may be
+    /// `toolarge`: a packet, a record or a base would be longer than it may be
     TooLarge,
+    /// `toofar`: the store is too far on for another base
+    TooFar,
     /// `numbersspent`: no message number is left
     NumbersSpent,
     /// `noqueue`

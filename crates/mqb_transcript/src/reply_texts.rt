@@ -36,6 +36,7 @@ fn words_text(reply: &Reply) -> &'static [u8]
         Reply::TooManyQueues => b"toomanyqueues",
         Reply::TooManyOps => b"toomanyops",
         Reply::TooLarge => b"toolarge",
+        Reply::TooFar => b"toofar",
         Reply::NumbersSpent => b"numbersspent",
         Reply::Transactional => b"transactional",
         Reply::Linked => b"linked",
