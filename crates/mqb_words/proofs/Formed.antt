@@ -201,6 +201,7 @@ command_good form.Take words = calling_good words (take_from words) (take_good w
 command_good form.Purge words = calling_good words (purge_from words) (purge_good words)
 command_good form.Tick words = calling_good words (tick_from words) (tick_good words)
 command_good form.Roll words = calling_good words (roll_from words) (roll_good words)
+command_good form.Checkpoint words = of_store_good command.Checkpoint words tt
 command_good form.List words = of_store_good command.List words tt
 command_good form.Peek words = peek_good words
 command_good form.Probe words = of_store_good command.Probe words tt

@@ -11,6 +11,7 @@ has_store (command.Trial orders) = false
 has_store command.Show = false
 has_store (command.Init identity) = true
 has_store (command.Call call) = true
+has_store command.Checkpoint = true
 has_store command.List = true
 has_store (command.Peek place count) = true
 has_store command.Probe = true

@@ -8,7 +8,8 @@ use Rattle.mqb_words.specs.declared.forms.Form.TheVariants as form
 
 abbrev pub forms : List Form
 forms = form.Replay ∷ form.Make ∷ form.Trial ∷ form.Show ∷ form.Init ∷ form.Peer ∷ form.Create ∷ form.Send ∷ form.Commit ∷ form.Take ∷ form.Purge
-    ∷ form.Tick ∷ form.Roll ∷ form.List ∷ form.Peek ∷ form.Probe ∷ form.Serve ∷ form.Attend ∷ form.Push ∷ form.Fetch ∷ form.Help ∷ form.Version ∷ []
+    ∷ form.Tick ∷ form.Roll ∷ form.Checkpoint ∷ form.List ∷ form.Peek ∷ form.Probe ∷ form.Serve ∷ form.Attend ∷ form.Push ∷ form.Fetch ∷ form.Help
+    ∷ form.Version ∷ []
 
 abbrev pub word_of : Form → List ℕ
 word_of form.Replay = codes "replay"
@@ -24,6 +25,7 @@ word_of form.Take = codes "take"
 word_of form.Purge = codes "purge"
 word_of form.Tick = codes "tick"
 word_of form.Roll = codes "roll"
+word_of form.Checkpoint = codes "checkpoint"
 word_of form.List = codes "list"
 word_of form.Peek = codes "peek"
 word_of form.Probe = codes "probe"

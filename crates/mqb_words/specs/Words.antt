@@ -104,6 +104,7 @@ command_with form.Take words = calling (take_from words)
 command_with form.Purge words = calling (purge_from words)
 command_with form.Tick words = calling (tick_from words)
 command_with form.Roll words = calling (roll_from words)
+command_with form.Checkpoint words = of_store command.Checkpoint words
 command_with form.List words = of_store command.List words
 command_with form.Peek words = peek_from words
 command_with form.Probe words = of_store command.Probe words

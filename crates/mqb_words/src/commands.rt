@@ -25,6 +25,8 @@ pub enum Command {
         identity: Identity,
     },
     Call(Call),
+    /// `checkpoint STORE`
+    Checkpoint,
     /// `list STORE`
     List,
     /// `peek STORE PLACE [COUNT]`, 1 where there is no count
@@ -88,6 +90,7 @@ impl Command {
         match self {
             Command::Init { .. }
             | Command::Call(_)
+            | Command::Checkpoint
             | Command::List
             | Command::Peek { .. }
             | Command::Probe

@@ -22,6 +22,7 @@ pub enum Form {
     Purge,
     Tick,
     Roll,
+    Checkpoint,
     List,
     Peek,
     Probe,
@@ -33,7 +34,7 @@ pub enum Form {
     Version,
 }
 
-const FORMS: [Form; 22] = [
+const FORMS: [Form; 23] = [
     Form::Replay,
     Form::Make,
     Form::Trial,
@@ -47,6 +48,7 @@ const FORMS: [Form; 22] = [
     Form::Purge,
     Form::Tick,
     Form::Roll,
+    Form::Checkpoint,
     Form::List,
     Form::Peek,
     Form::Probe,
@@ -76,6 +78,7 @@ impl Form {
             Form::Purge => b"purge",
             Form::Tick => b"tick",
             Form::Roll => b"roll",
+            Form::Checkpoint => b"checkpoint",
             Form::List => b"list",
             Form::Peek => b"peek",
             Form::Probe => b"probe",
@@ -107,6 +110,7 @@ impl Form {
             Form::Purge => b"purge STORE orders",
             Form::Tick => b"tick STORE",
             Form::Roll => b"roll STORE 1000",
+            Form::Checkpoint => b"checkpoint STORE",
             Form::List => b"list STORE",
             Form::Peek => b"peek STORE orders 1",
             Form::Probe => b"probe STORE",

@@ -146,6 +146,7 @@ fn command_with(alloc: Global, form: Form, words: &[&[u8]]) -> Result<Command, L
         Form::Purge => Ok(Command::Call(purge_from(alloc, words)?)),
         Form::Tick => Ok(Command::Call(tick_from(words)?)),
         Form::Roll => Ok(Command::Call(roll_from(words)?)),
+        Form::Checkpoint => Ok(of_store(Command::Checkpoint, words)?),
         Form::List => Ok(of_store(Command::List, words)?),
         Form::Peek => peek_from(alloc, words),
         Form::Probe => Ok(of_store(Command::Probe, words)?),
