@@ -1,5 +1,7 @@
 -- What is replied where a manager refuses a call: a reply, or why there is none.
 use Rattle.std.specs.Prelude.{Err, None, Ok, Result, Some, ℕ}
+use Rattle.mqb_journal.specs.declared.faults.CheckpointFault.{CheckpointFault}
+use Rattle.mqb_journal.specs.declared.faults.CheckpointFault.TheVariants as checkpoint
 use Rattle.mqb_model.specs.declared.faults.CommitFault.{CommitFault}
 use Rattle.mqb_model.specs.declared.faults.CommitFault.TheVariants as commit
 use Rattle.mqb_model.specs.declared.faults.CreateFault.{CreateFault}
@@ -74,3 +76,12 @@ abbrev pub store_fault_reply : StoreFault → Result Reply AnswerFault
 store_fault_reply store.Down = Ok reply.Down
 store_fault_reply store.Memory = Err Memory
 store_fault_reply store.DiskFault = Err DiskFault
+
+-- what is replied to a checkpoint, which has no lines
+abbrev pub checkpoint_reply : Result (Unit {0}) CheckpointFault → Result Reply AnswerFault
+checkpoint_reply (Ok done) = Ok reply.Done
+checkpoint_reply (Err checkpoint.Down) = Ok reply.Down
+checkpoint_reply (Err checkpoint.TooFar) = Ok reply.TooFar
+checkpoint_reply (Err checkpoint.TooLarge) = Ok reply.TooLarge
+checkpoint_reply (Err checkpoint.Memory) = Err Memory
+checkpoint_reply (Err checkpoint.DiskFault) = Err DiskFault

@@ -13,4 +13,5 @@ mod requests;
 pub use faults::AnswerFault;
 pub use laws::requests_are_replied;
 pub use lines::{lines_since, listed};
+pub use replies::checkpoint_reply;
 pub use requests::{Answer, Request, ask, reply_of};

@@ -1,8 +1,9 @@
 //! Each refusal has its reply.
 ghost use Rattle.std.specs.Prelude.{◌≡◌};
-ghost use Rattle.mqb_replies.specs.Replies.{commit_fault_reply, create_fault_reply, op_reply, purge_fault_reply, send_fault_reply, store_fault_reply, take_fault_reply};
+ghost use Rattle.mqb_replies.specs.Replies.{checkpoint_reply, commit_fault_reply, create_fault_reply, op_reply, purge_fault_reply, send_fault_reply, store_fault_reply, take_fault_reply};
 
 use crate::faults::AnswerFault;
+use mqb_manager::CheckpointFault;
 use mqb_model::{CommitFault, CreateFault, OpFault, PurgeFault, SendFault, StoreFault, TakeFault};
 use mqb_transcript::Reply;
 
@@ -93,5 +94,19 @@ pub(crate) fn store_fault_reply(fault: StoreFault) -> Result<Reply, AnswerFault>
         StoreFault::Down => Ok(Reply::Down),
         StoreFault::Memory => Err(AnswerFault::Memory),
         StoreFault::DiskFault => Err(AnswerFault::DiskFault),
+    }
+}
+
+/// What is replied to a checkpoint.
+pub fn checkpoint_reply(given: Result<(), CheckpointFault>) -> Result<Reply, AnswerFault>
+    ensures { result ≡ checkpoint_reply given }
+{
+    match given {
+        Ok(()) => Ok(Reply::Done),
+        Err(CheckpointFault::Down) => Ok(Reply::Down),
+        Err(CheckpointFault::TooFar) => Ok(Reply::TooFar),
+        Err(CheckpointFault::TooLarge) => Ok(Reply::TooLarge),
+        Err(CheckpointFault::Memory) => Err(AnswerFault::Memory),
+        Err(CheckpointFault::DiskFault) => Err(AnswerFault::DiskFault),
     }
 }
