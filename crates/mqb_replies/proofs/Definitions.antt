@@ -42,8 +42,10 @@ use Rattle.mqb_model.specs.records.Record as entry
 use Rattle.mqb_model.specs.rules.Takes.{message_at}
 use Rattle.mqb_model.specs.state.Resolving.{resolved}
 use Rattle.mqb_model.specs.state.State.{State}
-use Rattle.mqb_replies.specs.Asked.{RequestsAreReplied}
-use Rattle.mqb_replies.specs.Replies.{op_reply}
+use Rattle.mqb_journal.specs.declared.faults.CheckpointFault.TheVariants as base_fault
+use Rattle.mqb_store_laws.specs.Checkpoints.{checkpoint_made, is_large}
+use Rattle.mqb_replies.specs.Asked.{CheckpointsAreReplied, RequestsAreReplied}
+use Rattle.mqb_replies.specs.Replies.{checkpoint_reply, op_reply}
 use Rattle.mqb_replies.specs.Requests.{reply_of}
 use Rattle.mqb_replies.specs.declared.faults.AnswerFault.{AnswerFault}
 use Rattle.mqb_transcript.specs.declared.replies.Reply.{Reply}
@@ -182,15 +184,28 @@ requests_are_replied m (calls.Take now place) lines = take_is_told m now lines (
 requests_are_replied m (calls.Purge now place) lines = purge_is_told m now lines (is_down m) (place_named m.state.places.queues place)
 requests_are_replied m (calls.Tick now) lines = tick_is_told m now lines (is_down m)
 
+-- A checkpoint.
+
+pub checkpoints_are_replied : CheckpointsAreReplied
+checkpoints_are_replied m far = at (is_down m) far (is_large m.state)
+  where
+    at : (down far large : Bool)
+        → IsOk (checkpoint_reply (unless m (if down then Some base_fault.Down else if far then Some base_fault.TooFar else if large then Some base_fault.TooLarge else None) (checkpoint_made m)).answer)
+    at true far large = refl
+    at false true large = refl
+    at false false true = refl
+    at false false false = refl
+
 -- Each answer.
 
--- a reply tells how a disk failed, or what was found on it
+-- a reply tells how a disk failed, what was found on it, or that it was too far on
 abbrev pub tells_of_disk : Reply → Bool
 tells_of_disk reply.Stopped = true
 tells_of_disk reply.Failed = true
 tells_of_disk (reply.Flowed arrivals) = true
 tells_of_disk (reply.OpenedKept lines) = true
 tells_of_disk reply.OpenedLost = true
+tells_of_disk reply.TooFar = true
 tells_of_disk _ = false
 
 -- two replies, the latter of which tells of no disk, or the same fault

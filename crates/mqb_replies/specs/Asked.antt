@@ -1,5 +1,5 @@
 -- What a request is to a manager and its disk.
-use Rattle.std.specs.Prelude.{[], ◌≡◌, Err, IfSome, IsOk, List, None, Ok, Result, true}
+use Rattle.std.specs.Prelude.{[], ◌≡◌, Bool, Err, IfSome, IsOk, List, None, Ok, Result, true}
 use Rattle.std.specs.Result.{result_and}
 use Rattle.mqb_base.specs.declared.ledger.Line.{Line}
 use Rattle.mqb_manager.specs.Calls.{IsCall}
@@ -8,6 +8,8 @@ use Rattle.mqb_model.specs.calls.Call.{Answer, Request, requested}
 use Rattle.mqb_model.specs.managers.Manager.{Manager}
 use Rattle.mqb_model.specs.managers.Outcomes.{Outcome}
 use Rattle.mqb_outside.specs.Disk.{Counted, View}
+use Rattle.mqb_store_laws.specs.Checkpoints.{checkpoint}
+use Rattle.mqb_replies.specs.Replies.{checkpoint_reply}
 use Rattle.mqb_replies.specs.Requests.{is_done, reply_of}
 use Rattle.mqb_replies.specs.declared.faults.AnswerFault.{AnswerFault}
 use Rattle.mqb_replies.specs.declared.faults.AnswerFault.TheVariants as fault
@@ -42,3 +44,7 @@ pub record IsAsked (d e : View) (kept : Type 0) (m n : ManagerState) (o : Outcom
 -- No definition answers a fault of the machine: there is a reply to what each request comes to.
 abbrev pub RequestsAreReplied : Type 0
 RequestsAreReplied = (m : Manager) (request : Request) (lines : List Line) → IsOk (reply_of (requested m request).answer lines)
+
+-- Nor does the one of a checkpoint.
+abbrev pub CheckpointsAreReplied : Type 0
+CheckpointsAreReplied = (m : Manager) (far : Bool) → IsOk (checkpoint_reply (checkpoint m far).answer)

@@ -11,7 +11,7 @@ mod replies;
 mod requests;
 
 pub use faults::AnswerFault;
-pub use laws::requests_are_replied;
+pub use laws::{checkpoints_are_replied, requests_are_replied};
 pub use lines::{lines_since, listed};
 pub use replies::checkpoint_reply;
 pub use requests::{Answer, Request, ask, reply_of};
