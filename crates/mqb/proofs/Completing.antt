@@ -5,6 +5,7 @@ use Rattle.mqb_base.specs.declared.queues.Place.{Place}
 use Rattle.mqb_answers.specs.declared.told.CallEnd.{CallEnd}
 use Rattle.mqb_answers.specs.declared.told.CallEnd.TheVariants as call
 use Rattle.mqb_commands.specs.Called.{Calls, CallsAt, status_of}
+use Rattle.mqb_commands.specs.Checkpointed.{Checkpoints, end_of}
 use Rattle.mqb_commands.specs.Opened.{IsNotOpened}
 use Rattle.mqb_commands.specs.Peeked.{Peeks}
 use Rattle.mqb_commands.specs.Said.{Inits, Lists, Makes}
@@ -85,6 +86,16 @@ calls_ends asked now d e text end (inl answered) calm = inl (λ sound. subst IsA
 calls_ends asked now d e text end (inr (inl broken)) calm = absurd (calm broken.1.rose)
 calls_ends asked now d e text end (inr (inr (inl none))) calm = inr none.0
 calls_ends asked now d e text end (inr (inr (inr failed))) calm = not_opened_ends IsAnswer d e end failed.0 calm
+
+replied_ends : {V E : Type 0} (given : Result V E) → IsAnswer (end_of given)
+replied_ends (Ok done) = inl refl
+replied_ends (Err why) = inr refl
+
+checkpoints_ends : (d e : View) (text : List ℕ) (end : Status) → Checkpoints d e text end → (Rose d.faults e.faults → ⊥) → Unless (λ r. IsSound d → IsAnswer r) end
+checkpoints_ends d e text end (inl rewritten) calm = inl (λ sound. subst IsAnswer (sym rewritten.ended) (replied_ends _))
+checkpoints_ends d e text end (inr (inl cut)) calm = absurd (calm cut.1.rose)
+checkpoints_ends d e text end (inr (inr (inl none))) calm = inr none.0
+checkpoints_ends d e text end (inr (inr (inr failed))) calm = not_opened_ends IsAnswer d e end failed.0 calm
 
 peeks_ends : (place : Place) (count : ℕ) (steady : Option ℕ) (d e : View) (text : List ℕ) (end : Status) → Peeks place count steady d e text end
     → (Rose d.faults e.faults → ⊥) → Unless (λ r. IsSound d → IsAnswer r) end
@@ -186,6 +197,12 @@ module _ (d e : View) (b : Devices) (held : Option (List ℕ)) (reads reads_now 
   call_completes asked steady before after said cause calm =
       said_well (Unless (λ r. IsSound d → IsAnswer r)) (CallsAt asked steady d e) before after writes writes_now r said cause calm.output
       (λ text end called. calls_ends asked called.now d e text end called.calls calm.disk)
+
+  pub checkpoint_completes : (before after : Option (List ℕ)) → Says (Checkpoints d e) before after r → WriteFaultHasCause writes writes_now r
+      → Completes (Some command.Checkpoint) d b held old new r
+  checkpoint_completes before after said cause calm =
+      said_well (Unless (λ r. IsSound d → IsAnswer r)) (Checkpoints d e) before after writes writes_now r said cause calm.output
+      (λ text end made. checkpoints_ends d e text end made calm.disk)
 
   pub peek_completes : (place : Place) (count : ℕ) (steady : Option ℕ) (before after : Option (List ℕ)) → Says (Peeks place count steady d e) before after r
       → WriteFaultHasCause writes writes_now r → Completes (Some (command.Peek place count)) d b held old new r

@@ -1,11 +1,12 @@
 -- The ends of commands that make one answer, and what they are not.
-use Rattle.std.proofs.Common.{inl, inr, ℕ, List, Option, sym, subst}
+use Rattle.std.proofs.Common.{inl, inr, ℕ, Err, List, Ok, Option, Result, sym, subst}
 use Rattle.mqb_base.specs.declared.ids.Identity.{Identity}
 use Rattle.mqb_base.specs.declared.queues.Place.{Place}
 use Rattle.mqb_answers.specs.declared.told.CallEnd.{CallEnd}
 use Rattle.mqb_answers.specs.declared.told.CallEnd.TheVariants as call
 use Rattle.mqb_commands.specs.Called.{Calls, status_of}
 use Rattle.mqb_commands.specs.Causes.{DiskFaultHasCause}
+use Rattle.mqb_commands.specs.Checkpointed.{Checkpoints, end_of}
 use Rattle.mqb_commands.specs.Opened.{IsNotOpened}
 use Rattle.mqb_commands.specs.Peeked.{Peeks}
 use Rattle.mqb_commands.specs.Said.{Inits, Lists, Makes}
@@ -113,6 +114,16 @@ calls_quiet asked now d e text end (inl answered) = subst IsQuiet (sym answered.
 calls_quiet asked now d e text end (inr (inl broken)) = fault_quiet text end broken.0
 calls_quiet asked now d e text end (inr (inr (inl none))) = subst IsQuiet (sym none.0) tt
 calls_quiet asked now d e text end (inr (inr (inr failed))) = not_opened_quiet d e end failed.0
+
+replied_quiet : {V E : Type 0} (given : Result V E) → IsQuiet (end_of given)
+replied_quiet (Ok done) = tt
+replied_quiet (Err why) = tt
+
+pub checkpoints_quiet : (d e : View) (text : List ℕ) (end : Status) → Checkpoints d e text end → IsQuiet end
+checkpoints_quiet d e text end (inl rewritten) = subst IsQuiet (sym rewritten.ended) (replied_quiet _)
+checkpoints_quiet d e text end (inr (inl cut)) = fault_quiet text end cut.0
+checkpoints_quiet d e text end (inr (inr (inl none))) = subst IsQuiet (sym none.0) tt
+checkpoints_quiet d e text end (inr (inr (inr failed))) = not_opened_quiet d e end failed.0
 
 answer_quiet : (r : Status) → IsAnswer r → IsQuiet r
 answer_quiet r (inl done) = subst IsQuiet (sym done) tt

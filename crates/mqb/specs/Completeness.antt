@@ -60,6 +60,7 @@ EndsWell (Some (command.Trial orders)) store devices held r = (lines : List (ℕ
 EndsWell (Some command.Show) store devices held r = IsDoneOrPeer r
 EndsWell (Some (command.Init identity)) store devices held r = store.reads [] → r ≡ status.Done
 EndsWell (Some (command.Call asked)) store devices held r = IsSound store → (r ≡ status.Done) ⊎ (r ≡ status.Refused)
+EndsWell (Some command.Checkpoint) store devices held r = IsSound store → (r ≡ status.Done) ⊎ (r ≡ status.Refused)
 EndsWell (Some command.List) store devices held r = IsSound store → r ≡ status.Done
 EndsWell (Some (command.Peek place count)) store devices held r = IsSound store → (r ≡ status.Done) ⊎ (r ≡ status.Refused)
 EndsWell (Some command.Probe) store devices held r = IsSound store → IsDoneOrPeer r

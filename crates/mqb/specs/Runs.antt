@@ -1,6 +1,7 @@
 -- What the program does, by what the words of its command line ask for.
 use Rattle.std.specs.Prelude.{◌≡◌, ◌⊎◌, List, None, Option, Result, Some, codes, ℕ}
 use Rattle.mqb_commands.specs.Called.{CallsAt}
+use Rattle.mqb_commands.specs.Checkpointed.{Checkpoints}
 use Rattle.mqb_commands.specs.Helps.{help_text, version_text}
 use Rattle.mqb_commands.specs.Peeked.{Peeks}
 use Rattle.mqb_commands.specs.Said.{Inits, Lists, Makes}
@@ -50,6 +51,7 @@ Does (command.Trial orders) o r = EndsWith (Tries orders o.devices o.devices_now
 Does command.Show o r = Shows o.held o.held_now o.taken o.taken_now r
 Does (command.Init identity) o r = Says (Inits identity o.disk o.disk_now) o.taken o.taken_now r
 Does (command.Call asked) o r = Says (CallsAt asked o.moment o.disk o.disk_now) o.taken o.taken_now r
+Does command.Checkpoint o r = Says (Checkpoints o.disk o.disk_now) o.taken o.taken_now r
 Does command.List o r = Says (Lists o.disk o.disk_now) o.taken o.taken_now r
 Does (command.Peek place count) o r = Says (Peeks place count o.moment o.disk o.disk_now) o.taken o.taken_now r
 Does command.Probe o r = ProbesStore o.moment o.disk o.disk_now o.held o.held_now o.taken o.taken_now r

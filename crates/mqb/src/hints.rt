@@ -153,10 +153,13 @@ fn say_unopened(rt: &HostRuntime, store: &str, fault: OpenFault) -> io::Result<(
     }
 }
 
-/// Whether a command may have changed its store though it did not come to its end.
+/// Whether a command may have changed what its store holds though it did not come to its end.
 fn may_have_changed(ending: &Ending<'_>) -> bool {
-    let reads_alone = matches!(ending.asked, Command::List | Command::Peek { .. });
-    ending.asked.has_store() && !reads_alone && ending.fault.is_none()
+    let changes_nothing = matches!(
+        ending.asked,
+        Command::List | Command::Peek { .. } | Command::Checkpoint
+    );
+    ending.asked.has_store() && !changes_nothing && ending.fault.is_none()
 }
 
 /// Says why a command ended so, and where it may have changed its store all the same, how to see that.

@@ -10,7 +10,7 @@ ghost use Rattle.mqb_words.specs.Formed.{IsFormed};
 ghost use Rattle.mqb_words.specs.Stores.{has_store};
 ghost use Rattle.mqb_words.specs.Words.{command_of};
 
-use crate::saying::{say_called, say_formatted, say_listed, say_made, say_peeked};
+use crate::saying::{say_called, say_checkpointed, say_formatted, say_listed, say_made, say_peeked};
 use mqb_commands::{Status, help, show, tell, version};
 use mqb_connections::{attend, probe, reach, serve};
 use mqb_outside::{Clock, Disk, Medium, Net, Power, Sink, Source};
@@ -98,6 +98,7 @@ fn run_command<S: Source, K: Sink, D: Disk, P: Power, M: Medium, N: Net, C: Cloc
         Command::Show => show(alloc, input, out),
         Command::Init { identity } => say_formatted(alloc, identity, out, disk),
         Command::Call(call) => say_called(alloc, call, out, disk, clock),
+        Command::Checkpoint => say_checkpointed(alloc, out, disk),
         Command::List => say_listed(alloc, out, disk),
         Command::Peek { place, count } => say_peeked(alloc, place, *count, out, disk, clock),
         Command::Probe => probe(alloc, input, out, disk, clock),

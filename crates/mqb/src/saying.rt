@@ -2,6 +2,7 @@
 ghost use Rattle.std.specs.Prelude.{◌≢◌, ◌≤◌};
 ghost use Rattle.mqb_commands.specs.Called.{CallsAt};
 ghost use Rattle.mqb_commands.specs.Causes.{DiskFaultHasCause};
+ghost use Rattle.mqb_commands.specs.Checkpointed.{Checkpoints};
 ghost use Rattle.mqb_commands.specs.Peeked.{Peeks};
 ghost use Rattle.mqb_commands.specs.Said.{Inits, Lists, Makes};
 ghost use Rattle.mqb_outside.specs.Disk.{Counted};
@@ -43,6 +44,19 @@ pub(crate) fn say_formatted<K: Sink, D: Disk>(
     ensures disk { DiskFaultHasCause (D.view disk.old).faults (D.view disk.new).faults result }
 {
     let answer = mqb_commands::init(alloc, disk, identity);
+    answer.write(out)
+}
+
+/// Writes the state of the manager of a store anew.
+#[tactic(auto, using(crate::proofs::Quiet::checkpoints_quiet, crate::proofs::Quiet::quiet_plain))]
+pub(crate) fn say_checkpointed<K: Sink, D: Disk>(alloc: Global, out: &mut K, disk: &mut D) -> Status
+    ensures says { Says (Checkpoints (D.view disk.old) (D.view disk.new)) (K.taken out.old)
+        (K.taken out.new) result }
+    ensures cause { WriteFaultHasCause (K.write_faults out.old) (K.write_faults out.new) result }
+    ensures net { result ≢ Status.NetFault }
+    ensures disk { DiskFaultHasCause (D.view disk.old).faults (D.view disk.new).faults result }
+{
+    let answer = mqb_commands::checkpoint(alloc, disk);
     answer.write(out)
 }
 

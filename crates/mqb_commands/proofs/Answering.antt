@@ -206,7 +206,7 @@ module _ (asked : Call) (now : ℕ) (d f e : View) (kept : Type 0) (m n : Manage
   still_up (inl made) = up_after m n (outcome_of asked (manager_of m) now) made opened.up
   still_up (inr same) = up_same m n same opened.up
 
-  pub is_not_told : IsTold f e kept m n (outcome_of asked (manager_of m) now) [] text (end_err fault.Memory) → IsNotTold asked now d e
+  pub is_not_told : IsTold f e kept m n (outcome_of asked (manager_of m) now) [] text (end_err fault.Memory) → IsNotTold (λ m. outcome_of asked (manager_of m) now) d e
   is_not_told told =
       let made = by_memory told.answer told.call.ends told.told in
       let stayed = unanswered_stays asked now d f e kept m n [] text calm told in

@@ -1,5 +1,6 @@
 pub mod Failing
 pub mod Answering
+mod Checkpointing
 pub mod TextLines
 pub mod Going
 pub mod Inputs

@@ -9,6 +9,7 @@ use Rattle.mqb_outside.specs.Disk.{View}
 use Rattle.mqb_manager.specs.Calls.{FailsUnder, Succeeds}
 use Rattle.mqb_manager.specs.Keeping.{KeepsDisk}
 use Rattle.mqb_manager.specs.States.{IsSame, IsUp, ManagerState, manager_of}
+use Rattle.mqb_model.specs.managers.Outcomes.{Outcome}
 use Rattle.mqb_outside.specs.Faults.{Rose}
 use Rattle.mqb_commands.specs.Outputs.{IsFaultLine}
 use Rattle.mqb_commands.specs.declared.status.Status.{Status}
@@ -37,11 +38,11 @@ pub record IsAnswered (asked : Call) (now : ℕ) (d e : View) (text : List ℕ) 
   pub stayed : e.faults ≡ d.faults
 
 -- Memory ran out: the call was made and is not told, or it was not made. The disk did not fail.
-pub record IsNotTold (asked : Call) (now : ℕ) (d e : View) : Type 0 where
+pub record IsNotTold {A : Type 0} (outcome : ManagerState → Outcome A) (d e : View) : Type 0 where
   pub before : ManagerState
   pub after : ManagerState
   pub opened : OpensAs d before
-  pub made : Succeeds before after (outcome_of asked (manager_of before) now) ⊎ IsSame before after
+  pub made : Succeeds before after (outcome before) ⊎ IsSame before after
   pub up : IsUp after
   pub disk : KeepsDisk d e before after
   pub stayed : e.faults ≡ d.faults
@@ -59,7 +60,7 @@ pub record IsBroken (asked : Call) (now : ℕ) (d e : View) : Type 0 where
 abbrev pub Calls : Call → (now : ℕ) → View → View → List ℕ → Status → Type 0
 Calls asked now d e text r = ((end : CallEnd) × (r ≡ status_of end) × IsAnswered asked now d e text end)
     ⊎ (IsFaultLine status.DiskFault text r × IsBroken asked now d e)
-    ⊎ ((r ≡ status.Memory) × (text ≡ []) × IsNotTold asked now d e)
+    ⊎ ((r ≡ status.Memory) × (text ≡ []) × IsNotTold (λ m. outcome_of asked (manager_of m) now) d e)
     ⊎ FailsToOpen d e text r
 
 -- the same at the moment of a clock

@@ -3,6 +3,7 @@ pub mod Opened
 pub mod Helps
 pub mod Said
 pub mod Called
+pub mod Checkpointed
 pub mod Exits
 pub mod Texts
 pub mod Outputs

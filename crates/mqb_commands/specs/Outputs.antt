@@ -18,9 +18,13 @@ pub record Says (meant : List ℕ → Status → Type 0) (before after : Option 
   pub means : meant text end
   pub told : Tells text end before after r
 
+-- a line and the end behind it, or memory ran out
+abbrev pub IsSaid : (line : List ℕ) → (meant : Status) → (text : List ℕ) → (end : Status) → Type 0
+IsSaid line meant text end = ((end ≡ meant) × (text ≡ line)) ⊎ ((end ≡ status.Memory) × (text ≡ []))
+
 -- the fault line of an end, or memory ran out
 abbrev pub IsFaultLine : Status → List ℕ → Status → Type 0
-IsFaultLine fault text end = ((end ≡ fault) × (text ≡ fault_text fault)) ⊎ ((end ≡ status.Memory) × (text ≡ []))
+IsFaultLine fault text end = IsSaid (fault_text fault) fault text end
 
 -- the program ends with a read fault only where the input's count of faults rose
 abbrev pub ReadFaultHasCause : ℕ → ℕ → Status → Type 0

@@ -45,6 +45,8 @@ mqb tick STORE                      removes what is due
     mqb tick alpha.store
 mqb roll STORE COUNT                sets how many messages a sequence has
     mqb roll alpha.store 1000
+mqb checkpoint STORE                writes what the manager holds anew, in place of its records
+    mqb checkpoint alpha.store
 mqb list STORE                      lists what the manager holds
     mqb list alpha.store
 mqb probe STORE                     serves one connection over input and output

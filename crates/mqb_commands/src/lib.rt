@@ -9,6 +9,7 @@
 
 mod answer;
 mod calling;
+mod checkpointing;
 mod faults;
 mod helping;
 mod lines;
@@ -26,6 +27,7 @@ mod viewer;
 
 pub use answer::Answer;
 pub use calling::call;
+pub use checkpointing::checkpoint;
 pub use faults::{append_fault, put_end};
 pub use helping::{help, version};
 pub use listing::list;

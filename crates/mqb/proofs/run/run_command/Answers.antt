@@ -1,6 +1,6 @@
 use Rattle.std.proofs.Common.{refl, sym, subst}
 use Rattle.std.specs.Prelude.{Some}
-use Rattle.mqb.proofs.Completing.{attend_completes, call_completes, fetch_completes, help_completes, init_completes, list_completes, make_completes, of_command, peek_completes, probe_completes, push_completes, replay_completes, serve_completes, show_completes, trial_completes, version_completes}
+use Rattle.mqb.proofs.Completing.{attend_completes, call_completes, checkpoint_completes, fetch_completes, help_completes, init_completes, list_completes, make_completes, of_command, peek_completes, probe_completes, push_completes, replay_completes, serve_completes, show_completes, trial_completes, version_completes}
 use Rattle.mqb.proofs.DiskFaults.{none_disk, store_disk}
 use Rattle.mqb.proofs.Quiet.{probe_net, probe_usage, shows_disk, told_disk}
 use Rattle.mqb.proofs.Replaying.{replay_disk, replay_does, replay_net, replay_read, replay_usage, replay_write, trial_disk, trial_does, trial_read}
@@ -120,6 +120,20 @@ returns-in-Call-clause-complete g c =
     (call_completes d e b held (g.S.Source.read_faults c.args.input.now) (g.S.Source.read_faults c.args.input.now)
     (g.K.Sink.write_faults c.args.out.now) (g.K.Sink.write_faults c.say_called.new.out) (g.N.Net.faults c.args.net.now) (g.N.Net.faults c.args.net.now)
     (g.N.Net.lost c.args.net.now) (g.N.Net.lost c.args.net.now) c.say_called.result c.in-Call.call (g.C.Clock.steady c.args.clock.now) (g.K.Sink.taken c.args.out.now) (g.K.Sink.taken c.say_called.new.out) c.say_called.ensures.says c.say_called.ensures.cause)
+
+pub returns-in-Checkpoint-clause-complete : goal.returns-in-Checkpoint-clause-complete
+returns-in-Checkpoint-clause-complete g c =
+    let d = g.D.Disk.view c.args.disk.now in
+    let e = g.D.Disk.view c.say_checkpointed.new.disk in
+    let b = devices (g.M.Medium.strings c.args.medium.now) (g.P.Disk.view c.args.first.now) (g.P.Disk.view c.args.second.now) in
+    let held = g.S.Source.held c.args.input.now in
+    of_command c.args.asked.now command.Checkpoint d b held
+    (record { input = g.S.Source.read_faults c.args.input.now; output = g.K.Sink.write_faults c.args.out.now; disk = (g.D.Disk.view c.args.disk.now).faults; net = g.N.Net.faults c.args.net.now; lost = g.N.Net.lost c.args.net.now })
+    (record { input = g.S.Source.read_faults c.args.input.now; output = g.K.Sink.write_faults c.say_checkpointed.new.out; disk = (g.D.Disk.view c.say_checkpointed.new.disk).faults; net = g.N.Net.faults c.args.net.now; lost = g.N.Net.lost c.args.net.now })
+    c.say_checkpointed.result c.in-Checkpoint.is
+    (checkpoint_completes d e b held (g.S.Source.read_faults c.args.input.now) (g.S.Source.read_faults c.args.input.now)
+    (g.K.Sink.write_faults c.args.out.now) (g.K.Sink.write_faults c.say_checkpointed.new.out) (g.N.Net.faults c.args.net.now) (g.N.Net.faults c.args.net.now)
+    (g.N.Net.lost c.args.net.now) (g.N.Net.lost c.args.net.now) c.say_checkpointed.result (g.K.Sink.taken c.args.out.now) (g.K.Sink.taken c.say_checkpointed.new.out) c.say_checkpointed.ensures.says c.say_checkpointed.ensures.cause)
 
 pub returns-in-Peek-clause-complete : goal.returns-in-Peek-clause-complete
 returns-in-Peek-clause-complete g c =
@@ -304,6 +318,10 @@ returns-in-Init-clause-disk_fault g c =
 pub returns-in-Call-clause-disk_fault : goal.returns-in-Call-clause-disk_fault
 returns-in-Call-clause-disk_fault g c =
     store_disk c.args.asked.now (command.Call c.in-Call.call) (g.D.Disk.view c.args.disk.now).faults (g.D.Disk.view c.say_called.new.disk).faults _ _ c.say_called.result c.in-Call.is refl c.say_called.ensures.disk
+
+pub returns-in-Checkpoint-clause-disk_fault : goal.returns-in-Checkpoint-clause-disk_fault
+returns-in-Checkpoint-clause-disk_fault g c =
+    store_disk c.args.asked.now command.Checkpoint (g.D.Disk.view c.args.disk.now).faults (g.D.Disk.view c.say_checkpointed.new.disk).faults _ _ c.say_checkpointed.result c.in-Checkpoint.is refl c.say_checkpointed.ensures.disk
 
 pub returns-in-Peek-clause-disk_fault : goal.returns-in-Peek-clause-disk_fault
 returns-in-Peek-clause-disk_fault g c =
