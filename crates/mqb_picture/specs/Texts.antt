@@ -32,7 +32,7 @@ is_put word = same_bytes word (codes "put") || same_bytes word (codes "stored") 
 -- the first words of the answers that refuse something
 abbrev pub refusals : List (List ℕ)
 refusals = codes "refused" ∷ codes "bounced" ∷ codes "expressbounced" ∷ codes "closed" ∷ codes "queuethere" ∷
-    codes "toomanyqueues" ∷ codes "toomanyops" ∷ codes "toolarge" ∷ codes "numbersspent" ∷
+    codes "toomanyqueues" ∷ codes "toomanyops" ∷ codes "toolarge" ∷ codes "toofar" ∷ codes "numbersspent" ∷
     codes "sequencespent" ∷ codes "noqueue" ∷ codes "nottransactional" ∷ codes "transactional" ∷
     codes "queueempty" ∷ codes "queuefull" ∷ codes "unknownpeer" ∷ codes "linked" ∷ codes "unlinked" ∷ codes "spent" ∷ []
 

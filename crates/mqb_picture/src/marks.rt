@@ -19,7 +19,7 @@ fn is_put(word: &[u8]) -> bool
 }
 
 /// The first words of the answers that refuse something.
-const REFUSALS: [&[u8]; 19] = [
+const REFUSALS: [&[u8]; 20] = [
     b"refused",
     b"bounced",
     b"expressbounced",
@@ -28,6 +28,7 @@ const REFUSALS: [&[u8]; 19] = [
     b"toomanyqueues",
     b"toomanyops",
     b"toolarge",
+    b"toofar",
     b"numbersspent",
     b"sequencespent",
     b"noqueue",
