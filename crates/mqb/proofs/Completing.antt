@@ -92,8 +92,8 @@ replied_ends (Ok done) = inl refl
 replied_ends (Err why) = inr refl
 
 checkpoints_ends : (d e : View) (text : List ℕ) (end : Status) → Checkpoints d e text end → (Rose d.faults e.faults → ⊥) → Unless (λ r. IsSound d → IsAnswer r) end
-checkpoints_ends d e text end (inl rewritten) calm = inl (λ sound. subst IsAnswer (sym rewritten.ended) (replied_ends _))
-checkpoints_ends d e text end (inr (inl cut)) calm = absurd (calm cut.1.rose)
+checkpoints_ends d e text end (inl made) calm = inl (λ sound. subst IsAnswer (sym made.ended) (replied_ends _))
+checkpoints_ends d e text end (inr (inl left)) calm = absurd (calm left.1.rose)
 checkpoints_ends d e text end (inr (inr (inl none))) calm = inr none.0
 checkpoints_ends d e text end (inr (inr (inr failed))) calm = not_opened_ends IsAnswer d e end failed.0 calm
 

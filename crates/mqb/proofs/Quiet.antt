@@ -120,8 +120,8 @@ replied_quiet (Ok done) = tt
 replied_quiet (Err why) = tt
 
 pub checkpoints_quiet : (d e : View) (text : List ℕ) (end : Status) → Checkpoints d e text end → IsQuiet end
-checkpoints_quiet d e text end (inl rewritten) = subst IsQuiet (sym rewritten.ended) (replied_quiet _)
-checkpoints_quiet d e text end (inr (inl cut)) = fault_quiet text end cut.0
+checkpoints_quiet d e text end (inl made) = subst IsQuiet (sym made.ended) (replied_quiet _)
+checkpoints_quiet d e text end (inr (inl left)) = fault_quiet text end left.0
 checkpoints_quiet d e text end (inr (inr (inl none))) = subst IsQuiet (sym none.0) tt
 checkpoints_quiet d e text end (inr (inr (inr failed))) = not_opened_quiet d e end failed.0
 

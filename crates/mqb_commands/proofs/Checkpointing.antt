@@ -20,7 +20,7 @@ use Rattle.mqb_transcript.specs.Texts.{printed}
 use Rattle.mqb_transcript.specs.declared.replies.Reply.{Reply}
 use Rattle.mqb_commands.specs.Called.{IsNotTold}
 use Rattle.mqb_commands.specs.Causes.{DiskFaultHasCause}
-use Rattle.mqb_commands.specs.Checkpointed.{Checkpoints, IsCutOff, IsRewritten, end_of}
+use Rattle.mqb_commands.specs.Checkpointed.{Checkpoints, IsLeftDown, IsCheckpointed, end_of}
 use Rattle.mqb_commands.specs.Opened.{OpensAs}
 use Rattle.mqb_commands.specs.Outputs.{IsSaid}
 use Rattle.mqb_commands.specs.declared.status.Status.{Status}
@@ -70,9 +70,9 @@ module _ (d f e : View) (m n : ManagerState) (given : Given) (opened : OpensAs d
       at (inr (inl h)) = absurd (no_fault told fault.Memory (sym reply ∙ ap checkpoint_reply h.0))
       at (inr (inr h)) = absurd (no_fault told fault.DiskFault (sym reply ∙ ap checkpoint_reply h.0))
 
-  rewritten : (told : Reply) (text : List ℕ) (r : Status) → checkpoint_reply given ≡ reply_ok told → ((checkpoint_of m).touches ≡ false → OnlySettles d e)
-      → r ≡ end_of given → text ≡ printed [] None told → IsRewritten d e text r
-  rewritten told text r reply untouched ended said = let h = went told reply in record {
+  checkpointed : (told : Reply) (text : List ℕ) (r : Status) → checkpoint_reply given ≡ reply_ok told → ((checkpoint_of m).touches ≡ false → OnlySettles d e)
+      → r ≡ end_of given → text ≡ printed [] None told → IsCheckpointed d e text r
+  checkpointed told text r reply untouched ended said = let h = went told reply in record {
     before = m;
     after = n;
     told = told;
@@ -105,7 +105,7 @@ module _ (d f e : View) (m n : ManagerState) (given : Given) (opened : OpensAs d
   -- The line of its reply.
   pub checkpoint_is_said : (told : Reply) (text : List ℕ) (r : Status) → checkpoint_reply given ≡ reply_ok told
       → ((checkpoint_of m).touches ≡ false → OnlySettles d e) → IsSaid (printed [] None told) (end_of given) text r → Checkpoints d e text r
-  checkpoint_is_said told text r reply untouched (inl line) = inl (rewritten told text r reply untouched line.0 line.1)
+  checkpoint_is_said told text r reply untouched (inl line) = inl (checkpointed told text r reply untouched line.0 line.1)
   checkpoint_is_said told text r reply untouched (inr none) = inr (inr (inl (none.0, none.1, unsaid (reply_ok told) reply (no_fault told fault.DiskFault))))
 
   pub said_stays : (told : Reply) → checkpoint_reply given ≡ reply_ok told → e.faults ≡ d.faults
@@ -119,8 +119,8 @@ module _ (d f e : View) (m n : ManagerState) (given : Given) (opened : OpensAs d
   unsaid_stays reply = stays (reply_err fault.Memory) reply apart
 
   -- The disk failed.
-  pub cut_off : CheckpointsAreReplied → checkpoint_reply given ≡ reply_err fault.DiskFault → IsCutOff d e
-  cut_off replied reply = record {
+  pub left_down : CheckpointsAreReplied → checkpoint_reply given ≡ reply_err fault.DiskFault → IsLeftDown d e
+  left_down replied reply = record {
     before = m;
     after = n;
     opened = opened;

@@ -23,7 +23,7 @@ end_of (Ok done) = status.Done
 end_of (Err why) = status.Refused
 
 -- The manager to which the store opens wrote its state anew, or was refused and wrote nothing, and the reply is told. The disk did not fail.
-pub record IsRewritten (d e : View) (text : List ℕ) (r : Status) : Type 0 where
+pub record IsCheckpointed (d e : View) (text : List ℕ) (r : Status) : Type 0 where
   pub before : ManagerState
   pub after : ManagerState
   pub told : Reply
@@ -38,7 +38,7 @@ pub record IsRewritten (d e : View) (text : List ℕ) (r : Status) : Type 0 wher
   pub stayed : e.faults ≡ d.faults
 
 -- The disk failed, and no record is in doubt: a crash leaves the state that the store had.
-pub record IsCutOff (d e : View) : Type 0 where
+pub record IsLeftDown (d e : View) : Type 0 where
   pub before : ManagerState
   pub after : ManagerState
   pub opened : OpensAs d before
@@ -48,7 +48,7 @@ pub record IsCutOff (d e : View) : Type 0 where
 
 -- `checkpoint`
 abbrev pub Checkpoints : View → View → List ℕ → Status → Type 0
-Checkpoints d e text r = IsRewritten d e text r
-    ⊎ (IsFaultLine status.DiskFault text r × IsCutOff d e)
+Checkpoints d e text r = IsCheckpointed d e text r
+    ⊎ (IsFaultLine status.DiskFault text r × IsLeftDown d e)
     ⊎ ((r ≡ status.Memory) × (text ≡ []) × IsNotTold checkpoint_of d e)
     ⊎ FailsToOpen d e text r

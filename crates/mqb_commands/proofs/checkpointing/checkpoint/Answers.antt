@@ -9,7 +9,7 @@ use Rattle.mqb_commands.specs.Causes.{DiskFaultHasCause}
 use Rattle.mqb_commands.specs.Outputs.{IsSaid}
 use Rattle.mqb_commands.specs.declared.status.Status.{Status}
 use Rattle.mqb_commands.proofs.Answering.{fails_cause, opening_is_told, rose_cause}
-use Rattle.mqb_commands.proofs.Checkpointing.{checkpoint_is_said, checkpoint_is_unsaid, cut_off, reply_err, said_cause, said_stays, unsaid_stays}
+use Rattle.mqb_commands.proofs.Checkpointing.{checkpoint_is_said, checkpoint_is_unsaid, left_down, reply_err, said_cause, said_stays, unsaid_stays}
 use Rattle.mqb_commands.proofs.Failing.{line_fails}
 use Rattle.mqb_commands.proofs.checkpointing.checkpoint.Goals as goal
 
@@ -70,7 +70,7 @@ returns-in-Err-DiskFault-clause-checkpoints g c =
     let e = g.D.Disk.view c.checkpoint.new.disk in
     inr (inl (
       c.fault-in-Err-DiskFault.ensures,
-      cut_off d f e c.in-Ok.manager c.checkpoint.new.self c.checkpoint.result c.in-Ok.ensures.opened c.open.ensures.reads c.in-Ok.ensures.cause
+      left_down d f e c.in-Ok.manager c.checkpoint.new.self c.checkpoint.result c.in-Ok.ensures.opened c.open.ensures.reads c.in-Ok.ensures.cause
           c.checkpoint.ensures.call c.checkpoints_are_replied.ensures (sym c.checkpoint_reply.ensures ∙ c.in-Err-DiskFault.is ∙ ap reply_err c.in-Err-DiskFault.field-0-is),
     ))
 
@@ -79,9 +79,9 @@ returns-in-Err-DiskFault-clause-cause g c =
     let d = g.D.Disk.view c.args.disk.now in
     let f = g.D.Disk.view c.open.new.disk in
     let e = g.D.Disk.view c.checkpoint.new.disk in
-    let cut = cut_off d f e c.in-Ok.manager c.checkpoint.new.self c.checkpoint.result c.in-Ok.ensures.opened c.open.ensures.reads c.in-Ok.ensures.cause
+    let left = left_down d f e c.in-Ok.manager c.checkpoint.new.self c.checkpoint.result c.in-Ok.ensures.opened c.open.ensures.reads c.in-Ok.ensures.cause
     c.checkpoint.ensures.call c.checkpoints_are_replied.ensures (sym c.checkpoint_reply.ensures ∙ c.in-Err-DiskFault.is ∙ ap reply_err c.in-Err-DiskFault.field-0-is) in
-    rose_cause d.faults e.faults c.fault-in-Err-DiskFault.result.end cut.rose
+    rose_cause d.faults e.faults c.fault-in-Err-DiskFault.result.end left.rose
 
 pub returns-in-Err-DiskFault-clause-faults : goal.returns-in-Err-DiskFault-clause-faults
 returns-in-Err-DiskFault-clause-faults g c = inr c.fault-in-Err-DiskFault.ensures
