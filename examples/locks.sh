@@ -11,14 +11,14 @@ folder=$(mktemp -d)
 trap 'rm -rf "$folder"' EXIT
 cd "$folder" || exit
 
-words=(init peer create send commit take purge tick roll serve attend probe push fetch list peek)
+words=(init peer create send commit take purge tick roll checkpoint serve attend probe push fetch list peek)
 declare -A call=(
   [init]="init alpha.store $alpha"
   [peer]='peer alpha.store gamma 3a3b3c3d-4142-4344-4546-4748494a4b4c 127.0.0.1'
   [create]='create alpha.store more tx 100 none'
   [send]='send alpha.store recoverable 3 send,DIRECT=OS:.\PRIVATE$\notes,-,-,-,-,-,one'
   [commit]='commit alpha.store take,orders send,DIRECT=OS:beta\PRIVATE$\orders,-,-,-,-,-,one'
-  [take]='take alpha.store orders' [purge]='purge alpha.store orders' [tick]='tick alpha.store' [roll]='roll alpha.store 10'
+  [take]='take alpha.store orders' [purge]='purge alpha.store orders' [tick]='tick alpha.store' [roll]='roll alpha.store 10' [checkpoint]='checkpoint alpha.store'
   [serve]='serve alpha.store 1' [attend]='attend alpha.store 4' [probe]='probe alpha.store' [push]='push alpha.store beta' [fetch]='fetch alpha.store beta 1'
   [list]='list alpha.store' [peek]='peek alpha.store orders'
 )
