@@ -90,6 +90,10 @@ says
 marks alpha.store
 mqb commit alpha.store 'send,DIRECT=OS:beta\PRIVATE$\orders,-,-,-,-,-,*2000'
 
+begin 'A store that grew'
+mqb checkpoint alpha.store
+marks alpha.store
+
 begin 'A peer that is known by another host'
 mqb init gamma.store gamma 2a2b2c2d-2e2f-3031-3233-343536373839 127.0.0.1
 mqb peer gamma.store beta 1a1b1c1d-1e1f-2021-2223-242526272829 127.0.0.1
