@@ -10,7 +10,9 @@ ghost use Rattle.mqb_words.specs.Formed.{IsFormed};
 ghost use Rattle.mqb_words.specs.Stores.{has_store};
 ghost use Rattle.mqb_words.specs.Words.{command_of};
 
-use crate::saying::{say_called, say_checkpointed, say_formatted, say_listed, say_made, say_peeked};
+use crate::saying::{
+    say_called, say_checkpointed, say_formatted, say_listed, say_made, say_peeked,
+};
 use mqb_commands::{Status, help, show, tell, version};
 use mqb_connections::{attend, probe, reach, serve};
 use mqb_outside::{Clock, Disk, Medium, Net, Power, Sink, Source};
