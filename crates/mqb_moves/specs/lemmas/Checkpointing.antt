@@ -37,19 +37,22 @@ never_both false is not = let none : ⊥ = cc in none
 module _ (d e : View) (m n : ManagerState) (r : Result (Unit {0}) CheckpointFault) (made : IsCheckpoint d e m n r) (up : is_down (manager_of m) ≡ false) where
   went : (r ≡ Err fault.DiskFault → ⊥) → r ≡ (checkpoint_of m).answer → Succeeds m n (checkpoint_of m)
       → (r ≡ (checkpoint_of m).answer) × IsRewriting d e (seat_of m) (seat_of n) None
-  went whole answer left = (answer, record {
-    manager = left.manager;
-    counted = left.count;
-    fails_where = λ none. absurd (let no : ⊥ = cc in no);
-    held = λ held. record {
-      whole = ap (λ (g : Guid). length g.0) left.guid ∙ held.whole;
-      on = λ _. made.on (held.on up) still_up;
-      settled = λ _. made.settled (held.on up) (held.settled up) still_up;
-      opens = λ down. absurd (not_up_of n down still_up);
-    };
-    faults = made.stayed whole;
-    switch = made.switch;
-  })
+  went whole answer left = (
+    answer,
+    record {
+      manager = left.manager;
+      counted = left.count;
+      fails_where = λ none. absurd (let no : ⊥ = cc in no);
+      held = λ held. record {
+        whole = ap (λ (g : Guid). length g.0) left.guid ∙ held.whole;
+        on = λ _. made.on (held.on up) still_up;
+        settled = λ _. made.settled (held.on up) (held.settled up) still_up;
+        opens = λ down. absurd (not_up_of n down still_up);
+      };
+      faults = made.stayed whole;
+      switch = made.switch;
+    },
+  )
     where
       still_up : IsUp n
       still_up = up_of n (ap is_down left.manager ∙ up)
