@@ -1,9 +1,8 @@
 -- A checkpoint of one manager is a turn of the world.
-use Rattle.std.proofs.Common.{◌≡◌, ◌↔◌, ℕ, Bool, true, false, cond, List, [], ◌++◌, Option, Some, None, Result, Ok, Err, refl, sym, ap, subst, ◌∙◌}
+use Rattle.std.proofs.Common.{◌≡◌, ℕ, Bool, true, false, cond, [], ◌++◌, Option, Some, None, Result, Ok, Err, refl, sym, ap, subst, ◌∙◌}
 use Rattle.std.proofs.lemmas.Bool.{true≢false}
 use Rattle.std.specs.Option.{option_map_or}
 use Rattle.std.specs.Prelude.{◌&&◌, ◌+◌, not}
-use Rattle.mqb_base.specs.declared.ledger.Line.{Line}
 use Rattle.mqb_journal.specs.declared.faults.CheckpointFault.{CheckpointFault}
 use Rattle.mqb_journal.specs.declared.faults.CheckpointFault.TheVariants as fault
 use Rattle.mqb_outside.specs.Disk.{View}
@@ -16,8 +15,8 @@ use Rattle.mqb_network.specs.Changes.{failed_at, succeeded_at}
 use Rattle.mqb_network.specs.Checkpointing.{may_be_far, may_rewrite}
 use Rattle.mqb_network.specs.Checkpoints.{checkpoint, checkpoint_made, is_large}
 use Rattle.mqb_network.specs.Choices as choice
-use Rattle.mqb_network.specs.Choices.{Choice, Failure, Fails, TooFar, Well, failure_in, is_far}
-use Rattle.mqb_network.specs.Courses.{Course, called_unless, course_from, written_by}
+use Rattle.mqb_network.specs.Choices.{Choice, Failure, Fails, TooFar, Well, failure_in}
+use Rattle.mqb_network.specs.Courses.{called_unless, course_from, written_by}
 use Rattle.mqb_network.specs.Events.{Checkpoint}
 use Rattle.mqb_network.specs.Network.{Network, manager_at}
 use Rattle.mqb_network.specs.Replies as network

@@ -1,5 +1,5 @@
 -- A store that is too far on for another base has had so many records that it may be.
-use Rattle.std.proofs.Common.{inl, inr, ◌⊎◌, ⊎_elim, arith, length-append, refl}
+use Rattle.std.proofs.Common.{⊎_elim, arith, length-append, refl}
 use Rattle.std.proofs.lemmas.Bool.{lt-ltb, ltb-true, or_cases}
 use Rattle.std.proofs.lemmas.List.Elements.{All-head, All-tail}
 use Rattle.std.specs.List.{All}
