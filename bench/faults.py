@@ -1,11 +1,12 @@
 #!/usr/bin/env python3
-"""faults.py [WORD ..]: fails each system call of `mqb commit`, `take`, `serve`, `push`, `fetch` and `attend` in turn, with EIO, with ENOSPC and with EINTR, by `strace -e inject`.
+"""faults.py [WORD ..]: fails each system call of `mqb commit`, `take`, `checkpoint`, `serve`, `push`, `fetch` and `attend` in turn, with EIO, with ENOSPC and with EINTR, by `strace -e inject`.
 
 Alpha and beta each have messages for the other one. The word runs at alpha, over a fresh copy of both stores, beside a sound program at the other end where it has a connection. Behind
 it both stores must open; a call whose line was printed, or that ended with status 0, is there, and any other is there whole or not at all; what one has as acknowledged
 is decided at the other. Then all is brought over without faults and taken: each message once, in the order of the commits. It prints for each word and error how many
 calls were failed, and with which status the program ended how often: 127 is the loader's, `cut` a program that had not ended after LIMIT seconds (20). ERRORS=EIO tries that error alone. Of a
-call that is made more than 40 times, as the looks of `attend` for a peer, the first twenty are failed and each tenth.
+call that is made more than 40 times, as the looks of `attend` for a peer, the first twenty are failed and each tenth. A checkpoint is made of a store without a base, and then of one
+with a base: `list` says behind it what it said before, and the next checkpoint is made.
 
 Seen, by the released program whose sum begins with b9784d31, with each error: each of 61 calls of commit and of take, 116 of push, 117 of serve, 112 of fetch, and 173 of 303 of attend: 1,920 in all, of which
 14 did not come. Both stores agreed each time, and each message came once. The first calls are the loader's: 15 end with its status, 2 or 3 by a signal. Of EIO and ENOSPC the disk's end with 6 (24 of commit
@@ -30,12 +31,14 @@ os.environ["MQB_WAIT"] = "2000"
 class Tried(Ends):
     """The stores of a round, which begin as those of the first one."""
 
-    def __init__(self, folder):
+    def __init__(self, folder, is_based):
         super().__init__(folder)
         self.alpha, self.beta, self.trace = self.stores["alpha"], self.stores["beta"], f"{folder}/trace"
         for queue in ("stock", "done"):
             asked("create", self.alpha, queue, "tx", "100", "none")
         asked("commit", self.alpha, *(send(".", "stock", body) for body in STOCK))
+        if is_based:
+            asked("checkpoint", self.alpha)
         for host in self.stores:
             self.commit(host, 3)
         self.first = {host: list(bodies) for host, bodies in self.bodies.items()}
@@ -73,6 +76,16 @@ class Tried(Ends):
         self.bodies["beta"] += ["more"] * steps[2]
         left = asked("commit", self.alpha, *["take,stock"] * (len(STOCK) - steps[0]))
         assert [bytes.fromhex(line.split()[1]).decode() for line in left if line.startswith("body ")] == STOCK[steps[0]:], left
+        return status
+
+    def rewriting(self, fault, word):
+        """A checkpoint of alpha, which changes nothing that alpha has, and does not keep the next one from being made."""
+        before = self.list("alpha")
+        printed, status = self.ended(self.traced(fault, word, self.alpha))
+        assert self.list("alpha") == before, "a checkpoint changed something"
+        assert status != 0 or printed == "ok\n", printed
+        assert asked("checkpoint", self.alpha) == ["ok"]
+        assert self.list("alpha") == before, "the next checkpoint changed something"
         return status
 
     def serving(self, fault, word):
@@ -115,7 +128,7 @@ def numbers(count):
 
 
 def fail_each(tried, word):
-    way = {"commit": tried.call, "take": tried.call, "serve": tried.serving, "attend": tried.serving, "push": tried.reaching, "fetch": tried.reaching}[word]
+    way = {"commit": tried.call, "take": tried.call, "checkpoint": tried.rewriting, "serve": tried.serving, "attend": tried.serving, "push": tried.reaching, "fetch": tried.reaching}[word]
     tried.again()
     assert way(None, word) == 0
     made = calls_of(tried.trace)
@@ -140,10 +153,11 @@ def main():
     if not shutil.which("strace"):
         raise SystemExit("faults.py: strace is not there: apt-get install strace")
     print(MQB, flush=True)
-    for word in sys.argv[1:] or ("commit", "take", "serve", "push", "fetch", "attend"):
-        if has(word):
-            with folder() as name:
-                fail_each(Tried(name), word)
+    for word in sys.argv[1:] or ("commit", "take", "checkpoint", "serve", "push", "fetch", "attend"):
+        for is_based in (False, True) if word == "checkpoint" else (False,):
+            if has(word):
+                with folder() as name:
+                    fail_each(Tried(name, is_based), word)
 
 
 main()

@@ -5,7 +5,8 @@ After each kill the store must open, and what the word did is there whole or not
 stores must agree: what one has as acknowledged is decided at the other, and nothing is twice or out of order. Behind fifty rounds of such a word everything is
 brought over and taken: each message once, in the order of the commits. It prints for each word how often its line was printed (`said`), the call was made and its line
 was not (`made`), and nothing was done (`not`); `part` is an `init` that left a file which is no store. Of connections: all that waited on both sides was acknowledged
-(`whole`), something was decided that its sender had not heard of (`ahead`), or neither (`short`).
+(`whole`), something was decided that its sender had not heard of (`ahead`), or neither (`short`). `first_checkpoint` is `checkpoint` at a store without a base: `list` says
+what it said, and the next checkpoint is made.
 
 Seen, of 300 kills each, by the released program whose sum begins with b9784d31, on a machine with twice as many busy programs as processors (said, made, not): peer 108, 13, 179; create 129, 18,
 153; send 154, 19, 127; commit 136, 15, 149; take 172, 11, 117; purge 130, 22, 148; tick 101, 30, 169; roll 118, 35, 147; init 199, 22, 33, and 46 part; (whole, ahead, short): serve 157, 81, 62; attend 170,
@@ -13,8 +14,8 @@ Seen, of 300 kills each, by the released program whose sum begins with b9784d31,
 
 It stands outside the gate. Its port must be free: 1801, or MQB_PORT. MQB names another program than `./mqb --where` does.
 """
-import collections, pathlib, random, socket, subprocess, sys, time
-from managers import GUIDS, MQB, PORT, Ends, asked, folder, has, ids_of, listening, marks_of, mqb, send, started
+import collections, pathlib, random, shutil, socket, subprocess, sys, time
+from managers import GUIDS, MOST_OPS, MQB, PORT, Ends, asked, based, folder, has, ids_of, listening, marks_of, mqb, send, started
 
 ROUNDS = int(sys.argv[1]) if len(sys.argv) > 1 else 100
 BATCH = 50  # rounds over one pair of stores: a manager knows 64 peers
@@ -129,6 +130,35 @@ class Calls(Ends):
         return outcome(printed, first[2] != second[2])
 
 
+class Checkpoints(Calls):
+    """A round of a checkpoint of a manager with some 2,600,000 bytes of messages, from a store without a base or from one with a base and records behind it."""
+
+    def __init__(self, folder):
+        super().__init__(folder)
+        for _ in range(20):
+            asked("commit", self.store, *[send(".", "orders", "*2000")] * MOST_OPS)
+        shutil.copyfile(self.store, f"{folder}/first")
+
+    def first_checkpoint(self, wait):
+        shutil.copyfile(f"{pathlib.Path(self.store).parent}/first", self.store)
+        return self.rewritten(wait)
+
+    def checkpoint(self, wait):
+        if not based(self.store):
+            asked("checkpoint", self.store)
+        asked("take", self.store, "orders")
+        return self.rewritten(wait)
+
+    def rewritten(self, wait):
+        before, lies = self.list("alpha"), based(self.store)
+        printed = self.lives(wait, "checkpoint")
+        made = based(self.store) != lies
+        assert self.list("alpha") == before, "a checkpoint that was killed changed something"
+        assert asked("checkpoint", self.store) == ["ok"]
+        assert self.list("alpha") == before, "the next checkpoint changed something"
+        return outcome(printed, made)
+
+
 def bridged(store):
     """A probe of a store whose input and output are the first connection that comes; the listener is there behind this call."""
     listener = socket.socket()
@@ -170,18 +200,22 @@ def batches():
     return [min(BATCH, ROUNDS - at) for at in range(0, ROUNDS, BATCH)]
 
 
-def calls(word):
+def calls(word, kind=Calls):
     """The rounds of a word that makes one call."""
     ends = collections.Counter()
     for count in batches():
         with folder() as name:
-            stores = Calls(name)
+            stores = kind(name)
             began = time.time()
             asked("list", stores.store)
             least = time.time() - began
             for _ in range(count):
                 ends[getattr(stores, word)(random.uniform(0, 2 * least))] += 1
     return ends
+
+
+def checkpoints(word):
+    return calls(word, Checkpoints)
 
 
 def connections(word):
@@ -203,6 +237,7 @@ def connections(word):
 
 def main():
     ways = {word: calls for word in ("init", "peer", "create", "send", "commit", "take", "purge", "tick", "roll")}
+    ways |= {word: checkpoints for word in ("first_checkpoint", "checkpoint") if has("checkpoint")}
     ways |= {word: connections for word in ("serve", "attend", "probe", "push", "fetch") if has(word)}
     seed = int(time.time())
     random.seed(seed)

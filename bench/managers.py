@@ -1,8 +1,8 @@
-"""Two managers on this machine, alpha and beta, for the benches that disturb them, kill.py, race.py, faults.py, unsettled.py and day.py; and the program and the port of these and the other ones.
+"""Two managers on this machine, alpha and beta, for the benches that disturb them, kill.py, race.py, faults.py, unsettled.py and day.py; how a store lies; and the program and the port of these and the other ones.
 
 MQB names another program than `./mqb --where` does, MQB_PORT another port than 1801, FOLDER another place for the stores than the system's for files that pass.
 """
-import os, pathlib, subprocess, tempfile, time
+import collections, os, pathlib, subprocess, tempfile, time
 
 TOP = pathlib.Path(__file__).resolve().parent.parent
 MQB = os.environ.get("MQB") or subprocess.check_output([TOP / "mqb", "--where"], text=True).strip()
@@ -10,6 +10,8 @@ PORT = int(os.environ.get("MQB_PORT", "1801"))
 GUIDS = {"alpha": "0a0b0c0d-0e0f-1011-1213-141516171819", "beta": "1a1b1c1d-1e1f-2021-2223-242526272829"}
 OTHER = {"alpha": "beta", "beta": "alpha"}
 MOST_OPS = 64  # of a transaction
+PAGE, HEAD = 4096, 17  # bytes of a store
+Based = collections.namedtuple("Based", "head second place size")  # where a store has its head; whether the second area is in use, its place, and its bytes with the gate
 
 
 def mqb(word, *words, **more):
@@ -34,6 +36,20 @@ def has(word):
 
 def send(host, queue, body="x", life="-"):
     return rf"send,DIRECT=OS:{host}\PRIVATE$\{queue},-,{life},-,-,-,{body}"
+
+
+def based(store):
+    """How a store with a base lies; None of one without."""
+    with open(store, "rb") as file:
+        def number(at, size):
+            file.seek(at)
+            return int.from_bytes(file.read(size), "little")
+        if number(4, 1) != 2:
+            return None
+        head = PAGE * number(5, 3)
+        second = number(head, 1) == 1
+        place = number(head + (9 if second else 1), 8)
+        return Based(head, second, place, number(place, 4) + 5)
 
 
 def is_listening(port):

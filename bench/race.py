@@ -1,5 +1,5 @@
 #!/usr/bin/env python3
-"""race.py [ROUNDS [SEED]]: two drawn words at once on the store of alpha, ROUNDS times (200): commit, take, send, purge, tick, create, list, peek, push beside a `serve` of
+"""race.py [ROUNDS [SEED]]: two drawn words at once on the store of alpha, ROUNDS times (200): commit, take, send, purge, tick, create, checkpoint, list, peek, push beside a `serve` of
 beta's store, and serve and attend beside a `push` of it.
 
 Each word either does its work and prints its line, or finds the store in use and changes nothing (status 6). Behind each round the store must hold just what was
@@ -26,6 +26,7 @@ WORDS = {
     "purge": ["purge", "notes"],
     "tick": ["tick"],
     "create": ["create", "NAME", "tx", "10", "none"],
+    "checkpoint": ["checkpoint"],
     "list": ["list"],
     "peek": ["peek", "stock"],
     "push": ["push", "beta"],
@@ -106,6 +107,8 @@ class Raced(Ends):
                 told.append(("notes", printed))
             elif word == "create":
                 assert printed == "ok\n" and f"alpha queue {name}" in lines, (word, printed)
+            elif word == "checkpoint":
+                assert printed == "ok\n", (word, printed)
             elif word == "list":
                 assert status == 0 and printed.splitlines() in (before, lines), (printed, before, lines)
             elif word == "peek":

@@ -1,6 +1,6 @@
 #!/usr/bin/env python3
-"""unsettled.py [ROUNDS]: kills `mqb commit`, `mqb push` and `mqb serve` behind the gate of a record and before its last sync, starts the store again, and then lets
-the power fail: what neither run had synced is thrown away. ROUNDS of each (70), on real files and over the loopback.
+"""unsettled.py [ROUNDS]: kills `mqb commit`, `mqb push` and `mqb serve` behind the gate of a record and before its last sync, and `mqb checkpoint` behind the byte that switches over,
+starts the store again, and then lets the power fail: what neither run had synced is thrown away. ROUNDS of each (70), on real files and over the loopback.
 
 What was told is there still: the message that `list` showed; what beta acknowledged, so that alpha forgot it. At the end every message comes once, in the order of its
 commit. The system's C compiler makes the library of `unsettled.c`, which kills the program and follows what is safe. It stands outside the gate.
@@ -12,7 +12,7 @@ Its port must be free: 1801, or MQB_PORT. MQB names another program than `./mqb 
 """
 import os, pathlib, random, shutil, subprocess, sys
 
-from managers import Ends, asked, folder, listening, marks_of, send, started
+from managers import Ends, asked, folder, has, listening, marks_of, send, started
 
 ROUNDS = int(sys.argv[1]) if len(sys.argv) > 1 else 70
 LIBRARY = pathlib.Path(__file__).resolve().parent / "unsettled.c"
@@ -51,6 +51,22 @@ def commit_is_stopped(ends):
     return running.returncode == KILLED
 
 
+def checkpoint_is_stopped(ends):
+    """A checkpoint is killed, and the power fails at once, or a list and a commit go on from what it left."""
+    store = ends.stores["alpha"]
+    ends.commit("alpha", 1)
+    before = ends.list("alpha")
+    running = started("checkpoint", store, env=stopping(1))
+    assert running.communicate()[0] == ""
+    if random.random() < 0.5:
+        assert ends.list("alpha") == before, "a checkpoint changed something"
+        ends.commit("alpha", 1)
+        before = ends.list("alpha")
+    power_fails(store)
+    assert ends.list("alpha") == before, "something that was told is lost"
+    return running.returncode == KILLED
+
+
 def serve_is_stopped(ends):
     """A serve is killed with a message that the next one knows as a duplicate, and acknowledges."""
     ends.commit("alpha", 1)
@@ -76,7 +92,7 @@ def main():
         library = f"{name}/unsettled.so"
         subprocess.run(["cc", "-shared", "-fPIC", "-Wall", "-o", library, LIBRARY, "-ldl"], check=True)
         os.environ["LD_PRELOAD"] = library
-        for stopped in (commit_is_stopped, serve_is_stopped, push_is_stopped):
+        for stopped in (commit_is_stopped, *[checkpoint_is_stopped] * has("checkpoint"), serve_is_stopped, push_is_stopped):
             ends = Ends(name)
             try:
                 kills = sum(stopped(ends) for _ in range(ROUNDS))
