@@ -90,9 +90,12 @@ says
 marks alpha.store
 mqb commit alpha.store 'send,DIRECT=OS:beta\PRIVATE$\orders,-,-,-,-,-,*2000'
 
-begin 'A store that grew'
-mqb checkpoint alpha.store
+begin 'A checkpoint'
+(ulimit -f 4 && mqb checkpoint alpha.store) # the disk is full within it
+says
 marks alpha.store
+mqb checkpoint alpha.store
+mqb list alpha.store
 
 begin 'A peer that is known by another host'
 mqb init gamma.store gamma 2a2b2c2d-2e2f-3031-3233-343536373839 127.0.0.1
