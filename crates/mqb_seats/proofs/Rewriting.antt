@@ -1,5 +1,5 @@
 -- What a checkpoint of the manager in a seat comes to, and what lasts of it.
-use Rattle.std.proofs.Common.{◌≡◌, inl, inr, Bool, false, List, None, Some, Result, Ok, Err, ℕ, length, refl, sym, ap, subst, ◌∙◌, arith}
+use Rattle.std.proofs.Common.{◌≡◌, inl, inr, Bool, true, false, List, None, Some, Result, Ok, Err, ℕ, length, refl, sym, ap, subst, ◌∙◌, arith}
 use Rattle.mqb_base.specs.declared.ids.Guid.{Guid}
 use Rattle.mqb_outside.specs.Disk.{Lawful, View}
 use Rattle.mqb_journal.specs.States.{JournalState}
