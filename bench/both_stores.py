@@ -82,10 +82,8 @@ class Stores:
         serving = subprocess.Popen([PROGRAMS[other], "serve", self.stores[OTHER[host]], "1"], stdout=subprocess.PIPE, stderr=subprocess.DEVNULL, text=True)
         listening(serving)
         status, printed = call(one, "push", self.stores[host], OTHER[host])
-        served = serving.communicate()[0]
-        if (status, printed, served) != (0, "connection 1: ended\n", "connection 1: ended\n"):
-            print("push by", one, status, printed, served, flush=True)
-        counts["push"] += 1
+        serving.communicate()
+        counts[f"push {'done' if status == 0 else printed.strip()}"] += 1
         for store in self.stores.values():
             self.listed(store)
 
@@ -94,7 +92,7 @@ class Stores:
         word = random.choice(("commit", "commit", "commit", "send", "send", "take", "take", "purge", "tick", "roll", "create", "checkpoint", "checkpoint", "checkpoint", "push", "push"))
         body, queue = random.choice(("x", "", f"*{random.randrange(3000)}")), random.choice(list(QUEUES))
         if word == "commit":
-            ops = [random.choice((send(".", "stock", body), send(OTHER[host], "orders", body), send(OTHER[host], "nowhere", body, "0"), "take,stock", "take,orders")) for _ in range(random.randrange(1, 6))]
+            ops = [random.choice((*[send(".", "stock", body), send(OTHER[host], "orders", body)] * 3, send(OTHER[host], "nowhere", body, "0"), "take,stock", "take,orders")) for _ in range(random.randrange(1, 6))]
             self.do(host, word, *ops)
         elif word == "send":
             self.do(host, word, "recoverable", str(random.randrange(8)), send(random.choice((".", OTHER[host])), "notes", body, random.choice(("-", "0"))))

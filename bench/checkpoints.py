@@ -1,6 +1,6 @@
 #!/usr/bin/env python3
 """checkpoints.py [RECORDS [MESSAGES]]: what a checkpoint costs and what it gives, at a store of RECORDS records (100,000) which leave no message, and at one with a tenth as many
-messages, all there: how long `list` takes before it and behind it, how long it takes itself, and how long the file is. Then how great a state may be: a base of exactly
+messages, all there: the processor time of `list` before it and behind it, and of itself, and how long the file is. Then how great a state may be: a base of exactly
 1,073,741,824 bytes is written, and of four bytes more, and of MESSAGES messages (270) of 4,194,000 bytes, none: `toolarge`, and the file is what it was.
 
 The first checkpoint leaves the records in the file, before the head, for good. A further one must leave no more behind the head than the area that was in use with the records behind it,
@@ -9,7 +9,7 @@ and twice the new area. Where no message is left `list` is to be twenty times qu
 The records are those of one message that the program sent and took, written again with other numbers, which `list` and the number of the next message show to be right. What is
 too large takes some 4,000,000,000 bytes of memory and as many in FOLDER; MESSAGES 0 leaves it out. It stands outside the gate. MQB names another program than `./mqb --where` does.
 """
-import hashlib, itertools, os, shutil, sys, time
+import hashlib, itertools, os, resource, shutil, sys, time
 from managers import HEAD, MQB, asked, based, folder, ids_of, mqb, send
 
 RECORDS = int(sys.argv[1]) if len(sys.argv) > 1 else 100_000
@@ -81,22 +81,24 @@ def kept(name):
     return store, count, count
 
 
-def timed(action):
-    began = time.perf_counter()
-    given = action()
-    return time.perf_counter() - began, given
+def cost(*words):
+    """The processor seconds of a command, and what it says."""
+    before = resource.getrusage(resource.RUSAGE_CHILDREN)
+    said = asked(*words)
+    behind = resource.getrusage(resource.RUSAGE_CHILDREN)
+    return behind.ru_utime + behind.ru_stime - before.ru_utime - before.ru_stime, said
 
 
 def listed(store):
-    """How long `list` takes, the least of three, and what it says."""
-    runs = [timed(lambda: asked("list", store)) for _ in range(3)]
+    """What `list` costs, the least of five, and what it says."""
+    runs = [cost("list", store) for _ in range(5)]
     return min(seconds for seconds, _ in runs), runs[0][1]
 
 
 def checkpointed(store):
-    """How long a checkpoint takes; a further one keeps to its bound."""
+    """What a checkpoint costs; a further one keeps to its bound."""
     was, size = based(store), os.path.getsize(store)
-    took, said = timed(lambda: asked("checkpoint", store))
+    took, said = cost("checkpoint", store)
     assert said == ["ok"]
     lies = based(store)
     assert os.path.getsize(store) == lies.place + lies.size, "the file ends behind the new area"
@@ -114,7 +116,7 @@ def measure(name, make, what):
         took = checkpointed(store)
         behind, again = listed(store)
         assert again == lines, "a checkpoint changed something"
-        print(f"  behind the {which} checkpoint, which took {took / before:.2f} of that list: a list {behind * 1000:.1f} ms, {before / behind:.1f} times quicker, a file of {os.path.getsize(store):,} bytes", flush=True)
+        print(f"  behind the {which} checkpoint, of {took * 1000:.0f} ms: a list {behind * 1000:.1f} ms, {before / behind:.1f} times quicker, a file of {os.path.getsize(store):,} bytes", flush=True)
     assert asked("send", store, "recoverable", "3", send(".", "notes"))[0].startswith(f"sent alpha.{last + 1} ")
     return before >= QUICKER * behind
 
@@ -169,7 +171,9 @@ def weigh(name):
     count, letters, body = largest(name)
     store = heavy(name, count, letters, body)
     lines = asked("list", store)
-    took = checkpointed(store)
+    began = time.time()
+    checkpointed(store)
+    took = time.time() - began
     assert based(store).size - AROUND == MAX_BASE and asked("list", store) == lines
     print(f"a base of {MAX_BASE:,} bytes, {count} messages of {BIG:,} and one of {body:,}: ok, in {took:.0f} s", flush=True)
     refused(heavy(name, count, letters, body + 4))

@@ -6,7 +6,7 @@ stores must agree: what one has as acknowledged is decided at the other, and not
 brought over and taken: each message once, in the order of the commits. It prints for each word how often its line was printed (`said`), the call was made and its line
 was not (`made`), and nothing was done (`not`); `part` is an `init` that left a file which is no store. Of connections: all that waited on both sides was acknowledged
 (`whole`), something was decided that its sender had not heard of (`ahead`), or neither (`short`). `first_checkpoint` is `checkpoint` at a store without a base: `list` says
-what it said, and the next checkpoint is made.
+what it said, and the next checkpoint is made. FILL times 8 messages of 2,000 bytes (100) are in such a store.
 
 Seen, of 300 kills each, by the released program whose sum begins with b9784d31, on a machine with twice as many busy programs as processors (said, made, not): peer 108, 13, 179; create 129, 18,
 153; send 154, 19, 127; commit 136, 15, 149; take 172, 11, 117; purge 130, 22, 148; tick 101, 30, 169; roll 118, 35, 147; init 199, 22, 33, and 46 part; (whole, ahead, short): serve 157, 81, 62; attend 170,
@@ -14,11 +14,12 @@ Seen, of 300 kills each, by the released program whose sum begins with b9784d31,
 
 It stands outside the gate. Its port must be free: 1801, or MQB_PORT. MQB names another program than `./mqb --where` does.
 """
-import collections, pathlib, random, shutil, socket, subprocess, sys, time
-from managers import GUIDS, MOST_OPS, MQB, PORT, Ends, asked, based, folder, has, ids_of, listening, marks_of, mqb, send, started
+import collections, os, pathlib, random, shutil, socket, subprocess, sys, time
+from managers import GUIDS, MQB, PORT, Ends, asked, based, folder, has, ids_of, listening, marks_of, mqb, send, started
 
 ROUNDS = int(sys.argv[1]) if len(sys.argv) > 1 else 100
 BATCH = 50  # rounds over one pair of stores: a manager knows 64 peers
+FILL = int(os.environ.get("FILL", "100"))
 HERE = ("127.0.0.1",)
 
 
@@ -131,12 +132,12 @@ class Calls(Ends):
 
 
 class Checkpoints(Calls):
-    """A round of a checkpoint of a manager with some 2,600,000 bytes of messages, from a store without a base or from one with a base and records behind it."""
+    """A round of a checkpoint of a manager with many messages, from a store without a base or from one with a base and a record behind it."""
 
     def __init__(self, folder):
         super().__init__(folder)
-        for _ in range(20):
-            asked("commit", self.store, *[send(".", "orders", "*2000")] * MOST_OPS)
+        for _ in range(FILL):
+            asked("commit", self.store, *[send(".", "orders", "*2000")] * 8)
         shutil.copyfile(self.store, f"{folder}/first")
 
     def first_checkpoint(self, wait):

@@ -95,7 +95,7 @@ begin 'A checkpoint'
 says
 marks alpha.store
 mqb checkpoint alpha.store
-mqb list alpha.store
+marks alpha.store
 
 begin 'A peer that is known by another host'
 mqb init gamma.store gamma 2a2b2c2d-2e2f-3031-3233-343536373839 127.0.0.1
