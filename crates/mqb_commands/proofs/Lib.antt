@@ -1,6 +1,6 @@
 pub mod Failing
 pub mod Answering
-mod Checkpointing
+mod Checkpointed
 pub mod TextLines
 pub mod Going
 pub mod Inputs

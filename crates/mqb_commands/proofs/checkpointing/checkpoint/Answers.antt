@@ -9,7 +9,7 @@ use Rattle.mqb_commands.specs.Causes.{DiskFaultHasCause}
 use Rattle.mqb_commands.specs.Outputs.{IsSaid}
 use Rattle.mqb_commands.specs.declared.status.Status.{Status}
 use Rattle.mqb_commands.proofs.Answering.{fails_cause, opening_is_told, rose_cause}
-use Rattle.mqb_commands.proofs.Checkpointing.{checkpoint_is_said, checkpoint_is_unsaid, left_down, reply_err, said_cause, said_stays, unsaid_stays}
+use Rattle.mqb_commands.proofs.Checkpointed.{checkpoint_is_said, checkpoint_is_unsaid, left_down, reply_err, said_cause, said_stays, unsaid_stays}
 use Rattle.mqb_commands.proofs.Failing.{line_fails}
 use Rattle.mqb_commands.proofs.checkpointing.checkpoint.Goals as goal
 
