@@ -36,7 +36,7 @@ no_lines : (m : Network) → with_lines [] m ≡ m
 no_lines m = ap (λ (ls : List Line). record m { ledger = ls }) (append-nil m.ledger)
 
 -- a record that there is, is one
-one_record : (q : Option Record) → is_some q ≡ true → option_map_or (λ _. 1) q 0 ≡ 1
+one_record : (q : Option Record) → is_some q ≡ true → ◌≡◌ {A = ℕ} (option_map_or (λ _. 1) q 0) 1
 one_record (Some r) some = refl
 one_record None some = absurd (let none : ⊥ = cc in none)
 
@@ -144,7 +144,7 @@ module _ (which : Which) (s s1 t o o1 : SeatState) (u u1 : TrafficState) (y : Si
     faults = kept.faults;
   }
     where
-      one : option_map_or (λ _. 1) (doubt_of own.condition) 0 ≡ 1
+      one : ◌≡◌ {A = ℕ} (option_map_or (λ _. 1) (doubt_of own.condition) 0) 1
       one = one_record (doubt_of own.condition) (subst (λ (m : Manager). is_some (doubt_of m.condition) ≡ true) (sym own_is) kept.doubt)
 
   not_opened : (was_down : Bool) → NotOpened d e s1 t → IsNoted which (side t o1 u1) y false
