@@ -53,10 +53,10 @@ up_by false r same = refl
 stays_up : (m n : ManagerState) → condition_of n.store ≡ condition_of m.store → IsUp m → IsUp n
 stays_up m n same up = up_of n.store.journal.down (record_of n.store.entry) (same ∙ up_by m.store.journal.down (record_of m.store.entry) up)
 
-up_after : {A : Type 0} (m n : ManagerState) (o : Outcome A) → Succeeds m n o → IsUp m → IsUp n
+pub up_after : {A : Type 0} (m n : ManagerState) (o : Outcome A) → Succeeds m n o → IsUp m → IsUp n
 up_after m n o made up = stays_up m n (ap (λ (k : Manager). k.condition) made.manager) up
 
-up_same : (m n : ManagerState) → IsSame m n → IsUp m → IsUp n
+pub up_same : (m n : ManagerState) → IsSame m n → IsUp m → IsUp n
 up_same m n same up = stays_up m n (ap (λ (k : Manager). k.condition) same.manager) up
 
 abbrev Telling : Type 0

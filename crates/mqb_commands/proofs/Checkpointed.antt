@@ -1,6 +1,6 @@
 -- A checkpoint of a store from the disk before the store was opened to the disk behind the checkpoint.
 use Rattle.std.proofs.Common.{◌≡◌, ℕ, List, Result, Ok, Err, ap, inl, inr, refl, sym, subst, ◌∙◌}
-use Rattle.std.specs.Prelude.{[], ◌⊎◌, Bool, IsOk, None, false}
+use Rattle.std.specs.Prelude.{[], ◌⊎◌, IsOk, None, false}
 use Rattle.mqb_journal.specs.States.{is_too_far}
 use Rattle.mqb_journal.specs.declared.faults.CheckpointFault.{CheckpointFault}
 use Rattle.mqb_journal.specs.declared.faults.CheckpointFault.TheVariants as base
