@@ -30,7 +30,7 @@ returns-in-Err-clause-faults g c =
     c.in-Err.ensures.cause c.fault.ensures
 
 pub checkpoint-given-requires : goal.checkpoint-given-requires
-checkpoint-given-requires g c = record { on = λ up. c.in-Ok.ensures.on; }
+checkpoint-given-requires g c = record { on = λ up. c.in-Ok.ensures.on }
 
 -- It has a reply.
 
