@@ -1,5 +1,5 @@
--- A manager on an empty disk, which then knows one peer.
-use Rattle.std.proofs.Common.{◌≡◌, ◌<◌, ℕ, Bool, false, cond, List, [], ◌∷◌, Option, None, Some, Result, Ok, Err, length, inl, inr, sym, ap, ◌∙◌, arith}
+-- A manager on an empty disk, which then knows one peer; and a world of two of them.
+use Rattle.std.proofs.Common.{◌≡◌, ◌<◌, ℕ, Bool, false, cond, List, [], ◌∷◌, Option, None, Some, Result, Ok, Err, length, inl, inr, refl, sym, ap, ◌∙◌, arith}
 use Rattle.std.specs.Option.{option_map_or}
 use Rattle.std.specs.Prelude.{◌+◌, ◌||◌, nat_le}
 use Rattle.mqb_base.specs.declared.ids.Guid.{Guid}
@@ -17,9 +17,18 @@ use Rattle.mqb_model.specs.records.Peer.{is_met}
 use Rattle.mqb_model.specs.records.Record as entry
 use Rattle.mqb_moves.specs.Calling.{seat_of}
 use Rattle.mqb_moves.specs.lemmas.Calling.{not_up_of, went_well}
-use Rattle.mqb_moves.specs.Seats.{IsHeldOn}
+use Rattle.mqb_moves.specs.Seats.{IsHeldOn, SeatState, records_of, seated}
+use Rattle.mqb_network.specs.Checkpointing.{written_count}
 use Rattle.mqb_network.specs.Network.{formatted}
+use Rattle.mqb_posts.specs.Posting.{IsWithin}
+use Rattle.mqb_runs.specs.Hosts as replayed
+use Rattle.mqb_script.specs.declared.managers.Which.{Which}
+use Rattle.mqb_script.specs.declared.managers.Which.TheVariants.{Alpha, Beta}
+use Rattle.mqb_traffic.specs.Networks.{index_of, network_with}
+use Rattle.mqb_traffic.specs.States.{TrafficState}
 use Rattle.mqb_world.specs.Making.{HasBytes, IsEmpty, KeepBytes}
+use Rattle.mqb_world.specs.Standing.{Stands}
+use Rattle.mqb_world.specs.Worlds.{WorldState, counts_of}
 use Rattle.mqb_world.specs.declared.faults.WorldFault.{WorldFault}
 
 -- the same fault, where something else was to be made
@@ -100,3 +109,42 @@ module _ (own peer : Identity) (apart : is_met own peer ≡ false) where
       met_count one = (went_well fault.Memory fault.DiskFault d e m n (add_peer (manager_of m) peer) r call up (λ x. ok_errs index fault.Memory (sym is ∙ x)) (λ x. ok_errs index fault.DiskFault (sym is ∙ x))).left.count
           ∙ ap (λ (k : Manager). m.store.journal.count + option_map_or (λ _. 1) (add_peer k peer).entry 0) is_new
           ∙ ap (λ (o : Option AddPeerFault). m.store.journal.count + option_map_or (λ _. 1) (added_by o).entry 0) not_refused ∙ ap (λ (k : ℕ). k + 1) one
+
+-- Nothing has happened yet between two managers that know each other.
+
+abbrev pub no_traffic : TrafficState
+no_traffic = record { link = None; connected = 0; notes = []; ledger = [] }
+
+module _ (a b : SeatState) (t : TrafficState) (own other : Identity) (own_is : own ≡ replayed.alpha) (other_is : other ≡ replayed.beta)
+    (first : seated a ≡ formatted own (other ∷ [])) (second : seated b ≡ formatted other (own ∷ [])) (quiet : t ≡ no_traffic)
+    (one : records_of a ≡ 2) (two : records_of b ≡ 2) where
+  abbrev w : WorldState
+  w = record { alpha = a; beta = b; traffic = t }
+
+  first_is : seated a ≡ formatted replayed.alpha (replayed.beta ∷ [])
+  first_is = first ∙ ap (λ (i : Identity). formatted i (other ∷ [])) own_is ∙ ap (λ (i : Identity). formatted replayed.alpha (i ∷ [])) other_is
+
+  second_is : seated b ≡ formatted replayed.beta (replayed.alpha ∷ [])
+  second_is = second ∙ ap (λ (i : Identity). formatted i (own ∷ [])) other_is ∙ ap (λ (i : Identity). formatted replayed.beta (i ∷ [])) own_is
+
+  two_each : (which : Which) → counts_of w (index_of which) ≡ 2 + written_count (index_of which) []
+  two_each Alpha = one
+  two_each Beta = two
+
+  none_posted : IsWithin []
+  none_posted = record { bytes = omega arith; count = omega arith }
+
+  pub both_begin : Stands w [] []
+  both_begin = record {
+    run = tt;
+    stands = record {
+      network = ap (λ (m : Manager). network_with m (seated b) t) first_is
+          ∙ ap (λ (m : Manager). network_with (formatted replayed.alpha (replayed.beta ∷ [])) m t) second_is
+          ∙ ap (λ (u : TrafficState). network_with (formatted replayed.alpha (replayed.beta ∷ [])) (formatted replayed.beta (replayed.alpha ∷ [])) u) quiet;
+      spelled = refl;
+      writable = tt;
+      within = none_posted;
+      counted = two_each;
+      begun = let none : t.connected ≡ 0 = ap (λ (u : TrafficState). u.connected) quiet in omega (arith, none);
+    };
+  }
