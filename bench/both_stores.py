@@ -6,6 +6,8 @@ word but a push is done by both, each on a copy of the store: they must print th
 both copies. Then one of the copies, drawn, is the store. Each few words CHANGES copies (20) are changed, in a field, in a byte or by a cut: both must say the same of each, a
 fault by its place. What they do not agree on is kept under KEEP, where that is named, and the status is 1.
 
+Seen, by the released program whose sum begins with 099e2b06 beside mqb-peer, seed 1: 300 words, 55 checkpoints and 37 pushes among them, were answered alike and left the same bytes; of 680 changed stores 334 were stores to both, and 346 bad at the same place. It took 114 s.
+
 It stands outside the gate. Its port must be free: 1801, or MQB_PORT. MQB names another program than `./mqb --where` does, PEER the other one.
 """
 import collections, os, pathlib, random, shutil, subprocess, sys, time

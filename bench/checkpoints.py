@@ -6,6 +6,9 @@ messages, all there: the processor time of `list` before it and behind it, and o
 The first checkpoint leaves the records in the file, before the head, for good. A further one must leave no more behind the head than the area that was in use with the records behind it,
 and twice the new area. Where no message is left `list` is to be twenty times quicker behind the checkpoints; else the status is 1.
 
+Seen, by the released program whose sum begins with 099e2b06, on a busy machine: of 100,000 records without a message, a file of 15,450,099 bytes, `list` took 284 ms, and 6.4 behind the first checkpoint, which took 286 and made the file 147 bytes
+longer; 10,000 messages, a file of 2,740,099 bytes, took 50 ms, and 28 behind it, with files of 5,390,358, 8,040,475 and again 5,390,358 bytes. A base of 1,073,741,824 bytes took 9 s; one of four bytes more, and 270 messages, were `toolarge`.
+
 The records are those of one message that the program sent and took, written again with other numbers, which `list` and the number of the next message show to be right. What is
 too large takes some 4,000,000,000 bytes of memory and as many in FOLDER; MESSAGES 0 leaves it out. It stands outside the gate. MQB names another program than `./mqb --where` does.
 """
