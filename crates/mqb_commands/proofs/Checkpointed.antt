@@ -1,11 +1,11 @@
 -- A checkpoint of a store from the disk before the store was opened to the disk behind the checkpoint.
 use Rattle.std.proofs.Common.{◌≡◌, ℕ, List, Result, Ok, Err, ap, inl, inr, refl, sym, subst, ◌∙◌}
-use Rattle.std.specs.Prelude.{[], ◌⊎◌, IsOk, None, false}
+use Rattle.std.specs.Prelude.{[], ◌⊎◌, IsOk, None, OnOk, false}
 use Rattle.mqb_journal.specs.States.{is_too_far}
 use Rattle.mqb_journal.specs.declared.faults.CheckpointFault.{CheckpointFault}
 use Rattle.mqb_journal.specs.declared.faults.CheckpointFault.TheVariants as base
 use Rattle.mqb_manager.specs.Calls.{Succeeds}
-use Rattle.mqb_manager.specs.Checkpoints.{EndsCheckpoint, FailsWithout, IsCheckpoint, checkpoint_of}
+use Rattle.mqb_manager.specs.Checkpoints.{EndsCheckpoint, FailsWithout, IsCheckpoint, IsRewritten, checkpoint_of}
 use Rattle.mqb_manager.specs.Keeping.{KeepsDisk}
 use Rattle.mqb_manager.specs.States.{IsSame, IsUp, ManagerState, manager_of}
 use Rattle.mqb_manager.specs.lemmas.Keeping.{checkpoints_keep_disks, keeping_goes_on}
@@ -71,13 +71,14 @@ module _ (d f e : View) (m n : ManagerState) (given : Given) (opened : OpensAs d
       at (inr (inr h)) = absurd (no_fault told fault.DiskFault (sym reply ∙ ap checkpoint_reply h.0))
 
   checkpointed : (told : Reply) (text : List ℕ) (r : Status) → checkpoint_reply given ≡ reply_ok told → ((checkpoint_of m).touches ≡ false → OnlySettles d e)
-      → r ≡ end_of given → text ≡ printed [] None told → IsCheckpointed d e text r
-  checkpointed told text r reply untouched ended said = let h = went told reply in record {
+      → OnOk given (IsRewritten m n) → r ≡ end_of given → text ≡ printed [] None told → IsCheckpointed d e text r
+  checkpointed told text r reply untouched anew ended said = let h = went told reply in record {
     before = m;
     after = n;
     told = told;
     opened = opened;
     made = h.1;
+    rewritten = subst (λ (k : Given). OnOk k (IsRewritten m n)) h.0 anew;
     answer = ap checkpoint_reply (sym h.0) ∙ reply;
     ended = ended ∙ ap end_of h.0;
     said = said;
@@ -104,9 +105,9 @@ module _ (d f e : View) (m n : ManagerState) (given : Given) (opened : OpensAs d
 
   -- The line of its reply.
   pub checkpoint_is_said : (told : Reply) (text : List ℕ) (r : Status) → checkpoint_reply given ≡ reply_ok told
-      → ((checkpoint_of m).touches ≡ false → OnlySettles d e) → IsSaid (printed [] None told) (end_of given) text r → Checkpoints d e text r
-  checkpoint_is_said told text r reply untouched (inl line) = inl (checkpointed told text r reply untouched line.0 line.1)
-  checkpoint_is_said told text r reply untouched (inr none) = inr (inr (inl (none.0, none.1, unsaid (reply_ok told) reply (no_fault told fault.DiskFault))))
+      → ((checkpoint_of m).touches ≡ false → OnlySettles d e) → OnOk given (IsRewritten m n) → IsSaid (printed [] None told) (end_of given) text r → Checkpoints d e text r
+  checkpoint_is_said told text r reply untouched anew (inl line) = inl (checkpointed told text r reply untouched anew line.0 line.1)
+  checkpoint_is_said told text r reply untouched anew (inr none) = inr (inr (inl (none.0, none.1, unsaid (reply_ok told) reply (no_fault told fault.DiskFault))))
 
   pub said_stays : (told : Reply) → checkpoint_reply given ≡ reply_ok told → e.faults ≡ d.faults
   said_stays told reply = stays (reply_ok told) reply (no_fault told fault.DiskFault)

@@ -1,7 +1,7 @@
 -- What `checkpoint` says, how it ends, and what the disk is left as.
-use Rattle.std.specs.Prelude.{[], ◌≡◌, ◌⊎◌, Err, List, None, Ok, Result, false, ℕ}
+use Rattle.std.specs.Prelude.{[], ◌≡◌, ◌⊎◌, Err, List, None, Ok, OnOk, Result, false, ℕ}
 use Rattle.mqb_manager.specs.Calls.{Succeeds}
-use Rattle.mqb_manager.specs.Checkpoints.{FailsWithout, checkpoint_of}
+use Rattle.mqb_manager.specs.Checkpoints.{FailsWithout, IsRewritten, checkpoint_of}
 use Rattle.mqb_manager.specs.Keeping.{KeepsDisk}
 use Rattle.mqb_manager.specs.States.{IsUp, ManagerState}
 use Rattle.mqb_outside.specs.Disk.{View}
@@ -29,6 +29,7 @@ pub record IsCheckpointed (d e : View) (text : List ℕ) (r : Status) : Type 0 w
   pub told : Reply
   pub opened : OpensAs d before
   pub made : Succeeds before after (checkpoint_of before)
+  pub rewritten : OnOk (checkpoint_of before).answer (IsRewritten before after)
   pub answer : checkpoint_reply (checkpoint_of before).answer ≡ Ok told
   pub ended : r ≡ end_of (checkpoint_of before).answer
   pub said : text ≡ printed [] None told

@@ -1,8 +1,8 @@
 -- The call checkpoint of a manager on its store: the state is written anew as one base, and the manager stays as it is.
-use Rattle.std.specs.Prelude.{◌≡◌, ◌⊎◌, Err, None, Result, true}
+use Rattle.std.specs.Prelude.{◌≡◌, ◌⊎◌, Err, None, Result, true, ℕ}
 use Rattle.mqb_outside.specs.Disk.{AtMost, IsSettled, LeavesOnly, View}
 use Rattle.mqb_outside.specs.Images.{Each}
-use Rattle.mqb_journal.specs.States.{is_too_far}
+use Rattle.mqb_journal.specs.States.{checkpointed, is_too_far}
 use Rattle.mqb_journal.specs.declared.faults.CheckpointFault.{CheckpointFault}
 use Rattle.mqb_journal.specs.declared.faults.CheckpointFault.TheVariants as fault
 use Rattle.mqb_model.specs.managers.Outcomes.{Outcome, failed_under}
@@ -41,3 +41,7 @@ pub record IsCheckpoint (d e : View) (m n : ManagerState) (r : Result (Unit {0})
   pub rose : r ≡ Err fault.DiskFault → Rose d.faults e.faults
   pub stayed : (r ≡ Err fault.DiskFault → ⊥) → e.faults ≡ d.faults
   pub switch : e.switch ≡ d.switch
+
+-- The store goes on behind a base that was written, and all its records are in that.
+abbrev pub IsRewritten : ManagerState → ManagerState → Type 0
+IsRewritten m n = (size : ℕ) × (n.store.journal ≡ checkpointed m.store.journal size)

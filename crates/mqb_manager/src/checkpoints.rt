@@ -1,7 +1,7 @@
 ghost use Rattle.std.specs.Prelude.{◌≡◌, Err, OnOk, false};
 ghost use Rattle.mqb_outside.specs.Disk.{Counted, IsSettled};
 ghost use Rattle.mqb_manager.specs.Calls.{SaysDown};
-ghost use Rattle.mqb_manager.specs.Checkpoints.{IsCheckpoint, checkpoint_of};
+ghost use Rattle.mqb_manager.specs.Checkpoints.{IsCheckpoint, IsRewritten, checkpoint_of};
 ghost use Rattle.mqb_manager.specs.States.{IsOnDisk, IsUp};
 
 use crate::manager::Manager;
@@ -17,6 +17,7 @@ impl Manager {
         ensures call { IsCheckpoint (D.view disk.old) (D.view disk.new) self.old self.new result }
         ensures down { SaysDown CheckpointFault.Down self.old self.new result }
         ensures settled { OnOk result (IsSettled (D.view disk.new)) }
+        ensures rewritten { OnOk result (IsRewritten self.old self.new) }
         ensures untouched { (checkpoint_of self.old).touches ≡ false → disk.new ≡ disk.old }
         ensures memory { result ≡ Err CheckpointFault.Memory → disk.new ≡ disk.old }
         ensures calls { OnOk result (Counted 7 (D.view disk.old).calls (D.view disk.new).calls) }

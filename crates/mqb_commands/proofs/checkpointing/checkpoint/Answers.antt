@@ -42,6 +42,7 @@ returns-in-Ok-checkpoint_reply-clause-checkpoints g c =
     checkpoint_is_said d f e c.in-Ok.manager c.checkpoint-given.new.self c.checkpoint-given.result c.in-Ok.ensures.opened c.open.ensures.reads c.in-Ok.ensures.cause
     c.checkpoint-given.ensures.call c.in-Ok-checkpoint_reply.reply c.say.result.text.items c.say.result.end (sym c.checkpoint_reply.ensures ∙ c.in-Ok-checkpoint_reply.is)
     (λ quiet. subst (λ k. OnlySettles d (g.D.Disk.view k)) (sym (c.checkpoint-given.ensures.untouched quiet)) c.open.ensures.reads)
+    c.checkpoint-given.ensures.rewritten
     (subst (λ (s : Status). IsSaid (printed [] None c.in-Ok-checkpoint_reply.reply) s c.say.result.text.items c.say.result.end) c.end_of-end.ensures c.say.ensures)
 
 pub returns-in-Ok-checkpoint_reply-clause-cause : goal.returns-in-Ok-checkpoint_reply-clause-cause

@@ -1,6 +1,7 @@
 use Rattle.std.proofs.Common.{◌≡◌, ◌∙◌, Err, Ok, ap, subst, sym}
 use Rattle.std.specs.Prelude.{false}
 use Rattle.mqb_journal.specs.declared.faults.CheckpointFault.TheVariants as fault
+use Rattle.mqb_manager.specs.Checkpoints.{IsRewritten}
 use Rattle.mqb_manager.specs.Seen.{seen}
 use Rattle.mqb_manager.specs.States.{IsUp, ManagerState}
 use Rattle.mqb_manager.proofs.Based.{base_refused, base_rose, based_call, made, made_far, made_large, not_far, of_parts, refused_checkpoint, touched, unbased_call, unbased_valid, wanting_checkpoint}
@@ -31,6 +32,12 @@ returns-in-Ok-clause-call g c =
       stayed = h.cause;
       switch = h.switch;
     }))
+
+pub returns-in-Ok-clause-rewritten : goal.returns-in-Ok-clause-rewritten
+returns-in-Ok-clause-rewritten g c =
+    let m = c.self.inside in
+    subst (λ (k : ManagerState). IsRewritten k (seen c.checkpoint.new.self m.session m.cursors.items m.owes.items)) c.self.view_is
+    (_, c.in-Ok.ensures.checkpointed)
 
 -- It is refused.
 
