@@ -7,6 +7,7 @@ commit. The system's C compiler makes the library of `unsettled.c`, which kills 
 
 Seen with the program from before a start synced: in the first round of `commit` the message that was listed is lost, in the first of `serve` the message that beta acknowledged, which
 alpha forgot; of `push` nothing is lost. With the one whose sum begins with b9784d31, which syncs at its start, in 200 rounds of each: 600 kills, nothing that was told is lost, and every message came once.
+With the one whose sum begins with 099e2b06, 50 kills of commit and 50 of checkpoint: nothing that was told is lost.
 
 Its port must be free: 1801, or MQB_PORT. MQB names another program than `./mqb --where` does.
 """
