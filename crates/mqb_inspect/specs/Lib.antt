@@ -1,0 +1,11 @@
+pub mod Input
+pub mod Grammar
+pub mod Passing
+pub mod Cutting
+pub mod Linking
+pub mod Taking
+pub mod Standing
+pub mod Saying
+pub mod Outputs
+pub mod Runs
+pub mod Keeping
