@@ -1,0 +1,13 @@
+pub mod Lists
+pub mod Pieces
+pub mod Rows
+pub mod States
+pub mod Links
+pub mod Candidates
+pub mod Sessions
+pub mod Courses
+pub mod Pumping
+pub mod Hearing
+pub mod Tracing
+pub mod Whole
+pub mod Worked
