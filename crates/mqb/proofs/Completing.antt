@@ -82,20 +82,24 @@ answer_ends call.Refused = inr refl
 
 calls_ends : (asked : words.Call) (now : ℕ) (d e : View) (text : List ℕ) (end : Status) → Calls asked now d e text end → (Rose d.faults e.faults → ⊥)
     → Unless (λ r. IsSound d → IsAnswer r) end
-calls_ends asked now d e text end (inl answered) calm = inl (λ sound. subst IsAnswer (sym answered.1) (answer_ends answered.0))
-calls_ends asked now d e text end (inr (inl broken)) calm = absurd (calm broken.1.rose)
-calls_ends asked now d e text end (inr (inr (inl none))) calm = inr none.0
-calls_ends asked now d e text end (inr (inr (inr failed))) calm = not_opened_ends IsAnswer d e end failed.0 calm
+calls_ends asked now d e text end (inl opened) calm = elim opened.done [
+  | inl answered ↦ inl (λ sound. subst IsAnswer (sym answered.1) (answer_ends answered.0))
+  | inr (inl broken) ↦ absurd (calm broken.1.rose)
+  | inr (inr none) ↦ inr none.0
+]
+calls_ends asked now d e text end (inr failed) calm = not_opened_ends IsAnswer d e end failed.0 calm
 
 replied_ends : {V E : Type 0} (given : Result V E) → IsAnswer (end_of given)
 replied_ends (Ok done) = inl refl
 replied_ends (Err why) = inr refl
 
 checkpoints_ends : (d e : View) (text : List ℕ) (end : Status) → Checkpoints d e text end → (Rose d.faults e.faults → ⊥) → Unless (λ r. IsSound d → IsAnswer r) end
-checkpoints_ends d e text end (inl made) calm = inl (λ sound. subst IsAnswer (sym made.ended) (replied_ends _))
-checkpoints_ends d e text end (inr (inl left)) calm = absurd (calm left.1.rose)
-checkpoints_ends d e text end (inr (inr (inl none))) calm = inr none.0
-checkpoints_ends d e text end (inr (inr (inr failed))) calm = not_opened_ends IsAnswer d e end failed.0 calm
+checkpoints_ends d e text end (inl opened) calm = elim opened.done [
+  | inl made ↦ inl (λ sound. subst IsAnswer (sym made.ended) (replied_ends _))
+  | inr (inl left) ↦ absurd (calm left.1.rose)
+  | inr (inr none) ↦ inr none.0
+]
+checkpoints_ends d e text end (inr failed) calm = not_opened_ends IsAnswer d e end failed.0 calm
 
 peeks_ends : (place : Place) (count : ℕ) (steady : Option ℕ) (d e : View) (text : List ℕ) (end : Status) → Peeks place count steady d e text end
     → (Rose d.faults e.faults → ⊥) → Unless (λ r. IsSound d → IsAnswer r) end

@@ -110,20 +110,24 @@ fault_quiet text end (inl told) = subst IsQuiet (sym told.0) tt
 fault_quiet text end (inr none) = subst IsQuiet (sym none.0) tt
 
 pub calls_quiet : (asked : words.Call) (now : ℕ) (d e : View) (text : List ℕ) (end : Status) → Calls asked now d e text end → IsQuiet end
-calls_quiet asked now d e text end (inl answered) = subst IsQuiet (sym answered.1) (ended_quiet answered.0)
-calls_quiet asked now d e text end (inr (inl broken)) = fault_quiet text end broken.0
-calls_quiet asked now d e text end (inr (inr (inl none))) = subst IsQuiet (sym none.0) tt
-calls_quiet asked now d e text end (inr (inr (inr failed))) = not_opened_quiet d e end failed.0
+calls_quiet asked now d e text end (inl opened) = elim opened.done [
+  | inl answered ↦ subst IsQuiet (sym answered.1) (ended_quiet answered.0)
+  | inr (inl broken) ↦ fault_quiet text end broken.0
+  | inr (inr none) ↦ subst IsQuiet (sym none.0) tt
+]
+calls_quiet asked now d e text end (inr failed) = not_opened_quiet d e end failed.0
 
 replied_quiet : {V E : Type 0} (given : Result V E) → IsQuiet (end_of given)
 replied_quiet (Ok done) = tt
 replied_quiet (Err why) = tt
 
 pub checkpoints_quiet : (d e : View) (text : List ℕ) (end : Status) → Checkpoints d e text end → IsQuiet end
-checkpoints_quiet d e text end (inl made) = subst IsQuiet (sym made.ended) (replied_quiet _)
-checkpoints_quiet d e text end (inr (inl left)) = fault_quiet text end left.0
-checkpoints_quiet d e text end (inr (inr (inl none))) = subst IsQuiet (sym none.0) tt
-checkpoints_quiet d e text end (inr (inr (inr failed))) = not_opened_quiet d e end failed.0
+checkpoints_quiet d e text end (inl opened) = elim opened.done [
+  | inl made ↦ subst IsQuiet (sym made.ended) (replied_quiet _)
+  | inr (inl left) ↦ fault_quiet text end left.0
+  | inr (inr none) ↦ subst IsQuiet (sym none.0) tt
+]
+checkpoints_quiet d e text end (inr failed) = not_opened_quiet d e end failed.0
 
 answer_quiet : (r : Status) → IsAnswer r → IsQuiet r
 answer_quiet r (inl done) = subst IsQuiet (sym done) tt

@@ -14,21 +14,8 @@ use Rattle.mqb_store_laws.specs.Faults.{IsBadStore}
 use Rattle.mqb_store_laws.specs.Settling.{OnlySettles}
 use Rattle.mqb_commands.specs.Causes.{open_status}
 use Rattle.mqb_commands.specs.Opened.{IsNotOpened}
-use Rattle.mqb_commands.specs.Said.{FailsToOpen, Inits}
-
-memory_line : fault_text status.Memory ≡ []
-unfolding fault_text
-memory_line = refl
-
--- memory ran out
-pub memory_fails : (d e : View) (text : List ℕ) (end : Status) → OnlySettles d e → text ≡ [] → end ≡ status.Memory → FailsToOpen d e text end
-memory_fails d e text end reads none is = subst (FailsToOpen d e text) (sym is) (reads, none ∙ sym memory_line)
-
-pub line_fails : (d e : View) (fault end : Status) (text : List ℕ) → IsNotOpened d e fault → OnlySettles d e → IsFaultLine fault text end → FailsToOpen d e text end
-line_fails d e fault end text not reads line = elim line [
-  | inl said ↦ subst (FailsToOpen d e text) (sym said.0) (not, said.1)
-  | inr none ↦ memory_fails d e text end reads none.1 none.0
-]
+use Rattle.mqb_commands.specs.Said.{Inits}
+use Rattle.mqb_commands.specs.lemmas.Opening.{memory_line}
 
 -- an answer that is a fault
 abbrev failing : {V : Type 0} → OpenFault → Result V OpenFault

@@ -8,3 +8,4 @@ pub mod Ending
 mod Order
 mod Putting
 mod Looking
+mod Unlinked

@@ -2,7 +2,6 @@
 use Rattle.std.specs.Prelude.{[], ◌≡◌, ◌⊎◌, Err, List, None, Ok, OnOk, Result, false, ℕ}
 use Rattle.mqb_manager.specs.Calls.{Succeeds}
 use Rattle.mqb_manager.specs.Checkpoints.{FailsWithout, IsRewritten, checkpoint_of}
-use Rattle.mqb_manager.specs.Keeping.{KeepsDisk}
 use Rattle.mqb_manager.specs.States.{IsUp, ManagerState}
 use Rattle.mqb_outside.specs.Disk.{View}
 use Rattle.mqb_outside.specs.Faults.{Rose}
@@ -11,7 +10,7 @@ use Rattle.mqb_store_laws.specs.Settling.{OnlySettles}
 use Rattle.mqb_transcript.specs.Texts.{printed}
 use Rattle.mqb_transcript.specs.declared.replies.Reply.{Reply}
 use Rattle.mqb_commands.specs.Called.{IsNotTold}
-use Rattle.mqb_commands.specs.Opened.{OpensAs}
+use Rattle.mqb_commands.specs.Opened.{OnStore}
 use Rattle.mqb_commands.specs.Outputs.{IsFaultLine}
 use Rattle.mqb_commands.specs.Said.{FailsToOpen}
 use Rattle.mqb_commands.specs.declared.status.Status.{Status}
@@ -22,34 +21,29 @@ abbrev pub end_of : {V E : Type 0} → Result V E → Status
 end_of (Ok done) = status.Done
 end_of (Err why) = status.Refused
 
--- The manager to which the store opens wrote its state anew, or was refused and wrote nothing, and the reply is told. The disk did not fail.
-pub record IsCheckpointed (d e : View) (text : List ℕ) (r : Status) : Type 0 where
-  pub before : ManagerState
-  pub after : ManagerState
+-- The state was written anew, or that was refused and nothing was written (kept), and the reply is told. The disk, whose faults are counted, did not fail.
+pub record IsCheckpointed (kept : Type 0) (faults faults_now : ℕ) (m n : ManagerState) (text : List ℕ) (r : Status) : Type 0 where
   pub told : Reply
-  pub opened : OpensAs d before
-  pub made : Succeeds before after (checkpoint_of before)
-  pub rewritten : OnOk (checkpoint_of before).answer (IsRewritten before after)
-  pub answer : checkpoint_reply (checkpoint_of before).answer ≡ Ok told
-  pub ended : r ≡ end_of (checkpoint_of before).answer
+  pub made : Succeeds m n (checkpoint_of m)
+  pub rewritten : OnOk (checkpoint_of m).answer (IsRewritten m n)
+  pub answer : checkpoint_reply (checkpoint_of m).answer ≡ Ok told
+  pub ended : r ≡ end_of (checkpoint_of m).answer
   pub said : text ≡ printed [] None told
-  pub untouched : (checkpoint_of before).touches ≡ false → OnlySettles d e
-  pub up : IsUp after
-  pub disk : KeepsDisk d e before after
-  pub stayed : e.faults ≡ d.faults
+  pub untouched : (checkpoint_of m).touches ≡ false → kept
+  pub up : IsUp n
+  pub stayed : faults_now ≡ faults
 
 -- The disk failed, and no record is in doubt: a crash leaves the state that the store had.
-pub record IsLeftDown (d e : View) : Type 0 where
-  pub before : ManagerState
-  pub after : ManagerState
-  pub opened : OpensAs d before
-  pub failed : FailsWithout before after
-  pub rose : Rose d.faults e.faults
-  pub disk : KeepsDisk d e before after
+pub record IsLeftDown (faults faults_now : ℕ) (m n : ManagerState) : Type 0 where
+  pub failed : FailsWithout m n
+  pub rose : Rose faults faults_now
+
+-- A manager that is open writes its state anew, or the disk fails, or memory runs out.
+abbrev pub CheckpointsOn : (kept : Type 0) → (faults faults_now : ℕ) → (m n : ManagerState) → List ℕ → Status → Type 0
+CheckpointsOn kept faults faults_now m n text r = IsCheckpointed kept faults faults_now m n text r
+    ⊎ (IsFaultLine status.DiskFault text r × IsLeftDown faults faults_now m n)
+    ⊎ ((r ≡ status.Memory) × (text ≡ []) × IsNotTold (checkpoint_of m) faults faults_now m n)
 
 -- `checkpoint`
 abbrev pub Checkpoints : View → View → List ℕ → Status → Type 0
-Checkpoints d e text r = IsCheckpointed d e text r
-    ⊎ (IsFaultLine status.DiskFault text r × IsLeftDown d e)
-    ⊎ ((r ≡ status.Memory) × (text ≡ []) × IsNotTold checkpoint_of d e)
-    ⊎ FailsToOpen d e text r
+Checkpoints d e text r = OnStore (λ m n. CheckpointsOn (OnlySettles d e) d.faults e.faults m n text r) d e ⊎ FailsToOpen d e text r

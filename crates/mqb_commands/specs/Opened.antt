@@ -3,6 +3,7 @@ use Rattle.std.specs.Prelude.{◌≡◌, IfSome, Option, ℕ}
 use Rattle.mqb_outside.specs.Disk.{View}
 use Rattle.mqb_outside.specs.Images.{Each}
 use Rattle.mqb_outside.specs.Faults.{Rose}
+use Rattle.mqb_manager.specs.Keeping.{KeepsDisk}
 use Rattle.mqb_manager.specs.States.{IsOnDisk, IsUp, ManagerState, manager_of}
 use Rattle.mqb_model.specs.managers.Manager.{unlinked}
 use Rattle.mqb_model.specs.state.Durable.{durable}
@@ -19,6 +20,14 @@ pub record OpensAs (d : View) (m : ManagerState) : Type 0 where
   pub up : IsUp m
   pub on : IsOnDisk d m
   pub image : Each d.reads (OpensTo m.store.journal.guid m.store.journal.count m.store.state)
+
+-- A store was opened as a manager, from which this led to another, and its disk stands for that.
+pub record OnStore (does : (m n : ManagerState) → Type 0) (d e : View) : Type 0 where
+  pub before : ManagerState
+  pub after : ManagerState
+  pub opened : OpensAs d before
+  pub done : does before after
+  pub disk : KeepsDisk d e before after
 
 -- A store was not opened, and its disk was not written.
 abbrev pub IsNotOpened : View → View → Status → Type 0

@@ -11,12 +11,13 @@ use Rattle.mqb_commands.specs.Texts.{fault_text}
 abbrev pub Tells : List ℕ → Status → Option (List ℕ) → Option (List ℕ) → Status → Type 0
 Tells text end before after r = ((r ≡ end) × Took before after text) ⊎ ((r ≡ status.WriteFault) × TookFront before after text)
 
--- A command said what is meant, and ended so.
+-- A command said what is meant, and ended so. Where it had nothing to say, no output failed.
 pub record Says (meant : List ℕ → Status → Type 0) (before after : Option (List ℕ)) (r : Status) : Type 0 where
   pub text : List ℕ
   pub end : Status
   pub means : meant text end
   pub told : Tells text end before after r
+  pub some : text ≡ [] → r ≡ end
 
 -- a line and the end behind it, or memory ran out
 abbrev pub IsSaid : (line : List ℕ) → (meant : Status) → (text : List ℕ) → (end : Status) → Type 0
@@ -35,6 +36,28 @@ ReadFaultHasCause before after _ = Unit {0}
 abbrev pub WriteFaultHasCause : ℕ → ℕ → Status → Type 0
 WriteFaultHasCause before after status.WriteFault = Rose before after
 WriteFaultHasCause before after _ = Unit {0}
+
+-- a manager that is open goes on behind such an end of a command, and behind no other
+abbrev pub GoesOn : Status → Type 0
+GoesOn status.DiskFault = ⊥
+GoesOn status.WriteFault = ⊥
+GoesOn status.Memory = ⊥
+GoesOn _ = Unit {0}
+
+-- an end of an answer of a manager that is open, which asks nothing of its disk
+abbrev pub IsLookEnd : Status → Type 0
+IsLookEnd status.Done = Unit {0}
+IsLookEnd status.Refused = Unit {0}
+IsLookEnd status.Memory = Unit {0}
+IsLookEnd _ = ⊥
+
+-- an end of any answer of one
+abbrev pub IsAnswerEnd : Status → Type 0
+IsAnswerEnd status.Done = Unit {0}
+IsAnswerEnd status.Refused = Unit {0}
+IsAnswerEnd status.DiskFault = Unit {0}
+IsAnswerEnd status.Memory = Unit {0}
+IsAnswerEnd _ = ⊥
 
 -- an end that is no write fault
 abbrev pub IsPlain : Status → Type 0

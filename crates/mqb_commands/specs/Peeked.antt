@@ -48,6 +48,10 @@ TellsIfThere s (Some at) count now text r = TellsPlace (hosts_of s) s.places at 
 abbrev pub TellsFirst : State → Place → (count now : ℕ) → List ℕ → Status → Type 0
 TellsFirst s place count now text r = TellsIfThere s (place_named s.places.queues place) count now text r
 
+-- a manager that is open tells the first messages of a place, or memory ran out
+abbrev pub PeeksOn : Place → (count now : ℕ) → ManagerState → List ℕ → Status → Type 0
+PeeksOn place count now m text r = TellsFirst m.store.state place count now text r ⊎ ((r ≡ status.Memory) × (text ≡ []))
+
 -- A store was opened and not written, and the first messages of a place are told.
 pub record IsPeeked (place : Place) (count now : ℕ) (d e : View) (text : List ℕ) (r : Status) : Type 0 where
   pub manager : ManagerState

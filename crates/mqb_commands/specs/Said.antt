@@ -12,6 +12,7 @@ use Rattle.mqb_commands.specs.Texts.{fault_text}
 use Rattle.mqb_commands.specs.declared.status.Status.{Status}
 use Rattle.mqb_commands.specs.declared.status.Status.TheVariants as status
 use Rattle.mqb_transcript.specs.Generator.{generated}
+use Rattle.mqb_commands.specs.Outputs.{IsSaid}
 use Rattle.mqb_commands.specs.Opened.{IsNotOpened, OpensAs}
 
 -- a script of orders, or memory ran out
@@ -37,6 +38,10 @@ Inits identity d e text status.NotEmpty = (text ≡ fault_text status.NotEmpty) 
 Inits identity d e text status.DiskFault = (text ≡ fault_text status.DiskFault) × Rose d.faults e.faults
 Inits identity d e text status.Memory = (text ≡ []) × (OnlyReads d e ⊎ Rose d.faults e.faults)
 Inits identity d e text _ = ⊥
+
+-- what a manager that is open holds
+abbrev pub ListsOn : ManagerState → List ℕ → Status → Type 0
+ListsOn m text r = IsSaid (listing m.store.state) status.Done text r
 
 -- what the manager holds to which the store opens
 pub record IsListed (d e : View) (text : List ℕ) : Type 0 where

@@ -1,4 +1,4 @@
-ghost use Rattle.std.specs.Prelude.{◌≡◌, ◌⊎◌, []};
+ghost use Rattle.std.specs.Prelude.{◌≡◌, ◌≢◌, ◌⊎◌, []};
 ghost use Rattle.mqb_commands.specs.Outputs.{IsFaultLine, IsPlain, Tells, WriteFaultHasCause};
 
 use crate::faults::append_fault;
@@ -47,8 +47,11 @@ impl Answer {
         requires { IsPlain self.now.end }
         ensures told { Tells self.now.text.items self.now.end (K.taken out.old) (K.taken out.new)
             result }
+        ensures some { self.now.text.items ≡ [] → result ≡ self.now.end }
         ensures cause { WriteFaultHasCause (K.write_faults out.old) (K.write_faults out.new)
             result }
+        ensures quiet { result ≢ Status.WriteFault →
+            K.write_faults out.new ≡ K.write_faults out.old }
     {
         tell(out, &self.text, self.end)
     }

@@ -1,11 +1,15 @@
-ghost use Rattle.std.specs.Prelude.{◌≡◌};
+ghost use Rattle.std.specs.Prelude.{◌≡◌, None};
 ghost use Rattle.mqb_commands.specs.Causes.{DiskFaultHasCause};
-ghost use Rattle.mqb_commands.specs.Called.{CallsAt, TellsFaults, status_of};
+ghost use Rattle.mqb_commands.specs.Called.{CallsAt, CallsOn, TellsFaults, status_of};
+ghost use Rattle.mqb_manager.specs.Keeping.{KeepsDisk};
+ghost use Rattle.mqb_manager.specs.States.{IsOnDisk, IsUp};
+ghost use Rattle.mqb_commands.specs.Outputs.{GoesOn, IsAnswerEnd};
 ghost use Rattle.mqb_outside.specs.Disk.{Counted};
 ghost use Rattle.mqb_words.specs.Formed.{IsFormedCall};
 
 use crate::{Answer, Status, open};
 use mqb_answers::{CallEnd, answer};
+use mqb_manager::Manager;
 use mqb_outside::{Clock, Disk};
 use mqb_replies::AnswerFault;
 use mqb_words::Call;
@@ -20,7 +24,35 @@ fn status_of(end: CallEnd) -> Status
     }
 }
 
-#[tactic(none)]
+/// Makes one call of a manager at a moment.
+pub fn answer_call<D: Disk>(
+    alloc: Global,
+    manager: &mut Manager,
+    disk: &mut D,
+    call: &Call,
+    now: u32,
+) -> Answer
+    requires formed { IsFormedCall call.now }
+    requires up { IsUp manager.old }
+    requires on { IsOnDisk (D.view disk.old) manager.old }
+    ensures calls { CallsOn call.now now (D.view disk.old).faults (D.view disk.new).faults
+        manager.old manager.new result.text.items result.end }
+    ensures disk { KeepsDisk (D.view disk.old) (D.view disk.new) manager.old manager.new }
+    ensures unlinked { manager.old.session ≡ None → manager.new.session ≡ None }
+    ensures up { GoesOn result.end → IsUp manager.new }
+    ensures calm { GoesOn result.end → (D.view disk.new).faults ≡ (D.view disk.old).faults }
+    ensures ends { IsAnswerEnd result.end }
+    ensures faults { TellsFaults (D.view disk.old).faults (D.view disk.new).faults
+        result.text.items result.end }
+{
+    let mut text = Vec::new(alloc);
+    match answer(alloc, manager, disk, call, now, &mut text) {
+        Ok(end) => Answer::new(text, status_of(end)),
+        Err(AnswerFault::DiskFault) => Answer::fault(alloc, Status::DiskFault),
+        Err(AnswerFault::Memory) => Answer::memory(alloc),
+    }
+}
+
 /// Makes one call of the manager of a store, at the moment of the clock.
 pub fn call<D: Disk, C: Clock>(alloc: Global, disk: &mut D, clock: &mut C, call: &Call) -> Answer
     requires { IsFormedCall call.now }
@@ -38,19 +70,7 @@ pub fn call<D: Disk, C: Clock>(alloc: Global, disk: &mut D, clock: &mut C, call:
         Ok(manager) => manager,
         Err(fault) => return Answer::fault(alloc, fault),
     };
-    let mut text = Vec::new(alloc);
-    match answer(alloc, &mut manager, disk, call, now, &mut text) {
-        Ok(end) => {
-            manager.close();
-            Answer::new(text, status_of(end))
-        }
-        Err(AnswerFault::DiskFault) => {
-            manager.close();
-            Answer::fault(alloc, Status::DiskFault)
-        }
-        Err(AnswerFault::Memory) => {
-            manager.close();
-            Answer::memory(alloc)
-        }
-    }
+    let answer = answer_call(alloc, &mut manager, disk, call, now);
+    manager.close();
+    answer
 }

@@ -26,14 +26,14 @@ mod turns;
 mod viewer;
 
 pub use answer::Answer;
-pub use calling::call;
-pub use checkpointing::checkpoint;
+pub use calling::{answer_call, call};
+pub use checkpointing::{answer_checkpoint, checkpoint};
 pub use faults::{append_fault, put_end};
 pub use helping::{help, version};
-pub use listing::list;
+pub use listing::{answer_list, list};
 pub use making::{init, make};
 pub use opening::open;
 pub use output::{tell, write_all};
-pub use peeking::peek;
+pub use peeking::{answer_peek, peek};
 pub use showing::show;
 pub use status::Status;

@@ -1,4 +1,4 @@
-ghost use Rattle.std.specs.Prelude.{OnOk, OnErr};
+ghost use Rattle.std.specs.Prelude.{[], ◌≡◌, ◌≢◌, OnOk, OnErr};
 ghost use Rattle.mqb_outside.specs.Faults.{HasCause};
 ghost use Rattle.mqb_outside.specs.Told.{Took};
 ghost use Rattle.mqb_commands.specs.Outputs.{IsPlain, Tells, TookFront, WriteFaultHasCause};
@@ -12,6 +12,7 @@ pub fn write_all<K: Sink>(out: &mut K, text: &[u8]) -> Result<(), Failed>
     ensures whole { OnOk result (Took (K.taken out.old) (K.taken out.new) text.now) }
     ensures front { OnErr result (TookFront (K.taken out.old) (K.taken out.new) text.now) }
     ensures cause { HasCause (K.write_faults out.old) (K.write_faults out.new) result }
+    ensures some { OnErr result (text.now ≢ []) }
 {
     let mut rest = text;
     while !rest.is_empty() {
@@ -26,7 +27,10 @@ pub fn write_all<K: Sink>(out: &mut K, text: &[u8]) -> Result<(), Failed>
 pub fn tell<K: Sink>(out: &mut K, text: &[u8], end: Status) -> Status
     requires { IsPlain end }
     ensures told { Tells text.now end (K.taken out.old) (K.taken out.new) result }
+    ensures some { text.now ≡ [] → result ≡ end }
     ensures cause { WriteFaultHasCause (K.write_faults out.old) (K.write_faults out.new) result }
+    ensures quiet { result ≢ Status.WriteFault →
+        K.write_faults out.new ≡ K.write_faults out.old }
 {
     match write_all(out, text) {
         Ok(()) => end,

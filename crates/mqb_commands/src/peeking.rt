@@ -2,7 +2,8 @@ ghost use Rattle.std.specs.Prelude.{◌≡◌, ◌≤◌, IfOk};
 ghost use Rattle.mqb_answers.specs.Texts.{hosts_of};
 ghost use Rattle.mqb_commands.specs.Called.{TellsFaults};
 ghost use Rattle.mqb_commands.specs.Causes.{DiskFaultHasCause};
-ghost use Rattle.mqb_commands.specs.Peeked.{IsRefused, Peeks, TellsFirst, TellsPlace};
+ghost use Rattle.mqb_commands.specs.Outputs.{IsLookEnd};
+ghost use Rattle.mqb_commands.specs.Peeked.{IsRefused, Peeks, PeeksOn, TellsFirst, TellsPlace};
 ghost use Rattle.mqb_outside.specs.Disk.{Counted};
 ghost use Rattle.mqb_queue.specs.Places.{place_named};
 
@@ -18,8 +19,9 @@ use std::alloc::Global;
 
 /// A refusal and its line.
 fn refuse(alloc: Global, hosts: &[Identity], why: &Reply) -> Result<Answer, Memory>
-    ensures { IfOk result (λ answer.
+    ensures refuses { IfOk result (λ answer.
         IsRefused hosts.now why.now answer.text.items answer.end) }
+    ensures ends { IfOk result (λ answer. IsLookEnd answer.end) }
 {
     let mut text = Vec::new(alloc);
     print_reply(alloc, None, why, hosts, &mut text)?;
@@ -35,8 +37,9 @@ fn tell_place(
     count: u32,
     now: u32,
 ) -> Result<Answer, Memory>
-    ensures { IfOk result (λ answer.
+    ensures tells { IfOk result (λ answer.
         TellsPlace hosts.now queues.now.lists at count now answer.text.items answer.end) }
+    ensures ends { IfOk result (λ answer. IsLookEnd answer.end) }
 {
     let mut printer = Printer::new(alloc, hosts);
     put_taken(alloc, &mut printer, queues, at, count, now)?;
@@ -54,8 +57,9 @@ fn tell_first(
     count: u32,
     now: u32,
 ) -> Result<Answer, Memory>
-    ensures { IfOk result (λ answer. TellsFirst manager.now.store.state place.now count now
+    ensures tells { IfOk result (λ answer. TellsFirst manager.now.store.state place.now count now
         answer.text.items answer.end) }
+    ensures ends { IfOk result (λ answer. IsLookEnd answer.end) }
 {
     let hosts = hosts_of(alloc, manager)?;
     let queues = manager.state().queues();
@@ -65,8 +69,20 @@ fn tell_first(
     }
 }
 
-/// The first messages of a place, at most `count`: those that `take` would give one after another at the moment of the
-/// clock. None is taken.
+/// The first messages of a place of a manager, at most `count`: those that `take` would give one after another at a moment.
+/// None is taken.
+pub fn answer_peek(alloc: Global, manager: &Manager, place: &Place, count: u32, now: u32) -> Answer
+    requires { 1 ≤ count }
+    ensures peeks { PeeksOn place.now count now manager.now result.text.items result.end }
+    ensures ends { IsLookEnd result.end }
+{
+    match tell_first(alloc, manager, place, count, now) {
+        Ok(answer) => answer,
+        Err(Memory) => Answer::memory(alloc),
+    }
+}
+
+/// The first messages of a place of a store, as of `answer_peek` at the moment of the clock.
 pub fn peek<D: Disk, C: Clock>(
     alloc: Global,
     disk: &mut D,
@@ -89,10 +105,7 @@ pub fn peek<D: Disk, C: Clock>(
         Ok(manager) => manager,
         Err(fault) => return Answer::fault(alloc, fault),
     };
-    let told = tell_first(alloc, &manager, place, count, now);
+    let answer = answer_peek(alloc, &manager, place, count, now);
     manager.close();
-    match told {
-        Ok(answer) => answer,
-        Err(Memory) => Answer::memory(alloc),
-    }
+    answer
 }

@@ -5,7 +5,6 @@ pub mod Ending
 pub mod Visiting
 pub mod Behind
 pub mod Peers
-pub mod Opening
 pub mod Unopened
 pub mod Storing
 pub mod Completing

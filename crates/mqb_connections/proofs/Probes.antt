@@ -14,7 +14,7 @@ use Rattle.mqb_serving.specs.declared.faults.ConnFault.TheVariants as fault
 use Rattle.mqb_commands.specs.Outputs.{ReadFaultHasCause, WriteFaultHasCause}
 use Rattle.mqb_commands.specs.declared.status.Status.{Status}
 use Rattle.mqb_store_laws.specs.Settling.{OnlySettles}
-use Rattle.mqb_connections.proofs.Opening.{opened_keeps}
+use Rattle.mqb_commands.specs.lemmas.Opening.{opened_keeps}
 use Rattle.mqb_connections.specs.Causes.{IsProbeEnd}
 use Rattle.mqb_connections.specs.Probed.{CompletesProbe, ProbesStore}
 use Rattle.mqb_connections.specs.Statuses.{IsFaultless, probe_status}

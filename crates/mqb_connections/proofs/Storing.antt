@@ -10,7 +10,7 @@ use Rattle.mqb_commands.specs.declared.status.Status.{Status}
 use Rattle.mqb_commands.specs.declared.status.Status.TheVariants as status
 use Rattle.mqb_store_laws.specs.Settling.{OnlySettles}
 use Rattle.mqb_connections.specs.Served.{ServesPeers, ServesStore}
-use Rattle.mqb_connections.proofs.Opening.{opened_keeps}
+use Rattle.mqb_commands.specs.lemmas.Opening.{opened_keeps}
 
 pub store_served : {idle : Type 0} {count : ℕ} {steady : Option ℕ} {d f e : View} {m n : ManagerState} {ended ended_now : Option (List Ended)} {faults faults_now : ℕ}
     {before after : Option (List ℕ)} {r : Status} → OpensAs d m → OnlySettles d f → ServesPeers idle 1 count steady m n ended ended_now faults faults_now before after r

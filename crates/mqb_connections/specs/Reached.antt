@@ -3,12 +3,11 @@ use Rattle.std.specs.Option.{option_or}
 use Rattle.std.specs.Prelude.{◌≡◌, ◌≢◌, ◌⊎◌, Err, IsSome, List, None, Option, Some, codes, option_map, position, slice_get, ℕ}
 use Rattle.mqb_base.specs.declared.ids.Identity.{Identity}
 use Rattle.mqb_base.specs.Same.{same_ignoring_case}
-use Rattle.mqb_commands.specs.Opened.{OpensAs}
+use Rattle.mqb_commands.specs.Opened.{OnStore}
 use Rattle.mqb_outside.specs.Disk.{View}
 use Rattle.mqb_outside.specs.Images.{Each}
 use Rattle.mqb_outside.specs.Net.{Ended}
 use Rattle.mqb_journal.specs.Causes.{FaultsAsSaid}
-use Rattle.mqb_manager.specs.Keeping.{KeepsDisk}
 use Rattle.mqb_manager.specs.States.{IsUp, ManagerState}
 use Rattle.mqb_serving.specs.declared.purpose.Errand.{Errand}
 use Rattle.mqb_serving.specs.declared.purpose.Purpose.TheVariants as purpose
@@ -45,49 +44,55 @@ TellsReach (Err fault.DiskFault) before after r = (r ≡ status.DiskFault) × (a
 TellsReach (Err fault.Memory) before after r = (r ≡ status.Memory) × (after ≡ before)
 TellsReach end before after r = Tells (end_line 1 end) (reach_status end) before after r ⊎ ((r ≡ status.Memory) × (after ≡ before))
 
--- A connection was served, and the disk stands for what it left.
-pub record ReachesOver (why : Errand) (named : Option (List ℕ)) (peer : ℕ) (steady : Option ℕ) (first : ManagerState) (d e : View) (net : Nets) (before after : Option (List ℕ)) (r : Status) : Type 0 where
-  pub last : ManagerState
+-- A connection was served, from one manager to another. The faults are those of the disk.
+pub record ReachesOver (why : Errand) (named : Option (List ℕ)) (peer : ℕ) (steady : Option ℕ) (faults faults_now : ℕ) (m n : ManagerState) (net : Nets) (before after : Option (List ℕ)) (r : Status) : Type 0 where
   pub end : Answer
-  pub reach : IsReach why named peer steady first last net.finished net.finished_now end
-  pub disk : KeepsDisk d e first last
+  pub reach : IsReach why named peer steady m n net.finished net.finished_now end
   -- so the disk is settled still, where it was, and stands for that manager
-  pub up : end ≢ Err fault.DiskFault → IsUp last
-  pub disk_faults : FaultsAsSaid is_disk_fault d.faults e.faults end
+  pub up : end ≢ Err fault.DiskFault → IsUp n
+  pub disk_faults : FaultsAsSaid is_disk_fault faults faults_now end
   pub faults : net.faults_now ≡ net.faults
   pub lost : FaultsAsSaid is_lost net.lost net.lost_now end
   pub told : TellsReach end before after r
 
--- The net gave no connection.
-pub record IsUnconnected (d e : View) (net : Nets) (before after : Option (List ℕ)) (r : Status) : Type 0 where
-  pub disk : OnlySettles d e
-  pub disk_faults : e.faults ≡ d.faults
+-- The net gave no connection. `kept` says what the disk is left as where nothing was asked of it.
+pub record IsUnconnected (kept : Type 0) (m n : ManagerState) (net : Nets) (before after : Option (List ℕ)) (r : Status) : Type 0 where
+  pub disk : kept
+  pub same : n ≡ m
   pub finished : net.finished_now ≡ net.finished
   pub faults : Rose net.faults net.faults_now
   pub lost : net.lost_now ≡ net.lost
   pub told : Tells (codes "connection 1: netfault\n") status.NetFault before after r
 
 -- No peer has the host.
-pub record HasNoPeer (d e : View) (net : Nets) (before after : Option (List ℕ)) (r : Status) : Type 0 where
-  pub disk : OnlySettles d e
-  pub disk_faults : e.faults ≡ d.faults
+pub record HasNoPeer (kept : Type 0) (m n : ManagerState) (net : Nets) (before after : Option (List ℕ)) (r : Status) : Type 0 where
+  pub disk : kept
+  pub same : n ≡ m
   pub untouched : IsUntouched net
   pub told : Tells (codes "nopeer\n") status.Refused before after r
 
 -- A manager reaches the peer at an index, where there is one.
-abbrev pub ReachesAt : Errand → Option (List ℕ) → Option ℕ → Option ℕ → ManagerState → (d e : View) → Nets → (before after : Option (List ℕ)) → Status → Type 0
-ReachesAt why named None steady first d e net before after r = HasNoPeer d e net before after r
-ReachesAt why named (Some peer) steady first d e net before after r = IsUnconnected d e net before after r ⊎ ReachesOver why named peer steady first d e net before after r
+abbrev pub ReachesAt : Errand → Option (List ℕ) → Option ℕ → Option ℕ → (kept : Type 0) → (faults faults_now : ℕ) → (m n : ManagerState) → Nets
+    → (before after : Option (List ℕ)) → Status → Type 0
+ReachesAt why named None steady kept faults faults_now m n net before after r = HasNoPeer kept m n net before after r
+ReachesAt why named (Some peer) steady kept faults faults_now m n net before after r =
+    IsUnconnected kept m n net before after r ⊎ ReachesOver why named peer steady faults faults_now m n net before after r
 
--- The manager to which the store opens reaches the peer of a host.
-pub record ReachesHost (why : Errand) (named : Option (List ℕ)) (host : List ℕ) (steady : Option ℕ) (d e : View) (net : Nets) (before after : Option (List ℕ)) (r : Status) : Type 0 where
-  pub first : ManagerState
-  pub opened : OpensAs d first
-  pub reaches : ReachesAt why named (index_of_host first.store.state.peers host) steady first d e net before after r
+-- A manager that is open reaches the peer of a host.
+abbrev pub ReachesOn : Errand → (named : Option (List ℕ)) → (host : List ℕ) → Option ℕ → (kept : Type 0) → (faults faults_now : ℕ) → (m n : ManagerState) → Nets
+    → (before after : Option (List ℕ)) → Status → Type 0
+ReachesOn why named host steady kept faults faults_now m n net before after r =
+    ReachesAt why named (index_of_host m.store.state.peers host) steady kept faults faults_now m n net before after r
+
+-- the disk was opened, and nothing else was asked of it
+abbrev pub IsOpenedOnly : (d e : View) → Type 0
+IsOpenedOnly d e = OnlySettles d e × (e.faults ≡ d.faults)
 
 -- `push` and `fetch`: the store is opened and the peer reached, or it is not opened, and the net is left as it was
 abbrev pub ReachesStore : Errand → (named : Option (List ℕ)) → (host : List ℕ) → (steady : Option ℕ) → (d e : View) → Nets → (before after : Option (List ℕ)) → Status → Type 0
-ReachesStore why named host steady d e net before after r = ReachesHost why named host steady d e net before after r ⊎ (IsUnopened d e before after r × IsUntouched net)
+ReachesStore why named host steady d e net before after r =
+    OnStore (λ m n. ReachesOn why named host steady (IsOpenedOnly d e) d.faults e.faults m n net before after r) d e
+    ⊎ (IsUnopened d e before after r × IsUntouched net)
 
 -- The peer is reached to the end from a sound store, where neither the disk nor the net nor the output failed, and no connection was lost.
 abbrev pub CompletesReach : (d e : View) → Nets → (writes writes_now : ℕ) → Status → Type 0

@@ -1,7 +1,7 @@
 //! `attend`: connections that peers make, one after another, until none comes.
 ghost use Rattle.std.specs.Prelude.{◌≡◌, ◌≢◌, Err, IfErr, IfOk, MatchResult, None};
 ghost use Rattle.mqb_commands.specs.Causes.{DiskFaultHasCause};
-ghost use Rattle.mqb_commands.specs.Outputs.{WriteFaultHasCause};
+ghost use Rattle.mqb_commands.specs.Outputs.{GoesOn, WriteFaultHasCause};
 ghost use Rattle.mqb_connections.specs.Asked.{AsksForEach};
 ghost use Rattle.mqb_connections.specs.Causes.{IsNetEnd, NetFaultHasCause};
 ghost use Rattle.mqb_connections.specs.Served.{AttendsFrom, Completes, MOST_ATTENDED, ServesPeers, end_of};
@@ -16,8 +16,9 @@ use mqb_manager::Manager;
 use mqb_outside::{Clock, Disk, Net, Sink};
 use std::alloc::Global;
 
-/// Serves connections that peers make, until none comes for so many seconds.
-fn attend_all<K: Sink, D: Disk, N: Net, C: Clock>(
+/// Serves each peer that comes to a manager, one after another, until none came for so many seconds, and says of each connection how it ended, as soon as it
+/// did.
+pub fn attend_all<K: Sink, D: Disk, N: Net, C: Clock>(
     alloc: Global,
     seconds: u32,
     manager: &mut Manager,
@@ -34,8 +35,13 @@ fn attend_all<K: Sink, D: Disk, N: Net, C: Clock>(
         (N.faults net.old) (N.faults net.new) (K.taken out.old) (K.taken out.new)
         (end_of result) }
     ensures up { end_of result ≢ Status.DiskFault → IsUp manager.new }
+    ensures unlinked { manager.new.session ≡ None }
     ensures disk { KeepsDisk (D.view disk.old) (D.view disk.new) manager.old manager.new }
     ensures idle { end_of result ≢ Status.Done → N.idle net.new ≡ N.idle net.old }
+    ensures calm { GoesOn (end_of result) →
+        (D.view disk.new).faults ≡ (D.view disk.old).faults }
+    ensures quiet { end_of result ≢ Status.WriteFault →
+        K.write_faults out.new ≡ K.write_faults out.old }
     ensures unfinished { N.unfinished net.new ≡ N.unfinished net.old }
     ensures write_faults { MatchResult result
         (λ _. K.write_faults out.new ≡ K.write_faults out.old)
@@ -61,8 +67,7 @@ fn attend_all<K: Sink, D: Disk, N: Net, C: Clock>(
     Ok(())
 }
 
-/// Serves each peer that comes, one after another, until none came for so many seconds, and says of
-/// each connection how it ended, as soon as it did.
+/// Serves each peer that comes to a store's manager, as of `attend_all`.
 pub fn attend<K: Sink, D: Disk, N: Net, C: Clock>(
     alloc: Global,
     seconds: u32,

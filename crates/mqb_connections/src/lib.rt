@@ -10,7 +10,7 @@ mod probing;
 mod reaching;
 mod serving;
 
-pub use attending::attend;
+pub use attending::{attend, attend_all};
 pub use probing::probe;
-pub use reaching::reach;
-pub use serving::serve;
+pub use reaching::{reach, reach_host};
+pub use serving::{serve, serve_all};

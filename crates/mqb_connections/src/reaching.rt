@@ -4,7 +4,7 @@ ghost use Rattle.std.specs.Prelude.{◌<◌, ◌≡◌, ◌≢◌, ◌⊎◌, Er
 ghost use Rattle.mqb_commands.specs.Causes.{DiskFaultHasCause};
 ghost use Rattle.mqb_connections.specs.Asked.{AsksForEach, RoseBy};
 ghost use Rattle.mqb_connections.specs.Causes.{IsNetEnd, NetFaultHasCause, is_lost};
-ghost use Rattle.mqb_connections.specs.Reached.{CompletesReach, IsReach, ReachesAt, ReachesStore, TellsReach, address_at, index_of_host};
+ghost use Rattle.mqb_connections.specs.Reached.{CompletesReach, IsReach, ReachesAt, ReachesOn, ReachesStore, TellsReach, address_at, index_of_host};
 ghost use Rattle.mqb_connections.specs.Statuses.{reach_status};
 ghost use Rattle.mqb_journal.specs.Causes.{FaultsAsSaid};
 ghost use Rattle.mqb_manager.specs.Keeping.{KeepsDisk};
@@ -12,7 +12,7 @@ ghost use Rattle.mqb_manager.specs.States.{IsOnDisk, IsUp};
 ghost use Rattle.mqb_outside.specs.Faults.{HasCause, Rose};
 ghost use Rattle.mqb_serve.specs.Talking.{stored_of};
 ghost use Rattle.mqb_serving.specs.Serving.{Serves, ServesWhole, is_disk_fault, is_read_fault, is_write_fault};
-ghost use Rattle.mqb_commands.specs.Outputs.{WriteFaultHasCause};
+ghost use Rattle.mqb_commands.specs.Outputs.{GoesOn, WriteFaultHasCause};
 
 use crate::lines::end_line;
 use mqb_base::{Failed, Identity, Memory, Name};
@@ -119,6 +119,7 @@ fn reach_over<D: Disk, N: Net, C: Clock>(
     ensures reach { IfOk result (IsReach why named peer (C.steady clock.old) manager.old manager.new
         (N.finished net.old) (N.finished net.new)) }
     ensures up { IfOk result (λ end. end ≢ Err ConnFault.DiskFault → IsUp manager.new) }
+    ensures unlinked { manager.new.session ≡ None }
     ensures disk { KeepsDisk (D.view disk.old) (D.view disk.new) manager.old manager.new }
     ensures disk_faults { IfOk result (FaultsAsSaid is_disk_fault (D.view disk.old).faults
         (D.view disk.new).faults) }
@@ -144,6 +145,8 @@ fn reach_over<D: Disk, N: Net, C: Clock>(
 #[tactic(auto, using(crate::proofs::Reaches::line_told, crate::proofs::Reaches::no_line, crate::proofs::Reaches::plain_reach))]
 fn tell_reach<K: Sink>(alloc: Global, end: Result<(), ConnFault>, out: &mut K) -> Status
     ensures told { TellsReach end (K.taken out.old) (K.taken out.new) result }
+    ensures quiet { result ≢ Status.WriteFault →
+        K.write_faults out.new ≡ K.write_faults out.old }
     ensures write_faults { WriteFaultHasCause (K.write_faults out.old) (K.write_faults out.new)
         result }
 {
@@ -174,8 +177,8 @@ fn reach_at<K: Sink, D: Disk, N: Net, C: Clock>(
     requires on { IsOnDisk (D.view disk.old) manager.old }
     requires unlinked { manager.old.session ≡ None }
     requires peer { peer < length manager.old.store.state.peers }
-    ensures reaches { ReachesAt why named (Some peer) (C.steady clock.old) manager.old
-        (D.view disk.old) (D.view disk.new) (record {
+    ensures reaches { ReachesAt why named (Some peer) (C.steady clock.old) (disk.new ≡ disk.old)
+        (D.view disk.old).faults (D.view disk.new).faults manager.old manager.new (record {
           finished = N.finished net.old;
           finished_now = N.finished net.new;
           faults = N.faults net.old;
@@ -185,6 +188,12 @@ fn reach_at<K: Sink, D: Disk, N: Net, C: Clock>(
           idle = N.idle net.old;
           idle_now = N.idle net.new;
         }) (K.taken out.old) (K.taken out.new) result }
+    ensures disk { KeepsDisk (D.view disk.old) (D.view disk.new) manager.old manager.new }
+    ensures unlinked { manager.new.session ≡ None }
+    ensures up { GoesOn result → IsUp manager.new }
+    ensures calm { GoesOn result → (D.view disk.new).faults ≡ (D.view disk.old).faults }
+    ensures quiet { result ≢ Status.WriteFault →
+        K.write_faults out.new ≡ K.write_faults out.old }
     ensures write_faults { WriteFaultHasCause (K.write_faults out.old) (K.write_faults out.new)
         result }
     ensures unfinished { N.unfinished net.new ≡ N.unfinished net.old }
@@ -198,7 +207,52 @@ fn reach_at<K: Sink, D: Disk, N: Net, C: Clock>(
     }
 }
 
-/// Reaches the peer of a host, at the address that the words name or else at its own, and says how the connection ended.
+/// Reaches the peer of a host from a manager, at the address that the words name or else at the peer's own, and says how the connection ended.
+pub fn reach_host<K: Sink, D: Disk, N: Net, C: Clock>(
+    alloc: Global,
+    why: Errand,
+    named: Option<[u8; 4]>,
+    host: &Name,
+    manager: &mut Manager,
+    out: &mut K,
+    disk: &mut D,
+    net: &mut N,
+    clock: &mut C,
+) -> Status
+    requires up { IsUp manager.old }
+    requires on { IsOnDisk (D.view disk.old) manager.old }
+    requires unlinked { manager.old.session ≡ None }
+    ensures reaches { ReachesOn why named host.now (C.steady clock.old) (disk.new ≡ disk.old)
+        (D.view disk.old).faults (D.view disk.new).faults manager.old manager.new (record {
+          finished = N.finished net.old;
+          finished_now = N.finished net.new;
+          faults = N.faults net.old;
+          faults_now = N.faults net.new;
+          lost = N.lost net.old;
+          lost_now = N.lost net.new;
+          idle = N.idle net.old;
+          idle_now = N.idle net.new;
+        }) (K.taken out.old) (K.taken out.new) result }
+    ensures disk { KeepsDisk (D.view disk.old) (D.view disk.new) manager.old manager.new }
+    ensures unlinked { manager.new.session ≡ None }
+    ensures up { GoesOn result → IsUp manager.new }
+    ensures calm { GoesOn result → (D.view disk.new).faults ≡ (D.view disk.old).faults }
+    ensures quiet { result ≢ Status.WriteFault →
+        K.write_faults out.new ≡ K.write_faults out.old }
+    ensures write_faults { WriteFaultHasCause (K.write_faults out.old) (K.write_faults out.new)
+        result }
+    ensures unfinished { N.unfinished net.new ≡ N.unfinished net.old }
+    ensures clock { C.steady clock.new ≡ C.steady clock.old }
+    ensures asked { AsksForEach 1 (N.finished net.old) (N.finished net.new) (C.asked clock.old)
+        (C.asked clock.new) }
+{
+    match peer_of_host(manager, host) {
+        Some(peer) => reach_at(alloc, why, named, peer, manager, out, disk, net, clock),
+        None => tell(out, b"nopeer\n", Status::Refused),
+    }
+}
+
+/// Reaches the peer of a host from a store, as of `reach_host`.
 pub fn reach<K: Sink, D: Disk, N: Net, C: Clock>(
     alloc: Global,
     why: Errand,
@@ -246,11 +300,7 @@ pub fn reach<K: Sink, D: Disk, N: Net, C: Clock>(
         Ok(manager) => manager,
         Err(status) => return status,
     };
-    let Some(peer) = peer_of_host(&manager, host) else {
-        manager.close();
-        return tell(out, b"nopeer\n", Status::Refused);
-    };
-    let end = reach_at(alloc, why, named, peer, &mut manager, out, disk, net, clock);
+    let end = reach_host(alloc, why, named, host, &mut manager, out, disk, net, clock);
     manager.close();
     end
 }

@@ -11,7 +11,7 @@ ghost use Rattle.mqb_manager.specs.Keeping.{KeepsDisk};
 ghost use Rattle.mqb_manager.specs.States.{IsOnDisk, IsUp};
 ghost use Rattle.mqb_outside.specs.Faults.{HasCause, Rose};
 ghost use Rattle.mqb_serving.specs.Serving.{is_disk_fault};
-ghost use Rattle.mqb_commands.specs.Outputs.{WriteFaultHasCause};
+ghost use Rattle.mqb_commands.specs.Outputs.{GoesOn, WriteFaultHasCause};
 
 use crate::lines::end_line;
 use mqb_base::{Failed, Memory};
@@ -32,6 +32,8 @@ fn tell_end<K: Sink>(
 ) -> Result<(), Status>
     ensures told { TellsEnd number end (K.taken out.old) (K.taken out.new) result }
     ensures stops { end ≡ Err ConnFault.DiskFault → result ≡ Err Status.DiskFault }
+    ensures quiet { end_of result ≢ Status.WriteFault →
+        K.write_faults out.new ≡ K.write_faults out.old }
     ensures write_faults { MatchResult result
         (λ _. K.write_faults out.new ≡ K.write_faults out.old)
         (WriteFaultHasCause (K.write_faults out.old) (K.write_faults out.new)) }
@@ -56,6 +58,8 @@ fn tell_end<K: Sink>(
 #[tactic(auto, using(crate::proofs::Ending::told_net))]
 pub(crate) fn tell_net_fault<K: Sink>(alloc: Global, out: &mut K) -> Status
     ensures told { TellsNetFault (K.taken out.old) (K.taken out.new) result }
+    ensures quiet { result ≢ Status.WriteFault →
+        K.write_faults out.new ≡ K.write_faults out.old }
     ensures write_faults { WriteFaultHasCause (K.write_faults out.old) (K.write_faults out.new)
         result }
     ensures ends { IsNetEnd result }
@@ -119,6 +123,10 @@ pub(crate) fn serve_and_tell<K: Sink, D: Disk, N: Net, C: Clock>(
     ensures up { end_of result ≢ Status.DiskFault → IsUp manager.new }
     ensures disk { KeepsDisk (D.view disk.old) (D.view disk.new) manager.old manager.new }
     ensures idle { N.idle net.new ≡ N.idle net.old }
+    ensures calm { GoesOn (end_of result) →
+        (D.view disk.new).faults ≡ (D.view disk.old).faults }
+    ensures quiet { end_of result ≢ Status.WriteFault →
+        K.write_faults out.new ≡ K.write_faults out.old }
     ensures unfinished { N.unfinished net.new ≡ N.unfinished net.old }
     ensures write_faults { MatchResult result
         (λ _. K.write_faults out.new ≡ K.write_faults out.old)
@@ -140,8 +148,8 @@ pub(crate) fn serve_and_tell<K: Sink, D: Disk, N: Net, C: Clock>(
     }
 }
 
-/// Serves so many connections that peers make.
-fn serve_all<K: Sink, D: Disk, N: Net, C: Clock>(
+/// Serves so many connections that peers make of a manager, one after another, and says of each how it ended, as soon as it did.
+pub fn serve_all<K: Sink, D: Disk, N: Net, C: Clock>(
     alloc: Global,
     count: u32,
     manager: &mut Manager,
@@ -157,7 +165,13 @@ fn serve_all<K: Sink, D: Disk, N: Net, C: Clock>(
         (N.finished net.old) (N.finished net.new) (N.faults net.old) (N.faults net.new)
         (K.taken out.old) (K.taken out.new) (end_of result) }
     ensures up { end_of result ≢ Status.DiskFault → IsUp manager.new }
+    ensures unlinked { manager.new.session ≡ None }
+    ensures idle { N.idle net.new ≡ N.idle net.old }
     ensures disk { KeepsDisk (D.view disk.old) (D.view disk.new) manager.old manager.new }
+    ensures calm { GoesOn (end_of result) →
+        (D.view disk.new).faults ≡ (D.view disk.old).faults }
+    ensures quiet { end_of result ≢ Status.WriteFault →
+        K.write_faults out.new ≡ K.write_faults out.old }
     ensures unfinished { N.unfinished net.new ≡ N.unfinished net.old }
     ensures write_faults { MatchResult result
         (λ _. K.write_faults out.new ≡ K.write_faults out.old)
@@ -179,7 +193,7 @@ fn serve_all<K: Sink, D: Disk, N: Net, C: Clock>(
     Ok(())
 }
 
-/// Serves so many connections that peers make, one after another, and says of each how it ended, as soon as it did.
+/// Serves so many connections that peers make of a store's manager, as of `serve_all`.
 pub fn serve<K: Sink, D: Disk, N: Net, C: Clock>(
     alloc: Global,
     count: u32,

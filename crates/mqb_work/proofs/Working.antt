@@ -3,7 +3,7 @@ use Rattle.std.proofs.Common.{refl, subst}
 use Rattle.std.specs.Prelude.{◌≡◌, ◌≢◌, Err, List, None, Ok, Option, Result, Some, length, ℕ}
 use Rattle.mqb_answers.specs.Texts.{hosts_of}
 use Rattle.mqb_base.specs.declared.ids.Identity.{Identity}
-use Rattle.mqb_commands.proofs.Answering.{opened_keeps}
+use Rattle.mqb_commands.specs.lemmas.Opening.{opened_keeps}
 use Rattle.mqb_commands.specs.Opened.{IsNotOpened, OpensAs}
 use Rattle.mqb_commands.specs.declared.status.Status.{Status}
 use Rattle.mqb_commands.specs.declared.status.Status.TheVariants as opening

@@ -6,17 +6,17 @@ use Rattle.mqb_commands.specs.declared.answer.Answer.{Answer}
 use Rattle.mqb_commands.proofs.Looking.{is_nothing, is_something, told_none, told_some}
 use Rattle.mqb_commands.proofs.peeking.tell_place.Goals as goal
 
-pub returns-then-is_empty : goal.returns-then-is_empty
-returns-then-is_empty c =
+pub returns-then-is_empty-clause-tells : goal.returns-then-is_empty-clause-tells
+returns-then-is_empty-clause-tells c =
     let places = c.args.queues.now.lists in
     let page = c.put_taken.new.printer in
     let puts = subst (λ (p : Page). PutsTaken c.args.at c.args.count c.args.now (held_at places c.args.at) p page) c.new-printer.ensures c.in_ok-put_taken.ensures in
     let none = is_nothing page.text c.text.result.now c.is_empty.result c.text.ensures c.is_empty.ensures c.if-is_empty.true in
     IfOk-weaker c.refuse.result _ _
-    (λ (answer : Answer) refused. told_none c.args.hosts.now places c.args.at c.args.count c.args.now page answer.text.items answer.end puts none refused) c.refuse.ensures
+    (λ (answer : Answer) refused. told_none c.args.hosts.now places c.args.at c.args.count c.args.now page answer.text.items answer.end puts none refused) c.refuse.ensures.refuses
 
-pub returns : goal.returns
-returns c =
+pub returns-clause-tells : goal.returns-clause-tells
+returns-clause-tells c =
     let places = c.args.queues.now.lists in
     let page = c.put_taken.new.printer in
     let puts = subst (λ (p : Page). PutsTaken c.args.at c.args.count c.args.now (held_at places c.args.at) p page) c.new-printer.ensures c.in_ok-put_taken.ensures in

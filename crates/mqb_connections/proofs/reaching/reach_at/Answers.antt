@@ -1,22 +1,18 @@
+use Rattle.std.proofs.Common.{inl, inr}
 use Rattle.mqb_connections.proofs.Asking.{asks_none, asks_one}
-use Rattle.mqb_connections.proofs.Reaches.{served_reaches}
+use Rattle.mqb_connections.proofs.Reaches.{calm_unless, no_disk_fault}
 use Rattle.mqb_connections.proofs.reaching.reach_at.Goals as goal
 
 pub returns-in-Ok-clause-reaches : goal.returns-in-Ok-clause-reaches
-returns-in-Ok-clause-reaches g c =
-    served_reaches c.args.why c.args.named c.args.peer (g.C.Clock.steady c.args.clock.now) c.args.manager.now c.reach_over.new.manager
-    (g.D.Disk.view c.args.disk.now) (g.D.Disk.view c.reach_over.new.disk) (record {
-      finished = g.N.Net.finished c.args.net.now;
-      finished_now = g.N.Net.finished c.reach_over.new.net;
-      faults = g.N.Net.faults c.args.net.now;
-      faults_now = g.N.Net.faults c.reach_over.new.net;
-      lost = g.N.Net.lost c.args.net.now;
-      lost_now = g.N.Net.lost c.reach_over.new.net;
-      idle = g.N.Net.idle c.args.net.now;
-      idle_now = g.N.Net.idle c.reach_over.new.net;
-    }) (g.K.Sink.taken c.args.out.now) (g.K.Sink.taken c.tell_reach.new.out) c.in-Ok.end c.tell_reach.result
-    c.in-Ok.ensures.reach c.reach_over.ensures.disk c.in-Ok.ensures.up c.in-Ok.ensures.disk_faults c.in-Ok.ensures.net_faults c.in-Ok.ensures.lost
-    c.tell_reach.ensures.told
+returns-in-Ok-clause-reaches g c = inr (record {
+  end = c.in-Ok.end;
+  reach = c.in-Ok.ensures.reach;
+  up = c.in-Ok.ensures.up;
+  disk_faults = c.in-Ok.ensures.disk_faults;
+  faults = c.in-Ok.ensures.net_faults;
+  lost = c.in-Ok.ensures.lost;
+  told = c.tell_reach.ensures.told;
+})
 
 pub returns-in-Ok-clause-asked : goal.returns-in-Ok-clause-asked
 returns-in-Ok-clause-asked g c =
@@ -25,3 +21,10 @@ returns-in-Ok-clause-asked g c =
 
 pub returns-in-Err-clause-asked : goal.returns-in-Err-clause-asked
 returns-in-Err-clause-asked g c = asks_none 1 _ _ _ _ c.in-Err.ensures.none_finished c.in-Err.ensures.asked
+
+pub returns-in-Ok-clause-up : goal.returns-in-Ok-clause-up
+returns-in-Ok-clause-up g c goes = c.in-Ok.ensures.up (no_disk_fault c.in-Ok.end _ _ c.tell_reach.result c.tell_reach.ensures.told goes)
+
+pub returns-in-Ok-clause-calm : goal.returns-in-Ok-clause-calm
+returns-in-Ok-clause-calm g c goes =
+    calm_unless c.in-Ok.end _ _ c.in-Ok.ensures.disk_faults (no_disk_fault c.in-Ok.end _ _ c.tell_reach.result c.tell_reach.ensures.told goes)

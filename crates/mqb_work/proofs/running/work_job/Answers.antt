@@ -1,6 +1,6 @@
 use Rattle.std.proofs.Common.{inl, inr, refl, subst, sym, ◌∙◌}
 use Rattle.std.specs.Prelude.{Err, Ok}
-use Rattle.mqb_commands.proofs.Answering.{opened_keeps}
+use Rattle.mqb_commands.specs.lemmas.Opening.{opened_keeps}
 use Rattle.mqb_outside.specs.lemmas.Counts.{at_most_none}
 use Rattle.mqb_work.specs.Causes.{DiskFaultHasCause, WriteFaultHasCause}
 use Rattle.mqb_work.specs.declared.status.WorkStatus.{WorkStatus}
