@@ -9,7 +9,9 @@ use Rattle.mqb_serving.specs.Serving.{Answer, is_disk_fault, is_read_fault, is_w
 use Rattle.mqb_serving.specs.declared.faults.ConnFault.TheVariants as fault
 use Rattle.mqb_commands.specs.declared.status.Status.{Status}
 use Rattle.mqb_commands.specs.declared.status.Status.TheVariants as status
+use Rattle.mqb_commands.specs.Outputs as may
 use Rattle.mqb_connections.specs.Causes.{is_lost}
+use Rattle.mqb_connections.specs.Served.{end_of}
 use Rattle.mqb_connections.specs.Statuses.{probe_status}
 use Rattle.mqb_connections.specs.Told.{GoesOn, TellsEnd}
 
@@ -64,3 +66,12 @@ pub probe_disk : (a0 a b : ℕ) (end : Answer) (s : Status) → a ≡ a0 → s �
 probe_disk a0 a b (Err (fault.Peer why)) s same is said = subst (DiskFaultHasCause a0 b) (sym is) tt
 probe_disk a0 a b (Err fault.DiskFault) s same is said = subst (DiskFaultHasCause a0 b) (sym is) (subst (λ (k : ℕ). Rose k b) same said)
 probe_disk a0 a b end s same is said = subst (DiskFaultHasCause a0 b) (sym is) tt
+
+-- A shell goes on behind no end of a connection with which a command ends.
+pub calm_behind : {before_faults faults : ℕ} (number : ℕ) (end : Answer) (before after : Option (List ℕ)) (r : Result (Unit {0}) Status) → TellsEnd number end before after r
+    → MatchResult r (λ _. faults ≡ before_faults) (DiskFaultHasCause before_faults faults) → may.GoesOn (end_of r) → faults ≡ before_faults
+calm_behind number end before after (Ok done) told same goes = same
+calm_behind number end before after (Err status.DiskFault) told same goes = absurd goes
+calm_behind number end before after (Err status.WriteFault) told same goes = absurd goes
+calm_behind number end before after (Err status.Memory) told same goes = absurd goes
+calm_behind number end before after (Err _) told same goes = absurd told

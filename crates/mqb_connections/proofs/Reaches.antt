@@ -14,7 +14,7 @@ use Rattle.mqb_commands.specs.declared.status.Status.{Status}
 use Rattle.mqb_commands.specs.declared.status.Status.TheVariants as status
 use Rattle.mqb_connections.proofs.Unopened.{unopened_disk, unopened_faultless, unopened_net, unopened_net_end}
 use Rattle.mqb_connections.specs.Causes.{IsNetEnd, NetFaultHasCause, is_lost}
-use Rattle.mqb_connections.specs.Reached.{CompletesReach, ReachesAt, ReachesStore, TellsReach, index_of_host}
+use Rattle.mqb_connections.specs.Reached.{CompletesReach, IsOpenedOnly, ReachesAt, ReachesStore, TellsReach, index_of_host}
 use Rattle.mqb_connections.specs.Served.{Nets}
 use Rattle.mqb_connections.specs.Statuses.{IsFaultless, reach_status}
 use Rattle.mqb_connections.specs.Told as telling
@@ -59,27 +59,27 @@ calm_unless (Err fault.WriteFault) faults faults_now said other = said
 calm_unless (Err fault.Memory) faults faults_now said other = said
 
 -- Opening reads and syncs: what is done from the disk behind it is done from the disk before.
-pub reached_from : {why : Errand} {named : Option (List ℕ)} {steady : Option ℕ} {kept kept_so : Type 0} {mid faults faults_now : ℕ} {m n : ManagerState} {net : Nets}
-    {before after : Option (List ℕ)} {r : Status} (o : Option ℕ) → (kept → kept_so) → mid ≡ faults
-    → ReachesAt why named o steady kept mid faults_now m n net before after r → ReachesAt why named o steady kept_so faults faults_now m n net before after r
-reached_from None so same none = record { disk = so none.disk; same = none.same; untouched = none.untouched; told = none.told }
-reached_from (Some peer) so same (inl un) = inl (record {
-  disk = so un.disk;
-  same = un.same;
-  finished = un.finished;
-  faults = un.faults;
-  lost = un.lost;
-  told = un.told;
-})
-reached_from {faults_now = faults_now} (Some peer) so same (inr over) = inr (record {
-  end = over.end;
-  reach = over.reach;
-  up = over.up;
-  disk_faults = subst (λ (k : ℕ). FaultsAsSaid is_disk_fault k faults_now over.end) same over.disk_faults;
-  faults = over.faults;
-  lost = over.lost;
-  told = over.told;
-})
+module _ (why : Errand) (named : Option (List ℕ)) (steady : Option ℕ) (faults_now : ℕ) (m n : ManagerState) (net : Nets) (before after : Option (List ℕ)) (r : Status) where
+  pub reached_from : {kept kept_so : Type 0} {mid faults : ℕ} (o : Option ℕ) → (kept → kept_so) → mid ≡ faults
+      → ReachesAt why named o steady kept mid faults_now m n net before after r → ReachesAt why named o steady kept_so faults faults_now m n net before after r
+  reached_from None so same none = record { disk = so none.disk; same = none.same; untouched = none.untouched; told = none.told }
+  reached_from (Some peer) so same (inl un) = inl (record {
+    disk = so un.disk;
+    same = un.same;
+    finished = un.finished;
+    faults = un.faults;
+    lost = un.lost;
+    told = un.told;
+  })
+  reached_from (Some peer) so same (inr over) = inr (record {
+    end = over.end;
+    reach = over.reach;
+    up = over.up;
+    disk_faults = subst (λ (k : ℕ). FaultsAsSaid is_disk_fault k faults_now over.end) same over.disk_faults;
+    faults = over.faults;
+    lost = over.lost;
+    told = over.told;
+  })
 
 -- How the program ends by what is told.
 
@@ -123,32 +123,29 @@ end_of (Ok done) = tt
 end_of (Err (fault.Peer why)) = tt
 end_of end = tt
 
--- P holds of how a peer at an index is reached, where it holds of each end that it can have.
-pub reached_as : {why : Errand} {named : Option (List ℕ)} {steady : Option ℕ} {kept : Type 0} {faults faults_now : ℕ} {m n : ManagerState} {net : Nets}
-    {before after : Option (List ℕ)} {r : Status} (P : Status → Type 0) (o : Option ℕ)
-    → ReachesAt why named o steady kept faults faults_now m n net before after r → P status.Refused → P status.WriteFault → P status.Memory
-    → (Rose net.faults net.faults_now → P status.NetFault)
-    → ((end : Answer) → FaultsAsSaid is_disk_fault faults faults_now end → FaultsAsSaid is_lost net.lost net.lost_now end → P (reach_status end)) → P r
-reached_as {before = before} {after = after} {r = r} P None none refused failed memory given ended =
-    tells_as P (codes "nopeer\n") status.Refused before after r refused failed none.told
-reached_as {before = before} {after = after} {r = r} P (Some peer) (inl un) refused failed memory given ended =
-    tells_as P (codes "connection 1: netfault\n") status.NetFault before after r (given un.faults) failed un.told
-reached_as {before = before} {after = after} {r = r} P (Some peer) (inr over) refused failed memory given ended =
-    reach_as P over.end before after r (ended over.end over.disk_faults over.lost) failed memory over.told
+module _ (why : Errand) (named : Option (List ℕ)) (steady : Option ℕ) (kept : Type 0) (faults faults_now : ℕ) (m n : ManagerState) (net : Nets) (before after : Option (List ℕ)) (r : Status) where
+  -- P holds of how a peer at an index is reached, where it holds of each end that it can have.
+  reached_as : (P : Status → Type 0) (o : Option ℕ) → ReachesAt why named o steady kept faults faults_now m n net before after r
+      → P status.Refused → P status.WriteFault → P status.Memory → (Rose net.faults net.faults_now → P status.NetFault)
+      → ((end : Answer) → FaultsAsSaid is_disk_fault faults faults_now end → FaultsAsSaid is_lost net.lost net.lost_now end → P (reach_status end)) → P r
+  reached_as P None none refused failed memory given ended = tells_as P (codes "nopeer\n") status.Refused before after r refused failed none.told
+  reached_as P (Some peer) (inl un) refused failed memory given ended =
+      tells_as P (codes "connection 1: netfault\n") status.NetFault before after r (given un.faults) failed un.told
+  reached_as P (Some peer) (inr over) refused failed memory given ended =
+      reach_as P over.end before after r (ended over.end over.disk_faults over.lost) failed memory over.told
 
--- Each end has its cause.
+  -- Each end has its cause.
 
-module _ {why : Errand} {named : Option (List ℕ)} {steady : Option ℕ} {kept : Type 0} {faults faults_now : ℕ} {m n : ManagerState} {net : Nets}
-    {before after : Option (List ℕ)} {r : Status} (o : Option ℕ) (reaches : ReachesAt why named o steady kept faults faults_now m n net before after r) where
-  pub reached_disk : DiskFaultHasCause faults faults_now r
-  reached_disk = reached_as (DiskFaultHasCause faults faults_now) o reaches tt tt tt (λ rose. tt) (λ end disk lost. disk_of faults faults_now end disk)
+  pub reached_disk : (o : Option ℕ) → ReachesAt why named o steady kept faults faults_now m n net before after r → DiskFaultHasCause faults faults_now r
+  reached_disk o reaches = reached_as (DiskFaultHasCause faults faults_now) o reaches tt tt tt (λ rose. tt) (λ end disk lost. disk_of faults faults_now end disk)
 
-  pub reached_net : NetFaultHasCause (Rose net.faults net.faults_now ⊎ Rose net.lost net.lost_now) r
-  reached_net = reached_as (NetFaultHasCause (Rose net.faults net.faults_now ⊎ Rose net.lost net.lost_now)) o reaches tt tt tt (λ rose. inl rose)
+  pub reached_net : (o : Option ℕ) → ReachesAt why named o steady kept faults faults_now m n net before after r
+      → NetFaultHasCause (Rose net.faults net.faults_now ⊎ Rose net.lost net.lost_now) r
+  reached_net o reaches = reached_as (NetFaultHasCause (Rose net.faults net.faults_now ⊎ Rose net.lost net.lost_now)) o reaches tt tt tt (λ rose. inl rose)
       (λ end disk lost. net_of (Rose net.faults net.faults_now) net.lost net.lost_now end lost)
 
-  pub reached_ends : IsNetEnd r
-  reached_ends = reached_as IsNetEnd o reaches tt tt tt (λ rose. tt) (λ end disk lost. end_of end)
+  pub reached_ends : (o : Option ℕ) → ReachesAt why named o steady kept faults faults_now m n net before after r → IsNetEnd r
+  reached_ends o reaches = reached_as IsNetEnd o reaches tt tt tt (λ rose. tt) (λ end disk lost. end_of end)
 
 -- Where no device failed, the program ends with no fault.
 
@@ -166,23 +163,26 @@ IfWritten writes writes_now r = WriteFaultHasCause writes writes_now r → IsFau
 
 -- The same of a store.
 
-module _ {why : Errand} {named : Option (List ℕ)} {host : List ℕ} {steady : Option ℕ} {d e : View} {net : Nets} {before after : Option (List ℕ)} {r : Status} where
+module _ (why : Errand) (named : Option (List ℕ)) (host : List ℕ) (steady : Option ℕ) (d e : View) (net : Nets) (before after : Option (List ℕ)) (r : Status) where
+  abbrev peer_of : ManagerState → Option ℕ
+  peer_of m = index_of_host m.store.state.peers host
+
   pub store_disk : ReachesStore why named host steady d e net before after r → DiskFaultHasCause d.faults e.faults r
-  store_disk (inl p) = reached_disk (index_of_host p.before.store.state.peers host) p.done
+  store_disk (inl p) = reached_disk why named steady (IsOpenedOnly d e) d.faults e.faults p.before p.after net before after r (peer_of p.before) p.done
   store_disk (inr p) = unopened_disk d e r p.0.0
 
   pub store_net : ReachesStore why named host steady d e net before after r → NetFaultHasCause (Rose net.faults net.faults_now ⊎ Rose net.lost net.lost_now) r
-  store_net (inl p) = reached_net (index_of_host p.before.store.state.peers host) p.done
+  store_net (inl p) = reached_net why named steady (IsOpenedOnly d e) d.faults e.faults p.before p.after net before after r (peer_of p.before) p.done
   store_net (inr p) = unopened_net (Rose net.faults net.faults_now ⊎ Rose net.lost net.lost_now) d e r p.0.0
 
   pub store_ends : ReachesStore why named host steady d e net before after r → IsNetEnd r
-  store_ends (inl p) = reached_ends (index_of_host p.before.store.state.peers host) p.done
+  store_ends (inl p) = reached_ends why named steady (IsOpenedOnly d e) d.faults e.faults p.before p.after net before after r (peer_of p.before) p.done
   store_ends (inr p) = unopened_net_end d e r p.0.0
 
   pub reach_completes : (writes writes_now : ℕ) → ReachesStore why named host steady d e net before after r → WriteFaultHasCause writes writes_now r
       → CompletesReach d e net writes writes_now r
   reach_completes writes writes_now (inl p) cause sound disk given kept written =
-      reached_as (IfWritten writes writes_now) (index_of_host p.before.store.state.peers host) p.done
+      reached_as why named steady (IsOpenedOnly d e) d.faults e.faults p.before p.after net before after r (IfWritten writes writes_now) (peer_of p.before) p.done
       (λ none. tt) (λ rose. absurd (written rose)) (λ none. tt) (λ rose none. absurd (given rose))
       (λ end failed lost none. ended_faultless d.faults e.faults net.lost net.lost_now end failed lost disk kept) cause
   reach_completes writes writes_now (inr p) cause sound disk given kept written = unopened_faultless d e r p.0.0 sound disk

@@ -44,13 +44,13 @@ TellsReach (Err fault.DiskFault) before after r = (r ≡ status.DiskFault) × (a
 TellsReach (Err fault.Memory) before after r = (r ≡ status.Memory) × (after ≡ before)
 TellsReach end before after r = Tells (end_line 1 end) (reach_status end) before after r ⊎ ((r ≡ status.Memory) × (after ≡ before))
 
--- A connection was served, from one manager to another. The faults are those of the disk.
-pub record ReachesOver (why : Errand) (named : Option (List ℕ)) (peer : ℕ) (steady : Option ℕ) (faults faults_now : ℕ) (m n : ManagerState) (net : Nets) (before after : Option (List ℕ)) (r : Status) : Type 0 where
+-- A connection was served, from one manager to another. Of the disk it is told how often it has failed.
+pub record ReachesOver (why : Errand) (named : Option (List ℕ)) (peer : ℕ) (steady : Option ℕ) (disk disk_now : ℕ) (m n : ManagerState) (net : Nets) (before after : Option (List ℕ)) (r : Status) : Type 0 where
   pub end : Answer
   pub reach : IsReach why named peer steady m n net.finished net.finished_now end
   -- so the disk is settled still, where it was, and stands for that manager
   pub up : end ≢ Err fault.DiskFault → IsUp n
-  pub disk_faults : FaultsAsSaid is_disk_fault faults faults_now end
+  pub disk_faults : FaultsAsSaid is_disk_fault disk disk_now end
   pub faults : net.faults_now ≡ net.faults
   pub lost : FaultsAsSaid is_lost net.lost net.lost_now end
   pub told : TellsReach end before after r
@@ -72,17 +72,17 @@ pub record HasNoPeer (kept : Type 0) (m n : ManagerState) (net : Nets) (before a
   pub told : Tells (codes "nopeer\n") status.Refused before after r
 
 -- A manager reaches the peer at an index, where there is one.
-abbrev pub ReachesAt : Errand → Option (List ℕ) → Option ℕ → Option ℕ → (kept : Type 0) → (faults faults_now : ℕ) → (m n : ManagerState) → Nets
+abbrev pub ReachesAt : Errand → Option (List ℕ) → Option ℕ → Option ℕ → (kept : Type 0) → (disk disk_now : ℕ) → (m n : ManagerState) → Nets
     → (before after : Option (List ℕ)) → Status → Type 0
-ReachesAt why named None steady kept faults faults_now m n net before after r = HasNoPeer kept m n net before after r
-ReachesAt why named (Some peer) steady kept faults faults_now m n net before after r =
-    IsUnconnected kept m n net before after r ⊎ ReachesOver why named peer steady faults faults_now m n net before after r
+ReachesAt why named None steady kept disk disk_now m n net before after r = HasNoPeer kept m n net before after r
+ReachesAt why named (Some peer) steady kept disk disk_now m n net before after r =
+    IsUnconnected kept m n net before after r ⊎ ReachesOver why named peer steady disk disk_now m n net before after r
 
 -- A manager that is open reaches the peer of a host.
-abbrev pub ReachesOn : Errand → (named : Option (List ℕ)) → (host : List ℕ) → Option ℕ → (kept : Type 0) → (faults faults_now : ℕ) → (m n : ManagerState) → Nets
+abbrev pub ReachesOn : Errand → (named : Option (List ℕ)) → (host : List ℕ) → Option ℕ → (kept : Type 0) → (disk disk_now : ℕ) → (m n : ManagerState) → Nets
     → (before after : Option (List ℕ)) → Status → Type 0
-ReachesOn why named host steady kept faults faults_now m n net before after r =
-    ReachesAt why named (index_of_host m.store.state.peers host) steady kept faults faults_now m n net before after r
+ReachesOn why named host steady kept disk disk_now m n net before after r =
+    ReachesAt why named (index_of_host m.store.state.peers host) steady kept disk disk_now m n net before after r
 
 -- the disk was opened, and nothing else was asked of it
 abbrev pub IsOpenedOnly : (d e : View) → Type 0

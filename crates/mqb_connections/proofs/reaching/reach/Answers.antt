@@ -13,22 +13,22 @@ returns-clause-reaches g c =
     let m = c.in-Ok.manager in
     let same = c.in-Ok.ensures.cause in
     inl (on_store c.in-Ok.ensures.opened c.open.ensures.reads
-    (reached_from (index_of_host m.store.state.peers c.args.host.now)
+    (reached_from _ _ _ _ _ _ _ _ _ _ (index_of_host m.store.state.peers c.args.host.now)
     (λ kept. subst (λ k. IsOpenedOnly d (g.D.Disk.view k)) (sym kept) (c.open.ensures.reads, same)) same c.reach_host-end.ensures.reaches)
     c.reach_host-end.ensures.disk)
 
 pub returns-clause-complete : goal.returns-clause-complete
 returns-clause-complete g c =
-    reach_completes (g.K.Sink.write_faults c.args.out.now) (g.K.Sink.write_faults c.reach_host-end.new.out) (returns-clause-reaches g c) c.reach_host-end.ensures.write_faults
+    reach_completes _ _ _ _ _ _ _ _ _ _ (g.K.Sink.write_faults c.args.out.now) (g.K.Sink.write_faults c.reach_host-end.new.out) (returns-clause-reaches g c) c.reach_host-end.ensures.write_faults
 
 pub returns-clause-disk_faults : goal.returns-clause-disk_faults
-returns-clause-disk_faults g c = store_disk (returns-clause-reaches g c)
+returns-clause-disk_faults g c = store_disk _ _ _ _ _ _ _ _ _ _ (returns-clause-reaches g c)
 
 pub returns-clause-net_faults : goal.returns-clause-net_faults
-returns-clause-net_faults g c = store_net (returns-clause-reaches g c)
+returns-clause-net_faults g c = store_net _ _ _ _ _ _ _ _ _ _ (returns-clause-reaches g c)
 
 pub returns-clause-ends : goal.returns-clause-ends
-returns-clause-ends g c = store_ends (returns-clause-reaches g c)
+returns-clause-ends g c = store_ends _ _ _ _ _ _ _ _ _ _ (returns-clause-reaches g c)
 
 pub returns-clause-asked : goal.returns-clause-asked
 returns-clause-asked g c = c.reach_host-end.ensures.asked

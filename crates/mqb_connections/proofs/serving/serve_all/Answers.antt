@@ -11,6 +11,7 @@ loop-index-init g c = record {
   up = c.requires.up;
   unlinked = c.requires.unlinked;
   disk = nothing_keeps (g.D.Disk.view c.args.disk.now) c.args.manager.now;
+  idle = refl;
   unfinished = refl;
   write_faults = refl;
   disk_faults = refl;
@@ -46,6 +47,7 @@ loop-index-preserved g c =
       up = one.up (λ is. let none : ⊥ = cc in none);
       unlinked = one.unlinked;
       disk = keeping_goes_on _ _ _ _ _ _ so_far.disk so_far.up one.disk;
+      idle = one.idle ∙ so_far.idle;
       unfinished = one.unfinished ∙ so_far.unfinished;
       write_faults = one.write_faults ∙ so_far.write_faults;
       disk_faults = one.disk_faults ∙ so_far.disk_faults;
@@ -53,3 +55,9 @@ loop-index-preserved g c =
       clock = one.clock ∙ so_far.clock;
       asked = asks_then _ (omega arith) so_far.served.finished so_far.asked one.asked;
     }
+
+pub returns-in_err-serve_and_tell-clause-idle : goal.returns-in_err-serve_and_tell-clause-idle
+returns-in_err-serve_and_tell-clause-idle g c = c.in_err-serve_and_tell.ensures.idle ∙ c.loop-index.invariant.idle
+
+pub returns-clause-idle : goal.returns-clause-idle
+returns-clause-idle g c = c.loop-index.invariant.idle

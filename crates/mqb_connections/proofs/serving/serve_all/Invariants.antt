@@ -15,6 +15,7 @@ invariant-loop-index g l = record {
   up : IsUp l.manager;
   unlinked : l.manager.session ≡ None;
   disk : KeepsDisk (g.D.Disk.view l.fn.disk) (g.D.Disk.view l.disk) l.fn.manager l.manager;
+  idle : g.N.Net.idle l.net ≡ g.N.Net.idle l.fn.net;
   unfinished : g.N.Net.unfinished l.net ≡ g.N.Net.unfinished l.fn.net;
   write_faults : g.K.Sink.write_faults l.out ≡ g.K.Sink.write_faults l.fn.out;
   disk_faults : (g.D.Disk.view l.disk).faults ≡ (g.D.Disk.view l.fn.disk).faults;

@@ -1,6 +1,6 @@
 use Rattle.std.proofs.Common.{Err, refl}
 use Rattle.mqb_connections.proofs.Asking.{asks_none, asks_one}
-use Rattle.mqb_connections.proofs.Ends.{disk_behind}
+use Rattle.mqb_connections.proofs.Ends.{calm_behind, disk_behind}
 use Rattle.mqb_connections.proofs.Peers.{net_no_done, none_told, one_told, told_no_done, up_unless}
 use Rattle.mqb_connections.proofs.serving.serve_and_tell.Goals as goal
 
@@ -41,3 +41,8 @@ returns-in-Ok-clause-asked g c =
 
 pub returns-in-Err-clause-asked : goal.returns-in-Err-clause-asked
 returns-in-Err-clause-asked g c = asks_none 1 _ _ _ _ c.in-Err.ensures.unchanged.2 c.in-Err.ensures.asked
+
+pub returns-in-Ok-clause-calm : goal.returns-in-Ok-clause-calm
+returns-in-Ok-clause-calm g c =
+    calm_behind c.args.number c.in-Ok.end (g.K.Sink.taken c.args.out.now) (g.K.Sink.taken c.tell_end.new.out) c.tell_end.result c.tell_end.ensures.told
+    (returns-in-Ok-clause-disk_faults g c)
