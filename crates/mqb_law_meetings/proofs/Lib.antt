@@ -1,0 +1,10 @@
+pub mod Lists
+pub mod Setting
+pub mod Standing
+pub mod Meeting
+pub mod Idle
+pub mod Knowing
+pub mod Vain
+pub mod Starting
+pub mod Sending
+pub mod Laws

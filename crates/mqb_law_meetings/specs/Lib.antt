@@ -1,0 +1,5 @@
+pub mod Meetings
+pub mod Drained
+pub mod Laws
+pub mod Work
+pub mod Worked
