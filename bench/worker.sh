@@ -4,6 +4,10 @@
 #                          then the same of half as many: the time is linear in the queue where the first two numbers are some twice the last two
 # A kill comes up to two milliseconds behind one of the first LINES lines (6) of a worker, or of its start. MQB and WORK name other programs than `./mqb --where` and
 # `./mqb --where work` do, and TMPDIR another folder for the stores: on a disk in memory a step waits for no disk.
+#
+# Seen, on a machine with six times as many busy programs as processors: of 200 kills 164 came behind an answer; 1,627 lines of answers came before the last kill and 320 behind it, so 53 answers had
+# been given whose line was not yet written, and each of the 2,000 messages was answered once, in order. Of 100,000 messages the first half of which is due a worker took the other half in 0.6 seconds
+# of a processor, and 0.15 of the system's, with the store in memory.
 set -u
 top=$(cd "$(dirname "$0")/.." && pwd)
 mqb=${MQB:-$("$top/mqb" --where)} work=${WORK:-$("$top/mqb" --where work)}
