@@ -6,8 +6,9 @@
 # `./mqb --where work` do, and TMPDIR another folder for the stores: on a disk in memory a step waits for no disk.
 #
 # Seen, on a machine with six times as many busy programs as processors: of 200 kills 164 came behind an answer; 1,627 lines of answers came before the last kill and 320 behind it, so 53 answers had
-# been given whose line was not yet written, and each of the 2,000 messages was answered once, in order. Of 100,000 messages the first half of which is due a worker took the other half in 0.6 seconds
-# of a processor, and 0.15 of the system's, with the store in memory.
+# been given whose line was not yet written, and each of the 2,000 messages was answered once, in order. With the first half due a worker took the other half of 10,000, 20,000, 25,000, 50,000 and 100,000
+# messages in 0.09, 0.18, 0.22, 0.61 and 0.60 seconds of a processor (0.02 to 0.15 of the system's beside), and without due ones those of 10,000, 20,000 and 50,000 in 0.09, 0.18 and 0.36, with the stores in
+# memory: no more than linear, beside busy programs that blur it.
 set -u
 top=$(cd "$(dirname "$0")/.." && pwd)
 mqb=${MQB:-$("$top/mqb" --where)} work=${WORK:-$("$top/mqb" --where work)}
