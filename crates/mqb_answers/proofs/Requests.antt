@@ -12,8 +12,8 @@ use Rattle.mqb_answers.specs.declared.told.CallEnd.TheVariants.{Done}
 use Rattle.mqb_answers.specs.declared.told.Taken.{Taken}
 use Rattle.mqb_answers.specs.declared.told.Told.{Told}
 use Rattle.mqb_base.specs.declared.ledger.Line.{Line}
-use Rattle.mqb_manager.specs.Calls.{Ends}
-use Rattle.mqb_manager.specs.States.{ManagerState, manager_of}
+use Rattle.mqb_replies.specs.mqb_manager.Calls.{Ends}
+use Rattle.mqb_replies.specs.mqb_manager.States.{ManagerState, manager_of}
 use Rattle.mqb_model.specs.calls.Call.{Answer, Request, requested}
 use Rattle.mqb_model.specs.managers.Outcomes.{Outcome, lines_after}
 use Rattle.mqb_model.specs.records.Applying.{lines_of}

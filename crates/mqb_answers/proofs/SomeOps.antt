@@ -3,8 +3,8 @@ use Rattle.std.proofs.Common.{ap, ◌∙◌, sym, arith, inl, inr}
 use Rattle.std.specs.Prelude.{[], ◌+◌, ◌==◌, ◌∷◌, ◌≡◌, ◌≤◌, Bool, Err, List, None, Ok, Result, Some, false, if◌then◌else◌, length, nat_lt, true, ℕ}
 use Rattle.mqb_base.specs.declared.draft.Op.{Op}
 use Rattle.mqb_fields.specs.Reading.{◌>>=◌}
-use Rattle.mqb_manager.specs.Calls.{Ends}
-use Rattle.mqb_manager.specs.States.{ManagerState, manager_of}
+use Rattle.mqb_replies.specs.mqb_manager.Calls.{Ends}
+use Rattle.mqb_replies.specs.mqb_manager.States.{ManagerState, manager_of}
 use Rattle.mqb_model.specs.calls.Commit.{Trial, at_op, commit, commit_tried, has_too_large, trial_of, try_op, try_ops}
 use Rattle.mqb_model.specs.declared.answers.Done.{Done}
 use Rattle.mqb_model.specs.declared.faults.CommitFault.{CommitFault}

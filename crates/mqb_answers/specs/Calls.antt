@@ -6,8 +6,8 @@ use Rattle.mqb_answers.specs.declared.told.CallEnd.TheVariants.{Done}
 use Rattle.mqb_answers.specs.declared.told.Told.{Told}
 use Rattle.mqb_base.specs.declared.ids.Identity.{Identity}
 use Rattle.mqb_outside.specs.Disk.{Counted, View}
-use Rattle.mqb_manager.specs.Calls.{IsCall}
-use Rattle.mqb_manager.specs.States.{ManagerState}
+use Rattle.mqb_replies.specs.mqb_manager.Calls.{IsCall}
+use Rattle.mqb_replies.specs.mqb_manager.States.{ManagerState}
 use Rattle.mqb_model.specs.managers.Outcomes.{Outcome}
 use Rattle.mqb_replies.specs.declared.faults.AnswerFault.{AnswerFault}
 use Rattle.mqb_replies.specs.declared.faults.AnswerFault.TheVariants as fault

@@ -3,14 +3,13 @@ ghost use Rattle.std.specs.Result.{IsOkAnd};
 ghost use Rattle.mqb_answers.specs.Calls.{IsPrinted, IsTold};
 ghost use Rattle.mqb_answers.specs.Outcomes.{outcome_of};
 ghost use Rattle.mqb_answers.specs.Texts.{hosts_of};
-ghost use Rattle.mqb_manager.specs.States.{IsOnDisk, IsUp, manager_of};
+ghost use Rattle.mqb_replies.specs.mqb_manager.States.{IsOnDisk, IsUp, manager_of};
 ghost use Rattle.mqb_words.specs.Formed.{IsFormedCall};
 
 use crate::calls::{add_peer, tell_request};
 use crate::told::CallEnd;
-use mqb_manager::Manager;
 use mqb_outside::Disk;
-use mqb_replies::{AnswerFault, Request};
+use mqb_replies::{AnswerFault, Manager, Request};
 use mqb_words::Call;
 use std::alloc::Global;
 

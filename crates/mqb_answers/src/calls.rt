@@ -4,7 +4,7 @@ ghost use Rattle.mqb_answers.specs.Calls.{IsTold, Tells};
 ghost use Rattle.mqb_answers.specs.Outcomes.{asked_told, told_by};
 ghost use Rattle.mqb_answers.specs.Texts.{hosts_of};
 ghost use Rattle.mqb_answers.specs.Told.{peer_told};
-ghost use Rattle.mqb_manager.specs.States.{IsOnDisk, IsUp, manager_of};
+ghost use Rattle.mqb_replies.specs.mqb_manager.States.{IsOnDisk, IsUp, manager_of};
 ghost use Rattle.mqb_model.specs.calls.AddPeer.{add_peer};
 ghost use Rattle.mqb_replies.specs.Requests.{IsFormed, seen_request};
 
@@ -12,9 +12,8 @@ use crate::hosts::hosts_of;
 use crate::texts::print_told;
 use crate::told::{CallEnd, Told, answer_told, peer_told};
 use mqb_base::Identity;
-use mqb_manager::Manager;
 use mqb_outside::Disk;
-use mqb_replies::{AnswerFault, Request, ask, lines_since, requests_are_replied};
+use mqb_replies::{AnswerFault, Manager, Request, ask, lines_since, requests_are_replied};
 use std::alloc::Global;
 
 /// Appends what is told of a call. After a refusal `out` is as before.

@@ -2,7 +2,7 @@ ghost use Rattle.std.specs.Prelude.{◌≡◌, ◌∷◌, IfOk};
 ghost use Rattle.mqb_answers.specs.Texts.{hosts_of};
 
 use mqb_base::{Identity, Memory};
-use mqb_manager::Manager;
+use mqb_replies::Manager;
 use std::alloc::Global;
 
 fn known_hosts(

@@ -13,4 +13,7 @@ mod told;
 pub use answering::answer;
 pub use hosts::hosts_of;
 pub use laws::outcomes_are_told;
+pub use mqb_replies::{
+    AnswerFault, CheckpointFault, Manager, OpenFault, checkpoint_reply, checkpoints_are_replied,
+};
 pub use told::{CallEnd, Said, Taken, Told};

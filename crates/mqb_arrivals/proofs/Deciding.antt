@@ -8,7 +8,7 @@ use Rattle.mqb_base.specs.declared.message.Message.{Message}
 use Rattle.mqb_orders.specs.declared.rows.InRow.{InRow}
 use Rattle.mqb_queue.proofs.Positions.{passing}
 use Rattle.mqb_queue.proofs.Tops.{middle}
-use Rattle.mqb_tables.proofs.Members.{changed_is}
+use Rattle.mqb_contents.proofs.mqb_tables.Members.{changed_is}
 use Rattle.mqb_contents.specs.Rows.{deciding, with_in}
 use Rattle.mqb_model.specs.Lists.{with_changed}
 use Rattle.mqb_model.specs.records.Decisions.{decided_row, with_decided}

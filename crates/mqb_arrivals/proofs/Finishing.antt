@@ -7,7 +7,7 @@ use Rattle.mqb_orders.specs.Rows.{Row, acknowledged, row_of}
 use Rattle.mqb_orders.specs.declared.kept.Kept.{Kept}
 use Rattle.mqb_orders.specs.declared.rows.OutRow.{OutRow}
 use Rattle.mqb_queue.proofs.Positions.{position_map}
-use Rattle.mqb_tables.proofs.Members.{changed_is, get-set}
+use Rattle.mqb_contents.proofs.mqb_tables.Members.{changed_is, get-set}
 use Rattle.mqb_contents.specs.Rows.{keeping, with_out}
 use Rattle.mqb_model.specs.Lists.{with_changed}
 use Rattle.mqb_model.specs.records.Finals.{finished_row, has_named, is_offered_as, with_finished}

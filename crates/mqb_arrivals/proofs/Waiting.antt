@@ -9,7 +9,7 @@ use Rattle.mqb_plain.specs.Lists.{messages_of}
 use Rattle.mqb_plain.specs.Plain.{PlainLists}
 use Rattle.mqb_plain.specs.declared.outgoing.Outgoing.{Outgoing}
 use Rattle.mqb_queue.proofs.Positions.{position_map}
-use Rattle.mqb_tables.proofs.Members.{there}
+use Rattle.mqb_contents.proofs.mqb_tables.Members.{there}
 use Rattle.mqb_model.specs.records.Releases.{has_recoverable, is_released_by, message_released, release_fits}
 use Rattle.mqb_model.specs.records.Stepwise.{releases_stepwise}
 use Rattle.mqb_model.specs.rules.Effects.{Effect}

@@ -10,16 +10,16 @@ use Rattle.mqb_answers.specs.declared.told.CallEnd.TheVariants as call
 use Rattle.mqb_answers.specs.declared.told.Told.{Told}
 use Rattle.mqb_outside.specs.Disk.{View}
 use Rattle.mqb_outside.specs.Faults.{Rose}
-use Rattle.mqb_manager.specs.Calls.{Ends, FailsUnder, Succeeds}
-use Rattle.mqb_manager.specs.Keeping.{KeepsDisk}
-use Rattle.mqb_manager.specs.lemmas.Keeping.{calls_keep_disks}
-use Rattle.mqb_manager.specs.States.{IsSame, IsUp, ManagerState, condition_of, manager_of}
+use Rattle.mqb_answers.specs.mqb_manager.Calls.{Ends, FailsUnder, Succeeds}
+use Rattle.mqb_answers.specs.mqb_manager.Keeping.{KeepsDisk}
+use Rattle.mqb_answers.specs.mqb_manager.lemmas.Keeping.{calls_keep_disks}
+use Rattle.mqb_answers.specs.mqb_manager.States.{IsSame, IsUp, ManagerState, condition_of, manager_of}
 use Rattle.mqb_model.specs.managers.Manager.{Down, Manager, Up}
 use Rattle.mqb_model.specs.managers.Outcomes.{Outcome}
 use Rattle.mqb_model.specs.records.Record.{Record}
 use Rattle.mqb_model.specs.records.Reading.{record_of}
-use Rattle.mqb_replies.specs.declared.faults.AnswerFault.{AnswerFault}
-use Rattle.mqb_replies.specs.declared.faults.AnswerFault.TheVariants as fault
+use Rattle.mqb_answers.specs.mqb_replies.declared.faults.AnswerFault.{AnswerFault}
+use Rattle.mqb_answers.specs.mqb_replies.declared.faults.AnswerFault.TheVariants as fault
 use Rattle.mqb_words.specs.declared.commands.Call.{Call}
 use Rattle.mqb_commands.specs.Outputs.{GoesOn, IsAnswerEnd, IsFaultLine, IsLookEnd}
 use Rattle.mqb_commands.specs.declared.status.Status.{Status}

@@ -4,14 +4,14 @@ use Rattle.std.specs.Prelude.{[], ◌⊎◌, IsOk, None, OnOk, false}
 use Rattle.mqb_journal.specs.States.{is_too_far}
 use Rattle.mqb_journal.specs.declared.faults.CheckpointFault.{CheckpointFault}
 use Rattle.mqb_journal.specs.declared.faults.CheckpointFault.TheVariants as base
-use Rattle.mqb_manager.specs.Calls.{Succeeds}
-use Rattle.mqb_manager.specs.Checkpoints.{EndsCheckpoint, FailsWithout, IsCheckpoint, IsRewritten, checkpoint_of}
-use Rattle.mqb_manager.specs.States.{IsSame, IsUp, ManagerState, manager_of}
+use Rattle.mqb_answers.specs.mqb_manager.Calls.{Succeeds}
+use Rattle.mqb_answers.specs.mqb_manager.Checkpoints.{EndsCheckpoint, FailsWithout, IsCheckpoint, IsRewritten, checkpoint_of}
+use Rattle.mqb_answers.specs.mqb_manager.States.{IsSame, IsUp, ManagerState, manager_of}
 use Rattle.mqb_outside.specs.Disk.{View}
-use Rattle.mqb_replies.specs.Asked.{CheckpointsAreReplied}
-use Rattle.mqb_replies.specs.Replies.{checkpoint_reply}
-use Rattle.mqb_replies.specs.declared.faults.AnswerFault.{AnswerFault}
-use Rattle.mqb_replies.specs.declared.faults.AnswerFault.TheVariants as fault
+use Rattle.mqb_answers.specs.mqb_replies.Asked.{CheckpointsAreReplied}
+use Rattle.mqb_answers.specs.mqb_replies.Replies.{checkpoint_reply}
+use Rattle.mqb_answers.specs.mqb_replies.declared.faults.AnswerFault.{AnswerFault}
+use Rattle.mqb_answers.specs.mqb_replies.declared.faults.AnswerFault.TheVariants as fault
 use Rattle.mqb_transcript.specs.Texts.{printed}
 use Rattle.mqb_transcript.specs.declared.replies.Reply.{Reply}
 use Rattle.mqb_commands.specs.Called.{IsNotTold, TellsFaults}

@@ -8,9 +8,9 @@ use Rattle.mqb_answers.specs.declared.told.Told.{Told}
 use Rattle.mqb_base.specs.declared.message.Lane.TheVariants as lane
 use Rattle.mqb_journal.specs.States.{is_too_far}
 use Rattle.mqb_journal.specs.declared.faults.CheckpointFault.{CheckpointFault}
-use Rattle.mqb_manager.specs.Calls.{Ends, FailsUnder, Succeeds}
-use Rattle.mqb_manager.specs.Checkpoints.{EndsCheckpoint, checkpoint_of}
-use Rattle.mqb_manager.specs.States.{IsSame, ManagerState, manager_of}
+use Rattle.mqb_answers.specs.mqb_manager.Calls.{Ends, FailsUnder, Succeeds}
+use Rattle.mqb_answers.specs.mqb_manager.Checkpoints.{EndsCheckpoint, checkpoint_of}
+use Rattle.mqb_answers.specs.mqb_manager.States.{IsSame, ManagerState, manager_of}
 use Rattle.mqb_model.specs.calls.AddPeer.{add_peer_refusal}
 use Rattle.mqb_model.specs.calls.Commit.{Trial, commit_tried, ops_refusal, trial_of, try_ops, whole_refusal}
 use Rattle.mqb_model.specs.calls.CreateQueue.{create_refusal}
@@ -24,8 +24,8 @@ use Rattle.mqb_model.specs.managers.Manager.{Manager}
 use Rattle.mqb_model.specs.managers.Outcomes.{Outcome, unless}
 use Rattle.mqb_model.specs.rules.Takes.{message_at}
 use Rattle.mqb_queue.specs.Places.{lists_at, place_named}
-use Rattle.mqb_replies.specs.declared.faults.AnswerFault.{AnswerFault}
-use Rattle.mqb_replies.specs.declared.faults.AnswerFault.TheVariants as fault
+use Rattle.mqb_answers.specs.mqb_replies.declared.faults.AnswerFault.{AnswerFault}
+use Rattle.mqb_answers.specs.mqb_replies.declared.faults.AnswerFault.TheVariants as fault
 use Rattle.mqb_store_laws.specs.Checkpoints.{checkpoint_refusal}
 use Rattle.mqb_words.specs.declared.commands.Call.{Call}
 use Rattle.mqb_words.specs.declared.commands.Call.TheVariants as call

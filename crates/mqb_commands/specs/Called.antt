@@ -6,8 +6,8 @@ use Rattle.mqb_answers.specs.declared.told.CallEnd.{CallEnd}
 use Rattle.mqb_answers.specs.declared.told.CallEnd.TheVariants as call
 use Rattle.mqb_answers.specs.declared.told.Told.{Told}
 use Rattle.mqb_outside.specs.Disk.{View}
-use Rattle.mqb_manager.specs.Calls.{FailsUnder, Succeeds}
-use Rattle.mqb_manager.specs.States.{IsSame, IsUp, ManagerState, manager_of}
+use Rattle.mqb_answers.specs.mqb_manager.Calls.{FailsUnder, Succeeds}
+use Rattle.mqb_answers.specs.mqb_manager.States.{IsSame, IsUp, ManagerState, manager_of}
 use Rattle.mqb_model.specs.managers.Outcomes.{Outcome}
 use Rattle.mqb_outside.specs.Faults.{Rose}
 use Rattle.mqb_commands.specs.Outputs.{IsFaultLine}

@@ -1,11 +1,11 @@
 -- What `checkpoint` says, how it ends, and what the disk is left as.
 use Rattle.std.specs.Prelude.{[], ◌≡◌, ◌⊎◌, Err, List, None, Ok, OnOk, Result, false, ℕ}
-use Rattle.mqb_manager.specs.Calls.{Succeeds}
-use Rattle.mqb_manager.specs.Checkpoints.{FailsWithout, IsRewritten, checkpoint_of}
-use Rattle.mqb_manager.specs.States.{IsUp, ManagerState}
+use Rattle.mqb_answers.specs.mqb_manager.Calls.{Succeeds}
+use Rattle.mqb_answers.specs.mqb_manager.Checkpoints.{FailsWithout, IsRewritten, checkpoint_of}
+use Rattle.mqb_answers.specs.mqb_manager.States.{IsUp, ManagerState}
 use Rattle.mqb_outside.specs.Disk.{View}
 use Rattle.mqb_outside.specs.Faults.{Rose}
-use Rattle.mqb_replies.specs.Replies.{checkpoint_reply}
+use Rattle.mqb_answers.specs.mqb_replies.Replies.{checkpoint_reply}
 use Rattle.mqb_store_laws.specs.Settling.{OnlySettles}
 use Rattle.mqb_transcript.specs.Texts.{printed}
 use Rattle.mqb_transcript.specs.declared.replies.Reply.{Reply}

@@ -3,8 +3,8 @@ use Rattle.std.specs.Prelude.{◌≡◌, IfSome, Option, ℕ}
 use Rattle.mqb_outside.specs.Disk.{View}
 use Rattle.mqb_outside.specs.Images.{Each}
 use Rattle.mqb_outside.specs.Faults.{Rose}
-use Rattle.mqb_manager.specs.Keeping.{KeepsDisk}
-use Rattle.mqb_manager.specs.States.{IsOnDisk, IsUp, ManagerState, manager_of}
+use Rattle.mqb_answers.specs.mqb_manager.Keeping.{KeepsDisk}
+use Rattle.mqb_answers.specs.mqb_manager.States.{IsOnDisk, IsUp, ManagerState, manager_of}
 use Rattle.mqb_model.specs.managers.Manager.{unlinked}
 use Rattle.mqb_model.specs.state.Durable.{durable}
 use Rattle.mqb_store_laws.specs.Faults.{IsBadStore}

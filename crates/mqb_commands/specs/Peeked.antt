@@ -6,7 +6,7 @@ use Rattle.mqb_base.specs.declared.ids.Identity.{Identity}
 use Rattle.mqb_base.specs.declared.message.Message.{Message}
 use Rattle.mqb_base.specs.declared.queues.EntryPlace.{EntryPlace}
 use Rattle.mqb_base.specs.declared.queues.Place.{Place}
-use Rattle.mqb_manager.specs.States.{ManagerState}
+use Rattle.mqb_answers.specs.mqb_manager.States.{ManagerState}
 use Rattle.mqb_model.specs.state.State.{State}
 use Rattle.mqb_outside.specs.Disk.{View}
 use Rattle.mqb_queue.specs.First.{is_free}

@@ -4,7 +4,7 @@ use Rattle.mqb_base.specs.declared.ids.Identity.{Identity}
 use Rattle.mqb_outside.specs.Disk.{IsSettled, OnlyReads, View}
 use Rattle.mqb_outside.specs.Images.{Each}
 use Rattle.mqb_listing.specs.Listing.{listing}
-use Rattle.mqb_manager.specs.States.{IsOnDisk, IsUp, ManagerState, manager_of}
+use Rattle.mqb_answers.specs.mqb_manager.States.{IsOnDisk, IsUp, ManagerState, manager_of}
 use Rattle.mqb_model.specs.managers.Manager.{new_manager}
 use Rattle.mqb_outside.specs.Faults.{Rose}
 use Rattle.mqb_store_laws.specs.Settling.{OnlySettles}

@@ -1,17 +1,15 @@
 ghost use Rattle.std.specs.Prelude.{◌≡◌, None};
 ghost use Rattle.mqb_commands.specs.Causes.{DiskFaultHasCause};
 ghost use Rattle.mqb_commands.specs.Called.{CallsAt, CallsOn, TellsFaults, status_of};
-ghost use Rattle.mqb_manager.specs.Keeping.{KeepsDisk};
-ghost use Rattle.mqb_manager.specs.States.{IsOnDisk, IsUp};
+ghost use Rattle.mqb_answers.specs.mqb_manager.Keeping.{KeepsDisk};
+ghost use Rattle.mqb_answers.specs.mqb_manager.States.{IsOnDisk, IsUp};
 ghost use Rattle.mqb_commands.specs.Outputs.{GoesOn, IsAnswerEnd};
 ghost use Rattle.mqb_outside.specs.Disk.{Counted};
 ghost use Rattle.mqb_words.specs.Formed.{IsFormedCall};
 
 use crate::{Answer, Status, open};
-use mqb_answers::{CallEnd, answer};
-use mqb_manager::Manager;
+use mqb_answers::{AnswerFault, CallEnd, Manager, answer};
 use mqb_outside::{Clock, Disk};
-use mqb_replies::AnswerFault;
 use mqb_words::Call;
 use std::alloc::Global;
 

@@ -2,16 +2,17 @@ ghost use Rattle.std.specs.Prelude.{◌≡◌, [], None};
 ghost use Rattle.mqb_commands.specs.Called.{TellsFaults};
 ghost use Rattle.mqb_commands.specs.Causes.{DiskFaultHasCause};
 ghost use Rattle.mqb_commands.specs.Checkpointed.{Checkpoints, CheckpointsOn, end_of};
-ghost use Rattle.mqb_manager.specs.Keeping.{KeepsDisk};
-ghost use Rattle.mqb_manager.specs.States.{IsOnDisk, IsUp};
+ghost use Rattle.mqb_answers.specs.mqb_manager.Keeping.{KeepsDisk};
+ghost use Rattle.mqb_answers.specs.mqb_manager.States.{IsOnDisk, IsUp};
 ghost use Rattle.mqb_commands.specs.Outputs.{GoesOn, IsAnswerEnd, IsSaid};
 ghost use Rattle.mqb_transcript.specs.Texts.{printed};
 
 use crate::{Answer, Status, open};
+use mqb_answers::{
+    AnswerFault, CheckpointFault, Manager, checkpoint_reply, checkpoints_are_replied,
+};
 use mqb_base::Memory;
-use mqb_manager::{CheckpointFault, Manager};
 use mqb_outside::Disk;
-use mqb_replies::{AnswerFault, checkpoint_reply, checkpoints_are_replied};
 use mqb_transcript::{Reply, print_reply};
 use std::alloc::Global;
 

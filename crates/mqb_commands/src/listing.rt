@@ -4,9 +4,9 @@ ghost use Rattle.mqb_commands.specs.Said.{Lists, ListsOn};
 
 use crate::opening::open;
 use crate::{Answer, Status};
+use mqb_answers::Manager;
 use mqb_base::Memory;
 use mqb_listing::print;
-use mqb_manager::Manager;
 use mqb_outside::Disk;
 use std::alloc::Global;
 

@@ -4,8 +4,8 @@ ghost use Rattle.mqb_commands.specs.Said.{Inits, Makes};
 
 use crate::opening::open_status;
 use crate::{Answer, Status};
+use mqb_answers::Manager;
 use mqb_base::{Identity, Memory};
-use mqb_manager::Manager;
 use mqb_outside::Disk;
 use mqb_transcript::make_script;
 use std::alloc::Global;

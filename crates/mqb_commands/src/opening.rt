@@ -3,11 +3,11 @@ ghost use Rattle.mqb_outside.specs.Disk.{IsSettled};
 ghost use Rattle.mqb_commands.specs.Opened.{IsNotOpened, OpensAs};
 ghost use Rattle.mqb_journal.specs.Causes.{FaultsAsSaid};
 ghost use Rattle.mqb_commands.specs.Causes.{is_disk_fault, open_status};
-ghost use Rattle.mqb_manager.specs.States.{IsOnDisk};
+ghost use Rattle.mqb_answers.specs.mqb_manager.States.{IsOnDisk};
 ghost use Rattle.mqb_store_laws.specs.Settling.{OnlySettles};
 
 use crate::Status;
-use mqb_manager::{Manager, OpenFault};
+use mqb_answers::{Manager, OpenFault};
 use mqb_outside::Disk;
 use std::alloc::Global;
 

@@ -9,9 +9,8 @@ ghost use Rattle.mqb_queue.specs.Places.{place_named};
 
 use crate::turns::put_taken;
 use crate::{Answer, Status, open};
-use mqb_answers::hosts_of;
+use mqb_answers::{Manager, hosts_of};
 use mqb_base::{EntryPlace, Identity, Memory, Place};
-use mqb_manager::Manager;
 use mqb_outside::{Clock, Disk};
 use mqb_queue::Queues;
 use mqb_transcript::{Printer, Reply, print_reply};

@@ -7,8 +7,8 @@ use Rattle.std.proofs.lemmas.List.{map-set}
 use Rattle.std.proofs.lemmas.Option.{none-some, same_Some, slice_get-map}
 use Rattle.indexmap.specs.IndexMap.{IndexMap, get, keys}
 use Rattle.mqb_base.specs.Rooms.{Room, WithRooms}
-use Rattle.mqb_model.specs.Lists.{with_changed}
-use Rattle.mqb_model.specs.state.Rows.{has_ordinal}
+use Rattle.mqb_tables.specs.mqb_model.Lists.{with_changed}
+use Rattle.mqb_tables.specs.mqb_model.state.Rows.{has_ordinal}
 use Rattle.mqb_orders.specs.Rows.{Row, leads_to, row_of}
 use Rattle.mqb_orders.specs.declared.keys.OutKey.{OutKey}
 use Rattle.mqb_orders.specs.declared.rows.OutRow.{OutRow}

@@ -18,7 +18,7 @@ use Rattle.mqb_plain.specs.Plain.{PlainLists, PlainRooms, no_plain, outgoing_in}
 use Rattle.mqb_plain.specs.declared.outgoing.Outgoing.{Outgoing}
 use Rattle.mqb_queue.specs.Lists.{Lists, inserted, messages_in, without}
 use Rattle.mqb_queue.specs.Places.{Places, Queue, QueueRooms, lists_at, new_queue, no_queue_room}
-use Rattle.mqb_model.specs.state.State.{State}
+use Rattle.mqb_tables.specs.mqb_model.state.State.{State}
 use Rattle.mqb_contents.specs.Changes.{Can, HasRoom, changed, held, held_back, inverse, lists_after, rooms_after}
 use Rattle.mqb_tables.specs.Ends.{last_else, last_of, without_last}
 use Rattle.mqb_contents.specs.Rooms.{StateRooms}

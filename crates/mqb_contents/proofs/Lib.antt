@@ -1,3 +1,4 @@
+pub use Rattle.mqb_tables.proofs as mqb_tables
 pub mod Places
 pub mod Laws
 pub mod Grown

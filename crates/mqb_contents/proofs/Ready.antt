@@ -2,7 +2,7 @@
 use Rattle.std.proofs.Common.{◌≡◌, ◌+◌, List, [], ◌∷◌, refl, sym, ap, ◌∙◌, subst, arith}
 use Rattle.mqb_base.specs.Rooms.{WithRooms}
 use Rattle.mqb_base.specs.declared.message.Lane.TheVariants as lane
-use Rattle.mqb_model.specs.state.State.{State}
+use Rattle.mqb_tables.specs.mqb_model.state.State.{State}
 use Rattle.mqb_contents.specs.Changes.{AllReady, Can, HasRoom, changed, held, held_back, inverse, lists_after, messages_back, redone, rooms_redone}
 use Rattle.mqb_contents.specs.Rooms.{IsGrown, StateRooms}
 use Rattle.mqb_contents.specs.declared.change.Change.{Change}

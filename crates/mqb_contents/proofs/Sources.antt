@@ -7,7 +7,7 @@ use Rattle.std.proofs.lemmas.List.{map-set, take-append-drop}
 use Rattle.std.proofs.lemmas.List.Quantifiers.{position-Some}
 use Rattle.std.proofs.lemmas.Option.{none-some, same_Some, slice_get-get_or, slice_get-map, slice_get_within}
 use Rattle.indexmap.specs.IndexMap.{IndexMap, get, keys}
-use Rattle.mqb_model.specs.state.Rows.{is_row_of}
+use Rattle.mqb_tables.specs.mqb_model.state.Rows.{is_row_of}
 use Rattle.mqb_orders.specs.declared.keys.InKey.{InKey}
 use Rattle.mqb_orders.specs.declared.rows.InRow.{InRow}
 use Rattle.mqb_queue.proofs.Positions.{none_passes, position_behind, position_joined, position_map, position_step}

@@ -6,12 +6,12 @@ use Rattle.mqb_plain.specs.Plain as plain
 use Rattle.mqb_plain.specs.Plain.{no_plain, outgoing_in}
 use Rattle.mqb_queue.specs.Lists.{inserted, messages_in}
 use Rattle.mqb_queue.specs.Places.{found, lists_at, new_queue, no_queue_room}
-use Rattle.mqb_model.specs.declared.limits.TheConstants.{MAX_PEERS, MAX_QUEUES}
-use Rattle.mqb_model.specs.records.Peer.{with_new_queue, with_peer}
-use Rattle.mqb_model.specs.rules.Purges.{count_at}
-use Rattle.mqb_model.specs.rules.Takes.{message_at}
-use Rattle.mqb_model.specs.state.Places.{with_place, with_plain, without_at}
-use Rattle.mqb_model.specs.state.State.{State}
+use Rattle.mqb_tables.specs.mqb_model.declared.limits.TheConstants.{MAX_PEERS, MAX_QUEUES}
+use Rattle.mqb_tables.specs.mqb_model.records.Peer.{with_new_queue, with_peer}
+use Rattle.mqb_tables.specs.mqb_model.rules.Purges.{count_at}
+use Rattle.mqb_tables.specs.mqb_model.rules.Takes.{message_at}
+use Rattle.mqb_tables.specs.mqb_model.state.Places.{with_place, with_plain, without_at}
+use Rattle.mqb_tables.specs.mqb_model.state.State.{State}
 use Rattle.mqb_tables.specs.Keys.{HasKey, in_key, out_key, same_in_key, same_out_key}
 use Rattle.mqb_tables.specs.Ends.{last_else, last_of, without_last}
 use Rattle.mqb_contents.specs.Rooms.{StateRooms, kept_room, place_room}

@@ -9,8 +9,8 @@ use Rattle.mqb_orders.specs.Rows.{Row}
 use Rattle.mqb_orders.specs.declared.kept.Kept.{Kept}
 use Rattle.mqb_orders.specs.declared.rows.InRow.{InRow}
 use Rattle.mqb_plain.specs.Plain.{PlainRooms}
-use Rattle.mqb_model.specs.Lists.{with_changed}
-use Rattle.mqb_model.specs.state.State.{State}
+use Rattle.mqb_tables.specs.mqb_model.Lists.{with_changed}
+use Rattle.mqb_tables.specs.mqb_model.state.State.{State}
 use Rattle.mqb_contents.specs.declared.marks.RowMarks.{RowMarks}
 
 -- an outgoing row without messages, and how many it can keep without memory

@@ -8,8 +8,8 @@ use Rattle.mqb_orders.specs.declared.rows.InRow.{InRow}
 use Rattle.mqb_orders.specs.declared.rows.OutRow.{OutRow}
 use Rattle.mqb_plain.specs.Plain.{PlainLists, PlainRooms}
 use Rattle.mqb_queue.specs.Places.{PlaceRooms, Places}
-use Rattle.mqb_model.specs.declared.limits.TheConstants.{MAX_PEERS, MAX_QUEUES}
-use Rattle.mqb_model.specs.state.State.{State}
+use Rattle.mqb_tables.specs.mqb_model.declared.limits.TheConstants.{MAX_PEERS, MAX_QUEUES}
+use Rattle.mqb_tables.specs.mqb_model.state.State.{State}
 use Rattle.mqb_contents.specs.Rooms.{InRooms, OutRooms, StateRooms}
 use Rattle.mqb_tables.specs.Rooms.{MemberRooms}
 use Rattle.mqb_contents.specs.declared.counters.Counters.{Counters}

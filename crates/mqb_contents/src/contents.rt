@@ -4,8 +4,8 @@ ghost use Rattle.mqb_contents.specs.Rooms.{no_room};
 ghost use Rattle.mqb_contents.specs.Rows.{KeepsCommitted};
 ghost use Rattle.mqb_contents.specs.Seen.{counters_of};
 ghost use Rattle.mqb_tables.specs.Tables.{LeadsTo, LeadsToLast, LeadsToSource};
-ghost use Rattle.mqb_model.specs.declared.limits.TheConstants.{MAX_PEERS, MAX_QUEUES};
-ghost use Rattle.mqb_model.specs.state.State.{empty};
+ghost use Rattle.mqb_tables.specs.mqb_model.declared.limits.TheConstants.{MAX_PEERS, MAX_QUEUES};
+ghost use Rattle.mqb_tables.specs.mqb_model.state.State.{empty};
 ghost use Rattle.mqb_orders.specs.Rows.{row_of};
 
 use crate::counters::Counters;
@@ -13,11 +13,10 @@ use crate::in_rows::InRows;
 use crate::out_rows::OutRows;
 use indexmap::IndexMap;
 use mqb_base::{Identity, Roomed};
-use mqb_model::{FIRST_EXPRESS, MAX_ROLL};
 use mqb_orders::{InKey, InRow, OutKey, OutRow};
 use mqb_plain::PlainOut;
 use mqb_queue::Queues;
-use mqb_tables::PlainOuts;
+use mqb_tables::{FIRST_EXPRESS, MAX_ROLL, PlainOuts};
 use std::alloc::Global;
 use std::marker::Model;
 
@@ -36,7 +35,7 @@ pub struct Contents {
 impl Model for Contents {
     ghost use Rattle.mqb_base.specs.Rooms.{WithRooms};
     ghost use Rattle.mqb_contents.specs.Rooms.{StateRooms};
-    ghost use Rattle.mqb_model.specs.state.State.{State};
+    ghost use Rattle.mqb_tables.specs.mqb_model.state.State.{State};
 
     ghost Value = { WithRooms State StateRooms };
 

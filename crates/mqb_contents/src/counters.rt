@@ -1,7 +1,7 @@
 ghost use Rattle.std.specs.Prelude.{◌≡◌};
-ghost use Rattle.mqb_model.specs.rules.Numbers.{express_after};
+ghost use Rattle.mqb_tables.specs.mqb_model.rules.Numbers.{express_after};
 
-use mqb_model::{FIRST_EXPRESS, MAX_EXPRESS};
+use mqb_tables::{FIRST_EXPRESS, MAX_EXPRESS};
 
 /// The numbers of the next durable message, of the next sequence and of the next express message, and the count of messages at which a sequence is
 /// full.

@@ -4,8 +4,8 @@ ghost use Rattle.mqb_base.specs.declared.roomed.TheConstants.{MAX_MEMBERS};
 ghost use Rattle.mqb_tables.specs.Ends.{last_of, without_last};
 ghost use Rattle.mqb_contents.specs.Rows.{deciding};
 ghost use Rattle.mqb_tables.specs.Tables.{LeadsToSource};
-ghost use Rattle.mqb_model.specs.Lists.{with_changed};
-ghost use Rattle.mqb_model.specs.state.Rows.{is_row_of};
+ghost use Rattle.mqb_tables.specs.mqb_model.Lists.{with_changed};
+ghost use Rattle.mqb_tables.specs.mqb_model.state.Rows.{is_row_of};
 ghost use Rattle.mqb_tables.specs.Keys.{AreKeysKept, HasKey, in_key, same_in_key};
 
 use indexmap::IndexMap;

@@ -2,10 +2,10 @@ ghost use Rattle.std.specs.Prelude.{◌≡◌, ◌+◌, ◌<◌, ◌^◌, IfSome
 ghost use Rattle.mqb_base.specs.Same.{same_guid};
 ghost use Rattle.mqb_contents.specs.Rows.{unless_full};
 ghost use Rattle.mqb_tables.specs.Waits.{plain_count};
-ghost use Rattle.mqb_model.specs.rules.Purges.{count_at};
-ghost use Rattle.mqb_model.specs.rules.Sequences.{sequence_in_use};
-ghost use Rattle.mqb_model.specs.state.Resolving.{peer_known};
-ghost use Rattle.mqb_model.specs.state.Rows.{has_ordinal, is_row_of, last_sequence};
+ghost use Rattle.mqb_tables.specs.mqb_model.rules.Purges.{count_at};
+ghost use Rattle.mqb_tables.specs.mqb_model.rules.Sequences.{sequence_in_use};
+ghost use Rattle.mqb_tables.specs.mqb_model.state.Resolving.{peer_known};
+ghost use Rattle.mqb_tables.specs.mqb_model.state.Rows.{has_ordinal, is_row_of, last_sequence};
 ghost use Rattle.mqb_plain.specs.Lists.{InOrder};
 ghost use Rattle.mqb_plain.specs.Plain.{outgoing_in};
 

@@ -3,7 +3,7 @@ ghost use Rattle.std.specs.Prelude.{◌≡◌, ◌<◌, IsSome, OnOk, length};
 ghost use Rattle.mqb_base.specs.declared.message.Lane.{Lane};
 ghost use Rattle.mqb_contents.specs.Changes.{Can, HasRoom};
 ghost use Rattle.mqb_contents.specs.Rooms.{IsGrown, place_room};
-ghost use Rattle.mqb_model.specs.rules.Purges.{count_at};
+ghost use Rattle.mqb_tables.specs.mqb_model.rules.Purges.{count_at};
 ghost use Rattle.mqb_queue.specs.Places.{lists_at};
 
 use crate::change::Change;

@@ -6,7 +6,7 @@ ghost use Rattle.mqb_tables.specs.Rooms.{AreMembersGrown, no_members};
 ghost use Rattle.mqb_contents.specs.Seen.{room_of};
 ghost use Rattle.mqb_contents.specs.Rows.{CanKeep, IsBegun, KeepsCommitted, begun_row, keeping, kept_count, marks_of, with_marks};
 ghost use Rattle.mqb_tables.specs.Tables.{LeadsTo, LeadsToLast};
-ghost use Rattle.mqb_model.specs.Lists.{with_changed};
+ghost use Rattle.mqb_tables.specs.mqb_model.Lists.{with_changed};
 ghost use Rattle.mqb_orders.specs.KeptLists.{Rises};
 ghost use Rattle.mqb_orders.specs.Rows.{leads_to, row_of};
 ghost use Rattle.std.specs.List.{last_or};

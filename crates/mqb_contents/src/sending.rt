@@ -1,9 +1,9 @@
 //! What was sent is noted. That takes no memory, and no change takes it back.
 ghost use Rattle.std.specs.Prelude.{◌≡◌, IsSomeAnd, map, slice_get};
 ghost use Rattle.mqb_base.specs.declared.message.Delivery.TheVariants.{Express};
-ghost use Rattle.mqb_model.specs.managers.Beside.{all_unmarked};
-ghost use Rattle.mqb_model.specs.rules.Numbers.{number_taken};
-ghost use Rattle.mqb_model.specs.state.Places.{with_plain};
+ghost use Rattle.mqb_tables.specs.mqb_model.managers.Beside.{all_unmarked};
+ghost use Rattle.mqb_tables.specs.mqb_model.rules.Numbers.{number_taken};
+ghost use Rattle.mqb_tables.specs.mqb_model.state.Places.{with_plain};
 ghost use Rattle.mqb_plain.specs.Plain.{MaySend, sent};
 
 use crate::contents::Contents;

@@ -7,7 +7,7 @@ use Rattle.mqb_network.specs.Choices.{Failure}
 use Rattle.mqb_network.specs.Network.{Network, Note}
 use Rattle.mqb_outside.specs.Faults.{Rose}
 use Rattle.mqb_queue.specs.Places.{numbered}
-use Rattle.mqb_seats.specs.Called.{failure_of, how_by}
+use Rattle.mqb_turns.specs.mqb_seats.Called.{failure_of, how_by}
 use Rattle.mqb_transcript.specs.declared.arrivals.Arrival.{Arrival}
 use Rattle.mqb_transcript.specs.declared.arrivals.Outcome.{Outcome}
 use Rattle.mqb_transcript.specs.declared.arrivals.Outcome.TheVariants as outcome

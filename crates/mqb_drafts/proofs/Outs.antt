@@ -9,12 +9,12 @@ use Rattle.std.proofs.lemmas.List.Sums.{position_or_len_is}
 use Rattle.std.proofs.lemmas.Option.{get_or_from_slice_get, slice_get_within}
 use Rattle.mqb_base.specs.declared.message.Message.{Message}
 use Rattle.mqb_contents.specs.Rows.{with_out}
-use Rattle.mqb_tables.proofs.Members.{changed_is, get-set, there}
-use Rattle.mqb_model.specs.Lists.{with_changed}
-use Rattle.mqb_model.specs.rules.Effects.{Effect, without_line}
-use Rattle.mqb_model.specs.rules.Sequences.{join, new_sequence, sequence_in_use, with_kept, with_sequence}
-use Rattle.mqb_model.specs.state.Rows.{has_ordinal, with_row}
-use Rattle.mqb_model.specs.state.State.{State}
+use Rattle.mqb_contents.proofs.mqb_tables.Members.{changed_is, get-set, there}
+use Rattle.mqb_contents.specs.mqb_model.Lists.{with_changed}
+use Rattle.mqb_contents.specs.mqb_model.rules.Effects.{Effect, without_line}
+use Rattle.mqb_contents.specs.mqb_model.rules.Sequences.{join, new_sequence, sequence_in_use, with_kept, with_sequence}
+use Rattle.mqb_contents.specs.mqb_model.state.Rows.{has_ordinal, with_row}
+use Rattle.mqb_contents.specs.mqb_model.state.State.{State}
 use Rattle.mqb_orders.specs.Rows.{Row}
 use Rattle.mqb_drafts.specs.Drafts.{OrdinalsRise}
 use Rattle.mqb_drafts.specs.Rows.{committing, keeping_last}

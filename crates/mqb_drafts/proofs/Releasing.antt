@@ -10,9 +10,9 @@ use Rattle.std.proofs.lemmas.List.Elements.{All-append, All-cons, All-head, All-
 use Rattle.std.proofs.lemmas.Option.{get_or_from_slice_get, none-some, same_Some, slice_get_within}
 use Rattle.mqb_base.specs.Bits.{keeps_dead}
 use Rattle.mqb_contents.specs.Rows.{keeping, kept_count, with_out}
-use Rattle.mqb_tables.proofs.Members.{at_some, changed_is, changed_there, length-removed, set_same, there}
-use Rattle.mqb_model.specs.Lists.{with_changed}
-use Rattle.mqb_model.specs.state.State.{State}
+use Rattle.mqb_contents.proofs.mqb_tables.Members.{at_some, changed_is, changed_there, length-removed, set_same, there}
+use Rattle.mqb_contents.specs.mqb_model.Lists.{with_changed}
+use Rattle.mqb_contents.specs.mqb_model.state.State.{State}
 use Rattle.mqb_orders.specs.KeptLists.{Rises, released}
 use Rattle.mqb_orders.specs.Rows.{Row, acknowledged}
 use Rattle.mqb_orders.specs.declared.kept.Kept.{Kept}

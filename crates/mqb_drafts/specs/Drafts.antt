@@ -2,8 +2,8 @@
 use Rattle.std.specs.Prelude.{[], ◌++◌, ◌+◌, ◌<◌, ◌^◌, ◌∷◌, ◌≡◌, ◌≤◌, AllPairs, length, ℕ}
 use Rattle.mqb_base.specs.Rooms.{Room, WithRooms}
 use Rattle.mqb_base.specs.declared.ledger.Line.{Line}
-use Rattle.mqb_model.specs.rules.Effects.{Effect}
-use Rattle.mqb_model.specs.state.State.{State}
+use Rattle.mqb_contents.specs.mqb_model.rules.Effects.{Effect}
+use Rattle.mqb_contents.specs.mqb_model.state.State.{State}
 use Rattle.mqb_contents.specs.Changes.{AllReady}
 use Rattle.mqb_contents.specs.Rooms.{StateRooms}
 use Rattle.mqb_contents.specs.declared.change.Change.{Change}

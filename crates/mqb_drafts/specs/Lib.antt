@@ -1,2 +1,3 @@
+pub use Rattle.mqb_contents.specs as mqb_contents
 pub mod Drafts
 pub mod Rows

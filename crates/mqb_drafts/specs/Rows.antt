@@ -5,7 +5,7 @@ use Rattle.mqb_base.specs.declared.message.Message.{Message}
 use Rattle.mqb_contents.specs.Rows.{keeping}
 use Rattle.mqb_orders.specs.KeptLists.{released}
 use Rattle.mqb_orders.specs.Rows.{Row}
-use Rattle.mqb_model.specs.state.State.{State}
+use Rattle.mqb_contents.specs.mqb_model.state.State.{State}
 
 -- one message more was committed in a row
 abbrev pub committing : Row → Row

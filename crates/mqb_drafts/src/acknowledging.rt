@@ -4,7 +4,7 @@ ghost use Rattle.mqb_contents.specs.Rooms.{IsGrown};
 ghost use Rattle.mqb_contents.specs.Rows.{kept_count, with_out};
 ghost use Rattle.mqb_drafts.specs.Drafts.{HasNext};
 ghost use Rattle.mqb_drafts.specs.Rows.{StaysBefore, releasing, with_acked};
-ghost use Rattle.mqb_model.specs.rules.Effects.{without_line};
+ghost use Rattle.mqb_contents.specs.mqb_model.rules.Effects.{without_line};
 ghost use Rattle.mqb_orders.specs.Rows.{acknowledged};
 
 use crate::drafts::Draft;

@@ -1,8 +1,8 @@
 ghost use Rattle.std.specs.Prelude.{◌≡◌, ◌+◌, ◌<◌, ◌≤◌, [], ◌∷◌, IsSome, IsSomeAnd, OnOk, length, slice_get};
 ghost use Rattle.mqb_contents.specs.Changes.{AllReady, Can, HasRoom, changed, held, inverse, lists_after, messages, redone};
 ghost use Rattle.mqb_contents.specs.Rooms.{IsGrown};
-ghost use Rattle.mqb_model.specs.rules.Effects.{begun, without_line};
-ghost use Rattle.mqb_model.specs.state.Places.{put_at, with_plain, without_at};
+ghost use Rattle.mqb_contents.specs.mqb_model.rules.Effects.{begun, without_line};
+ghost use Rattle.mqb_contents.specs.mqb_model.state.Places.{put_at, with_plain, without_at};
 ghost use Rattle.mqb_base.specs.Lanes.{lane_of};
 ghost use Rattle.mqb_plain.specs.Plain.{outgoing_in, pushed, without};
 ghost use Rattle.mqb_queue.specs.Lists.{messages_in};

@@ -15,4 +15,5 @@ mod turns;
 
 pub use drafts::Draft;
 pub use logs::Log;
+pub use mqb_contents::Contents;
 pub use turns::redo;

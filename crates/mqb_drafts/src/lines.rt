@@ -1,6 +1,6 @@
 //! Lines that are set aside: what is done beside a record has none.
 ghost use Rattle.std.specs.Prelude.{◌≡◌};
-ghost use Rattle.mqb_model.specs.rules.Effects.{begun};
+ghost use Rattle.mqb_contents.specs.mqb_model.rules.Effects.{begun};
 
 use crate::drafts::Draft;
 use mqb_base::{Line, Roomed};

@@ -2,10 +2,10 @@ ghost use Rattle.std.specs.Prelude.{◌≡◌, ◌+◌, ◌<◌, ◌≤◌, ◌^
 ghost use Rattle.mqb_base.specs.declared.message.Delivery.TheVariants.{Express, Recoverable};
 ghost use Rattle.mqb_contents.specs.Rooms.{IsGrown};
 ghost use Rattle.mqb_drafts.specs.Drafts.{HasNext, noted};
-ghost use Rattle.mqb_model.specs.declared.limits.TheConstants.{MAX_PEERS, MAX_QUEUES};
-ghost use Rattle.mqb_model.specs.records.Peer.{with_new_queue, with_peer};
-ghost use Rattle.mqb_model.specs.rules.Effects.{without_line};
-ghost use Rattle.mqb_model.specs.rules.Numbers.{number_taken, numbers_taken};
+ghost use Rattle.mqb_contents.specs.mqb_model.declared.limits.TheConstants.{MAX_PEERS, MAX_QUEUES};
+ghost use Rattle.mqb_contents.specs.mqb_model.records.Peer.{with_new_queue, with_peer};
+ghost use Rattle.mqb_contents.specs.mqb_model.rules.Effects.{without_line};
+ghost use Rattle.mqb_contents.specs.mqb_model.rules.Numbers.{number_taken, numbers_taken};
 ghost use Rattle.mqb_queue.specs.Places.{found};
 
 use crate::drafts::Draft;

@@ -1,8 +1,8 @@
 ghost use Rattle.std.specs.Prelude.{◌≡◌, ◌<◌, ◌≤◌, ◌++◌, [], ◌∷◌, IsSomeAnd, OnOk, length, remove, slice_get};
 ghost use Rattle.mqb_contents.specs.Rooms.{IsGrown};
 ghost use Rattle.mqb_contents.specs.Rows.{deciding, keeping, with_in, with_out};
-ghost use Rattle.mqb_model.specs.records.Offered.{with_offered};
-ghost use Rattle.mqb_model.specs.rules.Effects.{without_line};
+ghost use Rattle.mqb_contents.specs.mqb_model.records.Offered.{with_offered};
+ghost use Rattle.mqb_contents.specs.mqb_model.rules.Effects.{without_line};
 
 use crate::drafts::Draft;
 use mqb_base::{Memory, SequenceId};

@@ -1,3 +1,4 @@
+pub use Rattle.mqb_names.specs as mqb_names
 pub mod Flags
 pub mod Fields
 pub mod Base

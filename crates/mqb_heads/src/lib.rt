@@ -21,6 +21,7 @@ pub use laws::{
     user_is_read, user_is_well_formed,
 };
 pub use mqb_fields::{HeadFault, HeadKind};
+pub use mqb_names::NameView;
 pub use properties::{PropsHead, props_len, put_props, read_props};
 pub use transaction::{put_tx, read_tx};
 pub use user::{UserHead, put_user, read_user, user_len};

@@ -32,7 +32,7 @@ use Rattle.mqb_packet.specs.declared.packet.Packet.{Packet}
 use Rattle.mqb_queue.specs.Places.{numbered}
 use Rattle.mqb_model.specs.calls.Call.{Asks, Call, Checkpoint, Resend, answered, outcome_of, requested}
 use Rattle.mqb_model.specs.calls.Call as calls
-use Rattle.mqb_store_laws.specs.Checkpoints.{checkpoint, checkpoint_made, is_large}
+use Rattle.mqb_network.specs.mqb_store_laws.Checkpoints.{checkpoint, checkpoint_made, is_large}
 use Rattle.mqb_history.specs.Changes.{Change, changed, given_out, hearing, is_of_packets, may_change, may_hear}
 use Rattle.mqb_history.specs.Changes as change
 use Rattle.mqb_history.specs.Orderly.{IsOrderly}

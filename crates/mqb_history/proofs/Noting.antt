@@ -30,7 +30,7 @@ use Rattle.mqb_network.specs.Step.{answer_to}
 use Rattle.mqb_network.proofs.Joining.{move_in_course}
 use Rattle.mqb_packet.specs.declared.packet.Packet.{Packet}
 use Rattle.mqb_queue.specs.Places.{numbered}
-use Rattle.mqb_store_laws.specs.Checkpoints.{checkpoint}
+use Rattle.mqb_network.specs.mqb_store_laws.Checkpoints.{checkpoint}
 use Rattle.mqb_history.specs.Pumps.{HasPumped, NotesTellPumps, PumpsAt}
 use Rattle.mqb_history.proofs.Between.{in_either}
 use Rattle.mqb_history.proofs.Lists.{some_is}

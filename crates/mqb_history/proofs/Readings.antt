@@ -16,7 +16,7 @@ use Rattle.mqb_model.specs.managers.Manager.{Down, Manager, Up, is_down}
 use Rattle.mqb_model.specs.managers.Outcomes.{Outcome, unless}
 use Rattle.mqb_network.specs.Answers.{Answer, only, reply_to}
 use Rattle.mqb_network.specs.Changes.{dropped, ended, succeeded_at}
-use Rattle.mqb_store_laws.specs.Checkpoints.{checkpoint_made, is_large}
+use Rattle.mqb_network.specs.mqb_store_laws.Checkpoints.{checkpoint_made, is_large}
 use Rattle.mqb_network.specs.Checkpointing.{checkpoint_by, may_be_far, may_checkpoint, record_count}
 use Rattle.mqb_network.specs.Choices.{Choice, Failure, Fails, Kept, Lost, TooFar, Unread, Well}
 use Rattle.mqb_network.specs.Connecting.{any_connected, any_down, both_linked, connect, connected, set_up}

@@ -19,7 +19,7 @@ use Rattle.mqb_model.specs.managers.Manager.{Manager, doubt_of, is_down}
 use Rattle.mqb_model.specs.managers.Outcomes.{Outcome, answering, failed, failed_under, succeeded, unless}
 use Rattle.mqb_model.specs.managers.Restarts.{restarted, unread}
 use Rattle.mqb_model.specs.managers.Valid.{IsValidManager}
-use Rattle.mqb_store_laws.specs.Checkpoints.{checkpoint, checkpoint_made, is_large}
+use Rattle.mqb_network.specs.mqb_store_laws.Checkpoints.{checkpoint, checkpoint_made, is_large}
 use Rattle.mqb_network.specs.Answers.{only}
 use Rattle.mqb_network.specs.Changes.{dropped, ended, parted, succeeded_at}
 use Rattle.mqb_network.specs.Choices.{Choice, Failure, Kept, Unread, Well, choice_behind, failure_in, is_far}

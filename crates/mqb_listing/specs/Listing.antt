@@ -3,7 +3,7 @@ use Rattle.std.specs.List.{flat_map}
 use Rattle.std.specs.Prelude.{◌++◌, ◌∷◌, List, ℕ}
 use Rattle.mqb_base.specs.declared.ids.Identity.{Identity}
 use Rattle.mqb_listing.specs.Lines.{in_line, machine_lines, out_line, queue_lines}
-use Rattle.mqb_model.specs.state.State.{State}
+use Rattle.mqb_contents.specs.mqb_model.state.State.{State}
 
 -- what a manager of a host holds, printed with some managers as their hosts
 unfoldable pub listed : List Identity → List ℕ → State → List ℕ

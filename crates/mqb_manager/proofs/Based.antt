@@ -19,11 +19,11 @@ use Rattle.mqb_model.specs.records.Reading.{record_of}
 use Rattle.mqb_model.specs.records.Record.{Record}
 use Rattle.mqb_model.specs.state.State.{State}
 use Rattle.mqb_session.specs.State as one_end
-use Rattle.mqb_store_laws.specs.Checkpoints.{checkpoint_made, checkpoint_refusal, is_large}
+use Rattle.mqb_store.specs.mqb_store_laws.Checkpoints.{checkpoint_made, checkpoint_refusal, is_large}
 use Rattle.mqb_store.specs.States as stores
 use Rattle.mqb_store.specs.States.{IsSameStore, IsStoredOn, StoreState}
-use Rattle.mqb_store_laws.specs.Images.{IsOn, Opens}
-use Rattle.mqb_store_laws.specs.lemmas.Carrying.{on_with_room, quiet_opens}
+use Rattle.mqb_store.specs.mqb_store_laws.Images.{IsOn, Opens}
+use Rattle.mqb_store.specs.mqb_store_laws.lemmas.Carrying.{on_with_room, quiet_opens}
 use Rattle.mqb_manager.specs.Calls.{Succeeds}
 use Rattle.mqb_manager.specs.Checkpoints.{EndsCheckpoint, IsCheckpoint, checkpoint_of}
 use Rattle.mqb_manager.specs.Seen.{seen}

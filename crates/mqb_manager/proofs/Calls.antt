@@ -21,8 +21,8 @@ use Rattle.mqb_outside.specs.Faults.{Rose}
 use Rattle.mqb_store.specs.Writing.{CanWrite, change_in}
 use Rattle.mqb_store.specs.declared.faults.WriteFault.{WriteFault}
 use Rattle.mqb_store.specs.declared.faults.WriteFault.TheVariants as fault
-use Rattle.mqb_store_laws.specs.lemmas.Carrying.{quiet_opens}
-use Rattle.mqb_store_laws.specs.lemmas.Writing.{writes_nothing}
+use Rattle.mqb_store.specs.mqb_store_laws.lemmas.Carrying.{quiet_opens}
+use Rattle.mqb_store.specs.mqb_store_laws.lemmas.Writing.{writes_nothing}
 use Rattle.mqb_manager.specs.Calls.{Ends, IsCall}
 use Rattle.mqb_manager.specs.States.{IsOnDisk, IsSame, IsUp, ManagerState, manager_of}
 use Rattle.mqb_manager.specs.Writing.{IsReady, answered, outcome_by}

@@ -30,9 +30,9 @@ use Rattle.mqb_model.specs.state.State.{State}
 use Rattle.mqb_store.specs.Writing.{change_in}
 use Rattle.mqb_store.specs.declared.faults.WriteFault.{WriteFault}
 use Rattle.mqb_store.specs.declared.faults.WriteFault.TheVariants as write
-use Rattle.mqb_store_laws.specs.lemmas.Carrying.{on_beside}
-use Rattle.mqb_store_laws.specs.Images.{Opens}
-use Rattle.mqb_store_laws.specs.Writing.{WritesOne}
+use Rattle.mqb_store.specs.mqb_store_laws.lemmas.Carrying.{on_beside}
+use Rattle.mqb_store.specs.mqb_store_laws.Images.{Opens}
+use Rattle.mqb_store.specs.mqb_store_laws.Writing.{WritesOne}
 use Rattle.mqb_manager.specs.Calls.{Ends, IsCall, Succeeds}
 use Rattle.mqb_manager.specs.Pumps.{pump_fault, sent_as, with_sent}
 use Rattle.mqb_choosing.specs.Plans.{offered_form}

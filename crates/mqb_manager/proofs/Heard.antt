@@ -40,8 +40,8 @@ use Rattle.mqb_manager.specs.Calls.{IsCall}
 use Rattle.mqb_choosing.specs.Owed.{marked}
 use Rattle.mqb_manager.specs.Seen.{seen}
 use Rattle.mqb_manager.specs.States.{IsUp, ManagerState, condition_of, manager_of}
-use Rattle.mqb_store_laws.specs.Images.{Opens}
-use Rattle.mqb_store_laws.specs.Writing.{WritesOne}
+use Rattle.mqb_store.specs.mqb_store_laws.Images.{Opens}
+use Rattle.mqb_store.specs.mqb_store_laws.Writing.{WritesOne}
 use Rattle.mqb_store.specs.Together.{LeavesValid}
 use Rattle.mqb_manager.proofs.Calls.{change_is}
 use Rattle.mqb_manager.proofs.Conditions.{up_condition}

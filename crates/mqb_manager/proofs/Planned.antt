@@ -2,7 +2,7 @@
 use Rattle.std.proofs.Common.{refl, sym, ap, subst, ◌∙◌}
 use Rattle.std.specs.Prelude.{◌≡◌, ◌≤◌, Err, IfSome, None, Ok, OnOk, Option, Result, Some, false, length, option_map, true}
 use Rattle.mqb_base.specs.Rooms.{WithRooms}
-use Rattle.mqb_contents.specs.Rooms.{StateRooms}
+use Rattle.mqb_choosing.specs.mqb_contents.Rooms.{StateRooms}
 use Rattle.mqb_outside.specs.Disk.{Lawful, View}
 use Rattle.mqb_entries.specs.SpelledEntries.{Fits, spelled}
 use Rattle.mqb_entries.specs.declared.entry.Entry.{Entry}

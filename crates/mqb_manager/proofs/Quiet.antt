@@ -15,9 +15,9 @@ use Rattle.mqb_model.specs.records.Applying.{lines_of}
 use Rattle.mqb_model.specs.records.Reading.{record_of}
 use Rattle.mqb_model.specs.records.Record.{Record}
 use Rattle.mqb_store.specs.States.{IsSameStore, IsStoredOn, StoreState}
-use Rattle.mqb_store_laws.specs.lemmas.Carrying.{quiet_opens}
-use Rattle.mqb_store_laws.specs.lemmas.Writing.{writes_nothing}
-use Rattle.mqb_store_laws.specs.Images.{Opens}
+use Rattle.mqb_store.specs.mqb_store_laws.lemmas.Carrying.{quiet_opens}
+use Rattle.mqb_store.specs.mqb_store_laws.lemmas.Writing.{writes_nothing}
+use Rattle.mqb_store.specs.mqb_store_laws.Images.{Opens}
 use Rattle.mqb_manager.specs.Calls.{Ends, IsCall}
 use Rattle.mqb_manager.specs.Quiet.{IsQuiet}
 use Rattle.mqb_manager.specs.States.{ManagerState, manager_of}

@@ -22,10 +22,10 @@ use Rattle.mqb_store.specs.States.{IsSameStore, IsStoredOn, StoreState}
 use Rattle.mqb_store.specs.Writing.{CanWrite, change_in, lines_then, write_failed, written}
 use Rattle.mqb_store.specs.declared.faults.WriteFault.{WriteFault}
 use Rattle.mqb_store.specs.declared.faults.WriteFault.TheVariants as fault
-use Rattle.mqb_store_laws.specs.lemmas.Carrying.{on_with_room, quiet_opens}
-use Rattle.mqb_store_laws.specs.lemmas.Writing.{writes_nothing}
-use Rattle.mqb_store_laws.specs.Images.{IsOn, Opens}
-use Rattle.mqb_store_laws.specs.Writing.{WritesOne}
+use Rattle.mqb_store.specs.mqb_store_laws.lemmas.Carrying.{on_with_room, quiet_opens}
+use Rattle.mqb_store.specs.mqb_store_laws.lemmas.Writing.{writes_nothing}
+use Rattle.mqb_store.specs.mqb_store_laws.Images.{IsOn, Opens}
+use Rattle.mqb_store.specs.mqb_store_laws.Writing.{WritesOne}
 use Rattle.mqb_manager.specs.Calls.{IsCall}
 use Rattle.mqb_manager.specs.Seen.{seen}
 use Rattle.mqb_manager.specs.States.{ManagerState, condition_of, manager_of}

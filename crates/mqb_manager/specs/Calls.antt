@@ -8,8 +8,8 @@ use Rattle.mqb_model.specs.managers.Outcomes.{Outcome, failed, succeeded}
 use Rattle.mqb_model.specs.records.Applying.{lines_of}
 use Rattle.mqb_model.specs.records.Reading.{record_of}
 use Rattle.mqb_outside.specs.Faults.{Rose}
-use Rattle.mqb_store_laws.specs.Images.{Opens}
-use Rattle.mqb_store_laws.specs.Writing.{WritesOne}
+use Rattle.mqb_store.specs.mqb_store_laws.Images.{Opens}
+use Rattle.mqb_store.specs.mqb_store_laws.Writing.{WritesOne}
 use Rattle.mqb_manager.specs.States.{IsOnDisk, IsSame, IsUp, ManagerState, manager_of}
 
 -- It went as the definition says. The lines are those of the last record.

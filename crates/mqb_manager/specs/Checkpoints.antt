@@ -8,8 +8,8 @@ use Rattle.mqb_journal.specs.declared.faults.CheckpointFault.TheVariants as faul
 use Rattle.mqb_model.specs.managers.Outcomes.{Outcome, failed_under}
 use Rattle.mqb_model.specs.records.Reading.{record_of}
 use Rattle.mqb_outside.specs.Faults.{Rose}
-use Rattle.mqb_store_laws.specs.Checkpoints.{checkpoint}
-use Rattle.mqb_store_laws.specs.Images.{Opens}
+use Rattle.mqb_store.specs.mqb_store_laws.Checkpoints.{checkpoint}
+use Rattle.mqb_store.specs.mqb_store_laws.Images.{Opens}
 use Rattle.mqb_manager.specs.Calls.{Succeeds}
 use Rattle.mqb_manager.specs.States.{IsOnDisk, IsSame, IsUp, ManagerState, manager_of}
 

@@ -3,7 +3,7 @@ use Rattle.std.specs.Prelude.{◌≡◌}
 use Rattle.mqb_outside.specs.Disk.{IsSettled, View}
 use Rattle.mqb_outside.specs.Images.{Each}
 use Rattle.mqb_model.specs.records.Reading.{record_of}
-use Rattle.mqb_store_laws.specs.Images.{Opens}
+use Rattle.mqb_store.specs.mqb_store_laws.Images.{Opens}
 use Rattle.mqb_manager.specs.States.{IsOnDisk, IsUp, ManagerState}
 
 -- What calls leave of a manager's disk, from before the first of them to behind the last.

@@ -7,9 +7,9 @@ ghost use Rattle.mqb_model.specs.managers.Valid.{IsValidManager};
 ghost use Rattle.mqb_model.specs.state.Durable.{durable};
 ghost use Rattle.mqb_manager.specs.States.{IsOnDisk, IsUp, manager_of};
 ghost use Rattle.mqb_store.specs.Reaching.{ReadsInOrder};
-ghost use Rattle.mqb_store_laws.specs.Faults.{IsBadStore};
-ghost use Rattle.mqb_store_laws.specs.Images.{HasLastLines, OpensTo};
-ghost use Rattle.mqb_store_laws.specs.Settling.{OnlySettles};
+ghost use Rattle.mqb_store.specs.mqb_store_laws.Faults.{IsBadStore};
+ghost use Rattle.mqb_store.specs.mqb_store_laws.Images.{HasLastLines, OpensTo};
+ghost use Rattle.mqb_store.specs.mqb_store_laws.Settling.{OnlySettles};
 
 use mqb_base::Identity;
 use mqb_model::{new_is_valid, restarted_is_valid};

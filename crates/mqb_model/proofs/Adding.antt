@@ -7,7 +7,7 @@ use Rattle.std.specs.List.{flat_map}
 use Rattle.std.specs.Prelude.{◌&&◌, ◌+◌, ◌++◌, ◌<◌, ◌==◌, ◌∷◌, ◌≡◌, ◌≤◌, [], All, AllPairs, Bool, List, false, nat_lt, not, true, ℕ}
 use Rattle.mqb_base.specs.Same.{same_id}
 use Rattle.mqb_base.specs.declared.queues.QueuePlan.{QueuePlan}
-use Rattle.mqb_names.specs.Values.{IsName}
+use Rattle.mqb_packet.specs.mqb_names.Values.{IsName}
 use Rattle.mqb_orders.specs.Rows.{Row}
 use Rattle.mqb_packet.specs.declared.packet.Headers.TheVariants as headers
 use Rattle.mqb_plain.specs.Lists.{messages_of}

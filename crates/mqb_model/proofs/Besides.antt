@@ -17,7 +17,7 @@ use Rattle.mqb_base.specs.declared.queue_names.QueueName.{QueueName}
 use Rattle.mqb_base.specs.declared.queues.EntryPlace.TheVariants as place
 use Rattle.mqb_fate.specs.Asking.{asks_for, is_ordinary}
 use Rattle.mqb_fate.specs.Notices.{admin_delivery, notice_about}
-use Rattle.mqb_names.specs.Values.{IsQueueName}
+use Rattle.mqb_packet.specs.mqb_names.Values.{IsQueueName}
 use Rattle.mqb_packet.specs.declared.packet.Headers.{Headers}
 use Rattle.mqb_packet.specs.declared.packet.Headers.TheVariants as headers
 use Rattle.mqb_plain.specs.Lists.{is_sent_by}

@@ -8,7 +8,7 @@ use Rattle.mqb_base.specs.Same.{same_guid}
 use Rattle.mqb_base.specs.declared.ids.Guid.{Guid}
 use Rattle.mqb_base.specs.declared.ids.Identity.{Identity}
 use Rattle.mqb_base.specs.declared.queues.QueuePlan.{QueuePlan}
-use Rattle.mqb_names.specs.Values.{IsName}
+use Rattle.mqb_packet.specs.mqb_names.Values.{IsName}
 use Rattle.mqb_packet.specs.declared.packet.Headers.TheVariants as headers
 use Rattle.mqb_plain.specs.Lists.{messages_of}
 use Rattle.mqb_plain.specs.Plain.{PlainLists, no_plain}

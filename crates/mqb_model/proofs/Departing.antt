@@ -12,7 +12,7 @@ use Rattle.mqb_base.specs.declared.message.Lane.TheVariants as lane
 use Rattle.mqb_base.specs.declared.message.Message.{Message}
 use Rattle.mqb_base.specs.declared.queues.EntryPlace.{EntryPlace}
 use Rattle.mqb_base.specs.declared.queues.EntryPlace.TheVariants as place
-use Rattle.mqb_heads.specs.declared.base.TheConstants.{MAX_PACKET}
+use Rattle.mqb_packet.specs.mqb_heads.declared.base.TheConstants.{MAX_PACKET}
 use Rattle.mqb_orders.specs.Rows.{Row}
 use Rattle.mqb_orders.specs.declared.kept.Kept.{Kept}
 use Rattle.mqb_packet.specs.Plain.{message_size}

@@ -16,8 +16,8 @@ use Rattle.mqb_base.specs.declared.queues.EntryPlace.{EntryPlace}
 use Rattle.mqb_base.specs.declared.queues.EntryPlace.TheVariants as place
 use Rattle.mqb_base.specs.declared.queues.Place.{Place}
 use Rattle.mqb_fate.specs.Asking.{goes_dead}
-use Rattle.mqb_heads.specs.declared.base.TheConstants.{MAX_PACKET}
-use Rattle.mqb_names.specs.Values.{IsName}
+use Rattle.mqb_packet.specs.mqb_heads.declared.base.TheConstants.{MAX_PACKET}
+use Rattle.mqb_packet.specs.mqb_names.Values.{IsName}
 use Rattle.mqb_packet.specs.Plain.{message_size}
 use Rattle.mqb_packet.specs.declared.packet.Headers.TheVariants as headers
 use Rattle.mqb_plain.specs.Plain.{pushed}

@@ -10,7 +10,7 @@ use Rattle.mqb_base.specs.declared.heard.Cause.TheVariants as cause
 use Rattle.mqb_base.specs.declared.heard.Heard.{Heard}
 use Rattle.mqb_base.specs.declared.heard.Heard.TheVariants as heard
 use Rattle.mqb_base.specs.declared.ids.Guid.{Guid}
-use Rattle.mqb_heads.specs.declared.base.TheConstants.{MAX_PACKET}
+use Rattle.mqb_packet.specs.mqb_heads.declared.base.TheConstants.{MAX_PACKET}
 use Rattle.mqb_packet.specs.Plain.{message_size, user_packet_size}
 use Rattle.mqb_packet.specs.declared.packet.Headers.TheVariants as headers
 use Rattle.mqb_packet.specs.declared.packet.Packet.{Packet}

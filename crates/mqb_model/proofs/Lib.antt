@@ -1,3 +1,4 @@
+pub use Rattle.mqb_queue.proofs as mqb_queue
 mod Stepwise
 mod Refusals
 mod Durable

@@ -15,15 +15,15 @@ use Rattle.mqb_base.specs.declared.queue_names.QueueName.TheVariants.{Direct, Ma
 use Rattle.mqb_fate.specs.Asking.{asks_for, final_is_due, is_ordinary}
 use Rattle.mqb_fate.specs.Notices.{admin_delivery, final_notice, notice_about}
 use Rattle.mqb_fate.specs.Orders.{order_layer}
-use Rattle.mqb_fields.specs.Guids.{swapped}
-use Rattle.mqb_fields.specs.Writing.{bytes_of}
-use Rattle.mqb_heads.specs.User.{user_names}
-use Rattle.mqb_names.specs.lemmas.DirectAgain.{direct_most}
-use Rattle.mqb_names.specs.lemmas.Units.{length_direct}
-use Rattle.mqb_names.specs.Printed.{printed_direct}
-use Rattle.mqb_names.specs.Values.{IsName, IsQueueName}
-use Rattle.mqb_names.specs.Wire.{wire}
-use Rattle.mqb_heads.specs.declared.base.TheConstants.{MAX_PACKET}
+use Rattle.mqb_packet.specs.mqb_fields.Guids.{swapped}
+use Rattle.mqb_packet.specs.mqb_fields.Writing.{bytes_of}
+use Rattle.mqb_packet.specs.mqb_heads.User.{user_names}
+use Rattle.mqb_packet.specs.mqb_names.lemmas.DirectAgain.{direct_most}
+use Rattle.mqb_packet.specs.mqb_names.lemmas.Units.{length_direct}
+use Rattle.mqb_packet.specs.mqb_names.Printed.{printed_direct}
+use Rattle.mqb_packet.specs.mqb_names.Values.{IsName, IsQueueName}
+use Rattle.mqb_packet.specs.mqb_names.Wire.{wire}
+use Rattle.mqb_packet.specs.mqb_heads.declared.base.TheConstants.{MAX_PACKET}
 use Rattle.mqb_packet.specs.Plain.{message_size}
 use Rattle.mqb_packet.specs.declared.packet.Headers.TheVariants as headers
 use Rattle.mqb_model.specs.declared.limits.TheConstants.{MAX_NUMBER}

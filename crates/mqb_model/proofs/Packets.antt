@@ -5,7 +5,7 @@ use Rattle.std.specs.Prelude.{◌+◌, ◌<◌, ◌≡◌, ◌≤◌, List, None
 use Rattle.std.proofs.lemmas.List.Elements.{All-from_recursion}
 use Rattle.std.specs.Result.{result_ok}
 use Rattle.mqb_entries.specs.Formats.{IsBytes}
-use Rattle.mqb_heads.specs.declared.base.TheConstants.{MAX_PACKET}
+use Rattle.mqb_packet.specs.mqb_heads.declared.base.TheConstants.{MAX_PACKET}
 use Rattle.mqb_packet.specs.Parts.{packet_of}
 use Rattle.mqb_packet.specs.Plain.{IsWellFormedUser, packet_size, session_size, tx_size}
 use Rattle.mqb_packet.specs.Spelled.{Spells, packet_in}

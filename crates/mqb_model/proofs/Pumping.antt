@@ -25,7 +25,7 @@ use Rattle.mqb_session.specs.Sending.{is_ready, is_spent, may_send, stamped}
 use Rattle.mqb_session.specs.State as one_end
 use Rattle.mqb_session.specs.declared.heads.Kind.{Kind}
 use Rattle.mqb_session.specs.declared.heads.Kind.TheVariants as kind
-use Rattle.mqb_setup.specs.declared.internal.Internal.{Internal}
+use Rattle.mqb_packet.specs.mqb_setup.declared.internal.Internal.{Internal}
 use Rattle.mqb_model.specs.Lists.{with_changed}
 use Rattle.mqb_model.specs.calls.hear.Session.{with_session}
 use Rattle.mqb_model.specs.calls.pump.Candidates.{Candidate, candidates}

@@ -22,7 +22,7 @@ use Rattle.mqb_queue.specs.declared.first.Position.{Position}
 use Rattle.mqb_session.specs.State as one_end
 use Rattle.mqb_session.specs.declared.heads.HeadHeard.{HeadHeard}
 use Rattle.mqb_session.specs.declared.heads.HeadHeard.TheVariants as head
-use Rattle.mqb_setup.specs.declared.internal.Internal.{Internal}
+use Rattle.mqb_packet.specs.mqb_setup.declared.internal.Internal.{Internal}
 use Rattle.mqb_model.specs.declared.faults.CommitFault.{CommitFault}
 use Rattle.std.specs.List.{list_any}
 use Rattle.std.specs.Option.{option_map_or}

@@ -14,10 +14,10 @@ use Rattle.mqb_base.specs.declared.message.Delivery.TheVariants as delivery
 use Rattle.mqb_base.specs.declared.message.Message.{Message}
 use Rattle.mqb_fate.specs.Asking.{is_transactional}
 use Rattle.mqb_fate.specs.Orders.{order_acknowledgement, order_layer}
-use Rattle.mqb_heads.specs.User.{user_names}
-use Rattle.mqb_heads.specs.declared.base.TheConstants.{MAX_PACKET}
-use Rattle.mqb_names.specs.Values.{IsName}
-use Rattle.mqb_names.specs.Wire.{wire}
+use Rattle.mqb_packet.specs.mqb_heads.User.{user_names}
+use Rattle.mqb_packet.specs.mqb_heads.declared.base.TheConstants.{MAX_PACKET}
+use Rattle.mqb_packet.specs.mqb_names.Values.{IsName}
+use Rattle.mqb_packet.specs.mqb_names.Wire.{wire}
 use Rattle.mqb_orders.specs.Rows.{Row, is_open}
 use Rattle.mqb_orders.specs.declared.kept.Kept.{Kept}
 use Rattle.mqb_orders.specs.declared.rows.InRow.{InRow}
@@ -31,8 +31,8 @@ use Rattle.mqb_session.specs.Phases.{owed_by}
 use Rattle.mqb_session.specs.Sending.{is_ready, is_spent, stamped}
 use Rattle.mqb_session.specs.State as one_end
 use Rattle.mqb_session.specs.declared.heads.Kind.TheVariants as kind
-use Rattle.mqb_setup.specs.declared.internal.Internal.{Internal}
-use Rattle.mqb_setup.specs.declared.internal.Internal.TheVariants as internal
+use Rattle.mqb_packet.specs.mqb_setup.declared.internal.Internal.{Internal}
+use Rattle.mqb_packet.specs.mqb_setup.declared.internal.Internal.TheVariants as internal
 use Rattle.mqb_model.specs.calls.hear.Hear.{IsReadable}
 use Rattle.mqb_model.specs.calls.pump.Candidates.{Candidate, ack_candidate, ack_of, acks, candidates, of_row, plain_candidates, row_candidates, rows_owing, unsent_from, unsent_of, waiting}
 use Rattle.mqb_model.specs.calls.pump.Choosing.{chosen, head_for, headers_for, kind_of, session_after, with_heads}

@@ -4,7 +4,7 @@ use Rattle.std.proofs.lemmas.Bool.Decides.{nat_tests}
 use Rattle.std.specs.List.{AllByRecursion}
 use Rattle.std.specs.Prelude.{◌+◌, ◌<◌, ◌==◌, ◌||◌, ◌≡◌, ◌≤◌, ◌^◌, Bool, IfSome, IsSome, List, Option, Some, cond, false, length, max, nat_lt, not, option_and_then, position, true, unwrap_or, ℕ}
 use Rattle.mqb_base.specs.Same.{same_guid}
-use Rattle.mqb_setup.specs.declared.internal.Establish.{Establish}
+use Rattle.mqb_packet.specs.mqb_setup.declared.internal.Establish.{Establish}
 use Rattle.mqb_base.specs.declared.heads.SessionHead.{SessionHead}
 use Rattle.mqb_base.specs.declared.heard.Cause.{Cause}
 use Rattle.mqb_base.specs.declared.heard.Cause.TheVariants as cause
@@ -25,7 +25,7 @@ use Rattle.mqb_session.specs.declared.phase.Phase.{Phase}
 use Rattle.mqb_session.specs.declared.phase.Phase.TheVariants as phase
 use Rattle.mqb_session.specs.declared.phase.Role.{Role}
 use Rattle.mqb_session.specs.declared.phase.Role.TheVariants as role
-use Rattle.mqb_setup.specs.declared.internal.Parameters.{Parameters}
+use Rattle.mqb_packet.specs.mqb_setup.declared.internal.Parameters.{Parameters}
 use Rattle.mqb_model.specs.managers.Valid.{BearMarks, MarksRise}
 use Rattle.mqb_model.proofs.Accord.{IsLinkedTo, peer_in}
 use Rattle.mqb_model.proofs.Linking.{bear}

@@ -8,7 +8,7 @@ use Rattle.mqb_base.specs.declared.draft.Op.{Op}
 use Rattle.mqb_base.specs.declared.draft.Op.TheVariants as asked
 use Rattle.mqb_base.specs.declared.draft.Parts.{Parts}
 use Rattle.mqb_base.specs.declared.message.Message.{Message}
-use Rattle.mqb_fields.specs.Reading.{◌>>=◌}
+use Rattle.mqb_packet.specs.mqb_fields.Reading.{◌>>=◌}
 use Rattle.mqb_packet.specs.declared.packet.Headers.TheVariants as headers
 use Rattle.mqb_queue.specs.Lists.{count}
 use Rattle.mqb_queue.specs.Places.{Queue, numbered}

@@ -17,7 +17,7 @@ use Rattle.mqb_base.specs.declared.message.Message.{Message}
 use Rattle.mqb_base.specs.declared.message.TheConstants.{MAX_LABEL, MAX_PRIORITY}
 use Rattle.mqb_base.specs.declared.bits.TheConstants.{MAX_ACK, MAX_JOURNAL}
 use Rattle.mqb_packet.specs.declared.packet.Headers.TheVariants as headers
-use Rattle.mqb_fields.specs.Reading.{◌>>=◌}
+use Rattle.mqb_packet.specs.mqb_fields.Reading.{◌>>=◌}
 use Rattle.mqb_queue.specs.Lists.{count}
 use Rattle.mqb_queue.specs.Places.{Queue, numbered}
 use Rattle.mqb_model.specs.calls.Commit.{Trial, at_op, commit, commit_tried, first_free, ops_refusal, send_into, send_to, take_first, take_from, take_of, trial_of, try_op, try_ops, with_joined, with_put, with_take}

@@ -7,7 +7,7 @@ use Rattle.mqb_entries.specs.declared.entry.Entry.{Entry}
 use Rattle.mqb_entries.specs.declared.entry.Entry.TheVariants as form
 use Rattle.mqb_entries.specs.declared.members.OpView.{OpView}
 use Rattle.mqb_entries.specs.declared.members.OpView.TheVariants as op
-use Rattle.mqb_names.specs.Values.{IsName}
+use Rattle.mqb_packet.specs.mqb_names.Values.{IsName}
 
 -- an op sends bytes, or takes
 abbrev pub IsTypedOp : OpView → Type 0

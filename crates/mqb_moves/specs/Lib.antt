@@ -1,3 +1,4 @@
+pub use Rattle.mqb_network.specs as mqb_network
 pub mod Seats
 pub mod Moves
 pub mod Never

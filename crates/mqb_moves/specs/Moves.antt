@@ -5,7 +5,7 @@ use Rattle.mqb_journal.specs.declared.faults.CheckpointFault.{CheckpointFault}
 use Rattle.mqb_outside.specs.Disk.{View}
 use Rattle.mqb_model.specs.managers.Manager.{Manager}
 use Rattle.mqb_model.specs.managers.Outcomes.{Outcome, failed, succeeded}
-use Rattle.mqb_store_laws.specs.Checkpoints.{checkpoint}
+use Rattle.mqb_network.specs.mqb_store_laws.Checkpoints.{checkpoint}
 use Rattle.mqb_network.specs.Choices.{Choice, Failure, Fails, Well}
 use Rattle.mqb_outside.specs.Faults.{Rose}
 use Rattle.mqb_moves.specs.Seats.{IsHeldOn, SeatState, is_far_on, records_of, seated}

@@ -6,7 +6,7 @@ use Rattle.mqb_journal.specs.States.{is_too_far}
 use Rattle.mqb_manager.specs.States.{IsOnDisk, ManagerState, manager_of}
 use Rattle.mqb_model.specs.managers.Manager.{Manager, doubt_of, is_down}
 use Rattle.mqb_model.specs.managers.Restarts.{unread}
-use Rattle.mqb_store_laws.specs.Images.{Opens}
+use Rattle.mqb_network.specs.mqb_store_laws.Images.{Opens}
 
 -- the manager that was started last, and whether a start of it failed since
 pub record SeatState : Type 0 where

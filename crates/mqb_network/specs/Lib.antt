@@ -1,3 +1,4 @@
+pub use Rattle.mqb_store_laws.specs as mqb_store_laws
 pub mod Network
 pub mod Choices
 pub mod Events

@@ -5,7 +5,7 @@ use Rattle.mqb_base.specs.declared.heads.TxHead.{TxHead}
 use Rattle.mqb_fields.specs.Faults.{fault_at}
 use Rattle.mqb_fields.specs.Packets.{field_at, skipped}
 use Rattle.mqb_fields.specs.Reading.{◌>>=◌, Reading, rest_of, moved}
-use Rattle.mqb_names.specs.Grammar.{◌then◌}
+use Rattle.mqb_heads.specs.mqb_names.Grammar.{◌then◌}
 use Rattle.mqb_heads.specs.declared.base.BaseHead.{BaseHead}
 use Rattle.mqb_heads.specs.Base.{version_at, flags_at, signature_at, size_at, base_at}
 use Rattle.mqb_heads.specs.Flags.{bit, bits}

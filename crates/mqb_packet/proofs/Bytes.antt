@@ -6,7 +6,7 @@ use Rattle.std.proofs.lemmas.List.{take-append-drop, length-take-le}
 use Rattle.std.proofs.lemmas.List.Elements.{All-from_recursion}
 use Rattle.mqb_fields.specs.Guids.{swapped}
 use Rattle.mqb_fields.specs.Reading.{Reading, rest_of, moved, part_at, number_of, number_at, guid_at}
-use Rattle.mqb_names.specs.Values.{AreBytes}
+use Rattle.mqb_heads.specs.mqb_names.Values.{AreBytes}
 use Rattle.mqb_heads.specs.lemmas.ReadLaws.{bind_ok, unless_ok}
 use Rattle.mqb_packet.proofs.Steps.{ok_is}
 

@@ -10,19 +10,19 @@ use Rattle.mqb_base.specs.declared.queue_names.QueueName.{QueueName}
 use Rattle.mqb_base.specs.declared.queue_names.QueueName.TheVariants.{Direct}
 use Rattle.mqb_fields.specs.Reading.{◌>>=◌, Reading, rest_of, moved, number_of}
 use Rattle.mqb_fields.specs.Writing.{bytes_of}
-use Rattle.mqb_names.specs.declared.faults.PartFault.{PartFault}
-use Rattle.mqb_names.specs.Grammar.{◌then◌, Exactly, Word, HostText, JournalText}
-use Rattle.mqb_names.specs.Parts.{same_word}
-use Rattle.mqb_names.specs.Printed.{path}
-use Rattle.mqb_names.specs.Reading.{direct_at, direct_name_at, journal_at}
-use Rattle.mqb_names.specs.Values.{IsHost, IsName}
-use Rattle.mqb_names.specs.Wire.{text_of, units, direct_wire, start, length_at, direct_from, direct_of, whole, spelled}
-use Rattle.mqb_names.specs.lemmas.DirectAgain.{Ascii}
-use Rattle.mqb_names.specs.lemmas.Lengths.{count_is, counted_few}
-use Rattle.mqb_names.specs.lemmas.TextRead.{direct_read}
-use Rattle.mqb_names.specs.lemmas.TextWritten.{direct_took}
-use Rattle.mqb_names.specs.lemmas.Units.{length_units, length_direct}
-use Rattle.mqb_names.specs.lemmas.WireAgain.{text_again}
+use Rattle.mqb_heads.specs.mqb_names.declared.faults.PartFault.{PartFault}
+use Rattle.mqb_heads.specs.mqb_names.Grammar.{◌then◌, Exactly, Word, HostText, JournalText}
+use Rattle.mqb_heads.specs.mqb_names.Parts.{same_word}
+use Rattle.mqb_heads.specs.mqb_names.Printed.{path}
+use Rattle.mqb_heads.specs.mqb_names.Reading.{direct_at, direct_name_at, journal_at}
+use Rattle.mqb_heads.specs.mqb_names.Values.{IsHost, IsName}
+use Rattle.mqb_heads.specs.mqb_names.Wire.{text_of, units, direct_wire, start, length_at, direct_from, direct_of, whole, spelled}
+use Rattle.mqb_heads.specs.mqb_names.lemmas.DirectAgain.{Ascii}
+use Rattle.mqb_heads.specs.mqb_names.lemmas.Lengths.{count_is, counted_few}
+use Rattle.mqb_heads.specs.mqb_names.lemmas.TextRead.{direct_read}
+use Rattle.mqb_heads.specs.mqb_names.lemmas.TextWritten.{direct_took}
+use Rattle.mqb_heads.specs.mqb_names.lemmas.Units.{length_units, length_direct}
+use Rattle.mqb_heads.specs.mqb_names.lemmas.WireAgain.{text_again}
 use Rattle.mqb_heads.specs.lemmas.ReadLaws.{bind_ok}
 use Rattle.mqb_packet.specs.DirectNames.{IsDirectWire}
 use Rattle.mqb_packet.proofs.Steps.{ok_is}

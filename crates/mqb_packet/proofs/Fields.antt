@@ -10,7 +10,7 @@ use Rattle.mqb_fields.specs.Faults.{in_packet}
 use Rattle.mqb_fields.specs.Guids.{swapped}
 use Rattle.mqb_fields.specs.Packets.{field_at, lent_at, skipped}
 use Rattle.mqb_fields.specs.Reading.{◌>>=◌, Reading, rest_of, moved, part_at, after, number_of, number_at, guid_at}
-use Rattle.mqb_names.specs.Grammar.{◌then◌, Exactly}
+use Rattle.mqb_heads.specs.mqb_names.Grammar.{◌then◌, Exactly}
 use Rattle.mqb_heads.specs.Fields.{source_at, id_at}
 use Rattle.mqb_heads.specs.lemmas.FieldsAgain.{part_again}
 use Rattle.mqb_heads.specs.lemmas.ReadLaws.{bind_ok, unless_ok}

@@ -10,8 +10,8 @@ use Rattle.mqb_base.specs.declared.heads.TxHead.{TxHead}
 use Rattle.mqb_base.specs.declared.message.Message.{Message}
 use Rattle.mqb_base.specs.declared.queue_names.QueueName.{QueueName}
 use Rattle.mqb_base.specs.Classes.{is_class}
-use Rattle.mqb_names.specs.Values.{AreBytes}
-use Rattle.mqb_names.specs.Wire.{wire}
+use Rattle.mqb_heads.specs.mqb_names.Values.{AreBytes}
+use Rattle.mqb_heads.specs.mqb_names.Wire.{wire}
 use Rattle.mqb_heads.specs.declared.base.BaseHead.{BaseHead}
 use Rattle.mqb_heads.specs.Fields.{padding, wire_or_none}
 use Rattle.mqb_heads.specs.Flags.{bits}

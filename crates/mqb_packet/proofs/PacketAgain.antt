@@ -12,10 +12,10 @@ use Rattle.mqb_base.specs.declared.queue_names.QueueName.{QueueName}
 use Rattle.mqb_base.specs.QueueNames.{names_queue, absent_or_queue}
 use Rattle.mqb_fields.specs.declared.faults.HeadFault.{HeadFault}
 use Rattle.mqb_fields.specs.Reading.{Reading, rest_of, moved}
-use Rattle.mqb_names.specs.Values.{IsQueueName}
-use Rattle.mqb_names.specs.Wire.{start}
-use Rattle.mqb_names.specs.lemmas.Again.{rest_again}
-use Rattle.mqb_names.specs.lemmas.WireAgain.{spelled_again}
+use Rattle.mqb_heads.specs.mqb_names.Values.{IsQueueName}
+use Rattle.mqb_heads.specs.mqb_names.Wire.{start}
+use Rattle.mqb_heads.specs.mqb_names.lemmas.Again.{rest_again}
+use Rattle.mqb_heads.specs.mqb_names.lemmas.WireAgain.{spelled_again}
 use Rattle.mqb_heads.specs.Base.{IsBaseHead, base_of, plain_base}
 use Rattle.mqb_fields.specs.Packets.{skipped}
 use Rattle.mqb_heads.specs.Fields.{wire_name}

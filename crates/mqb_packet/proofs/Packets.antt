@@ -8,9 +8,9 @@ use Rattle.mqb_fields.specs.declared.faults.HeadFault.{HeadFault}
 use Rattle.mqb_fields.specs.Faults.{past_end}
 use Rattle.mqb_fields.specs.Packets.{skipped}
 use Rattle.mqb_fields.specs.Reading.{◌>>=◌, Reading, rest_of, moved}
-use Rattle.mqb_names.specs.Grammar.{◌then◌, Exactly}
-use Rattle.mqb_names.specs.Wire.{start}
-use Rattle.mqb_names.specs.lemmas.Again.{rest_again}
+use Rattle.mqb_heads.specs.mqb_names.Grammar.{◌then◌, Exactly}
+use Rattle.mqb_heads.specs.mqb_names.Wire.{start}
+use Rattle.mqb_heads.specs.mqb_names.lemmas.Again.{rest_again}
 use Rattle.mqb_heads.specs.declared.base.BaseHead.{BaseHead}
 use Rattle.mqb_heads.specs.Base.{base_at, base_of, head_of}
 use Rattle.mqb_heads.specs.Properties.{props_at}

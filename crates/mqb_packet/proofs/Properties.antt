@@ -7,7 +7,7 @@ use Rattle.mqb_base.specs.declared.class.Class.{Class}
 use Rattle.mqb_base.specs.Classes.{is_class}
 use Rattle.mqb_fields.specs.Packets.{field_at, lent_at}
 use Rattle.mqb_fields.specs.Reading.{◌>>=◌, Reading, rest_of, moved}
-use Rattle.mqb_names.specs.Grammar.{◌then◌, Exactly}
+use Rattle.mqb_heads.specs.mqb_names.Grammar.{◌then◌, Exactly}
 use Rattle.mqb_heads.specs.Fields.{id_at, padding, padded_at}
 use Rattle.mqb_heads.specs.Flags.{bits}
 use Rattle.mqb_heads.specs.Properties.{Props, label_len_at, class_at, marks_at, allocated_at, unsecured_at, sizes_at, parts_at, props_at}

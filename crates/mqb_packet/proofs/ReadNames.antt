@@ -14,19 +14,19 @@ use Rattle.mqb_base.specs.Names.{name_fault}
 use Rattle.mqb_base.specs.QueueNames.{names_queue, absent_or_queue}
 use Rattle.mqb_fields.specs.Reading as fields
 use Rattle.mqb_fields.specs.Reading.{◌>>=◌, Reading, rest_of, moved}
-use Rattle.mqb_names.specs.declared.faults.PartFault.{PartFault}
-use Rattle.mqb_names.specs.declared.faults.NameKind.{NameKind}
-use Rattle.mqb_names.specs.declared.faults.NameKind.TheVariants as part
-use Rattle.mqb_names.specs.declared.wire.WireFault.{WireFault}
-use Rattle.mqb_names.specs.declared.wire.WireFault.TheVariants.{Bad}
-use Rattle.mqb_names.specs.Grammar.{◌then◌, Exactly, Word, HostText}
-use Rattle.mqb_names.specs.Parts.{begins, is_stop, is_name, is_digit, octet_of, octet_before, octet_and_rest, address_of}
-use Rattle.mqb_names.specs.Printed.{dot, path, printed_host, printed_direct}
-use Rattle.mqb_names.specs.Reading.{or_bad, word_at, name_at, os_at, tcp_at, host_at, direct_at}
-use Rattle.mqb_names.specs.Values.{AreBytes, IsHost, IsName, IsQueueName}
-use Rattle.mqb_names.specs.Wire.{text_of, start, wire, length_at, spelled, public_from, private_from, direct_from, direct_of}
-use Rattle.mqb_names.specs.lemmas.TextWords.{word_length}
-use Rattle.mqb_names.specs.lemmas.Units.{length_direct}
+use Rattle.mqb_heads.specs.mqb_names.declared.faults.PartFault.{PartFault}
+use Rattle.mqb_heads.specs.mqb_names.declared.faults.NameKind.{NameKind}
+use Rattle.mqb_heads.specs.mqb_names.declared.faults.NameKind.TheVariants as part
+use Rattle.mqb_heads.specs.mqb_names.declared.wire.WireFault.{WireFault}
+use Rattle.mqb_heads.specs.mqb_names.declared.wire.WireFault.TheVariants.{Bad}
+use Rattle.mqb_heads.specs.mqb_names.Grammar.{◌then◌, Exactly, Word, HostText}
+use Rattle.mqb_heads.specs.mqb_names.Parts.{begins, is_stop, is_name, is_digit, octet_of, octet_before, octet_and_rest, address_of}
+use Rattle.mqb_heads.specs.mqb_names.Printed.{dot, path, printed_host, printed_direct}
+use Rattle.mqb_heads.specs.mqb_names.Reading.{or_bad, word_at, name_at, os_at, tcp_at, host_at, direct_at}
+use Rattle.mqb_heads.specs.mqb_names.Values.{AreBytes, IsHost, IsName, IsQueueName}
+use Rattle.mqb_heads.specs.mqb_names.Wire.{text_of, start, wire, length_at, spelled, public_from, private_from, direct_from, direct_of}
+use Rattle.mqb_heads.specs.mqb_names.lemmas.TextWords.{word_length}
+use Rattle.mqb_heads.specs.mqb_names.lemmas.Units.{length_direct}
 use Rattle.mqb_heads.specs.Fields.{WireName, wire_or_none}
 use Rattle.mqb_heads.specs.lemmas.ReadLaws.{bind_ok, if_ok}
 use Rattle.mqb_packet.specs.Spelled.{name_in, optional_name_in}

@@ -7,7 +7,7 @@ use Rattle.mqb_fields.specs.declared.faults.HeadFault.{HeadFault}
 use Rattle.mqb_fields.specs.Faults.{in_packet}
 use Rattle.mqb_fields.specs.Packets.{field_at, skipped}
 use Rattle.mqb_fields.specs.Reading.{◌>>=◌, Reading, rest_of, moved, guid_at}
-use Rattle.mqb_names.specs.Grammar.{◌then◌}
+use Rattle.mqb_heads.specs.mqb_names.Grammar.{◌then◌}
 use Rattle.mqb_heads.specs.Fields.{source_at}
 use Rattle.mqb_heads.specs.Flags.{bit, bits}
 use Rattle.mqb_heads.specs.lemmas.ReadLaws.{bind_ok}

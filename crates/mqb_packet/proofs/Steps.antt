@@ -3,8 +3,8 @@ use Rattle.std.proofs.Common.{◌≡◌, ◌≤◌, ◌<◌, ℕ, ◌+◌, Bool,
 use Rattle.std.proofs.lemmas.List.{take-append-drop, drop-drop}
 use Rattle.mqb_fields.specs.declared.faults.HeadFault.{HeadFault}
 use Rattle.mqb_fields.specs.Reading.{◌>>=◌, Reading, rest_of, moved}
-use Rattle.mqb_names.specs.Grammar.{◌then◌}
-use Rattle.mqb_names.specs.lemmas.Again.{rest_again}
+use Rattle.mqb_heads.specs.mqb_names.Grammar.{◌then◌}
+use Rattle.mqb_heads.specs.mqb_names.lemmas.Again.{rest_again}
 
 abbrev pub done : {X E : Type 0} → X → Result X E
 done x = Ok x

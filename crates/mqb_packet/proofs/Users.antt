@@ -6,9 +6,9 @@ use Rattle.std.proofs.lemmas.List.{take_at}
 use Rattle.mqb_fields.specs.declared.faults.HeadFault.{HeadFault}
 use Rattle.mqb_fields.specs.Packets.{field_at, lent_at, skipped}
 use Rattle.mqb_fields.specs.Reading.{◌>>=◌, Reading, rest_of, moved}
-use Rattle.mqb_names.specs.Grammar.{◌then◌, Exactly}
-use Rattle.mqb_names.specs.Wire.{IsWireForm, length_at, spelled, wire_at}
-use Rattle.mqb_names.specs.lemmas.Lengths.{length_more, kind_within}
+use Rattle.mqb_heads.specs.mqb_names.Grammar.{◌then◌, Exactly}
+use Rattle.mqb_heads.specs.mqb_names.Wire.{IsWireForm, length_at, spelled, wire_at}
+use Rattle.mqb_heads.specs.mqb_names.lemmas.Lengths.{length_more, kind_within}
 use Rattle.mqb_heads.specs.Fields.{WireName, in_name, name_at, some_name, optional_name_at, source_at, padding, padded_at}
 use Rattle.mqb_heads.specs.Flags.{bit, bits}
 use Rattle.mqb_heads.specs.User.{User, Names, flags_of, have_types, user_flags_at, names_at, user_at}

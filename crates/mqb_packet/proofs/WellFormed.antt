@@ -10,7 +10,7 @@ use Rattle.mqb_base.specs.declared.queue_names.QueueName.TheVariants.{Public, Pr
 use Rattle.mqb_base.specs.Messages.{IsWellFormed}
 use Rattle.mqb_base.specs.QueueNames.{names_queue, absent_or_queue}
 use Rattle.mqb_fields.specs.Reading.{◌>>=◌, Reading, rest_of, number_at, guid_at}
-use Rattle.mqb_names.specs.Wire.{start, text_of, direct_of, direct_from, public_from, private_from, spelled}
+use Rattle.mqb_heads.specs.mqb_names.Wire.{start, text_of, direct_of, direct_from, public_from, private_from, spelled}
 use Rattle.mqb_heads.specs.declared.base.BaseHead.{BaseHead}
 use Rattle.mqb_heads.specs.Base.{IsBaseRead, base_of}
 use Rattle.mqb_heads.specs.Fields.{WireName}

@@ -2,10 +2,10 @@
 use Rattle.std.specs.Prelude.{◌≡◌, ℕ, ◌≤◌, ◌<◌, List, length}
 use Rattle.std.specs.List.{AllByRecursion}
 use Rattle.mqb_base.specs.declared.queue_names.Host.{Host}
-use Rattle.mqb_names.specs.declared.wire.TheConstants.{MAX_DIRECT_UNITS}
-use Rattle.mqb_names.specs.Grammar.{◌then◌, Exactly, Word, HostText}
-use Rattle.mqb_names.specs.Printed.{path}
-use Rattle.mqb_names.specs.Wire.{direct_wire}
+use Rattle.mqb_heads.specs.mqb_names.declared.wire.TheConstants.{MAX_DIRECT_UNITS}
+use Rattle.mqb_heads.specs.mqb_names.Grammar.{◌then◌, Exactly, Word, HostText}
+use Rattle.mqb_heads.specs.mqb_names.Printed.{path}
+use Rattle.mqb_heads.specs.mqb_names.Wire.{direct_wire}
 
 -- The count of a text's UTF-16 units, and the units, each an ASCII character: a host behind its protocol, the path, whose letters have either case, and
 -- a queue.

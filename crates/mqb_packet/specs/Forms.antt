@@ -4,8 +4,8 @@ use Rattle.mqb_base.specs.declared.ids.Guid.{Guid}
 use Rattle.mqb_base.specs.declared.ids.MessageId.{MessageId}
 use Rattle.mqb_fields.specs.Guids.{swapped}
 use Rattle.mqb_fields.specs.Reading.{number_of}
-use Rattle.mqb_names.specs.Grammar.{◌then◌, Exactly}
-use Rattle.mqb_names.specs.Wire.{IsWireForm}
+use Rattle.mqb_heads.specs.mqb_names.Grammar.{◌then◌, Exactly}
+use Rattle.mqb_heads.specs.mqb_names.Wire.{IsWireForm}
 use Rattle.mqb_heads.specs.Fields.{WireName, padding}
 
 -- so many bytes, which may be any

@@ -4,7 +4,7 @@ use Rattle.mqb_base.specs.declared.heads.SessionHead.{SessionHead}
 use Rattle.mqb_base.specs.declared.heads.TxHead.{TxHead}
 use Rattle.mqb_base.specs.declared.message.TheConstants.{MAX_LABEL}
 use Rattle.mqb_base.specs.Classes.{is_class}
-use Rattle.mqb_names.specs.Grammar.{◌then◌, Exactly}
+use Rattle.mqb_heads.specs.mqb_names.Grammar.{◌then◌, Exactly}
 use Rattle.mqb_heads.specs.declared.base.BaseHead.{BaseHead}
 use Rattle.mqb_heads.specs.declared.base.TheConstants.{MIN_PACKET, MAX_PACKET}
 use Rattle.mqb_heads.specs.Fields.{WireName}

@@ -5,7 +5,7 @@ use Rattle.mqb_base.specs.declared.heads.TxHead.{TxHead}
 use Rattle.mqb_fields.specs.declared.faults.HeadFault.{HeadFault}
 use Rattle.mqb_fields.specs.Faults.{past_end}
 use Rattle.mqb_fields.specs.Reading.{◌>>=◌, Reading, rest_of}
-use Rattle.mqb_names.specs.Wire.{start}
+use Rattle.mqb_heads.specs.mqb_names.Wire.{start}
 use Rattle.mqb_heads.specs.declared.base.BaseHead.{BaseHead}
 use Rattle.mqb_heads.specs.Base.{base_of}
 use Rattle.mqb_fields.specs.Packets.{skipped}

@@ -4,7 +4,7 @@ use Rattle.mqb_base.specs.declared.message.Delivery.{Delivery}
 use Rattle.mqb_base.specs.declared.message.Delivery.TheVariants as delivery
 use Rattle.mqb_base.specs.declared.message.Message.{Message}
 use Rattle.mqb_base.specs.declared.queue_names.QueueName.{QueueName}
-use Rattle.mqb_names.specs.Wire.{spelled}
+use Rattle.mqb_heads.specs.mqb_names.Wire.{spelled}
 use Rattle.mqb_heads.specs.Fields.{WireName}
 use Rattle.mqb_setup.specs.declared.internal.Internal.TheVariants as part
 use Rattle.mqb_packet.specs.declared.lent.PacketView.{PacketView}

@@ -1,6 +1,6 @@
 -- What holds of each packet that a program has: its numbers fit their types.
 use Rattle.std.specs.Prelude.{◌<◌, ◌^◌, IfSome}
-use Rattle.mqb_names.specs.Values.{AreBytes}
+use Rattle.mqb_heads.specs.mqb_names.Values.{AreBytes}
 use Rattle.mqb_heads.specs.Values.{IsMessage, IsTxHead}
 use Rattle.mqb_setup.specs.Widths.{IsEstablish, IsParameters, IsSessionHead}
 use Rattle.mqb_packet.specs.declared.packet.Packet.{Packet}

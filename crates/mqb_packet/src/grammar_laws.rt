@@ -1,8 +1,8 @@
 ghost use Rattle.std.specs.Prelude.{◌≡◌, ◌<◌, ◌≤◌, ◌↔◌, ℕ, All, List, Ok, Some, false, length};
 ghost use Rattle.mqb_base.specs.declared.queue_names.Host.{Host};
 ghost use Rattle.mqb_base.specs.declared.queue_names.QueueName.TheVariants.{Direct};
-ghost use Rattle.mqb_names.specs.Values.{IsHost, IsName};
-ghost use Rattle.mqb_names.specs.Wire.{length_at, spelled};
+ghost use Rattle.mqb_heads.specs.mqb_names.Values.{IsHost, IsName};
+ghost use Rattle.mqb_heads.specs.mqb_names.Wire.{length_at, spelled};
 ghost use Rattle.mqb_heads.specs.declared.base.TheConstants.{MAX_PACKET};
 ghost use Rattle.mqb_packet.specs.declared.packet.Packet.TheVariants as packet;
 ghost use Rattle.mqb_packet.specs.declared.packet.UserPacket.{UserPacket};

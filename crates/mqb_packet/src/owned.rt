@@ -10,7 +10,7 @@ ghost use Rattle.mqb_packet.specs.Spelled.{IsLent, delivery_of, message_in, opti
 use crate::lent::{PacketView, UserView};
 use crate::packet::{Packet, UserPacket};
 use mqb_base::{Bytes, Delivery, MAX_LABEL, Memory, Message, MessageId, QueueName, Units};
-use mqb_names::NameView;
+use mqb_heads::NameView;
 use std::alloc::Global;
 
 /// Writes the units of a label to the start of the room, and tells how many there are.

@@ -9,7 +9,7 @@ use Rattle.std.proofs.lemmas.List.Quantifiers.{all_pairs_push}
 use Rattle.std.proofs.lemmas.Option.{slice_get-get_or}
 use Rattle.mqb_contents.specs.Rows.{CanKeep, with_marks, with_out}
 use Rattle.mqb_contents.specs.declared.marks.RowMarks.{RowMarks}
-use Rattle.mqb_tables.proofs.Members.{changed_is}
+use Rattle.mqb_contents.proofs.mqb_tables.Members.{changed_is}
 use Rattle.mqb_model.specs.state.State.{State}
 use Rattle.mqb_orders.specs.KeptLists.{Rises}
 use Rattle.mqb_orders.specs.Rows.{Row}

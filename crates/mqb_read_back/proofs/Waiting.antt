@@ -5,7 +5,7 @@ use Rattle.std.specs.Prelude.{All, IsNone, MatchOption, slice_get}
 use Rattle.std.proofs.lemmas.List.Elements.{All-append, All-cons, All-nil}
 use Rattle.mqb_base.specs.declared.message.Lane.TheVariants.{Durable}
 use Rattle.mqb_base.specs.declared.message.Message.{Message}
-use Rattle.mqb_tables.specs.Waits.{CanWait, plain_count}
+use Rattle.mqb_contents.specs.mqb_tables.Waits.{CanWait, plain_count}
 use Rattle.mqb_plain.specs.Lists.{InOrder, RisesFrom, unsent}
 use Rattle.mqb_plain.specs.Plain.{PlainLists}
 use Rattle.mqb_plain.specs.declared.outgoing.Outgoing.{Outgoing}

@@ -3,8 +3,8 @@ use Rattle.std.proofs.Common.{◌≡◌, List, Option, refl, subst, ℕ, inl, in
 use Rattle.std.specs.Prelude.{Err, Ok, Result}
 use Rattle.mqb_outside.specs.Disk.{Switch, View}
 use Rattle.mqb_network.specs.Runs.{beginning}
-use Rattle.mqb_runs.specs.Hosts.{hosts}
-use Rattle.mqb_runs.specs.Runs.{Played}
+use Rattle.mqb_world.specs.mqb_runs.Hosts.{hosts}
+use Rattle.mqb_world.specs.mqb_runs.Runs.{Played}
 use Rattle.mqb_script.specs.declared.events.Event.{Event}
 use Rattle.mqb_script.specs.declared.managers.Which.{Which}
 use Rattle.mqb_script.specs.declared.managers.Which.TheVariants.{Alpha, Beta}

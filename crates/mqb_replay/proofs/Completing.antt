@@ -15,10 +15,10 @@ use Rattle.mqb_outside.specs.Told.{Gave}
 use Rattle.mqb_packet.specs.Plain.{plain_spelling}
 use Rattle.mqb_packet.specs.declared.packet.Packet.{Packet}
 use Rattle.mqb_posts.specs.declared.posting.TheConstants.{MAX_MEDIUM}
-use Rattle.mqb_runs.specs.Events.{event_of}
-use Rattle.mqb_runs.specs.Hosts.{hosts}
-use Rattle.mqb_runs.specs.Runs.{Played, lines_of, moves_of}
-use Rattle.mqb_runs.specs.lemmas.Growing.{course_one, run_one}
+use Rattle.mqb_world.specs.mqb_runs.Events.{event_of}
+use Rattle.mqb_world.specs.mqb_runs.Hosts.{hosts}
+use Rattle.mqb_world.specs.mqb_runs.Runs.{Played, lines_of, moves_of}
+use Rattle.mqb_world.specs.mqb_runs.lemmas.Growing.{course_one, run_one}
 use Rattle.mqb_script.specs.Reading.{LONGEST, MOST_LINES, line_count}
 use Rattle.mqb_script.specs.Script.{script_of}
 use Rattle.mqb_script.specs.declared.events.Event.{Event}

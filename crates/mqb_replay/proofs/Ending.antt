@@ -4,9 +4,9 @@ use Rattle.std.specs.Prelude.{Err, Ok, Result}
 use Rattle.mqb_world.specs.Seats.{IsHeldOn}
 use Rattle.mqb_network.specs.Network.{Network}
 use Rattle.mqb_outside.specs.Told.{Took}
-use Rattle.mqb_runs.specs.Guarantees.{RunsKeepGuarantees}
-use Rattle.mqb_runs.specs.Runs.{Played, course_of}
-use Rattle.mqb_runs.specs.Texts.{end_lines, reply_lines, text_of}
+use Rattle.mqb_world.specs.mqb_runs.Guarantees.{RunsKeepGuarantees}
+use Rattle.mqb_world.specs.mqb_runs.Runs.{Played, course_of}
+use Rattle.mqb_world.specs.mqb_runs.Texts.{end_lines, reply_lines, text_of}
 use Rattle.mqb_script.specs.declared.events.Event.{Event}
 use Rattle.mqb_script.specs.declared.managers.Which.TheVariants.{Alpha, Beta}
 use Rattle.mqb_commands.specs.Outputs.{TookFront}

@@ -1,8 +1,8 @@
 -- What was written of a run.
 use Rattle.std.proofs.Common.{◌≡◌, List, [], ◌∷◌, ◌++◌, Option, append-nil, arith, sym, ℕ}
 use Rattle.mqb_outside.specs.Told.{Took}
-use Rattle.mqb_runs.specs.Runs.{Played, course_of}
-use Rattle.mqb_runs.specs.Texts.{end_lines, reply_lines}
+use Rattle.mqb_world.specs.mqb_runs.Runs.{Played, course_of}
+use Rattle.mqb_world.specs.mqb_runs.Texts.{end_lines, reply_lines}
 use Rattle.mqb_script.specs.declared.events.Event.{Event}
 use Rattle.mqb_commands.specs.Outputs.{TookFront}
 use Rattle.mqb_commands.specs.lemmas.Taking.{front_more}

@@ -3,10 +3,10 @@ use Rattle.std.proofs.Common.{◌≡◌, ◌+◌, List, [], ◌∷◌, ◌++◌,
 use Rattle.std.proofs.lemmas.Grind.{flat_map-append}
 use Rattle.mqb_network.specs.Courses.{Course}
 use Rattle.mqb_network.specs.Runs.{course_after, moved_on}
-use Rattle.mqb_runs.specs.Events.{event_of}
-use Rattle.mqb_runs.specs.Runs.{IsRunOf, Played, move_of, moves_of}
-use Rattle.mqb_runs.specs.Texts.{reply_line, reply_lines}
-use Rattle.mqb_runs.specs.lemmas.Growing.{moves_one, played, run_more}
+use Rattle.mqb_world.specs.mqb_runs.Events.{event_of}
+use Rattle.mqb_world.specs.mqb_runs.Runs.{IsRunOf, Played, move_of, moves_of}
+use Rattle.mqb_world.specs.mqb_runs.Texts.{reply_line, reply_lines}
+use Rattle.mqb_world.specs.mqb_runs.lemmas.Growing.{moves_one, played, run_more}
 use Rattle.mqb_script.specs.declared.events.Event.{Event}
 use Rattle.mqb_script.specs.declared.managers.Which.{Which}
 use Rattle.mqb_transcript.specs.declared.replies.Reply.{Reply}

@@ -14,12 +14,12 @@ use Rattle.mqb_world.specs.Seats.{IsHeldOn, SeatState, seated}
 use Rattle.mqb_network.specs.Courses.{Course}
 use Rattle.mqb_network.specs.Network.{Network, Note, manager_at}
 use Rattle.mqb_network.specs.Runs.{after_run, beginning, moved_on}
-use Rattle.mqb_runs.specs.Events.{event_of}
-use Rattle.mqb_runs.specs.Guarantees.{RunsKeepGuarantees}
-use Rattle.mqb_runs.specs.Hosts.{hosts}
-use Rattle.mqb_runs.specs.Runs.{Played, course_of, move_of, moves_of}
-use Rattle.mqb_runs.specs.Texts.{reply_lines}
-use Rattle.mqb_runs.specs.lemmas.Growing.{course_one}
+use Rattle.mqb_world.specs.mqb_runs.Events.{event_of}
+use Rattle.mqb_world.specs.mqb_runs.Guarantees.{RunsKeepGuarantees}
+use Rattle.mqb_world.specs.mqb_runs.Hosts.{hosts}
+use Rattle.mqb_world.specs.mqb_runs.Runs.{Played, course_of, move_of, moves_of}
+use Rattle.mqb_world.specs.mqb_runs.Texts.{reply_lines}
+use Rattle.mqb_world.specs.mqb_runs.lemmas.Growing.{course_one}
 use Rattle.mqb_script.specs.declared.events.Event.{Event}
 use Rattle.mqb_script.specs.declared.managers.Which.{Which}
 use Rattle.mqb_script.specs.declared.managers.Which.TheVariants.{Alpha, Beta}

@@ -10,8 +10,8 @@ use Rattle.mqb_script.specs.declared.faults.ScriptFault.{ScriptFault}
 use Rattle.mqb_script.specs.declared.faults.ScriptFault.TheVariants as script
 use Rattle.mqb_transcript.specs.Generator.{generated}
 use Rattle.mqb_network.specs.Network.{Network}
-use Rattle.mqb_runs.specs.Guarantees.{RunsKeepGuarantees}
-use Rattle.mqb_runs.specs.Runs.{Played, course_of}
+use Rattle.mqb_world.specs.mqb_runs.Guarantees.{RunsKeepGuarantees}
+use Rattle.mqb_world.specs.mqb_runs.Runs.{Played, course_of}
 use Rattle.mqb_world.specs.Worlds.{WorldState}
 use Rattle.mqb_replay.specs.Devices.{Devices}
 use Rattle.mqb_replay.specs.Plays.{HasRun, IsPlayed, Wrote}

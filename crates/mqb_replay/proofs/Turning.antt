@@ -6,11 +6,11 @@ use Rattle.mqb_network.specs.Network.{Network, manager_at}
 use Rattle.mqb_network.specs.Runs.{Move, beginning}
 use Rattle.mqb_outside.specs.Told.{Took}
 use Rattle.mqb_posts.specs.Posting.{HasFront, IsCutOff}
-use Rattle.mqb_runs.specs.Events.{event_of}
-use Rattle.mqb_runs.specs.Guarantees.{RunsKeepGuarantees}
-use Rattle.mqb_runs.specs.Hosts.{hosts}
-use Rattle.mqb_runs.specs.Runs.{Played, course_of, moves_of}
-use Rattle.mqb_runs.specs.Texts.{reply_lines}
+use Rattle.mqb_world.specs.mqb_runs.Events.{event_of}
+use Rattle.mqb_world.specs.mqb_runs.Guarantees.{RunsKeepGuarantees}
+use Rattle.mqb_world.specs.mqb_runs.Hosts.{hosts}
+use Rattle.mqb_world.specs.mqb_runs.Runs.{Played, course_of, moves_of}
+use Rattle.mqb_world.specs.mqb_runs.Texts.{reply_lines}
 use Rattle.mqb_script.specs.declared.events.Event.{Event}
 use Rattle.mqb_script.specs.declared.events.Event.TheVariants as event
 use Rattle.mqb_script.specs.declared.managers.Which.{Which}

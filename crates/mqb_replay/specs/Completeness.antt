@@ -5,8 +5,8 @@ use Rattle.mqb_outside.specs.Faults.{Rose}
 use Rattle.mqb_outside.specs.Strings.{bytes_in}
 use Rattle.mqb_packet.specs.Plain.{plain_spelling}
 use Rattle.mqb_posts.specs.declared.posting.TheConstants.{MAX_MEDIUM}
-use Rattle.mqb_runs.specs.Events.{event_of}
-use Rattle.mqb_runs.specs.Hosts.{hosts}
+use Rattle.mqb_world.specs.mqb_runs.Events.{event_of}
+use Rattle.mqb_world.specs.mqb_runs.Hosts.{hosts}
 use Rattle.mqb_script.specs.Script.{script_of}
 use Rattle.mqb_script.specs.declared.events.Event.{Event}
 use Rattle.mqb_transcript.specs.Generator.{generated}

@@ -11,7 +11,7 @@ use Rattle.mqb_model.specs.state.State.{State}
 use Rattle.mqb_network.specs.Courses.{Course}
 use Rattle.mqb_network.specs.Runs.{moved_on}
 use Rattle.mqb_outside.specs.Faults.{END}
-use Rattle.mqb_runs.specs.Runs.{Played, move_of}
+use Rattle.mqb_world.specs.mqb_runs.Runs.{Played, move_of}
 use Rattle.mqb_script.specs.declared.events.Event.{Event}
 use Rattle.mqb_script.specs.declared.managers.Which.{Which}
 use Rattle.mqb_store_laws.specs.Images.{Opens, OpensTo}

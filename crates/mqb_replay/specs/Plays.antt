@@ -10,11 +10,11 @@ use Rattle.mqb_outside.specs.Told.{Took}
 use Rattle.mqb_packet.specs.Plain.{plain_spelling}
 use Rattle.mqb_posts.specs.Posting.{HasFront, IsCutOff}
 use Rattle.mqb_posts.specs.declared.posting.TheConstants.{MAX_MEDIUM}
-use Rattle.mqb_runs.specs.Events.{event_of}
-use Rattle.mqb_runs.specs.Guarantees.{AlwaysKeepsGuarantees}
-use Rattle.mqb_runs.specs.Hosts.{hosts}
-use Rattle.mqb_runs.specs.Runs.{IsRunOf, Played, course_of, moves_of}
-use Rattle.mqb_runs.specs.Texts.{reply_lines}
+use Rattle.mqb_world.specs.mqb_runs.Events.{event_of}
+use Rattle.mqb_world.specs.mqb_runs.Guarantees.{AlwaysKeepsGuarantees}
+use Rattle.mqb_world.specs.mqb_runs.Hosts.{hosts}
+use Rattle.mqb_world.specs.mqb_runs.Runs.{IsRunOf, Played, course_of, moves_of}
+use Rattle.mqb_world.specs.mqb_runs.Texts.{reply_lines}
 use Rattle.mqb_script.specs.declared.events.Event.{Event}
 use Rattle.mqb_script.specs.declared.managers.Which.{Which}
 use Rattle.mqb_script.specs.declared.managers.Which.TheVariants.{Alpha, Beta}

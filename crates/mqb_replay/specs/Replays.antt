@@ -3,8 +3,8 @@ use Rattle.std.specs.Prelude.{[], ◌++◌, ◌<◌, ◌∷◌, ◌≡◌, ◌�
 use Rattle.mqb_forms.specs.declared.faults.LineKind.{LineKind}
 use Rattle.mqb_outside.specs.Faults.{Rose}
 use Rattle.mqb_outside.specs.Told.{Gave, Took}
-use Rattle.mqb_runs.specs.Runs.{Played}
-use Rattle.mqb_runs.specs.Texts.{reply_lines, text_of}
+use Rattle.mqb_world.specs.mqb_runs.Runs.{Played}
+use Rattle.mqb_world.specs.mqb_runs.Texts.{reply_lines, text_of}
 use Rattle.mqb_script.specs.Reading.{LONGEST, MOST_LINES, line_count}
 use Rattle.mqb_script.specs.Script.{script_of}
 use Rattle.mqb_script.specs.declared.events.Event.{Event}

@@ -4,7 +4,7 @@ use Rattle.std.specs.Prelude.{◌++◌, ◌≡◌, ◌⊎◌, Bool, Err, List, O
 use Rattle.mqb_base.specs.declared.ledger.Line.{Line}
 use Rattle.mqb_base.specs.declared.ledger.Line.TheVariants as line
 use Rattle.mqb_outside.specs.Told.{Took}
-use Rattle.mqb_runs.specs.Runs.{course_of}
+use Rattle.mqb_world.specs.mqb_runs.Runs.{course_of}
 use Rattle.mqb_script.specs.Script.{script_of}
 use Rattle.mqb_script.specs.declared.events.Event.{Event}
 use Rattle.mqb_commands.specs.Outputs.{TookFront}

@@ -2,7 +2,7 @@
 ghost use Rattle.std.specs.List.{AllByRecursion};
 ghost use Rattle.std.specs.Prelude.{[], ◌++◌, ◌≡◌, OnOk};
 ghost use Rattle.mqb_world.specs.Seats.{IsHeldOn, seated};
-ghost use Rattle.mqb_runs.specs.Texts.{end_lines, manager_lines};
+ghost use Rattle.mqb_world.specs.mqb_runs.Texts.{end_lines, manager_lines};
 ghost use Rattle.mqb_script.specs.Formed.{IsFormed};
 ghost use Rattle.mqb_world.specs.Standing.{Stands};
 ghost use Rattle.mqb_world.specs.Worlds.{network_of, seat_at};
@@ -16,9 +16,8 @@ use crate::turns::turn;
 use mqb_base::Memory;
 use mqb_commands::write_all;
 use mqb_outside::{Medium, Power, Sink};
-use mqb_runs::runs_keep_guarantees;
 use mqb_script::{Event, Which};
-use mqb_world::{World, hosts};
+use mqb_world::{World, hosts, runs_keep_guarantees};
 use std::alloc::Global;
 
 /// Plays all lines of a script in a world in which nothing happened yet.

@@ -20,10 +20,9 @@ use crate::plays::play_lines;
 use mqb_base::{Line, Memory};
 use mqb_commands::write_all;
 use mqb_outside::{Medium, Power, Sink};
-use mqb_runs::runs_keep_guarantees;
 use mqb_script::{Event, made_scripts_are_scripts, read_script};
 use mqb_transcript::{Printer, make_script};
-use mqb_world::World;
+use mqb_world::{World, runs_keep_guarantees};
 use std::alloc::Global;
 
 /// Which lines of a ledger are counted.

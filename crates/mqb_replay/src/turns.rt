@@ -2,7 +2,7 @@
 ghost use Rattle.std.specs.Prelude.{◌≡◌, Err, List, Some};
 ghost use Rattle.mqb_world.specs.Seats.{IsHeldOn};
 ghost use Rattle.mqb_network.specs.Runs.{Move};
-ghost use Rattle.mqb_runs.specs.Hosts.{hosts};
+ghost use Rattle.mqb_world.specs.mqb_runs.Hosts.{hosts};
 ghost use Rattle.mqb_script.specs.Formed.{IsFormed};
 ghost use Rattle.mqb_transcript.specs.Texts.{printed};
 ghost use Rattle.mqb_world.specs.Standing.{Stands};

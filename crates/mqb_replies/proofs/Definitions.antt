@@ -43,7 +43,7 @@ use Rattle.mqb_model.specs.rules.Takes.{message_at}
 use Rattle.mqb_model.specs.state.Resolving.{resolved}
 use Rattle.mqb_model.specs.state.State.{State}
 use Rattle.mqb_journal.specs.declared.faults.CheckpointFault.TheVariants as base_fault
-use Rattle.mqb_store_laws.specs.Checkpoints.{checkpoint_made, is_large}
+use Rattle.mqb_manager.specs.mqb_store_laws.Checkpoints.{checkpoint_made, is_large}
 use Rattle.mqb_replies.specs.Asked.{CheckpointsAreReplied, RequestsAreReplied}
 use Rattle.mqb_replies.specs.Replies.{checkpoint_reply, op_reply}
 use Rattle.mqb_replies.specs.Requests.{reply_of}

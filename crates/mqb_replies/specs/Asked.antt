@@ -8,7 +8,7 @@ use Rattle.mqb_model.specs.calls.Call.{Answer, Request, requested}
 use Rattle.mqb_model.specs.managers.Manager.{Manager}
 use Rattle.mqb_model.specs.managers.Outcomes.{Outcome}
 use Rattle.mqb_outside.specs.Disk.{Counted, View}
-use Rattle.mqb_store_laws.specs.Checkpoints.{checkpoint}
+use Rattle.mqb_manager.specs.mqb_store_laws.Checkpoints.{checkpoint}
 use Rattle.mqb_replies.specs.Replies.{checkpoint_reply}
 use Rattle.mqb_replies.specs.Requests.{is_done, reply_of}
 use Rattle.mqb_replies.specs.declared.faults.AnswerFault.{AnswerFault}

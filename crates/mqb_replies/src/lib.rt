@@ -13,5 +13,6 @@ mod requests;
 pub use faults::AnswerFault;
 pub use laws::{checkpoints_are_replied, requests_are_replied};
 pub use lines::{lines_since, listed};
+pub use mqb_manager::{CheckpointFault, Manager, OpenFault};
 pub use replies::checkpoint_reply;
 pub use requests::{Answer, Request, ask, reply_of};

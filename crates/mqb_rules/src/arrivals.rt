@@ -1,5 +1,5 @@
 ghost use Rattle.std.specs.Prelude.{◌≡◌, ◌+◌, ◌≤◌, OnOk};
-ghost use Rattle.mqb_contents.specs.Rooms.{IsGrown};
+ghost use Rattle.mqb_drafts.specs.mqb_contents.Rooms.{IsGrown};
 ghost use Rattle.mqb_fate.specs.Asking.{is_transactional};
 ghost use Rattle.mqb_model.specs.records.Packets.{is_recoverable};
 ghost use Rattle.mqb_model.specs.rules.Arrivals.{is_recorded, refusal_of, storing_refusal, target_refusal};
@@ -10,8 +10,7 @@ use crate::notices::meets;
 use crate::reaching::reach;
 use crate::resolving::{is_for_order_layer, resolved};
 use mqb_base::{Class, Delivery, Memory, Message};
-use mqb_contents::Contents;
-use mqb_drafts::Draft;
+use mqb_drafts::{Contents, Draft};
 use mqb_model::Target;
 use mqb_packet::UserPacket;
 

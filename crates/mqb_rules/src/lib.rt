@@ -19,6 +19,7 @@ pub use arrivals::{
     arrive, is_recoverable, is_transactional, refusal_of, storing_refusal, target_refusal,
 };
 pub use messages::message_of;
+pub use mqb_drafts::Draft;
 pub use notices::meets;
 pub use purges::purged;
 pub use resolving::{guid_at, is_for_order_layer, is_registered, queue_named, resolved};

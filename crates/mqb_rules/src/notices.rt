@@ -1,6 +1,6 @@
 ghost use Rattle.std.specs.Prelude.{◌≡◌, ◌+◌, ◌≤◌, false, IfOk, IfSome, IsSome, None, OnOk, Some, length, ◌<◌, option_map, slice_get};
 ghost use Rattle.mqb_base.specs.declared.class.TheConstants.Class.{REACHED_QUEUE};
-ghost use Rattle.mqb_contents.specs.Rooms.{IsGrown};
+ghost use Rattle.mqb_drafts.specs.mqb_contents.Rooms.{IsGrown};
 ghost use Rattle.mqb_fate.specs.Asking.{final_is_due, goes_dead};
 ghost use Rattle.mqb_fate.specs.Notices.{admin_delivery};
 ghost use Rattle.mqb_model.specs.rules.Effects.{without_line};
@@ -14,8 +14,7 @@ use crate::arrivals::target_refusal;
 use crate::placing::{number_left, place, put_at, take_number};
 use crate::resolving::resolved;
 use mqb_base::{Class, Delivery, EntryPlace, Guid, Memory, Message};
-use mqb_contents::Contents;
-use mqb_drafts::Draft;
+use mqb_drafts::{Contents, Draft};
 use mqb_fate::{admin_for, final_for, goes_dead};
 use mqb_model::Target;
 use std::alloc::Global;

@@ -1,5 +1,5 @@
 ghost use Rattle.std.specs.Prelude.{◌≡◌, ◌+◌, ◌≤◌, IsSome, OnOk, is_some};
-ghost use Rattle.mqb_contents.specs.Rooms.{IsGrown};
+ghost use Rattle.mqb_drafts.specs.mqb_contents.Rooms.{IsGrown};
 ghost use Rattle.mqb_model.specs.rules.Effects.{without_line};
 ghost use Rattle.mqb_model.specs.rules.Numbers.{number_left, number_taken};
 ghost use Rattle.mqb_model.specs.state.Places.{placed, put_at};
@@ -7,8 +7,7 @@ ghost use Rattle.mqb_model.specs.declared.target.Target.TheVariants.{AtPeer};
 ghost use Rattle.mqb_queue.specs.Places.{lists_at};
 
 use mqb_base::{Delivery, EntryPlace, Memory, Message};
-use mqb_contents::Contents;
-use mqb_drafts::Draft;
+use mqb_drafts::{Contents, Draft};
 use mqb_model::{MAX_NUMBER, Target};
 
 fn is_there(contents: &Contents, at: EntryPlace) -> bool

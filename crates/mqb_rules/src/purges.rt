@@ -1,5 +1,5 @@
 ghost use Rattle.std.specs.Prelude.{◌≡◌, ◌+◌, ◌*◌, ◌<◌, ◌≤◌, IsSomeAnd, OnOk, length};
-ghost use Rattle.mqb_contents.specs.Rooms.{IsGrown};
+ghost use Rattle.mqb_drafts.specs.mqb_contents.Rooms.{IsGrown};
 ghost use Rattle.mqb_model.specs.rules.Effects.{joined, without_line};
 ghost use Rattle.mqb_model.specs.rules.Purges.{after_purge, count_at, message_purged, oldest_purged, purge_line, purged};
 ghost use Rattle.mqb_queue.specs.Lists.{messages_in};

@@ -1,6 +1,6 @@
 ghost use Rattle.std.specs.Prelude.{◌≡◌, ◌+◌, ◌≤◌, IfSome, IsSome, OnOk};
 ghost use Rattle.mqb_base.specs.declared.class.TheConstants.Class.{REACHED_QUEUE};
-ghost use Rattle.mqb_contents.specs.Rooms.{IsGrown};
+ghost use Rattle.mqb_drafts.specs.mqb_contents.Rooms.{IsGrown};
 ghost use Rattle.mqb_model.specs.rules.Effects.{without_line};
 ghost use Rattle.mqb_model.specs.rules.Notices.{meets};
 ghost use Rattle.mqb_model.specs.rules.Numbers.{number_left};

@@ -4,7 +4,7 @@ ghost use Rattle.mqb_base.specs.Same.{same_guid};
 ghost use Rattle.mqb_model.specs.state.Resolving.{at_peer, at_queue, guid_at, is_for_order_layer, is_host_of, is_own_host, is_registered, peer_at, queue_named, queue_numbered, queue_registered, resolved};
 
 use mqb_base::{Guid, Host, Identity, Name, QueueName, QueuePlan};
-use mqb_contents::Contents;
+use mqb_drafts::Contents;
 use mqb_fate::names_order_layer;
 use mqb_model::Target;
 use mqb_queue::Queues;

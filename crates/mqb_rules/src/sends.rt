@@ -1,7 +1,7 @@
 ghost use Rattle.std.specs.Prelude.{◌≡◌, ◌+◌, ◌<◌, ◌≤◌, ◌^◌, IfOk, IfSome, IsSomeAnd, IsTrue, OnOk, length, option_and_then, slice_get};
 ghost use Rattle.mqb_base.specs.declared.class.TheConstants.Class.{REACHED_QUEUE};
 ghost use Rattle.mqb_base.specs.declared.ledger.Line.TheVariants as line;
-ghost use Rattle.mqb_contents.specs.Rooms.{IsGrown};
+ghost use Rattle.mqb_drafts.specs.mqb_contents.Rooms.{IsGrown};
 ghost use Rattle.mqb_drafts.specs.Drafts.{OrdinalsRise};
 ghost use Rattle.mqb_model.specs.declared.target.Target.TheVariants.{AtPeer};
 ghost use Rattle.mqb_model.specs.records.Commit.{join_fits};
@@ -16,8 +16,7 @@ use crate::placing::place;
 use crate::reaching::reach;
 use crate::resolving::resolved;
 use mqb_base::{EntryPlace, Line, Memory, Message, SequenceId, Stream};
-use mqb_contents::Contents;
-use mqb_drafts::Draft;
+use mqb_drafts::{Contents, Draft};
 use mqb_model::Target;
 
 /// The computer's journal keeps a copy of a message that asks for it.

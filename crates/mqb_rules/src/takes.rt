@@ -1,7 +1,7 @@
 ghost use Rattle.std.specs.Prelude.{◌≡◌, ◌+◌, ◌<◌, ◌≤◌, IfOk, IfSome, IsSomeAnd, OnOk, Some, false, length, option_copied};
 ghost use Rattle.std.specs.Option.{option_map_or};
 ghost use Rattle.mqb_base.specs.declared.class.TheConstants.Class.{RECEIVED};
-ghost use Rattle.mqb_contents.specs.Rooms.{IsGrown};
+ghost use Rattle.mqb_drafts.specs.mqb_contents.Rooms.{IsGrown};
 ghost use Rattle.mqb_model.specs.rules.Effects.{joined, without_line};
 ghost use Rattle.mqb_model.specs.rules.Notices.{meets};
 ghost use Rattle.mqb_model.specs.rules.Takes.{after_take, copied, message_at, message_taken, take_line, taken, taken_at};
@@ -11,8 +11,7 @@ ghost use Rattle.mqb_queue.specs.Places.{lists_at, numbered};
 use crate::notices::meets;
 use crate::placing::put_at;
 use mqb_base::{Class, EntryPlace, Lane, Line, Memory, Message, MessageId};
-use mqb_contents::Contents;
-use mqb_drafts::Draft;
+use mqb_drafts::{Contents, Draft};
 
 /// The message of a lane of a place at an index.
 pub(crate) fn message_at(

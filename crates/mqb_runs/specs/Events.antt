@@ -7,7 +7,7 @@ use Rattle.mqb_script.specs.declared.events.Event.{Event}
 use Rattle.mqb_script.specs.declared.events.Event.TheVariants as event
 use Rattle.mqb_script.specs.declared.managers.Which.{Which}
 use Rattle.mqb_script.specs.declared.managers.Which.TheVariants.{Alpha, Beta}
-use Rattle.mqb_traffic.specs.Networks.{index_of}
+use Rattle.mqb_turns.specs.mqb_traffic.Networks.{index_of}
 use Rattle.mqb_runs.specs.Requests.{actor, request_of}
 
 -- a manager's window

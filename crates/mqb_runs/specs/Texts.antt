@@ -6,7 +6,7 @@ use Rattle.mqb_network.specs.Network.{Network, manager_at}
 use Rattle.mqb_script.specs.Managers.{host_of}
 use Rattle.mqb_script.specs.declared.managers.Which.{Which}
 use Rattle.mqb_script.specs.declared.managers.Which.TheVariants.{Alpha, Beta}
-use Rattle.mqb_traffic.specs.Networks.{index_of}
+use Rattle.mqb_turns.specs.mqb_traffic.Networks.{index_of}
 use Rattle.mqb_transcript.specs.Texts.{printed}
 use Rattle.mqb_runs.specs.Hosts.{hosts}
 use Rattle.mqb_runs.specs.Runs.{Played, course_of}

@@ -15,7 +15,7 @@ use Rattle.mqb_moves.specs.Moves.{IsMove}
 use Rattle.mqb_moves.specs.Seats.{IsHeldOn, SeatState, records_of, seated}
 use Rattle.mqb_moves.specs.lemmas.Calling.{none_more}
 use Rattle.mqb_moves.specs.States.{ManagerState, manager_of}
-use Rattle.mqb_network.specs.Choices.{Failure as HowItFailed}
+use Rattle.mqb_moves.specs.mqb_network.Choices.{Failure as HowItFailed}
 use Rattle.mqb_outside.specs.Disk.{Lawful, View}
 use Rattle.mqb_replies.proofs.Faulted.{answered_so, replied, unreplied}
 use Rattle.mqb_replies.specs.Asked.{RequestsAreReplied, faulted, faulting, told_as}

@@ -18,7 +18,7 @@ use Rattle.mqb_moves.specs.Seats.{IsHeldOn, SeatState, seated}
 use Rattle.mqb_moves.specs.States.{IsSame, IsUp, ManagerState, manager_of}
 use Rattle.mqb_moves.specs.lemmas.Calling.{broke, not_up_of, up_of}
 use Rattle.mqb_moves.specs.lemmas.Restarting.{durable_again}
-use Rattle.mqb_network.specs.Choices.{Failed}
+use Rattle.mqb_moves.specs.mqb_network.Choices.{Failed}
 use Rattle.mqb_store_laws.specs.Images.{Opens, OpensTo}
 use Rattle.mqb_store_laws.specs.Laws.{ImagesOpenToOne}
 use Rattle.mqb_store_laws.specs.Settling.{OnlySettles}

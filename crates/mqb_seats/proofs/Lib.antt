@@ -1,3 +1,4 @@
+pub use Rattle.mqb_replies.proofs as mqb_replies
 mod Asked
 mod Lasting
 mod Opening

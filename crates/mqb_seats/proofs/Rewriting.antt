@@ -18,8 +18,8 @@ use Rattle.mqb_moves.specs.Seats.{IsHeldOn, SeatState, is_far_on, seated}
 use Rattle.mqb_moves.specs.States.{IsSame, IsUp, ManagerState, manager_of}
 use Rattle.mqb_moves.specs.lemmas.Calling.{not_up_of, up_of}
 use Rattle.mqb_moves.specs.lemmas.Checkpointing.{broke_rewriting, refused_rewriting, rewrote}
-use Rattle.mqb_network.specs.Choices.{Failed}
-use Rattle.mqb_network.specs.lemmas.Checkpointing.{never_failed, refused_down}
+use Rattle.mqb_moves.specs.mqb_network.Choices.{Failed}
+use Rattle.mqb_moves.specs.mqb_network.lemmas.Checkpointing.{never_failed, refused_down}
 use Rattle.mqb_replies.specs.Replies.{checkpoint_reply}
 use Rattle.mqb_replies.specs.declared.faults.AnswerFault.{AnswerFault}
 use Rattle.mqb_replies.specs.declared.faults.AnswerFault.TheVariants as answer

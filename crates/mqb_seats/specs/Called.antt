@@ -5,7 +5,7 @@ use Rattle.mqb_journal.specs.declared.faults.CheckpointFault.TheVariants as faul
 use Rattle.mqb_outside.specs.Disk.{View}
 use Rattle.mqb_model.specs.calls.Call.{Answer}
 use Rattle.mqb_model.specs.managers.Outcomes.{Outcome, lines_after}
-use Rattle.mqb_network.specs.Choices as network
+use Rattle.mqb_moves.specs.mqb_network.Choices as network
 use Rattle.mqb_replies.specs.Replies.{checkpoint_reply}
 use Rattle.mqb_replies.specs.Requests.{reply_of}
 use Rattle.mqb_moves.specs.Moves.{IsMove, IsRewriting, rewriting}

@@ -1,3 +1,4 @@
+pub use Rattle.mqb_replies.specs as mqb_replies
 pub mod Called
 pub mod Lasting
 pub mod Opened

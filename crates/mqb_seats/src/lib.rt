@@ -13,6 +13,7 @@ mod seat;
 
 pub use called::{Called, Failure};
 pub use mqb_moves::pumps_are_counted;
+pub use mqb_replies::Request;
 pub use packets::{Passed, Pumped};
 pub use restarting::Opened;
 pub use seat::Seat;

@@ -5,7 +5,7 @@ ghost use Rattle.mqb_model.specs.managers.Manager.{is_down};
 ghost use Rattle.mqb_model.specs.managers.Outcomes.{succeeded};
 ghost use Rattle.mqb_moves.specs.Holding.{StaysStored};
 ghost use Rattle.mqb_moves.specs.Seats.{seated};
-ghost use Rattle.mqb_network.specs.Changes.{parted};
+ghost use Rattle.mqb_moves.specs.mqb_network.Changes.{parted};
 
 use crate::seat::Seat;
 use mqb_model::{LinkFault, Role, calls_leave_store};

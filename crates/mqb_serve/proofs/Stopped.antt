@@ -3,7 +3,7 @@ use Rattle.std.proofs.Common.{◌≡◌, false, List, [], ◌++◌, None, Option
 use Rattle.std.specs.Prelude.{IsSomeAnd, OnErr, OnOk, flat_map}
 use Rattle.mqb_base.specs.declared.heard.Heard.{Heard}
 use Rattle.mqb_outside.specs.Disk.{View}
-use Rattle.mqb_hearing.specs.Plans.{ShowsReadable}
+use Rattle.mqb_manager.specs.mqb_hearing.Plans.{ShowsReadable}
 use Rattle.mqb_outside.specs.Told.{Took}
 use Rattle.mqb_packet.specs.Parts.{packet_of, seen_packet}
 use Rattle.mqb_packet.specs.Plain.{plain_spelling}

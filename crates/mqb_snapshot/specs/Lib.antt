@@ -1,3 +1,4 @@
+pub use Rattle.mqb_contents.specs as mqb_contents
 pub mod Tails
 pub mod Spelled
 pub mod Snapshot

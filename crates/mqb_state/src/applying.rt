@@ -3,7 +3,7 @@ ghost use Rattle.mqb_model.specs.records.Applying.{effect_of, fits};
 ghost use Rattle.mqb_model.specs.records.Reading.{record_in};
 ghost use Rattle.mqb_model.specs.state.Valid.{IsValidState};
 ghost use Rattle.mqb_records.specs.Unfit.{IsUnfit};
-ghost use Rattle.mqb_arrivals.specs.declared.faults.RecordFault.TheVariants as fault;
+ghost use Rattle.mqb_records.specs.mqb_arrivals.declared.faults.RecordFault.TheVariants as fault;
 
 use crate::state::State;
 use crate::typed::entry_is_read;

@@ -9,7 +9,7 @@ ghost use Rattle.mqb_model.specs.records.Reading.{record_in};
 ghost use Rattle.mqb_model.specs.rules.Effects.{begun};
 ghost use Rattle.mqb_model.specs.state.Valid.{IsValidState};
 ghost use Rattle.mqb_records.specs.Unfit.{IsUnfit};
-ghost use Rattle.mqb_arrivals.specs.declared.faults.RecordFault.TheVariants as fault;
+ghost use Rattle.mqb_records.specs.mqb_arrivals.declared.faults.RecordFault.TheVariants as fault;
 ghost use Rattle.mqb_state.specs.Prepared.{IsPrepared, IsPreparedFrom};
 ghost use Rattle.mqb_state.specs.Together.{IsTried, LeavesValid, count_with, effect_with, record_count};
 

@@ -6,7 +6,7 @@ ghost use Rattle.mqb_orders.specs.Rows.{row_of};
 ghost use Rattle.mqb_snapshot.specs.Reading.{state_of};
 ghost use Rattle.mqb_snapshot.specs.Snapshot.{snapshot};
 ghost use Rattle.mqb_snapshot.specs.Values.{IsState};
-ghost use Rattle.mqb_tables.specs.Tables.{LeadsTo, LeadsToLast, LeadsToSource};
+ghost use Rattle.mqb_contents.specs.mqb_tables.Tables.{LeadsTo, LeadsToLast, LeadsToSource};
 
 use crate::state::State;
 use indexmap::IndexMap;

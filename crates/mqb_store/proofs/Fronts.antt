@@ -4,7 +4,7 @@ use Rattle.std.specs.Prelude.{[], ◌<◌, Err, IfOk, IsSomeAnd, List, None, Ok,
 use Rattle.mqb_base.specs.Rooms.{WithRooms}
 use Rattle.mqb_base.specs.Same.{same_guid}
 use Rattle.mqb_base.specs.declared.ids.Guid.{Guid}
-use Rattle.mqb_contents.specs.Rooms.{StateRooms}
+use Rattle.mqb_snapshot.specs.mqb_contents.Rooms.{StateRooms}
 use Rattle.mqb_outside.specs.Disk.{View}
 use Rattle.mqb_outside.specs.Images.{Each}
 use Rattle.mqb_journal.specs.Causes.{FaultsAsSaid, open_failed}

@@ -1,3 +1,4 @@
+pub use Rattle.mqb_store_laws.specs as mqb_store_laws
 pub mod States
 pub mod Writing
 pub mod Replaying

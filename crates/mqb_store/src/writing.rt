@@ -1,6 +1,6 @@
 ghost use Rattle.std.specs.Option.{option_map_or};
 ghost use Rattle.std.specs.Prelude.{◌+◌, ◌≡◌, ◌≢◌, Err, IfSome, IsSomeAnd, None, OnOk, Some, option_copied, true};
-ghost use Rattle.mqb_contents.specs.Changes.{redone};
+ghost use Rattle.mqb_snapshot.specs.mqb_contents.Changes.{redone};
 ghost use Rattle.mqb_outside.specs.Disk.{Counted, IsSettled, LeavesOnly};
 ghost use Rattle.mqb_state.specs.Work.{beside_of};
 ghost use Rattle.mqb_journal.specs.Causes.{FaultsAsSaid};

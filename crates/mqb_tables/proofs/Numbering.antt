@@ -12,9 +12,9 @@ use Rattle.indexmap.specs.IndexMap.{IndexMap, get, index_map_len, spare}
 use Rattle.mqb_model.specs.state.Rows.{has_ordinal}
 use Rattle.mqb_orders.specs.Rows.{Row, row_of}
 use Rattle.mqb_orders.specs.declared.rows.OutRow.{OutRow}
-use Rattle.mqb_queue.proofs.Positions.{none_passes, position_behind, position_joined, position_map, position_step}
+use Rattle.mqb_model.proofs.mqb_queue.Positions.{none_passes, position_behind, position_joined, position_map, position_step}
 use Rattle.mqb_tables.specs.Tables.{AreNumbered, HaveOwnOrdinals, LeadsTo}
-use Rattle.mqb_queue.proofs.Lens.{set_same}
+use Rattle.mqb_model.proofs.mqb_queue.Lens.{set_same}
 
 abbrev pub Table : Type 0 → Type 0
 Table S = IndexMap ℕ ℕ S

@@ -1,3 +1,4 @@
+pub use Rattle.mqb_model.specs as mqb_model
 pub mod Keys
 pub mod Tables
 pub mod Ends

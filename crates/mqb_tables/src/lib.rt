@@ -11,4 +11,5 @@ pub mod ordinals;
 mod plain_outs;
 pub mod sources;
 
+pub use mqb_model::{FIRST_EXPRESS, MAX_EXPRESS, MAX_ROLL};
 pub use plain_outs::PlainOuts;

@@ -10,8 +10,8 @@ use Rattle.std.proofs.lemmas.List.Elements.{All-head, All-tail}
 use Rattle.std.proofs.lemmas.Option.{none-some, same_Some, slice_get_within}
 use Rattle.mqb_base.specs.declared.message.Lane.TheVariants as lane
 use Rattle.mqb_base.specs.declared.message.Message.{Message}
-use Rattle.mqb_tables.specs.Waits.{plain_count}
-use Rattle.mqb_tables.proofs.Members.{at_some, changed_is, changed_there, get-set, set_same}
+use Rattle.mqb_contents.specs.mqb_tables.Waits.{plain_count}
+use Rattle.mqb_contents.proofs.mqb_tables.Members.{at_some, changed_is, changed_there, get-set, set_same}
 use Rattle.mqb_model.specs.Lists.{with_changed}
 use Rattle.mqb_model.specs.managers.Beside.{without_acked}
 use Rattle.mqb_model.specs.state.Places.{with_plain}

@@ -30,7 +30,7 @@ use Rattle.mqb_queue.specs.Laws.{same_entry}
 use Rattle.mqb_queue.specs.Lists.{Lists, messages_in, put}
 use Rattle.mqb_queue.specs.Places.{lists_at, place_named, with_lists}
 use Rattle.mqb_queue.proofs.Others.{one_place}
-use Rattle.mqb_tables.proofs.Members.{changed_is, changed_there, get-set_other}
+use Rattle.mqb_contents.proofs.mqb_tables.Members.{changed_is, changed_there, get-set_other}
 use Rattle.mqb_model.specs.Lists.{with_changed}
 use Rattle.mqb_model.specs.declared.target.Target.{Target}
 use Rattle.mqb_model.specs.declared.target.Target.TheVariants.{AtPeer, Here, Nowhere}

@@ -12,7 +12,7 @@ use Rattle.mqb_base.specs.declared.message.Message.{Message}
 use Rattle.mqb_orders.specs.Rows.{Row}
 use Rattle.mqb_orders.specs.declared.kept.Kept.{Kept}
 use Rattle.mqb_contents.specs.Rows.{with_out}
-use Rattle.mqb_tables.proofs.Members.{changed_is, changed_there, get-set_other}
+use Rattle.mqb_contents.proofs.mqb_tables.Members.{changed_is, changed_there, get-set_other}
 use Rattle.mqb_model.specs.Lists.{with_changed}
 use Rattle.mqb_model.specs.Loops.{for_each_below, repeated}
 use Rattle.mqb_model.specs.rules.Effects.{Effect, joined, with_line}

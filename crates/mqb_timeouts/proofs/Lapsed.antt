@@ -14,8 +14,8 @@ use Rattle.mqb_plain.specs.Lists.{messages_of}
 use Rattle.mqb_plain.specs.Plain.{PlainLists, outgoing_in, without}
 use Rattle.mqb_plain.specs.declared.outgoing.Outgoing.{Outgoing}
 use Rattle.mqb_queue.proofs.Positions.{position_map}
-use Rattle.mqb_tables.specs.Waits.{plain_count}
-use Rattle.mqb_tables.proofs.Members.{changed_is, changed_there, get-set_other}
+use Rattle.mqb_contents.specs.mqb_tables.Waits.{plain_count}
+use Rattle.mqb_contents.proofs.mqb_tables.Members.{changed_is, changed_there, get-set_other}
 use Rattle.mqb_model.specs.Lists.{with_changed}
 use Rattle.mqb_model.specs.Loops.{for_each_below, repeated}
 use Rattle.mqb_model.specs.rules.Effects.{Effect, joined}

@@ -7,8 +7,8 @@ ghost use Rattle.mqb_plain.specs.Lists.{is_sent_by};
 
 use mqb_base::{Lane, Memory};
 use mqb_contents::Contents;
-use mqb_drafts::Draft;
 use mqb_plain::PlainOut;
+use mqb_rules::Draft;
 
 /// Whether the first express message was sent with a number up to this one. None was where it was not, for numbers rise.
 fn is_first_acked(plain: &PlainOut, number: u16) -> bool

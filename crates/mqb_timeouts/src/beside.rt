@@ -10,8 +10,7 @@ use crate::acked::drop_acked;
 use crate::lane_ticked;
 use crate::work::ExpressWork;
 use mqb_base::{Class, Lane, Memory, Message};
-use mqb_drafts::Draft;
-use mqb_rules::{arrive, plain_sent, purged, taken_at};
+use mqb_rules::{Draft, arrive, plain_sent, purged, taken_at};
 
 /// An express message takes its number and is sent.
 fn send(draft: &mut Draft, message: Message, now: u32) -> Result<(), Memory>

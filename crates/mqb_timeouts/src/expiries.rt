@@ -13,9 +13,8 @@ ghost use Rattle.mqb_timeouts.specs.Waiting.{NoneExpires, expired_at, expired_co
 use crate::lapses::cannot_reach;
 use mqb_base::{Class, Line, Memory, Message, Stream};
 use mqb_contents::Contents;
-use mqb_drafts::Draft;
 use mqb_orders::{Kept, OutRow};
-use mqb_rules::meets;
+use mqb_rules::{Draft, meets};
 
 fn expires(row: &OutRow, kept: &Kept, now: u32) -> bool
     ensures { result ≡ expires now (row_of row.now) kept.now }

@@ -10,9 +10,8 @@ ghost use Rattle.mqb_timeouts.specs.Waiting.{NoneLapses, lapsed_count, waiting};
 
 use mqb_base::{Class, Lane, Line, Memory, Message, is_due};
 use mqb_contents::Contents;
-use mqb_drafts::Draft;
 use mqb_plain::PlainOut;
-use mqb_rules::meets;
+use mqb_rules::{Draft, meets};
 
 pub(crate) fn cannot_reach(message: &Message, now: u32) -> bool
     ensures { result ≡ cannot_reach now message.now }

@@ -14,8 +14,7 @@ ghost use Rattle.mqb_timeouts.specs.Waiting.{NoneSwept, queued, swept_count};
 use mqb_base::{Class, EntryPlace, Lane, Line, Memory, Message, is_due};
 use mqb_contents::Contents;
 use mqb_deque::SplitSlice;
-use mqb_drafts::Draft;
-use mqb_rules::{copy_at, meets};
+use mqb_rules::{Draft, copy_at, meets};
 
 fn cannot_be_received(message: &Message, now: u32) -> bool
     ensures { result ≡ cannot_be_received now message.now }

@@ -5,7 +5,7 @@ ghost use Rattle.mqb_model.specs.rules.Timeouts.{lane_due, lane_ticked};
 use crate::lapses::lapse_peers;
 use crate::sweeps::sweep_queues;
 use mqb_base::{Lane, Memory};
-use mqb_drafts::Draft;
+use mqb_rules::Draft;
 
 /// Plain messages of a lane that are due lapse, peer by peer, and then those of queues are swept, queue by queue.
 pub fn lane_ticked(draft: &mut Draft, lane: Lane, now: u32) -> Result<(), Memory>

@@ -11,9 +11,9 @@ use Rattle.mqb_base.specs.declared.message.Message.{Message}
 use Rattle.mqb_orders.specs.Rows.{Row, leads_to}
 use Rattle.mqb_orders.specs.declared.keys.OutKey.{OutKey}
 use Rattle.mqb_queue.proofs.Positions.{position_step}
-use Rattle.mqb_tables.specs.Keys.{same_out_key}
-use Rattle.mqb_tables.proofs.Lasts.{last_pushed}
-use Rattle.mqb_tables.proofs.Names.{same_out_key_is}
+use Rattle.mqb_contents.specs.mqb_tables.Keys.{same_out_key}
+use Rattle.mqb_contents.proofs.mqb_tables.Lasts.{last_pushed}
+use Rattle.mqb_contents.proofs.mqb_tables.Names.{same_out_key_is}
 use Rattle.mqb_model.specs.Lists.{with_changed, with_first_changed}
 use Rattle.mqb_model.specs.rules.Sequences.{with_kept}
 use Rattle.mqb_model.specs.state.Rows.{has_ordinal}

@@ -21,7 +21,7 @@ use Rattle.mqb_orders.specs.Rows.{Row}
 use Rattle.mqb_orders.specs.declared.keys.OutKey.{OutKey}
 use Rattle.mqb_queue.specs.Lists.{Lists, count, put}
 use Rattle.mqb_queue.specs.Places.{Queue, numbered}
-use Rattle.mqb_tables.specs.Keys.{same_out_key}
+use Rattle.mqb_contents.specs.mqb_tables.Keys.{same_out_key}
 use Rattle.mqb_model.specs.calls.Commit.{Trial, try_op}
 use Rattle.mqb_model.specs.calls.Commit as commit
 use Rattle.mqb_model.specs.calls.Messages.{message_for, message_of}

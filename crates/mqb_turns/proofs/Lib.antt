@@ -1,3 +1,4 @@
+pub use Rattle.mqb_seats.proofs as mqb_seats
 mod Heard
 mod Parting
 mod Posts

@@ -21,8 +21,8 @@ use Rattle.mqb_network.specs.Events.{Checkpoint}
 use Rattle.mqb_network.specs.Network.{Network, manager_at}
 use Rattle.mqb_network.specs.Replies as network
 use Rattle.mqb_network.specs.lemmas.Checkpointing.{far_calls_none, refused_down, unrecorded}
-use Rattle.mqb_replies.specs.Replies.{checkpoint_reply}
-use Rattle.mqb_replies.specs.declared.faults.AnswerFault.{AnswerFault}
+use Rattle.mqb_seats.specs.mqb_replies.Replies.{checkpoint_reply}
+use Rattle.mqb_seats.specs.mqb_replies.declared.faults.AnswerFault.{AnswerFault}
 use Rattle.mqb_script.specs.declared.managers.Which.{Which}
 use Rattle.mqb_seats.specs.Called.{IsRewritten, failure_of}
 use Rattle.mqb_seats.specs.Far.{far_counted}

@@ -20,8 +20,8 @@ use Rattle.mqb_network.specs.Courses.{called_unless, course_from, written_by}
 use Rattle.mqb_network.specs.Events as event
 use Rattle.mqb_network.specs.Network.{Network, manager_at, with_manager}
 use Rattle.mqb_network.specs.Replies as network
-use Rattle.mqb_replies.specs.Requests.{reply_of}
-use Rattle.mqb_replies.specs.declared.faults.AnswerFault.{AnswerFault}
+use Rattle.mqb_seats.specs.mqb_replies.Requests.{reply_of}
+use Rattle.mqb_seats.specs.mqb_replies.declared.faults.AnswerFault.{AnswerFault}
 use Rattle.mqb_script.specs.declared.managers.Which.{Which}
 use Rattle.mqb_script.specs.declared.managers.Which.TheVariants.{Alpha, Beta}
 use Rattle.mqb_seats.specs.Called.{IsCalled, failure_of}

@@ -1,3 +1,6 @@
+pub use Rattle.mqb_traffic.specs as mqb_traffic
+pub use Rattle.mqb_seats.specs.mqb_replies as mqb_replies
+pub use Rattle.mqb_seats.specs as mqb_seats
 pub mod Replies
 pub mod Sides
 pub mod Counts

@@ -2,10 +2,10 @@
 use Rattle.std.specs.Prelude.{[], ◌∷◌, Err, List, Ok, Result, map, ℕ}
 use Rattle.mqb_network.specs.Choices as choice
 use Rattle.mqb_network.specs.Replies as network
-use Rattle.mqb_replies.specs.Replies.{checkpoint_reply}
-use Rattle.mqb_replies.specs.Requests.{reply_of}
-use Rattle.mqb_replies.specs.declared.faults.AnswerFault.{AnswerFault}
-use Rattle.mqb_replies.specs.declared.faults.AnswerFault.TheVariants.{Memory}
+use Rattle.mqb_seats.specs.mqb_replies.Replies.{checkpoint_reply}
+use Rattle.mqb_seats.specs.mqb_replies.Requests.{reply_of}
+use Rattle.mqb_seats.specs.mqb_replies.declared.faults.AnswerFault.{AnswerFault}
+use Rattle.mqb_seats.specs.mqb_replies.declared.faults.AnswerFault.TheVariants.{Memory}
 use Rattle.mqb_seats.specs.Pumped.{pump_fault_reply}
 use Rattle.mqb_transcript.specs.declared.arrivals.Arrival.{Arrival}
 use Rattle.mqb_transcript.specs.declared.arrivals.Outcome.{Outcome}

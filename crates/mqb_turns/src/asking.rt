@@ -1,6 +1,6 @@
 ghost use Rattle.std.specs.Prelude.{◌≡◌, IfOk};
 ghost use Rattle.mqb_network.specs.Events as event;
-ghost use Rattle.mqb_replies.specs.Requests.{IsFormed, seen_request};
+ghost use Rattle.mqb_seats.specs.mqb_replies.Requests.{IsFormed, seen_request};
 ghost use Rattle.mqb_seats.specs.Holding.{StaysStored};
 ghost use Rattle.mqb_seats.specs.Lasting.{Lasts};
 ghost use Rattle.mqb_seats.specs.Seats.{IsHeldOn};
@@ -12,9 +12,8 @@ use crate::between::settle;
 use mqb_base::Memory;
 use mqb_model::refusals_change_nothing;
 use mqb_outside::Power;
-use mqb_replies::Request;
 use mqb_script::Which;
-use mqb_seats::Seat;
+use mqb_seats::{Request, Seat};
 use mqb_traffic::Traffic;
 use mqb_transcript::Reply;
 

@@ -15,6 +15,7 @@ pub use asking::ask;
 pub use between::{failure_reply, note, part, part_where, settle};
 pub use checkpoints::checkpoint;
 pub use links::{disconnect, drop_packet, resend};
+pub use mqb_seats::{Pumped, Request, Seat};
 pub use passing::pass;
 pub use sending::{numbers, pump, send_out};
 pub use starting::restart;

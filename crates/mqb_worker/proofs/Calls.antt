@@ -2,8 +2,8 @@
 use Rattle.std.proofs.Common.{ap, ap₂, inl, inr, refl, subst, sym, ◌∙◌}
 use Rattle.std.specs.Prelude.{◌≡◌, Bool, Err, IfErr, IfOk, List, Ok, Result, false, if◌then◌else◌, ℕ}
 use Rattle.mqb_outside.specs.Disk.{Lawful, View}
-use Rattle.mqb_manager.specs.Calls.{Ends, IsCall}
-use Rattle.mqb_manager.specs.States.{ManagerState, manager_of}
+use Rattle.mqb_replies.specs.mqb_manager.Calls.{Ends, IsCall}
+use Rattle.mqb_replies.specs.mqb_manager.States.{ManagerState, manager_of}
 use Rattle.mqb_base.specs.declared.draft.Op.{Op}
 use Rattle.mqb_model.specs.calls.Commit.{commit}
 use Rattle.mqb_model.specs.declared.answers.Done.{Done}

@@ -13,5 +13,6 @@ mod waiting;
 
 pub use handlers::{Handler, Prefix};
 pub use laws::{each_taken_is_answered, none_is_taken_twice};
+pub use mqb_replies::{Manager, OpenFault};
 pub use stepping::step;
 pub use telling::Step;

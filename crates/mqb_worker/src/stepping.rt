@@ -1,7 +1,7 @@
 //! One step of a worker.
 ghost use Rattle.std.specs.Prelude.{◌≡◌, Err, IfErr, IfOk, None};
-ghost use Rattle.mqb_manager.specs.Calls.{CallsForRecord, IsCall, SaysDown};
-ghost use Rattle.mqb_manager.specs.States.{IsOnDisk, IsUp, manager_of};
+ghost use Rattle.mqb_replies.specs.mqb_manager.Calls.{CallsForRecord, IsCall, SaysDown};
+ghost use Rattle.mqb_replies.specs.mqb_manager.States.{IsOnDisk, IsUp, manager_of};
 ghost use Rattle.mqb_worker.specs.Refusals.{RefusesStep};
 ghost use Rattle.mqb_worker.specs.Steps.{TellsWork, stepped};
 
@@ -10,9 +10,9 @@ use crate::ops::work_with;
 use crate::telling::{Step, step_answer};
 use crate::waiting::{is_idle, waiting_in};
 use mqb_base::Name;
-use mqb_manager::Manager;
 use mqb_model::{CommitFault, refused_is_same};
 use mqb_outside::Disk;
+use mqb_replies::Manager;
 use std::alloc::Global;
 
 /// Takes the first message of a queue that is not due, at a moment in seconds, and sends what the handler makes of its body to the queue that the message names for

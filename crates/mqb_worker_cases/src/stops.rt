@@ -1,9 +1,8 @@
 //! A worker whose disk stops in a step: what stands in both queues then.
 use mqb_base::{Failed, Name, NameError, Place};
 use mqb_disk::MemoryDisk;
-use mqb_manager::{Manager, OpenFault};
 use mqb_outside::{Disk, Mode, Pick, Power};
-use mqb_worker::{Prefix, step};
+use mqb_worker::{Manager, OpenFault, Prefix, step};
 use std::alloc::Global;
 use std::test::Fail;
 

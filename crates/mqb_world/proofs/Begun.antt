@@ -27,7 +27,7 @@ use Rattle.mqb_network.specs.Sending.{Passing, flow, flow_by, numbers_behind, pa
 use Rattle.mqb_network.specs.Step.{step}
 use Rattle.mqb_packet.specs.declared.packet.Packet.{Packet}
 use Rattle.mqb_queue.specs.Places.{numbered}
-use Rattle.mqb_replies.specs.declared.faults.AnswerFault.{AnswerFault}
+use Rattle.mqb_turns.specs.mqb_seats.mqb_replies.declared.faults.AnswerFault.{AnswerFault}
 use Rattle.mqb_transcript.specs.declared.replies.Reply.{Reply}
 use Rattle.mqb_turns.specs.Replies.{connected_reply, told}
 

@@ -28,12 +28,12 @@ use Rattle.mqb_posts.specs.declared.faults.PostFault.{PostFault}
 use Rattle.mqb_posts.specs.declared.faults.PostFault.TheVariants as post
 use Rattle.mqb_script.specs.declared.managers.Which.{Which}
 use Rattle.mqb_script.specs.declared.managers.Which.TheVariants.{Alpha, Beta}
-use Rattle.mqb_seats.specs.Called.{failure_of}
-use Rattle.mqb_seats.specs.Pumped.{packets_by, pump_fault_reply}
-use Rattle.mqb_seats.specs.declared.called.Failure.{Failure as HowItFailed}
-use Rattle.mqb_seats.specs.declared.called.Failure.TheVariants as how_it
-use Rattle.mqb_seats.specs.declared.packets.Pumped.{Pumped}
-use Rattle.mqb_seats.specs.declared.packets.Pumped.TheVariants.{Broke, Refused, Went}
+use Rattle.mqb_turns.specs.mqb_seats.Called.{failure_of}
+use Rattle.mqb_turns.specs.mqb_seats.Pumped.{packets_by, pump_fault_reply}
+use Rattle.mqb_turns.specs.mqb_seats.declared.called.Failure.{Failure as HowItFailed}
+use Rattle.mqb_turns.specs.mqb_seats.declared.called.Failure.TheVariants as how_it
+use Rattle.mqb_turns.specs.mqb_seats.declared.packets.Pumped.{Pumped}
+use Rattle.mqb_turns.specs.mqb_seats.declared.packets.Pumped.TheVariants.{Broke, Refused, Went}
 use Rattle.mqb_traffic.specs.Networks as traffic
 use Rattle.mqb_traffic.specs.Networks.{connections_of, index_of, note_of, notes_of}
 use Rattle.mqb_traffic.specs.declared.notes.Link.{Link}

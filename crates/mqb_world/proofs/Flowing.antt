@@ -20,10 +20,10 @@ use Rattle.mqb_posts.specs.declared.faults.PostFault.{PostFault}
 use Rattle.mqb_queue.specs.Places.{numbered}
 use Rattle.mqb_script.specs.declared.managers.Which.{Which}
 use Rattle.mqb_script.specs.declared.managers.Which.TheVariants.{Alpha, Beta}
-use Rattle.mqb_seats.specs.Lasting.{Lasts}
-use Rattle.mqb_seats.specs.lemmas.Keeping.{lasts_same, lasts_then}
-use Rattle.mqb_seats.specs.Called.{failure_of, how_by}
-use Rattle.mqb_seats.specs.declared.packets.Pumped.{Pumped}
+use Rattle.mqb_turns.specs.mqb_seats.Lasting.{Lasts}
+use Rattle.mqb_turns.specs.mqb_seats.lemmas.Keeping.{lasts_same, lasts_then}
+use Rattle.mqb_turns.specs.mqb_seats.Called.{failure_of, how_by}
+use Rattle.mqb_turns.specs.mqb_seats.declared.packets.Pumped.{Pumped}
 use Rattle.mqb_traffic.specs.Networks.{connections_of, note_of, notes_of}
 use Rattle.mqb_traffic.specs.States.{TrafficState}
 use Rattle.mqb_traffic.specs.declared.notes.Link.{Link}

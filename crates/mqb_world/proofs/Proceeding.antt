@@ -23,7 +23,7 @@ use Rattle.mqb_runs.specs.Events.{event_of}
 use Rattle.mqb_script.specs.declared.events.Event.{Event}
 use Rattle.mqb_script.specs.declared.events.Event.TheVariants as event
 use Rattle.mqb_script.specs.declared.managers.Which.{Which}
-use Rattle.mqb_seats.specs.Called.{failure_of, how_by}
+use Rattle.mqb_turns.specs.mqb_seats.Called.{failure_of, how_by}
 use Rattle.mqb_session.specs.State.{State}
 use Rattle.mqb_traffic.specs.Networks.{index_of}
 use Rattle.mqb_traffic.specs.declared.notes.Link.{Link}

@@ -11,14 +11,14 @@ use Rattle.mqb_model.specs.declared.faults.PumpFault.{PumpFault}
 use Rattle.mqb_model.specs.declared.faults.PumpFault.TheVariants as pumps
 use Rattle.mqb_network.specs.Choices.{Failed, Failure, Stopped}
 use Rattle.mqb_network.specs.Replies as network
-use Rattle.mqb_replies.proofs.Definitions.{tells_of_disk}
-use Rattle.mqb_replies.proofs.Faulted.{tells_no_disk}
-use Rattle.mqb_replies.specs.Replies.{checkpoint_reply}
-use Rattle.mqb_replies.specs.Requests.{reply_of}
-use Rattle.mqb_replies.specs.declared.faults.AnswerFault.{AnswerFault}
+use Rattle.mqb_turns.proofs.mqb_seats.mqb_replies.Definitions.{tells_of_disk}
+use Rattle.mqb_turns.proofs.mqb_seats.mqb_replies.Faulted.{tells_no_disk}
+use Rattle.mqb_turns.specs.mqb_seats.mqb_replies.Replies.{checkpoint_reply}
+use Rattle.mqb_turns.specs.mqb_seats.mqb_replies.Requests.{reply_of}
+use Rattle.mqb_turns.specs.mqb_seats.mqb_replies.declared.faults.AnswerFault.{AnswerFault}
 use Rattle.mqb_script.specs.declared.events.Event.{Event}
-use Rattle.mqb_seats.specs.Called.{failure_of, how_by}
-use Rattle.mqb_seats.specs.Pumped.{pump_fault_reply}
+use Rattle.mqb_turns.specs.mqb_seats.Called.{failure_of, how_by}
+use Rattle.mqb_turns.specs.mqb_seats.Pumped.{pump_fault_reply}
 use Rattle.mqb_transcript.specs.declared.replies.Reply.{Reply}
 use Rattle.mqb_transcript.specs.declared.replies.Reply.TheVariants as reply
 use Rattle.mqb_turns.specs.Replies.{connected_reply, told}

@@ -3,7 +3,7 @@ use Rattle.std.specs.Prelude.{◌≡◌, Bool, List, map, ℕ}
 use Rattle.mqb_deliveries.specs.Failing.{CutBehind, FailsAs, failures_at}
 use Rattle.mqb_deliveries.specs.Flows.{Flown, sent_behind}
 use Rattle.mqb_outside.specs.Disk.{View}
-use Rattle.mqb_seats.specs.Lasting.{Lasts}
+use Rattle.mqb_turns.specs.mqb_seats.Lasting.{Lasts}
 use Rattle.mqb_network.specs.Courses.{Course}
 use Rattle.mqb_packet.specs.Plain.{plain_spelling}
 use Rattle.mqb_packet.specs.declared.packet.Packet.{Packet}

@@ -1,3 +1,4 @@
+pub use Rattle.mqb_runs.specs as mqb_runs
 pub mod Faults
 pub mod Worlds
 pub mod Making
@@ -10,5 +11,5 @@ pub mod Flowing
 pub use Rattle.mqb_moves.specs.Seats
 pub use Rattle.mqb_moves.specs.lemmas.Restarting
 pub use Rattle.mqb_moves.specs.States
-pub use Rattle.mqb_seats.specs.Lasting
-pub use Rattle.mqb_seats.specs.lemmas.Keeping
+pub use Rattle.mqb_turns.specs.mqb_seats.Lasting
+pub use Rattle.mqb_turns.specs.mqb_seats.lemmas.Keeping

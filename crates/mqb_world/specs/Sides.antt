@@ -5,7 +5,7 @@ use Rattle.mqb_moves.specs.Seats.{SeatState, seated}
 use Rattle.mqb_network.specs.Network.{Network}
 use Rattle.mqb_script.specs.declared.managers.Which.{Which}
 use Rattle.mqb_script.specs.declared.managers.Which.TheVariants.{Alpha, Beta}
-use Rattle.mqb_seats.specs.declared.packets.Pumped.{Pumped}
+use Rattle.mqb_turns.specs.mqb_seats.declared.packets.Pumped.{Pumped}
 use Rattle.mqb_traffic.specs.States.{TrafficState}
 use Rattle.mqb_turns.specs.Sends.{IsSent}
 use Rattle.mqb_turns.specs.Sides.{Side, side}

@@ -7,10 +7,10 @@ ghost use Rattle.mqb_moves.specs.Holding.{StaysStored};
 ghost use Rattle.mqb_moves.specs.Seats.{IsHeldOn, seated};
 ghost use Rattle.mqb_network.specs.Choices.{Well};
 ghost use Rattle.mqb_posts.specs.Posting.{IsWithin};
-ghost use Rattle.mqb_replies.specs.Requests.{seen_request};
+ghost use Rattle.mqb_turns.specs.mqb_seats.mqb_replies.Requests.{seen_request};
 ghost use Rattle.mqb_runs.specs.Events.{event_of};
 ghost use Rattle.mqb_script.specs.Formed.{IsFormed};
-ghost use Rattle.mqb_seats.specs.Lasting.{Lasts};
+ghost use Rattle.mqb_turns.specs.mqb_seats.Lasting.{Lasts};
 ghost use Rattle.mqb_turns.specs.Sides.{network_at, side};
 ghost use Rattle.mqb_turns.specs.Turns.{IsQuiet, IsTurn, answers_to};
 ghost use Rattle.mqb_world.specs.Acting.{IsActed, IsCallOf, IsOf};
@@ -20,12 +20,10 @@ ghost use Rattle.mqb_runs.specs.Requests.{actor, request_of};
 use mqb_base::Memory;
 use mqb_outside::{Medium, Power};
 use mqb_posts::PostFault;
-use mqb_replies::Request;
 use mqb_script::{Event, Which};
-use mqb_seats::Seat;
 use mqb_traffic::Traffic;
 use mqb_transcript::Reply;
-use mqb_turns::{ask, checkpoint, disconnect, drop_packet, pump, resend, restart};
+use mqb_turns::{Request, Seat, ask, checkpoint, disconnect, drop_packet, pump, resend, restart};
 
 /// The manager that acts in an event, or alpha where none does.
 pub(crate) fn actor(event: &Event) -> Which

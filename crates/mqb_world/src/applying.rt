@@ -4,7 +4,7 @@ ghost use Rattle.mqb_deliveries.specs.Steps.{FallsShort};
 ghost use Rattle.mqb_moves.specs.Seats.{IsHeldOn};
 ghost use Rattle.mqb_runs.specs.Events.{event_of};
 ghost use Rattle.mqb_script.specs.Formed.{IsFormed};
-ghost use Rattle.mqb_seats.specs.Lasting.{Lasts};
+ghost use Rattle.mqb_turns.specs.mqb_seats.Lasting.{Lasts};
 ghost use Rattle.mqb_script.specs.declared.events.Event.TheVariants as event;
 ghost use Rattle.mqb_world.specs.Acting.{Happens, HappensAmong, IsOf, ShortAmong};
 ghost use Rattle.mqb_world.specs.Disks.{StaysAsLeft, SwitchGoes, switching};
@@ -19,9 +19,9 @@ use mqb_base::Memory;
 use mqb_outside::{Medium, Power};
 use mqb_posts::PostFault;
 use mqb_script::{Event, Which};
-use mqb_seats::Seat;
 use mqb_traffic::Traffic;
 use mqb_transcript::Reply;
+use mqb_turns::Seat;
 
 /// An event of one manager alone, or of none.
 fn act_alone<P: Power, M: Medium>(

@@ -16,7 +16,7 @@ ghost use Rattle.mqb_posts.specs.Posting.{IsWithin};
 ghost use Rattle.mqb_runs.specs.Events.{event_of, window_of};
 ghost use Rattle.mqb_script.specs.Managers as managers;
 ghost use Rattle.mqb_script.specs.declared.events.Event.TheVariants as event;
-ghost use Rattle.mqb_seats.specs.Lasting.{Lasts};
+ghost use Rattle.mqb_turns.specs.mqb_seats.Lasting.{Lasts};
 ghost use Rattle.mqb_traffic.specs.Networks.{index_of};
 ghost use Rattle.mqb_turns.specs.Counts.{counts_with};
 ghost use Rattle.mqb_turns.specs.Sides.{network_at, side};
@@ -29,9 +29,9 @@ use mqb_network::moves_are_events;
 use mqb_outside::{Medium, Power};
 use mqb_posts::PostFault;
 use mqb_script::Which;
-use mqb_seats::Seat;
 use mqb_traffic::Traffic;
 use mqb_transcript::Reply;
+use mqb_turns::Seat;
 
 /// A manager asks the other one, which waits to be asked, and a connection begins.
 fn link_pair(

@@ -6,7 +6,7 @@ ghost use Rattle.mqb_moves.specs.Seats.{IsHeldOn};
 ghost use Rattle.mqb_packet.specs.Plain.{plain_spelling};
 ghost use Rattle.mqb_packet.specs.declared.packet.Packet.{Packet};
 ghost use Rattle.mqb_posts.specs.Packets.{ArePackets, AreWritable};
-ghost use Rattle.mqb_seats.specs.Lasting.{Lasts};
+ghost use Rattle.mqb_turns.specs.mqb_seats.Lasting.{Lasts};
 ghost use Rattle.mqb_traffic.specs.Networks.{notes_of};
 ghost use Rattle.mqb_turns.specs.Counts.{counts_with};
 ghost use Rattle.mqb_world.specs.Sides.{network_in};
@@ -15,10 +15,9 @@ use mqb_base::Memory;
 use mqb_outside::{Medium, Power};
 use mqb_posts::packet_at;
 use mqb_script::Which;
-use mqb_seats::Seat;
 use mqb_traffic::Traffic;
 use mqb_transcript::{Outcome, Reply};
-use mqb_turns::pass;
+use mqb_turns::{Seat, pass};
 
 /// What became of a packet is the reply, where it was delivered alone.
 pub(crate) fn outcome_reply(outcome: Outcome) -> Reply

@@ -6,7 +6,7 @@ ghost use Rattle.mqb_moves.specs.Seats.{IsHeldOn};
 ghost use Rattle.mqb_network.specs.Events as event;
 ghost use Rattle.mqb_posts.specs.Packets.{ArePackets};
 ghost use Rattle.mqb_posts.specs.Posting.{IsWithin};
-ghost use Rattle.mqb_seats.specs.Lasting.{Lasts};
+ghost use Rattle.mqb_turns.specs.mqb_seats.Lasting.{Lasts};
 ghost use Rattle.mqb_traffic.specs.Networks.{index_of, notes_of};
 ghost use Rattle.mqb_turns.specs.Counts.{counts_with};
 ghost use Rattle.mqb_turns.specs.Sends.{ComesShort, pump_at};
@@ -19,10 +19,9 @@ use mqb_model::refusals_change_nothing;
 use mqb_outside::{Medium, Power};
 use mqb_posts::PostFault;
 use mqb_script::Which;
-use mqb_seats::{Pumped, Seat};
 use mqb_traffic::Traffic;
 use mqb_transcript::{Arrival, Listed, Reply};
-use mqb_turns::{failure_reply, send_out};
+use mqb_turns::{Pumped, Seat, failure_reply, send_out};
 
 /// The packets of a manager go.
 fn send<P: Power, M: Medium>(

@@ -15,4 +15,5 @@ mod world;
 
 pub use faults::WorldFault;
 pub use identities::hosts;
+pub use mqb_runs::runs_keep_guarantees;
 pub use world::World;

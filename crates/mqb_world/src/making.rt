@@ -16,7 +16,7 @@ use mqb_base::Identity;
 use mqb_model::AddPeerFault;
 use mqb_moves::{Manager, OpenFault};
 use mqb_outside::Power;
-use mqb_seats::Seat;
+use mqb_turns::Seat;
 use std::alloc::Global;
 
 /// Finds that a disk has no bytes.

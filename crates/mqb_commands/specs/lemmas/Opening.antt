@@ -1,9 +1,9 @@
 -- From the disk before a store was opened to the disk behind what its manager did.
 use Rattle.std.proofs.Common.{◌≡◌, ◌∙◌, List, [], inl, inr, refl, subst, sym, ℕ}
 use Rattle.mqb_outside.specs.Disk.{View}
-use Rattle.mqb_manager.specs.Keeping.{KeepsDisk}
-use Rattle.mqb_manager.specs.lemmas.Keeping.{keeping_goes_on}
-use Rattle.mqb_manager.specs.States.{ManagerState}
+use Rattle.mqb_answers.specs.mqb_manager.Keeping.{KeepsDisk}
+use Rattle.mqb_answers.specs.mqb_manager.lemmas.Keeping.{keeping_goes_on}
+use Rattle.mqb_answers.specs.mqb_manager.States.{ManagerState}
 use Rattle.mqb_store_laws.specs.lemmas.Settling.{on_settled, settled_still}
 use Rattle.mqb_store_laws.specs.Settling.{OnlySettles}
 use Rattle.mqb_commands.specs.Opened.{IsNotOpened, OnStore, OpensAs}

@@ -28,7 +28,7 @@ use Rattle.mqb_packet.specs.declared.packet.Packet.{Packet}
 use Rattle.mqb_posts.specs.Posting.{IsWithin}
 use Rattle.mqb_queue.specs.Places.{numbered}
 use Rattle.mqb_script.specs.declared.managers.Which.{Which}
-use Rattle.mqb_seats.specs.Called.{failure_of, how_by}
+use Rattle.mqb_turns.specs.mqb_seats.Called.{failure_of, how_by}
 use Rattle.mqb_transcript.specs.declared.arrivals.Outcome.{Outcome}
 use Rattle.mqb_transcript.specs.declared.arrivals.Outcome.TheVariants as outcome
 use Rattle.mqb_transcript.specs.declared.replies.Reply.TheVariants as reply

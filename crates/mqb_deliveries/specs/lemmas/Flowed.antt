@@ -34,11 +34,11 @@ use Rattle.mqb_posts.specs.declared.faults.PostFault.TheVariants as post
 use Rattle.mqb_queue.specs.Places.{numbered}
 use Rattle.mqb_script.specs.declared.managers.Which.{Which}
 use Rattle.mqb_script.specs.declared.managers.Which.TheVariants.{Alpha, Beta}
-use Rattle.mqb_seats.specs.Called.{failure_of}
-use Rattle.mqb_seats.specs.Pumped.{IsRefused, pump_fault_reply}
-use Rattle.mqb_seats.specs.declared.called.Failure.{Failure as HowItFailed}
-use Rattle.mqb_seats.specs.declared.packets.Pumped.{Pumped}
-use Rattle.mqb_seats.specs.declared.packets.Pumped.TheVariants.{Broke, Refused, Went}
+use Rattle.mqb_turns.specs.mqb_seats.Called.{failure_of}
+use Rattle.mqb_turns.specs.mqb_seats.Pumped.{IsRefused, pump_fault_reply}
+use Rattle.mqb_turns.specs.mqb_seats.declared.called.Failure.{Failure as HowItFailed}
+use Rattle.mqb_turns.specs.mqb_seats.declared.packets.Pumped.{Pumped}
+use Rattle.mqb_turns.specs.mqb_seats.declared.packets.Pumped.TheVariants.{Broke, Refused, Went}
 use Rattle.mqb_traffic.specs.Networks.{index_of}
 use Rattle.mqb_transcript.specs.declared.arrivals.Arrival.{Arrival}
 use Rattle.mqb_transcript.specs.declared.replies.Reply.{Reply}

@@ -18,8 +18,8 @@ use Rattle.mqb_model.specs.records.Record.{Record}
 use Rattle.mqb_model.specs.declared.limits.TheConstants.{FIRST_EXPRESS}
 use Rattle.mqb_model.specs.state.Durable.{durable, durable_places, durable_plain}
 use Rattle.mqb_model.specs.state.State.{State}
-use Rattle.mqb_store_laws.specs.lemmas.Carrying.{on_beside}
-use Rattle.mqb_store_laws.specs.Images.{IsOn}
+use Rattle.mqb_store.specs.mqb_store_laws.lemmas.Carrying.{on_beside}
+use Rattle.mqb_store.specs.mqb_store_laws.Images.{IsOn}
 use Rattle.mqb_manager.specs.Calls.{Ends, IsCall, Succeeds}
 use Rattle.mqb_manager.specs.Checkpoints.{EndsCheckpoint, IsCheckpoint}
 use Rattle.mqb_manager.specs.States.{IsUp, ManagerState, condition_of, manager_of}

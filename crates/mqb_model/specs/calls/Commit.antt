@@ -7,7 +7,7 @@ use Rattle.mqb_base.specs.declared.draft.Op.TheVariants as asked
 use Rattle.mqb_base.specs.declared.message.Lane.TheVariants as lane
 use Rattle.mqb_base.specs.declared.message.Message.{Message}
 use Rattle.mqb_base.specs.declared.queues.EntryPlace.TheVariants as place
-use Rattle.mqb_fields.specs.Reading.{◌>>=◌}
+use Rattle.mqb_packet.specs.mqb_fields.Reading.{◌>>=◌}
 use Rattle.mqb_orders.specs.Rows.{Row}
 use Rattle.mqb_packet.specs.declared.packet.Headers.TheVariants as headers
 use Rattle.mqb_queue.specs.First.{first_index, is_free}

@@ -1,7 +1,7 @@
 -- What records tell of that were read, or that a call made.
 use Rattle.std.specs.Prelude.{All}
 use Rattle.mqb_base.specs.declared.message.Message.{Message}
-use Rattle.mqb_names.specs.Values.{IsName}
+use Rattle.mqb_packet.specs.mqb_names.Values.{IsName}
 use Rattle.mqb_packet.specs.declared.packet.Headers.TheVariants as headers
 use Rattle.mqb_model.specs.records.Commit.{sends_of}
 use Rattle.mqb_model.specs.records.Record as entry

@@ -4,7 +4,7 @@ use Rattle.mqb_base.specs.Same.{same_guid}
 use Rattle.mqb_base.specs.declared.message.Delivery.{Delivery}
 use Rattle.mqb_base.specs.declared.message.Delivery.TheVariants as delivery
 use Rattle.mqb_base.specs.declared.message.Message.{Message}
-use Rattle.mqb_heads.specs.declared.base.TheConstants.{MAX_PACKET}
+use Rattle.mqb_packet.specs.mqb_heads.declared.base.TheConstants.{MAX_PACKET}
 use Rattle.mqb_packet.specs.Plain.{message_size}
 use Rattle.mqb_packet.specs.declared.packet.Headers.{Headers}
 use Rattle.mqb_packet.specs.declared.packet.UserPacket.{UserPacket}

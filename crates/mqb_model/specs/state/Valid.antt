@@ -9,7 +9,7 @@ use Rattle.mqb_base.specs.declared.ids.Identity.{Identity}
 use Rattle.mqb_base.specs.declared.message.Message.{Message}
 use Rattle.mqb_fate.specs.Asking.{is_transactional}
 use Rattle.mqb_fate.specs.Orders.{is_order_name}
-use Rattle.mqb_names.specs.Values.{IsName, IsQueueName}
+use Rattle.mqb_packet.specs.mqb_names.Values.{IsName, IsQueueName}
 use Rattle.mqb_orders.specs.KeptLists.{Rises}
 use Rattle.mqb_orders.specs.Rows.{Row}
 use Rattle.mqb_orders.specs.declared.kept.Kept.{Kept}

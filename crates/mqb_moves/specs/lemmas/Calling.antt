@@ -16,7 +16,7 @@ use Rattle.mqb_model.specs.records.Record.{Record}
 use Rattle.mqb_network.specs.Choices.{Failure}
 use Rattle.mqb_manager.specs.Calls.{Ends, FailsUnder, IsCall, Succeeds}
 use Rattle.mqb_manager.specs.States.{IsUp, ManagerState, manager_of}
-use Rattle.mqb_store_laws.specs.Images.{Opens}
+use Rattle.mqb_network.specs.mqb_store_laws.Images.{Opens}
 use Rattle.mqb_moves.specs.Moves.{IsMove}
 use Rattle.mqb_moves.specs.Seats.{SeatState, records_of, seated}
 use Rattle.mqb_moves.specs.Calling.{seat_of, Went}

@@ -13,7 +13,7 @@ use Rattle.mqb_model.specs.managers.Manager.{is_down}
 use Rattle.mqb_model.specs.managers.Outcomes.{Outcome, failed_under, succeeded}
 use Rattle.mqb_model.specs.managers.Valid.{IsValidManager}
 use Rattle.mqb_model.specs.records.Record.{Record}
-use Rattle.mqb_store_laws.specs.Images.{Opens}
+use Rattle.mqb_network.specs.mqb_store_laws.Images.{Opens}
 use Rattle.mqb_network.specs.Choices.{Failure}
 use Rattle.mqb_network.specs.lemmas.Checkpointing.{never_failed, refused_down, unrecorded}
 use Rattle.mqb_manager.specs.Calls.{Succeeds}

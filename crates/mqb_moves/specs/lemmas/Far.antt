@@ -14,7 +14,7 @@ use Rattle.mqb_journal.specs.Store.{IsSmall, chain, framed}
 use Rattle.mqb_model.specs.declared.limits.TheConstants.{MAX_RECORD}
 use Rattle.mqb_model.specs.state.State.{State}
 use Rattle.mqb_network.specs.Checkpointing.{may_be_far}
-use Rattle.mqb_store_laws.specs.Images.{IsOn}
+use Rattle.mqb_network.specs.mqb_store_laws.Images.{IsOn}
 
 -- records are no longer than they may be
 chain_length : (records : List (List ℕ)) → All IsSmall records → length (chain records) ≤ length records * (5 + MAX_RECORD)

@@ -27,11 +27,11 @@ use Rattle.mqb_plain.specs.Lists.{unmarked, unsent}
 use Rattle.mqb_plain.specs.Plain.{PlainLists}
 use Rattle.mqb_plain.specs.declared.outgoing.Outgoing.{Outgoing}
 use Rattle.mqb_queue.specs.Places.{Queue}
-use Rattle.mqb_store_laws.specs.lemmas.Carrying.{opens_now}
-use Rattle.mqb_store_laws.specs.Images.{HasLastLines, Opens, OpensTo, begins_as, last_lines, of_guid, records_in, state_at, state_by, state_in}
-use Rattle.mqb_store_laws.specs.Faults.{IsBadStore}
-use Rattle.mqb_store_laws.specs.Laws.{ImagesOpenToOne, OpenedIsNotBad}
-use Rattle.mqb_store_laws.specs.Settling.{OnlySettles}
+use Rattle.mqb_network.specs.mqb_store_laws.lemmas.Carrying.{opens_now}
+use Rattle.mqb_network.specs.mqb_store_laws.Images.{HasLastLines, Opens, OpensTo, begins_as, last_lines, of_guid, records_in, state_at, state_by, state_in}
+use Rattle.mqb_network.specs.mqb_store_laws.Faults.{IsBadStore}
+use Rattle.mqb_network.specs.mqb_store_laws.Laws.{ImagesOpenToOne, OpenedIsNotBad}
+use Rattle.mqb_network.specs.mqb_store_laws.Settling.{OnlySettles}
 use Rattle.mqb_manager.specs.States.{IsOnDisk, IsUp, ManagerState, manager_of}
 use Rattle.mqb_moves.specs.Calling.{seat_of}
 use Rattle.mqb_moves.specs.lemmas.Calling.{not_up_of}

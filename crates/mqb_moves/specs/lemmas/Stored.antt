@@ -8,8 +8,8 @@ use Rattle.mqb_model.specs.managers.Manager.{Manager, is_down}
 use Rattle.mqb_model.specs.managers.Outcomes.{Outcome, recorded}
 use Rattle.mqb_model.specs.records.Record.{Record}
 use Rattle.mqb_model.specs.state.Durable.{durable}
-use Rattle.mqb_store_laws.specs.lemmas.Carrying.{on_beside, on_told}
-use Rattle.mqb_store_laws.specs.Images.{IsOn}
+use Rattle.mqb_network.specs.mqb_store_laws.lemmas.Carrying.{on_beside, on_told}
+use Rattle.mqb_network.specs.mqb_store_laws.Images.{IsOn}
 use Rattle.mqb_manager.specs.Calls.{Succeeds}
 use Rattle.mqb_manager.specs.States.{ManagerState, manager_of}
 use Rattle.mqb_moves.specs.Calling.{seat_of}

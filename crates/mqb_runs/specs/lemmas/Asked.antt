@@ -5,7 +5,7 @@ use Rattle.std.specs.Prelude.{IsSome}
 use Rattle.mqb_model.specs.calls.Call.{Request}
 use Rattle.mqb_network.specs.Events as network
 use Rattle.mqb_script.specs.declared.events.Event.{Event}
-use Rattle.mqb_traffic.specs.Networks.{index_of}
+use Rattle.mqb_turns.specs.mqb_traffic.Networks.{index_of}
 use Rattle.mqb_runs.specs.Events.{apart, event_of}
 use Rattle.mqb_runs.specs.Requests.{actor, request_of}
 

@@ -7,7 +7,7 @@ use Rattle.mqb_network.specs.Choices.{Choice}
 use Rattle.mqb_network.specs.Courses.{Course}
 use Rattle.mqb_network.specs.Replies as network
 use Rattle.mqb_network.specs.Runs.{IsRunFrom, Move, answer, beginning, course_after, may, moved_on, replies_from}
-use Rattle.mqb_replies.specs.declared.faults.AnswerFault.{AnswerFault}
+use Rattle.mqb_turns.specs.mqb_replies.declared.faults.AnswerFault.{AnswerFault}
 use Rattle.mqb_runs.specs.Events.{event_of}
 use Rattle.mqb_runs.specs.Hosts.{hosts}
 use Rattle.mqb_runs.specs.Runs.{IsRunOf, Played, course_of, lines_of, move_of, moves_of}

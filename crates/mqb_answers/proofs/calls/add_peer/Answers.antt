@@ -3,7 +3,7 @@ use Rattle.mqb_answers.proofs.Peers.{peer_done, peer_telling}
 use Rattle.mqb_answers.proofs.Telling.{is_told}
 use Rattle.mqb_answers.proofs.calls.add_peer.Goals as goal
 use Rattle.mqb_answers.specs.Told.{peer_told}
-use Rattle.mqb_manager.specs.States.{manager_of}
+use Rattle.mqb_replies.specs.mqb_manager.States.{manager_of}
 use Rattle.mqb_model.specs.calls.AddPeer.{add_peer}
 use Rattle.mqb_model.specs.declared.faults.AddPeerFault.TheVariants as fault
 

@@ -2,9 +2,9 @@ use Rattle.std.proofs.Common.{◌≡◌, List, [], ap, inl, inr, subst, sym, ◌
 use Rattle.std.specs.Prelude.{Err, Ok}
 use Rattle.mqb_answers.specs.Calls.{IsTold}
 use Rattle.mqb_answers.specs.Outcomes.{outcome_of}
-use Rattle.mqb_manager.specs.States.{manager_of}
-use Rattle.mqb_replies.specs.declared.faults.AnswerFault.{AnswerFault}
-use Rattle.mqb_replies.specs.declared.faults.AnswerFault.TheVariants as fault
+use Rattle.mqb_answers.specs.mqb_manager.States.{manager_of}
+use Rattle.mqb_answers.specs.mqb_replies.declared.faults.AnswerFault.{AnswerFault}
+use Rattle.mqb_answers.specs.mqb_replies.declared.faults.AnswerFault.TheVariants as fault
 use Rattle.mqb_commands.specs.Called.{IsAnswered}
 use Rattle.mqb_commands.proofs.Answering.{calls_calm, calls_end, calls_tell, calls_up, is_answered, is_broken, is_not_told, keeps}
 use Rattle.mqb_commands.proofs.Unlinked.{told_unlinked}

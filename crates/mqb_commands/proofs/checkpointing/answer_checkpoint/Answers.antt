@@ -1,6 +1,6 @@
 use Rattle.std.proofs.Common.{ap, inl, inr, refl, sym, subst, ◌∙◌}
 use Rattle.std.specs.Prelude.{[], ◌≡◌, None}
-use Rattle.mqb_manager.specs.lemmas.Keeping.{checkpoints_keep_disks}
+use Rattle.mqb_answers.specs.mqb_manager.lemmas.Keeping.{checkpoints_keep_disks}
 use Rattle.mqb_transcript.specs.Texts.{printed}
 use Rattle.mqb_commands.specs.Outputs.{IsSaid}
 use Rattle.mqb_commands.specs.declared.status.Status.{Status}

@@ -1,6 +1,6 @@
 use Rattle.std.proofs.Common.{◌≡◌, ◌+◌, ◌∷◌, refl, ap, sym, ◌∙◌, subst, arith, length, List}
 use Rattle.mqb_base.specs.Rooms.{WithRooms}
-use Rattle.mqb_model.specs.state.State.{State}
+use Rattle.mqb_contents.specs.mqb_model.state.State.{State}
 use Rattle.mqb_contents.specs.Changes.{AllReady, Can, HasRoom, changed, held, held_back, inverse, lists_after, messages, messages_back, redone, rooms_redone}
 use Rattle.mqb_contents.specs.Rooms.{StateRooms}
 use Rattle.mqb_contents.specs.declared.change.Change.{Change}

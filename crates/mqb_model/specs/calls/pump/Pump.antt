@@ -18,8 +18,8 @@ use Rattle.mqb_session.specs.Phases.{owed_by}
 use Rattle.mqb_session.specs.Sending.{is_ready, is_spent, stamped}
 use Rattle.mqb_session.specs.State as one_end
 use Rattle.mqb_session.specs.declared.heads.Kind.TheVariants as kind
-use Rattle.mqb_setup.specs.declared.internal.Internal.{Internal}
-use Rattle.mqb_setup.specs.declared.internal.Internal.TheVariants as internal
+use Rattle.mqb_packet.specs.mqb_setup.declared.internal.Internal.{Internal}
+use Rattle.mqb_packet.specs.mqb_setup.declared.internal.Internal.TheVariants as internal
 use Rattle.mqb_model.specs.calls.hear.Session.{with_session}
 use Rattle.mqb_model.specs.calls.pump.Candidates.{Candidate, candidates}
 use Rattle.mqb_model.specs.calls.pump.Choosing.{chosen, session_behind, with_heads}

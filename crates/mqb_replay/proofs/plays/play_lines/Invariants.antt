@@ -1,6 +1,6 @@
 use Rattle.std.proofs.Common.{◌≡◌, drop, take}
 use Rattle.std.specs.List.{AllByRecursion}
-use Rattle.mqb_runs.specs.Hosts.{hosts}
+use Rattle.mqb_world.specs.mqb_runs.Hosts.{hosts}
 use Rattle.mqb_script.specs.Formed.{IsFormed}
 use Rattle.mqb_replay.specs.Devices.{devices}
 use Rattle.mqb_replay.specs.Plays.{HasPlayed}

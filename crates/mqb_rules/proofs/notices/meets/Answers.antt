@@ -1,4 +1,4 @@
-use Rattle.mqb_contents.proofs.Grown.{grown_trans}
+use Rattle.mqb_drafts.proofs.mqb_contents.Grown.{grown_trans}
 use Rattle.mqb_rules.proofs.notices.meets.Goals as goal
 
 pub returns-in_err-tell_final-clause-grown : goal.returns-in_err-tell_final-clause-grown

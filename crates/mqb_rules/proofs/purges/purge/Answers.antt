@@ -1,4 +1,4 @@
-use Rattle.mqb_contents.proofs.Grown.{grown_trans}
+use Rattle.mqb_drafts.proofs.mqb_contents.Grown.{grown_trans}
 use Rattle.mqb_rules.proofs.purges.purge.Goals as goal
 
 pub returns-in_err-after_purge-clause-grown : goal.returns-in_err-after_purge-clause-grown

@@ -1,5 +1,5 @@
 use Rattle.std.proofs.Common.{ap, sym, ◌∙◌, arith}
-use Rattle.mqb_contents.proofs.Grown.{grown_trans}
+use Rattle.mqb_drafts.proofs.mqb_contents.Grown.{grown_trans}
 use Rattle.mqb_model.specs.rules.Purges.{oldest_purged}
 use Rattle.mqb_rules.proofs.Loops.{repeated_more}
 use Rattle.mqb_rules.proofs.purges.purged.Goals as goal

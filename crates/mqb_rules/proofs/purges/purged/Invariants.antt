@@ -1,5 +1,5 @@
 use Rattle.std.proofs.Common.{◌≡◌, ◌+◌, ◌*◌, ◌≤◌}
-use Rattle.mqb_contents.specs.Rooms.{IsGrown}
+use Rattle.mqb_drafts.specs.mqb_contents.Rooms.{IsGrown}
 use Rattle.mqb_model.specs.Loops.{repeated}
 use Rattle.mqb_model.specs.rules.Purges.{count_at, oldest_purged}
 use Rattle.mqb_rules.proofs.purges.purged.Given as goal

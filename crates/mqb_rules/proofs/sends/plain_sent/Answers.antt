@@ -1,4 +1,4 @@
-use Rattle.mqb_contents.proofs.Grown.{grown_trans}
+use Rattle.mqb_drafts.proofs.mqb_contents.Grown.{grown_trans}
 use Rattle.mqb_rules.proofs.sends.plain_sent.Goals as goal
 
 pub returns-clause-grown : goal.returns-clause-grown

@@ -1,4 +1,4 @@
-use Rattle.mqb_contents.proofs.Grown.{grown_trans}
+use Rattle.mqb_drafts.proofs.mqb_contents.Grown.{grown_trans}
 use Rattle.mqb_rules.proofs.takes.take.Goals as goal
 
 pub returns-in_err-after_take-clause-grown : goal.returns-in_err-after_take-clause-grown

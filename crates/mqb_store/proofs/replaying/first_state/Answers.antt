@@ -4,7 +4,7 @@ use Rattle.std.specs.Prelude.{Err, false, true, ℕ}
 use Rattle.mqb_base.specs.Rooms.{WithRooms}
 use Rattle.mqb_base.specs.Same.{same_guid}
 use Rattle.mqb_base.specs.declared.ids.Guid.{Guid}
-use Rattle.mqb_contents.specs.Rooms.{StateRooms}
+use Rattle.mqb_snapshot.specs.mqb_contents.Rooms.{StateRooms}
 use Rattle.mqb_outside.specs.Images.{Each}
 use Rattle.mqb_model.specs.records.Reading.{record_of}
 use Rattle.mqb_model.specs.state.State.{State}

@@ -1,6 +1,6 @@
 use Rattle.std.proofs.Common.{◌<◌, ap, ◌∙◌, subst, sym, arith}
 use Rattle.mqb_base.specs.declared.message.Lane.TheVariants as lane
-use Rattle.mqb_tables.specs.Waits.{plain_count}
+use Rattle.mqb_contents.specs.mqb_tables.Waits.{plain_count}
 use Rattle.mqb_contents.proofs.Grown.{grown_trans}
 use Rattle.mqb_model.specs.managers.Beside.{without_acked}
 use Rattle.mqb_model.specs.rules.Effects.{Effect}

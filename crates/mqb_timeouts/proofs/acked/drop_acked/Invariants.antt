@@ -1,7 +1,7 @@
 use Rattle.std.proofs.Common.{◌≡◌, ◌≤◌}
 use Rattle.mqb_base.specs.declared.message.Lane.TheVariants as lane
 use Rattle.mqb_contents.specs.Rooms.{IsGrown}
-use Rattle.mqb_tables.specs.Waits.{plain_count}
+use Rattle.mqb_contents.specs.mqb_tables.Waits.{plain_count}
 use Rattle.mqb_model.specs.managers.Beside.{without_acked}
 use Rattle.mqb_model.specs.state.Places.{with_plain}
 use Rattle.mqb_timeouts.proofs.acked.drop_acked.Given as goal

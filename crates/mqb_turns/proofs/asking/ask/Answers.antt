@@ -1,6 +1,6 @@
 use Rattle.mqb_seats.specs.Seats.{seated}
 use Rattle.mqb_seats.specs.lemmas.Keeping.{lasts_then_stored}
-use Rattle.mqb_replies.specs.Requests.{seen_request}
+use Rattle.mqb_seats.specs.mqb_replies.Requests.{seen_request}
 use Rattle.mqb_turns.proofs.Turning.{call_turn, if_ok}
 use Rattle.mqb_turns.proofs.asking.ask.Goals as goal
 

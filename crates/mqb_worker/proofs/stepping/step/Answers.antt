@@ -2,7 +2,7 @@ use Rattle.std.proofs.Common.{◌≡◌, IfSome, Option, ap, subst, sym, ◌∙�
 use Rattle.mqb_base.specs.Messages.{IsWellFormed}
 use Rattle.mqb_base.specs.declared.message.Message.{Message}
 use Rattle.mqb_model.specs.state.State.{State}
-use Rattle.mqb_manager.specs.States.{manager_of}
+use Rattle.mqb_replies.specs.mqb_manager.States.{manager_of}
 use Rattle.mqb_worker.proofs.Calls.{call_refused, call_tells, is_made, stepped_works, wants_ops}
 use Rattle.mqb_worker.proofs.Formed.{waiting_is_formed}
 use Rattle.mqb_worker.proofs.stepping.step.Goals as goal

@@ -1,5 +1,5 @@
 use Rattle.mqb_moves.specs.lemmas.Stored.{same_stores}
-use Rattle.mqb_seats.specs.lemmas.Keeping.{lasts_held, lasts_same, lasts_stored}
+use Rattle.mqb_turns.specs.mqb_seats.lemmas.Keeping.{lasts_held, lasts_same, lasts_stored}
 use Rattle.mqb_turns.specs.Sides.{side}
 use Rattle.mqb_world.proofs.Actions.{acted_as, call_acted, call_left, call_switch, checkpoint_is, disconnect_acted, if_ok, is_call, ok_is_full, pump_acted, pump_is, resend_acted, resend_is, restart_is, rewrite_acted, start_acted}
 use Rattle.mqb_world.proofs.acting.act.Goals as goal

@@ -1,7 +1,7 @@
 use Rattle.std.proofs.Common.{Some, ap, sym, subst, ◌∙◌}
 use Rattle.std.specs.Option.{option_map}
 use Rattle.mqb_network.specs.Events.{Event}
-use Rattle.mqb_replies.specs.Requests.{seen_request}
+use Rattle.mqb_turns.specs.mqb_seats.mqb_replies.Requests.{seen_request}
 use Rattle.mqb_turns.specs.Sides.{side}
 use Rattle.mqb_turns.specs.Turns.{IsTurn, answers_to}
 use Rattle.mqb_world.proofs.Actions.{asks_so, if_ok}

@@ -1,6 +1,6 @@
 use Rattle.std.proofs.Common.{subst}
 use Rattle.mqb_script.specs.declared.managers.Which.TheVariants.{Alpha, Beta}
-use Rattle.mqb_seats.specs.lemmas.Keeping.{lasts_stored}
+use Rattle.mqb_turns.specs.mqb_seats.lemmas.Keeping.{lasts_stored}
 use Rattle.mqb_world.proofs.Actions.{if_ok}
 use Rattle.mqb_world.proofs.Happening.{alpha_happens, beta_happens, left_stays, switch_stays}
 use Rattle.mqb_world.specs.Acting.{IsOf}

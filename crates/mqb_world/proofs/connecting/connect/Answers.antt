@@ -6,7 +6,7 @@ use Rattle.mqb_network.specs.Courses.{course_from}
 use Rattle.mqb_network.specs.Network.{Network}
 use Rattle.mqb_runs.specs.Events.{window_of}
 use Rattle.mqb_script.specs.Managers.{other}
-use Rattle.mqb_seats.specs.lemmas.Keeping.{stored_then_lasts}
+use Rattle.mqb_turns.specs.mqb_seats.lemmas.Keeping.{stored_then_lasts}
 use Rattle.mqb_traffic.specs.Networks.{index_of}
 use Rattle.mqb_world.proofs.Joined.{connected_short, connected_so, none_linked, ok_of, up_so}
 use Rattle.mqb_world.proofs.Proceeding.{known_so, unlinked_so}

@@ -5,7 +5,7 @@ use Rattle.mqb_deliveries.specs.Courses.{ComesTo}
 use Rattle.mqb_deliveries.specs.Steps.{IsShort}
 use Rattle.mqb_network.specs.Courses.{course_from}
 use Rattle.mqb_packet.specs.Plain.{plain_spelling}
-use Rattle.mqb_seats.specs.lemmas.Keeping.{lasts_then}
+use Rattle.mqb_turns.specs.mqb_seats.lemmas.Keeping.{lasts_then}
 use Rattle.mqb_script.specs.Managers.{other}
 use Rattle.mqb_script.specs.declared.managers.Which.{Which}
 use Rattle.mqb_traffic.specs.Networks.{index_of}

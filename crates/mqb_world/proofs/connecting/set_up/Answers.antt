@@ -1,4 +1,4 @@
-use Rattle.mqb_seats.specs.lemmas.Keeping.{lasts_then}
+use Rattle.mqb_turns.specs.mqb_seats.lemmas.Keeping.{lasts_then}
 use Rattle.mqb_deliveries.specs.lemmas.Coming.{comes_then, exchange_joined, short_then}
 use Rattle.mqb_network.specs.Connecting.{exchanged}
 use Rattle.mqb_network.specs.Courses.{course_from}

@@ -1,7 +1,7 @@
 use Rattle.std.proofs.Common.{◌≡◌, ap, false, true, sym, ◌∙◌, rules}
 use Rattle.mqb_deliveries.specs.lemmas.Delivered.{disk_fails, never_underway}
 use Rattle.mqb_moves.specs.Seats.{seated}
-use Rattle.mqb_seats.specs.lemmas.Keeping.{lasts_same, lasts_stored}
+use Rattle.mqb_turns.specs.mqb_seats.lemmas.Keeping.{lasts_same, lasts_stored}
 use Rattle.mqb_script.specs.declared.managers.Which.TheVariants.{Alpha, Beta}
 use Rattle.mqb_traffic.specs.Networks.{connections_of, note_of, notes_of}
 use Rattle.mqb_turns.specs.Sides.{side}

@@ -1,5 +1,5 @@
 use Rattle.std.proofs.Common.{◌≡◌, ap, arith}
-use Rattle.mqb_seats.specs.lemmas.Keeping.{lasts_then}
+use Rattle.mqb_turns.specs.mqb_seats.lemmas.Keeping.{lasts_then}
 use Rattle.mqb_world.proofs.Flowing.{flows_first, flows_last, flows_next, never_missing}
 use Rattle.mqb_world.specs.Sides.{world}
 use Rattle.mqb_world.proofs.flows.deliver_all.Goals as goal

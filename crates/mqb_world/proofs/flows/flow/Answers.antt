@@ -3,9 +3,9 @@ use Rattle.mqb_deliveries.specs.Failing.{FailsAs, failures_in}
 use Rattle.mqb_deliveries.specs.Steps.{FallsShort}
 use Rattle.mqb_network.specs.Events.{Flow}
 use Rattle.mqb_posts.specs.declared.faults.PostFault.TheVariants as post
-use Rattle.mqb_seats.specs.declared.packets.Pumped.TheVariants.{Broke, Refused, Went}
+use Rattle.mqb_turns.specs.mqb_seats.declared.packets.Pumped.TheVariants.{Broke, Refused, Went}
 use Rattle.mqb_traffic.specs.Networks.{index_of, notes_of}
-use Rattle.mqb_seats.specs.lemmas.Keeping.{lasts_then}
+use Rattle.mqb_turns.specs.mqb_seats.lemmas.Keeping.{lasts_then}
 use Rattle.mqb_world.proofs.Flowed.{broke_alpha, broke_beta, broke_for_each, broke_told, flow_short_as, refused_alpha, refused_beta, refused_flow, refused_for_each, sent_as, went_alpha, went_beta, went_flow, went_for_each, went_front, went_length, went_packets}
 use Rattle.mqb_world.proofs.Flowing.{notes_stay}
 use Rattle.mqb_world.specs.Sides.{world}

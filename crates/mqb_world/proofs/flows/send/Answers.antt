@@ -1,5 +1,5 @@
 use Rattle.mqb_script.specs.declared.managers.Which.TheVariants.{Alpha, Beta}
-use Rattle.mqb_seats.specs.lemmas.Keeping.{lasts_stored}
+use Rattle.mqb_turns.specs.mqb_seats.lemmas.Keeping.{lasts_stored}
 use Rattle.mqb_world.proofs.Flowing.{sent_alpha, sent_beta, short_by}
 use Rattle.mqb_world.specs.Sides.{world}
 use Rattle.mqb_world.proofs.flows.send.Goals as goal

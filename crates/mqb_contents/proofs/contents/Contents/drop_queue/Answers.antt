@@ -2,8 +2,8 @@ use Rattle.std.proofs.Common.{◌≡◌, ◌<◌, ◌-◌, length, List, None, O
 use Rattle.std.specs.Option.{option_map_or}
 use Rattle.std.proofs.lemmas.Option.{get_or_from_slice_get, slice_get_within}
 use Rattle.mqb_base.specs.Rooms.{WithRooms}
-use Rattle.mqb_model.specs.declared.limits.TheConstants.{MAX_QUEUES}
-use Rattle.mqb_model.specs.state.State.{State}
+use Rattle.mqb_tables.specs.mqb_model.declared.limits.TheConstants.{MAX_QUEUES}
+use Rattle.mqb_tables.specs.mqb_model.state.State.{State}
 use Rattle.mqb_queue.specs.Places.{PlaceRooms, Places, Queue, QueueRooms, found, new_queue, no_queue_room}
 use Rattle.mqb_contents.specs.Changes.{changed}
 use Rattle.mqb_tables.specs.Ends.{last_else, last_of, without_last}

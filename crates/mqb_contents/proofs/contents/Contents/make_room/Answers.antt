@@ -1,6 +1,6 @@
 use Rattle.std.proofs.Common.{arith, subst}
 use Rattle.mqb_base.specs.Rooms.{WithRooms}
-use Rattle.mqb_model.specs.state.State.{State}
+use Rattle.mqb_tables.specs.mqb_model.state.State.{State}
 use Rattle.mqb_contents.specs.Rooms.{IsGrown, StateRooms}
 use Rattle.mqb_contents.proofs.Grown.{members_refl, places_refl}
 use Rattle.mqb_contents.proofs.contents.Contents.make_room.Goals as goal

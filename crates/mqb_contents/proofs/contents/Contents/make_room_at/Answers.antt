@@ -3,7 +3,7 @@ use Rattle.std.specs.Option.{IsSome}
 use Rattle.mqb_base.specs.Rooms.{WithRooms}
 use Rattle.mqb_base.specs.declared.message.Lane.{Lane}
 use Rattle.mqb_base.specs.declared.queues.EntryPlace.{EntryPlace}
-use Rattle.mqb_model.specs.state.State.{State}
+use Rattle.mqb_tables.specs.mqb_model.state.State.{State}
 use Rattle.mqb_plain.specs.Plain.{room_in}
 use Rattle.mqb_queue.proofs.Changed.{on_ok}
 use Rattle.mqb_queue.specs.Lists as lists

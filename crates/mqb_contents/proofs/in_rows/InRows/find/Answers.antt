@@ -3,7 +3,7 @@ use Rattle.std.specs.List.{position}
 use Rattle.std.specs.Option.{option_map_or}
 use Rattle.std.specs.Prelude.{slice_get}
 use Rattle.mqb_base.specs.Rooms.{WithRooms}
-use Rattle.mqb_model.specs.state.Rows.{is_row_of}
+use Rattle.mqb_tables.specs.mqb_model.state.Rows.{is_row_of}
 use Rattle.mqb_orders.specs.declared.keys.InKey.{InKey}
 use Rattle.mqb_orders.specs.declared.rows.InRow.{InRow}
 use Rattle.mqb_contents.specs.Rooms.{InRooms}

@@ -3,7 +3,7 @@ use Rattle.std.specs.List.{position}
 use Rattle.mqb_base.specs.Rooms.{Room, WithRooms}
 use Rattle.mqb_base.specs.declared.roomed.TheConstants.{MAX_MEMBERS}
 use Rattle.mqb_orders.specs.declared.rows.InRow.{InRow}
-use Rattle.mqb_model.specs.state.Rows.{is_row_of}
+use Rattle.mqb_tables.specs.mqb_model.state.Rows.{is_row_of}
 use Rattle.mqb_tables.proofs.Keyed.{none_from, some_from}
 use Rattle.mqb_contents.specs.Rooms.{InRooms}
 use Rattle.mqb_contents.specs.declared.in_rows.InRows.TheInside.{Inside}

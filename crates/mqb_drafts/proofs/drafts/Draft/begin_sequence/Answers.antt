@@ -2,7 +2,7 @@ use Rattle.std.proofs.Common.{◌≡◌, List, length, sym, ap, ◌∙◌}
 use Rattle.std.proofs.lemmas.List.{length-map}
 use Rattle.mqb_contents.specs.Rows.{with_out}
 use Rattle.mqb_contents.proofs.Grown.{grown_trans}
-use Rattle.mqb_model.specs.rules.Sequences.{new_sequence, with_kept, with_sequence}
+use Rattle.mqb_contents.specs.mqb_model.rules.Sequences.{new_sequence, with_kept, with_sequence}
 use Rattle.mqb_orders.specs.Rows.{Row, row_of}
 use Rattle.mqb_queue.proofs.Changed.{on_ok}
 use Rattle.mqb_drafts.specs.Drafts.{Drafted}

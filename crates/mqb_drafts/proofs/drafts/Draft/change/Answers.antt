@@ -1,5 +1,5 @@
 use Rattle.std.proofs.Common.{◌≡◌, ◌∷◌, List, length, ap, sym, ◌∙◌, subst, refl, arith}
-use Rattle.mqb_model.specs.state.State.{State}
+use Rattle.mqb_contents.specs.mqb_model.state.State.{State}
 use Rattle.mqb_contents.specs.Changes.{Can, inverse, rooms_redone}
 use Rattle.mqb_contents.specs.Rooms.{IsGrown}
 use Rattle.mqb_contents.specs.declared.change.Change.{Change}

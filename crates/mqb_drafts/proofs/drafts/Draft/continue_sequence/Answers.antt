@@ -1,6 +1,6 @@
 use Rattle.mqb_contents.specs.Rows.{with_out}
 use Rattle.mqb_contents.proofs.Grown.{grown_trans}
-use Rattle.mqb_model.specs.rules.Sequences.{with_kept}
+use Rattle.mqb_contents.specs.mqb_model.rules.Sequences.{with_kept}
 use Rattle.mqb_queue.proofs.Changed.{on_ok}
 use Rattle.mqb_drafts.specs.Rows.{committing, keeping_last}
 use Rattle.mqb_drafts.proofs.Outs.{kept_next, two_steps}

@@ -1,7 +1,7 @@
 use Rattle.std.proofs.Common.{◌≡◌, ◌<◌, length, ap, ◌∙◌, subst}
 use Rattle.std.specs.Prelude.{slice_get}
-use Rattle.mqb_model.specs.rules.Effects.{without_line}
-use Rattle.mqb_model.specs.rules.Sequences.{sequence_in_use}
+use Rattle.mqb_contents.specs.mqb_model.rules.Effects.{without_line}
+use Rattle.mqb_contents.specs.mqb_model.rules.Sequences.{sequence_in_use}
 use Rattle.mqb_queue.proofs.Changed.{on_ok}
 use Rattle.mqb_drafts.specs.Drafts.{Drafted}
 use Rattle.mqb_drafts.proofs.Outs.{joined}

@@ -1,7 +1,7 @@
 use Rattle.std.proofs.Common.{◌≡◌, subst}
 use Rattle.std.specs.Option.{IsSomeAnd}
 use Rattle.std.specs.Prelude.{slice_get}
-use Rattle.mqb_tables.specs.Waits.{plain_count}
+use Rattle.mqb_contents.specs.mqb_tables.Waits.{plain_count}
 use Rattle.mqb_plain.specs.Lists.{InOrder}
 use Rattle.mqb_plain.specs.Plain.{outgoing_in}
 use Rattle.mqb_drafts.specs.Drafts.{Drafted}

@@ -1,7 +1,7 @@
 use Rattle.std.proofs.Common.{List, sym, ap, ◌∙◌, refl, arith}
 use Rattle.mqb_base.specs.declared.ledger.Line.{Line}
 use Rattle.mqb_contents.proofs.Grown.{grown_refl, grown_trans}
-use Rattle.mqb_model.specs.state.State.{State}
+use Rattle.mqb_contents.specs.mqb_model.state.State.{State}
 use Rattle.mqb_drafts.proofs.Releasing.{none_leaves, stays_none, within_stays}
 use Rattle.mqb_drafts.proofs.drafts.Draft.release.Goals as goal
 

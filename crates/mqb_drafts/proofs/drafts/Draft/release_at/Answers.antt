@@ -3,7 +3,7 @@ use Rattle.std.specs.Option.{IsSomeAnd}
 use Rattle.std.specs.Prelude.{slice_get}
 use Rattle.std.proofs.lemmas.Option.{slice_get_within}
 use Rattle.mqb_contents.specs.Rows.{kept_count, with_out}
-use Rattle.mqb_model.specs.rules.Effects.{Effect}
+use Rattle.mqb_contents.specs.mqb_model.rules.Effects.{Effect}
 use Rattle.mqb_orders.specs.Rows.{Row, row_of}
 use Rattle.mqb_drafts.specs.Drafts.{Drafted}
 use Rattle.mqb_drafts.specs.Rows.{StaysBefore, releasing}

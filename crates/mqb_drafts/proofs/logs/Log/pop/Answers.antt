@@ -1,9 +1,9 @@
 use Rattle.std.proofs.Common.{◌≡◌, List, ◌∷◌, [], reverse, sym, ap, ◌∙◌}
 use Rattle.std.proofs.lemmas.List.{reverse-append}
 use Rattle.mqb_base.specs.Rooms.{Room}
-use Rattle.mqb_tables.specs.Ends.{without_last}
+use Rattle.mqb_contents.specs.mqb_tables.Ends.{without_last}
 use Rattle.mqb_contents.specs.declared.change.Change.{Change}
-use Rattle.mqb_tables.proofs.Members.{without_last_pushed}
+use Rattle.mqb_contents.proofs.mqb_tables.Members.{without_last_pushed}
 use Rattle.mqb_drafts.proofs.logs.Log.pop.Goals as goal
 
 pub returns : goal.returns

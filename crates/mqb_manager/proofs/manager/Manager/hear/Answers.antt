@@ -3,7 +3,7 @@ use Rattle.std.proofs.lemmas.Result.{err_from_is_err_and}
 use Rattle.std.specs.Prelude.{IfSome, OnOk, Result}
 use Rattle.mqb_base.specs.Rooms.{WithRooms}
 use Rattle.mqb_base.specs.declared.heard.Heard.{Heard}
-use Rattle.mqb_contents.specs.Rooms.{StateRooms}
+use Rattle.mqb_choosing.specs.mqb_contents.Rooms.{StateRooms}
 use Rattle.mqb_hearing.specs.Plans.{IsAsHeard, whole_of}
 use Rattle.mqb_outside.specs.Disk.{Counted}
 use Rattle.mqb_model.specs.calls.hear.Hear.{hear}

@@ -1,7 +1,7 @@
 use Rattle.std.proofs.Common.{◌≡◌, ap, sym, ◌∙◌}
 use Rattle.std.specs.Prelude.{option_copied}
 use Rattle.mqb_base.specs.Rooms.{WithRooms}
-use Rattle.mqb_contents.specs.Rooms.{StateRooms}
+use Rattle.mqb_choosing.specs.mqb_contents.Rooms.{StateRooms}
 use Rattle.mqb_outside.specs.Disk.{Counted}
 use Rattle.mqb_store.specs.Work.{beside_of}
 use Rattle.mqb_store.specs.Writing.{change_in}

@@ -5,7 +5,7 @@ use Rattle.mqb_model.specs.managers.Manager.{unlinked}
 use Rattle.mqb_model.specs.managers.Valid.{IsValidManager}
 use Rattle.mqb_model.specs.state.State.{State}
 use Rattle.mqb_store.specs.States.{StoreState}
-use Rattle.mqb_store_laws.specs.Images.{HasLastLines, OpensTo}
+use Rattle.mqb_store.specs.mqb_store_laws.Images.{HasLastLines, OpensTo}
 use Rattle.mqb_manager.proofs.manager.Manager.start.Goals as goal
 
 pub unlinked-requires-clause-valid : goal.unlinked-requires-clause-valid

@@ -2,7 +2,7 @@ use Rattle.std.proofs.Common.{◌≡◌, subst}
 use Rattle.std.specs.Option.{IsSomeAnd}
 use Rattle.std.specs.Prelude.{slice_get}
 use Rattle.mqb_base.specs.declared.message.Lane.TheVariants.{Durable}
-use Rattle.mqb_tables.specs.Waits.{plain_count}
+use Rattle.mqb_contents.specs.mqb_tables.Waits.{plain_count}
 use Rattle.mqb_plain.specs.Lists.{InOrder}
 use Rattle.mqb_snapshot.specs.Parts.{Parts}
 use Rattle.mqb_read_back.proofs.Waiting.{can_wait}

@@ -3,7 +3,7 @@ use Rattle.std.specs.Prelude.{true}
 use Rattle.mqb_base.specs.Rooms.{WithRooms}
 use Rattle.mqb_base.specs.Same.{same_guid}
 use Rattle.mqb_base.specs.declared.ids.Guid.{Guid}
-use Rattle.mqb_contents.specs.Rooms.{StateRooms}
+use Rattle.mqb_snapshot.specs.mqb_contents.Rooms.{StateRooms}
 use Rattle.mqb_journal.specs.States.{JournalState}
 use Rattle.mqb_model.specs.records.Reading.{record_of}
 use Rattle.mqb_model.specs.state.State.{State}

@@ -1,5 +1,5 @@
 use Rattle.std.proofs.Common.{length}
-use Rattle.mqb_queue.proofs.Changed.{on_ok}
+use Rattle.mqb_model.proofs.mqb_queue.Changed.{on_ok}
 use Rattle.mqb_plain.specs.Plain.{outgoing_in, room_in}
 use Rattle.mqb_tables.specs.Seen.{lists_of, rooms_of}
 use Rattle.mqb_tables.proofs.Lens.{grown, left, stays}

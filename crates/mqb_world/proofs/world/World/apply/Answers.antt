@@ -1,5 +1,5 @@
 use Rattle.std.proofs.Common.{subst}
-use Rattle.mqb_seats.specs.Lasting.{Lasts}
+use Rattle.mqb_turns.specs.mqb_seats.Lasting.{Lasts}
 use Rattle.mqb_world.proofs.Answering.{err_applied, ok_applied, ordered_so}
 use Rattle.mqb_world.specs.Sides.{world}
 use Rattle.mqb_world.specs.Worlds.{WorldState}
