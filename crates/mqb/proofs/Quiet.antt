@@ -13,6 +13,7 @@ use Rattle.mqb_commands.specs.Said.{Inits, Lists, Makes}
 use Rattle.mqb_connections.specs.Causes.{IsProbeEnd, NetFaultHasCause}
 use Rattle.mqb_outside.specs.Disk.{View}
 use Rattle.mqb_commands.specs.Shown.{Shows}
+use Rattle.mqb_commands.specs.lemmas.Taking.{told_is}
 use Rattle.mqb_commands.specs.Outputs.{IsFaultLine, IsPlain, ReadFaultHasCause, Tells}
 use Rattle.mqb_commands.specs.declared.status.Status.{Status}
 use Rattle.mqb_commands.specs.declared.status.Status.TheVariants as status
@@ -37,12 +38,6 @@ quiet_plain (status.Peer why) quiet = tt
 quiet_plain status.NetFull quiet = tt
 quiet_plain status.Memory quiet = tt
 quiet_plain status.Refused quiet = tt
-
--- what holds of the end that is told, and of a write fault, holds of the end of the program
-pub told_is : (P : Status → Type 0) (text : List ℕ) (end : Status) (before after : Option (List ℕ)) (r : Status) → Tells text end before after r
-    → P end → P status.WriteFault → P r
-told_is P text end before after r (inl told) well cut = subst P (sym told.0) well
-told_is P text end before after r (inr told) well cut = subst P (sym told.0) cut
 
 -- Each command that makes one answer.
 

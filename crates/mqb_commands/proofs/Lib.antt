@@ -1,6 +1,6 @@
 pub mod Failing
 pub mod Answering
-mod Checkpointed
+pub mod Checkpointed
 pub mod TextLines
 pub mod Going
 pub mod Inputs

@@ -10,10 +10,11 @@ use Rattle.mqb_serving.specs.Serving.{Answer, is_disk_fault}
 use Rattle.mqb_serving.specs.declared.faults.ConnFault.TheVariants as fault
 use Rattle.mqb_serving.specs.declared.purpose.Errand.{Errand}
 use Rattle.mqb_commands.specs.Outputs.{GoesOn, IsPlain, Tells, WriteFaultHasCause}
+use Rattle.mqb_commands.specs.lemmas.Taking.{told_is}
 use Rattle.mqb_commands.specs.declared.status.Status.{Status}
 use Rattle.mqb_commands.specs.declared.status.Status.TheVariants as status
-use Rattle.mqb_connections.proofs.Unopened.{unopened_disk, unopened_faultless, unopened_net, unopened_net_end}
-use Rattle.mqb_connections.specs.Causes.{IsNetEnd, NetFaultHasCause, is_lost}
+use Rattle.mqb_connections.proofs.Unopened.{unopened_faultless, unopened_net}
+use Rattle.mqb_connections.specs.Causes.{IsLinkEnd, NetFaultHasCause, is_lost}
 use Rattle.mqb_connections.specs.Reached.{CompletesReach, IsOpenedOnly, ReachesAt, ReachesStore, TellsReach, index_of_host}
 use Rattle.mqb_connections.specs.Served.{Nets}
 use Rattle.mqb_connections.specs.Statuses.{IsFaultless, reach_status}
@@ -83,17 +84,12 @@ module _ (why : Errand) (named : Option (List ℕ)) (steady : Option ℕ) (fault
 
 -- How the program ends by what is told.
 
-tells_as : (P : Status → Type 0) (text : List ℕ) (end : Status) (before after : Option (List ℕ)) (r : Status) → P end → P status.WriteFault
-    → Tells text end before after r → P r
-tells_as P text end before after r ended failed (inl told) = subst P (sym told.0) ended
-tells_as P text end before after r ended failed (inr told) = subst P (sym told.0) failed
-
 by_line : (P : Status → Type 0) (text : List ℕ) (end : Status) (before after : Option (List ℕ)) (r : Status) → P end → P status.WriteFault → P status.Memory
     → Tells text end before after r ⊎ ((r ≡ status.Memory) × (after ≡ before)) → P r
-by_line P text end before after r ended failed none (inl told) = tells_as P text end before after r ended failed told
+by_line P text end before after r ended failed none (inl told) = told_is P text end before after r told ended failed
 by_line P text end before after r ended failed none (inr told) = subst P (sym told.0) none
 
-reach_as : (P : Status → Type 0) (end : Answer) (before after : Option (List ℕ)) (r : Status) → P (reach_status end) → P status.WriteFault → P status.Memory
+pub reach_as : (P : Status → Type 0) (end : Answer) (before after : Option (List ℕ)) (r : Status) → P (reach_status end) → P status.WriteFault → P status.Memory
     → TellsReach end before after r → P r
 reach_as P (Ok done) before after r ended failed none told = by_line P (end_line 1 (Ok done)) status.Done before after r ended failed none told
 reach_as P (Err (fault.Peer why)) before after r ended failed none told =
@@ -107,7 +103,7 @@ reach_as P (Err fault.Memory) before after r ended failed none told = subst P (s
 
 -- Each fault has its cause.
 
-disk_of : (a b : ℕ) (end : Answer) → FaultsAsSaid is_disk_fault a b end → DiskFaultHasCause a b (reach_status end)
+pub disk_of : (a b : ℕ) (end : Answer) → FaultsAsSaid is_disk_fault a b end → DiskFaultHasCause a b (reach_status end)
 disk_of a b (Err (fault.Peer why)) said = tt
 disk_of a b (Err fault.DiskFault) said = said
 disk_of a b end said = tt
@@ -118,7 +114,7 @@ net_of given a b (Err fault.ReadFault) said = inr said
 net_of given a b (Err fault.WriteFault) said = inr said
 net_of given a b end said = tt
 
-end_of : (end : Answer) → IsNetEnd (reach_status end)
+pub end_of : (end : Answer) → IsLinkEnd (reach_status end)
 end_of (Ok done) = tt
 end_of (Err (fault.Peer why)) = tt
 end_of end = tt
@@ -128,24 +124,17 @@ module _ (why : Errand) (named : Option (List ℕ)) (steady : Option ℕ) (kept 
   reached_as : (P : Status → Type 0) (o : Option ℕ) → ReachesAt why named o steady kept faults faults_now m n net before after r
       → P status.Refused → P status.WriteFault → P status.Memory → (Rose net.faults net.faults_now → P status.NetFault)
       → ((end : Answer) → FaultsAsSaid is_disk_fault faults faults_now end → FaultsAsSaid is_lost net.lost net.lost_now end → P (reach_status end)) → P r
-  reached_as P None none refused failed memory given ended = tells_as P (codes "nopeer\n") status.Refused before after r refused failed none.told
+  reached_as P None none refused failed memory given ended = told_is P (codes "nopeer\n") status.Refused before after r none.told refused failed
   reached_as P (Some peer) (inl un) refused failed memory given ended =
-      tells_as P (codes "connection 1: netfault\n") status.NetFault before after r (given un.faults) failed un.told
+      told_is P (codes "connection 1: netfault\n") status.NetFault before after r un.told (given un.faults) failed
   reached_as P (Some peer) (inr over) refused failed memory given ended =
       reach_as P over.end before after r (ended over.end over.disk_faults over.lost) failed memory over.told
 
-  -- Each end has its cause.
-
-  pub reached_disk : (o : Option ℕ) → ReachesAt why named o steady kept faults faults_now m n net before after r → DiskFaultHasCause faults faults_now r
-  reached_disk o reaches = reached_as (DiskFaultHasCause faults faults_now) o reaches tt tt tt (λ rose. tt) (λ end disk lost. disk_of faults faults_now end disk)
-
+  -- A net fault has its cause.
   pub reached_net : (o : Option ℕ) → ReachesAt why named o steady kept faults faults_now m n net before after r
       → NetFaultHasCause (Rose net.faults net.faults_now ⊎ Rose net.lost net.lost_now) r
   reached_net o reaches = reached_as (NetFaultHasCause (Rose net.faults net.faults_now ⊎ Rose net.lost net.lost_now)) o reaches tt tt tt (λ rose. inl rose)
       (λ end disk lost. net_of (Rose net.faults net.faults_now) net.lost net.lost_now end lost)
-
-  pub reached_ends : (o : Option ℕ) → ReachesAt why named o steady kept faults faults_now m n net before after r → IsNetEnd r
-  reached_ends o reaches = reached_as IsNetEnd o reaches tt tt tt (λ rose. tt) (λ end disk lost. end_of end)
 
 -- Where no device failed, the program ends with no fault.
 
@@ -167,17 +156,9 @@ module _ (why : Errand) (named : Option (List ℕ)) (host : List ℕ) (steady : 
   abbrev peer_of : ManagerState → Option ℕ
   peer_of m = index_of_host m.store.state.peers host
 
-  pub store_disk : ReachesStore why named host steady d e net before after r → DiskFaultHasCause d.faults e.faults r
-  store_disk (inl p) = reached_disk why named steady (IsOpenedOnly d e) d.faults e.faults p.before p.after net before after r (peer_of p.before) p.done
-  store_disk (inr p) = unopened_disk d e r p.0.0
-
   pub store_net : ReachesStore why named host steady d e net before after r → NetFaultHasCause (Rose net.faults net.faults_now ⊎ Rose net.lost net.lost_now) r
   store_net (inl p) = reached_net why named steady (IsOpenedOnly d e) d.faults e.faults p.before p.after net before after r (peer_of p.before) p.done
   store_net (inr p) = unopened_net (Rose net.faults net.faults_now ⊎ Rose net.lost net.lost_now) d e r p.0.0
-
-  pub store_ends : ReachesStore why named host steady d e net before after r → IsNetEnd r
-  store_ends (inl p) = reached_ends why named steady (IsOpenedOnly d e) d.faults e.faults p.before p.after net before after r (peer_of p.before) p.done
-  store_ends (inr p) = unopened_net_end d e r p.0.0
 
   pub reach_completes : (writes writes_now : ℕ) → ReachesStore why named host steady d e net before after r → WriteFaultHasCause writes writes_now r
       → CompletesReach d e net writes writes_now r

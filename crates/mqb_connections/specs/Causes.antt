@@ -37,3 +37,14 @@ IsNetEnd status.TooManyLines = ⊥
 IsNetEnd status.ReadFault = ⊥
 IsNetEnd status.NetFull = ⊥
 IsNetEnd _ = Unit {0}
+
+-- a manager that is open ends so, which has no store to open
+abbrev pub IsLinkEnd : Status → Type 0
+IsLinkEnd status.Done = Unit {0}
+IsLinkEnd status.WriteFault = Unit {0}
+IsLinkEnd status.DiskFault = Unit {0}
+IsLinkEnd status.NetFault = Unit {0}
+IsLinkEnd (status.Peer why) = Unit {0}
+IsLinkEnd status.Memory = Unit {0}
+IsLinkEnd status.Refused = Unit {0}
+IsLinkEnd _ = ⊥

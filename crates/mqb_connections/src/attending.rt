@@ -3,7 +3,7 @@ ghost use Rattle.std.specs.Prelude.{◌≡◌, ◌≢◌, Err, IfErr, IfOk, Matc
 ghost use Rattle.mqb_commands.specs.Causes.{DiskFaultHasCause};
 ghost use Rattle.mqb_commands.specs.Outputs.{GoesOn, WriteFaultHasCause};
 ghost use Rattle.mqb_connections.specs.Asked.{AsksForEach};
-ghost use Rattle.mqb_connections.specs.Causes.{IsNetEnd, NetFaultHasCause};
+ghost use Rattle.mqb_connections.specs.Causes.{IsLinkEnd, IsNetEnd, NetFaultHasCause};
 ghost use Rattle.mqb_connections.specs.Served.{AttendsFrom, Completes, MOST_ATTENDED, ServesPeers, end_of};
 ghost use Rattle.mqb_manager.specs.Keeping.{KeepsDisk};
 ghost use Rattle.mqb_manager.specs.States.{IsOnDisk, IsUp};
@@ -55,7 +55,7 @@ pub fn attend_all<K: Sink, D: Disk, N: Net, C: Clock>(
     ensures clock { C.steady clock.new ≡ C.steady clock.old }
     ensures asked { AsksForEach MOST_ATTENDED (N.finished net.old) (N.finished net.new)
         (C.asked clock.old) (C.asked clock.new) }
-    ensures ends { IfErr result IsNetEnd }
+    ensures ends { IfErr result IsLinkEnd }
 {
     for index in 0..u32::MAX {
         match net.await_peer(seconds) {

@@ -3,7 +3,7 @@ ghost use Rattle.std.specs.Option.{option_or};
 ghost use Rattle.std.specs.Prelude.{◌<◌, ◌≡◌, ◌≢◌, ◌⊎◌, Err, IfOk, IfSome, MatchResult, None, OnErr, Some, length};
 ghost use Rattle.mqb_commands.specs.Causes.{DiskFaultHasCause};
 ghost use Rattle.mqb_connections.specs.Asked.{AsksForEach, RoseBy};
-ghost use Rattle.mqb_connections.specs.Causes.{IsNetEnd, NetFaultHasCause, is_lost};
+ghost use Rattle.mqb_connections.specs.Causes.{IsLinkEnd, IsNetEnd, NetFaultHasCause, is_lost};
 ghost use Rattle.mqb_connections.specs.Reached.{CompletesReach, IsReach, ReachesAt, ReachesOn, ReachesStore, TellsReach, address_at, index_of_host};
 ghost use Rattle.mqb_connections.specs.Statuses.{reach_status};
 ghost use Rattle.mqb_journal.specs.Causes.{FaultsAsSaid};
@@ -196,10 +196,13 @@ fn reach_at<K: Sink, D: Disk, N: Net, C: Clock>(
         K.write_faults out.new ≡ K.write_faults out.old }
     ensures write_faults { WriteFaultHasCause (K.write_faults out.old) (K.write_faults out.new)
         result }
+    ensures disk_faults { DiskFaultHasCause (D.view disk.old).faults (D.view disk.new).faults
+        result }
     ensures unfinished { N.unfinished net.new ≡ N.unfinished net.old }
     ensures clock { C.steady clock.new ≡ C.steady clock.old }
     ensures asked { AsksForEach 1 (N.finished net.old) (N.finished net.new) (C.asked clock.old)
         (C.asked clock.new) }
+    ensures ends { IsLinkEnd result }
 {
     match reach_over(alloc, why, named, peer, manager, disk, net, clock) {
         Ok(end) => tell_reach(alloc, end, out),
@@ -241,10 +244,13 @@ pub fn reach_host<K: Sink, D: Disk, N: Net, C: Clock>(
         K.write_faults out.new ≡ K.write_faults out.old }
     ensures write_faults { WriteFaultHasCause (K.write_faults out.old) (K.write_faults out.new)
         result }
+    ensures disk_faults { DiskFaultHasCause (D.view disk.old).faults (D.view disk.new).faults
+        result }
     ensures unfinished { N.unfinished net.new ≡ N.unfinished net.old }
     ensures clock { C.steady clock.new ≡ C.steady clock.old }
     ensures asked { AsksForEach 1 (N.finished net.old) (N.finished net.new) (C.asked clock.old)
         (C.asked clock.new) }
+    ensures ends { IsLinkEnd result }
 {
     match peer_of_host(manager, host) {
         Some(peer) => reach_at(alloc, why, named, peer, manager, out, disk, net, clock),

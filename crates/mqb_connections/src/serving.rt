@@ -2,7 +2,7 @@
 ghost use Rattle.std.specs.Prelude.{◌≡◌, ◌≢◌, Err, IfErr, IfOk, MatchResult, None, OnErr};
 ghost use Rattle.mqb_commands.specs.Causes.{DiskFaultHasCause};
 ghost use Rattle.mqb_connections.specs.Asked.{AsksForEach, RoseBy};
-ghost use Rattle.mqb_connections.specs.Causes.{IsNetEnd, NetFaultHasCause};
+ghost use Rattle.mqb_connections.specs.Causes.{IsLinkEnd, IsNetEnd, NetFaultHasCause};
 ghost use Rattle.mqb_connections.specs.Served.{Completes, ServesFrom, ServesPeers, end_of};
 ghost use Rattle.mqb_connections.specs.Told.{TellsEnd, TellsNetFault};
 ghost use Rattle.mqb_connections.specs.Visits.{IsNext};
@@ -37,7 +37,7 @@ fn tell_end<K: Sink>(
     ensures write_faults { MatchResult result
         (λ _. K.write_faults out.new ≡ K.write_faults out.old)
         (WriteFaultHasCause (K.write_faults out.old) (K.write_faults out.new)) }
-    ensures ends { IfErr result IsNetEnd }
+    ensures ends { IfErr result IsLinkEnd }
 {
     match end {
         Err(ConnFault::DiskFault) => return Err(Status::DiskFault),
@@ -62,7 +62,7 @@ pub(crate) fn tell_net_fault<K: Sink>(alloc: Global, out: &mut K) -> Status
         K.write_faults out.new ≡ K.write_faults out.old }
     ensures write_faults { WriteFaultHasCause (K.write_faults out.old) (K.write_faults out.new)
         result }
-    ensures ends { IsNetEnd result }
+    ensures ends { IsLinkEnd result }
 {
     let answer = Answer::fault(alloc, Status::NetFault);
     answer.write(out)
@@ -140,7 +140,7 @@ pub(crate) fn serve_and_tell<K: Sink, D: Disk, N: Net, C: Clock>(
     ensures clock { C.steady clock.new ≡ C.steady clock.old }
     ensures asked { AsksForEach 1 (N.finished net.old) (N.finished net.new) (C.asked clock.old)
         (C.asked clock.new) }
-    ensures ends { IfErr result IsNetEnd }
+    ensures ends { IfErr result IsLinkEnd }
 {
     match serve_next(alloc, manager, disk, net, clock) {
         Ok(end) => tell_end(alloc, number, end, out),
@@ -185,7 +185,7 @@ pub fn serve_all<K: Sink, D: Disk, N: Net, C: Clock>(
     ensures clock { C.steady clock.new ≡ C.steady clock.old }
     ensures asked { AsksForEach count (N.finished net.old) (N.finished net.new)
         (C.asked clock.old) (C.asked clock.new) }
-    ensures ends { IfErr result IsNetEnd }
+    ensures ends { IfErr result IsLinkEnd }
 {
     for index in 0..count {
         serve_and_tell(alloc, index + 1, manager, out, disk, net, clock)?;

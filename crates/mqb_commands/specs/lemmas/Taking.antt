@@ -1,12 +1,12 @@
 -- What a sink takes, one text after another.
-use Rattle.std.proofs.Common.{◌≡◌, ℕ, List, [], ◌++◌, take, drop, Option, Some, None, refl, sym, ap, subst, ◌∙◌, append_assoc, append-nil}
+use Rattle.std.proofs.Common.{◌≡◌, ℕ, List, [], ◌++◌, take, drop, Option, Some, None, inl, inr, refl, sym, ap, subst, ◌∙◌, append_assoc, append-nil}
 use Rattle.std.proofs.lemmas.List.{take-append-drop}
 use Rattle.std.specs.Option.{option_map}
 use Rattle.std.specs.Prelude.{Result, Ok, Err, OnOk, OnErr}
 use Rattle.mqb_outside.specs.Told.{Took}
 use Rattle.mqb_commands.specs.declared.status.Status.{Status}
 use Rattle.mqb_commands.specs.declared.status.Status.TheVariants as status
-use Rattle.mqb_commands.specs.Outputs.{TookFront, IsPlain, WriteFaultHasCause}
+use Rattle.mqb_commands.specs.Outputs.{IsPlain, Tells, TookFront, WriteFaultHasCause}
 
 pub took_then : (a b c : Option (List ℕ)) (x y : List ℕ) → Took a b x → Took b c y → Took a c (x ++ y)
 took_then None b c x y first second = second ∙ ap (λ (o : Option (List ℕ)). option_map (λ t. t ++ y) o) first
@@ -72,6 +72,12 @@ on_ok_from (Err e) f p = tt
 pub on_err_from : {T E P Q : Type 0} (r : Result T E) → (P → Q) → OnErr r P → OnErr r Q
 on_err_from (Ok x) f p = tt
 on_err_from (Err e) f p = f p
+
+-- what holds of the end that is told, and of a write fault, holds of the end of the program
+pub told_is : (P : Status → Type 0) (text : List ℕ) (end : Status) (before after : Option (List ℕ)) (r : Status) → Tells text end before after r
+    → P end → P status.WriteFault → P r
+told_is P text end before after r (inl told) well cut = subst P (sym told.0) well
+told_is P text end before after r (inr told) well cut = subst P (sym told.0) cut
 
 -- an end that is no write fault says nothing of the output
 pub plain_cause : (before after : ℕ) (end : Status) → IsPlain end → WriteFaultHasCause before after end

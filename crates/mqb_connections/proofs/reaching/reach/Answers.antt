@@ -1,8 +1,10 @@
-use Rattle.std.proofs.Common.{inl, inr, refl, subst, sym}
+use Rattle.std.proofs.Common.{inl, inr, refl, subst, sym, ℕ}
+use Rattle.mqb_commands.specs.Causes.{DiskFaultHasCause}
 use Rattle.mqb_commands.specs.lemmas.Opening.{on_store}
 use Rattle.mqb_connections.specs.Reached.{IsOpenedOnly, index_of_host}
 use Rattle.mqb_connections.proofs.Asking.{asks_none}
-use Rattle.mqb_connections.proofs.Reaches.{reach_completes, reached_from, store_disk, store_ends, store_net}
+use Rattle.mqb_connections.proofs.Ending.{link_is_net}
+use Rattle.mqb_connections.proofs.Reaches.{reach_completes, reached_from, store_net}
 use Rattle.mqb_connections.proofs.Unopened.{unopened_disk, unopened_faultless, unopened_net, unopened_net_end, unopened_write}
 use Rattle.mqb_connections.proofs.reaching.reach.Goals as goal
 
@@ -22,13 +24,15 @@ returns-clause-complete g c =
     reach_completes _ _ _ _ _ _ _ _ _ _ (g.K.Sink.write_faults c.args.out.now) (g.K.Sink.write_faults c.reach_host-end.new.out) (returns-clause-reaches g c) c.reach_host-end.ensures.write_faults
 
 pub returns-clause-disk_faults : goal.returns-clause-disk_faults
-returns-clause-disk_faults g c = store_disk _ _ _ _ _ _ _ _ _ _ (returns-clause-reaches g c)
+returns-clause-disk_faults g c =
+    subst (λ (k : ℕ). DiskFaultHasCause k (g.D.Disk.view c.reach_host-end.new.disk).faults c.reach_host-end.result) c.in-Ok.ensures.cause
+    c.reach_host-end.ensures.disk_faults
 
 pub returns-clause-net_faults : goal.returns-clause-net_faults
 returns-clause-net_faults g c = store_net _ _ _ _ _ _ _ _ _ _ (returns-clause-reaches g c)
 
 pub returns-clause-ends : goal.returns-clause-ends
-returns-clause-ends g c = store_ends _ _ _ _ _ _ _ _ _ _ (returns-clause-reaches g c)
+returns-clause-ends g c = link_is_net c.reach_host-end.result c.reach_host-end.ensures.ends
 
 pub returns-clause-asked : goal.returns-clause-asked
 returns-clause-asked g c = c.reach_host-end.ensures.asked

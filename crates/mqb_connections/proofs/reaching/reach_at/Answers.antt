@@ -1,6 +1,9 @@
 use Rattle.std.proofs.Common.{inl, inr}
+use Rattle.mqb_commands.specs.Causes.{DiskFaultHasCause}
+use Rattle.mqb_commands.specs.lemmas.Taking.{told_is}
+use Rattle.mqb_connections.specs.Causes.{IsLinkEnd}
 use Rattle.mqb_connections.proofs.Asking.{asks_none, asks_one}
-use Rattle.mqb_connections.proofs.Reaches.{calm_unless, no_disk_fault}
+use Rattle.mqb_connections.proofs.Reaches.{calm_unless, disk_of, end_of, no_disk_fault, reach_as}
 use Rattle.mqb_connections.proofs.reaching.reach_at.Goals as goal
 
 pub returns-in-Ok-clause-reaches : goal.returns-in-Ok-clause-reaches
@@ -28,3 +31,20 @@ returns-in-Ok-clause-up g c goes = c.in-Ok.ensures.up (no_disk_fault c.in-Ok.end
 pub returns-in-Ok-clause-calm : goal.returns-in-Ok-clause-calm
 returns-in-Ok-clause-calm g c goes =
     calm_unless c.in-Ok.end _ _ c.in-Ok.ensures.disk_faults (no_disk_fault c.in-Ok.end _ _ c.tell_reach.result c.tell_reach.ensures.told goes)
+
+pub returns-in-Ok-clause-disk_faults : goal.returns-in-Ok-clause-disk_faults
+returns-in-Ok-clause-disk_faults g c =
+    let before = (g.D.Disk.view c.args.disk.now).faults in
+    let after = (g.D.Disk.view c.reach_over.new.disk).faults in
+    reach_as (DiskFaultHasCause before after) c.in-Ok.end _ _ c.tell_reach.result (disk_of before after c.in-Ok.end c.in-Ok.ensures.disk_faults) tt tt
+    c.tell_reach.ensures.told
+
+pub returns-in-Ok-clause-ends : goal.returns-in-Ok-clause-ends
+returns-in-Ok-clause-ends g c = reach_as IsLinkEnd c.in-Ok.end _ _ c.tell_reach.result (end_of c.in-Ok.end) tt tt c.tell_reach.ensures.told
+
+pub returns-in-Err-clause-disk_faults : goal.returns-in-Err-clause-disk_faults
+returns-in-Err-clause-disk_faults g c =
+    told_is (DiskFaultHasCause (g.D.Disk.view c.args.disk.now).faults (g.D.Disk.view c.reach_over.new.disk).faults) _ _ _ _ c.tell.result c.tell.ensures.told tt tt
+
+pub returns-in-Err-clause-ends : goal.returns-in-Err-clause-ends
+returns-in-Err-clause-ends g c = told_is IsLinkEnd _ _ _ _ c.tell.result c.tell.ensures.told tt tt

@@ -1,4 +1,7 @@
 use Rattle.std.proofs.Common.{◌≡◌, refl, subst, Option, ℕ}
+use Rattle.mqb_commands.specs.Causes.{DiskFaultHasCause}
+use Rattle.mqb_commands.specs.lemmas.Taking.{told_is}
+use Rattle.mqb_connections.specs.Causes.{IsLinkEnd}
 use Rattle.mqb_connections.specs.Reached.{ReachesAt}
 use Rattle.mqb_connections.proofs.Asking.{asks_none}
 use Rattle.mqb_connections.proofs.reaching.reach_host.Goals as goal
@@ -16,3 +19,10 @@ returns-in-Some-clause-reaches g c =
       idle = g.N.Net.idle c.args.net.now;
       idle_now = g.N.Net.idle c.reach_at.new.net;
     }) (g.K.Sink.taken c.args.out.now) (g.K.Sink.taken c.reach_at.new.out) c.reach_at.result) c.in-Some.ensures.index c.reach_at.ensures.reaches
+
+pub returns-in-None-clause-disk_faults : goal.returns-in-None-clause-disk_faults
+returns-in-None-clause-disk_faults g c =
+    told_is (DiskFaultHasCause (g.D.Disk.view c.args.disk.now).faults (g.D.Disk.view c.args.disk.now).faults) _ _ _ _ c.tell.result c.tell.ensures.told tt tt
+
+pub returns-in-None-clause-ends : goal.returns-in-None-clause-ends
+returns-in-None-clause-ends g c = told_is IsLinkEnd _ _ _ _ c.tell.result c.tell.ensures.told tt tt

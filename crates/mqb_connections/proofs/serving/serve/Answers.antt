@@ -1,6 +1,7 @@
 use Rattle.std.proofs.Common.{inl, inr, refl}
 use Rattle.mqb_connections.proofs.Asking.{asks_none}
 use Rattle.mqb_connections.proofs.Completing.{served_completes}
+use Rattle.mqb_connections.proofs.Ending.{link_is_net}
 use Rattle.mqb_connections.proofs.Storing.{store_served}
 use Rattle.mqb_connections.proofs.Unopened.{unopened_completes, unopened_disk, unopened_net, unopened_net_end, unopened_write}
 use Rattle.mqb_connections.proofs.serving.serve.Goals as goal
@@ -58,4 +59,4 @@ pub returns-in-Err-served-clause-net_faults : goal.returns-in-Err-served-clause-
 returns-in-Err-served-clause-net_faults g c = c.in-Err-served.ensures.net_faults
 
 pub returns-in-Err-served-clause-ends : goal.returns-in-Err-served-clause-ends
-returns-in-Err-served-clause-ends g c = c.in-Err-served.ensures.ends
+returns-in-Err-served-clause-ends g c = link_is_net c.in-Err-served.status c.in-Err-served.ensures.ends
