@@ -36,6 +36,7 @@ use Rattle.mqb_orders.specs.declared.kept.Kept.{Kept}
 use Rattle.mqb_history.specs.Begun.{AreBegunInOrder}
 use Rattle.mqb_history.specs.Decided.{written_of}
 use Rattle.mqb_history.specs.Expired.{expiries_told}
+use Rattle.mqb_history.specs.Leading.{RowsAreLed}
 use Rattle.mqb_history.specs.Laws.{AlwaysBegunInOrder}
 use Rattle.mqb_history.specs.Made.{IsMade}
 use Rattle.mqb_history.specs.Waiting.{AreWaiting, IsInRow}
@@ -397,6 +398,10 @@ rolling_by_records = record {
 
 peer_is : (j k : ℕ) → AtPeer j ≡ AtPeer k → j ≡ k
 peer_is j k e = cc
+
+pub rows_are_led : RowsAreLed
+rows_are_led known ms apart run kept i row inside = let s = (manager_at (settled kept (after_run known ms)).network i).state in
+    all_in (λ (y : Row). resolved s y.destination ≡ AtPeer y.peer) s.outs row (always_by_records AreRolling rolling_by_records known ms apart run kept i).led inside
 
 pub always_begun_in_order : AlwaysBegunInOrder
 always_begun_in_order known ms apart run kept = of_course (settled kept (after_run known ms)) (always_by_records AreRolling rolling_by_records known ms apart run kept) (always_waiting known ms apart run kept)

@@ -12,6 +12,7 @@ use Rattle.mqb_model.specs.state.State.{State}
 use Rattle.mqb_network.specs.Courses.{Course, Written}
 use Rattle.mqb_network.specs.Laws.{Always}
 use Rattle.mqb_network.specs.Network.{Network, manager_at}
+use Rattle.mqb_orders.specs.Rows.{Row}
 use Rattle.mqb_history.specs.Committed.{commitments_in}
 
 -- In a state the name of a queue leads to a peer, which is this manager of the network.
@@ -42,6 +43,14 @@ pub record IsBetween (n : Network) (stream : Stream) : Type 0 where
 -- Each stream of which the ledger has a Committed line does.
 abbrev pub AreStreamsLed : Course → Type 0
 AreStreamsLed c = (stream : Stream) (number : ℕ) (id : MessageId) → In (line.Committed stream number id) c.network.ledger → IsBetween c.network stream
+
+-- Each outgoing row of a manager leads to the peer to which its destination does.
+abbrev pub AreRowsLed : Course → Type 0
+AreRowsLed c = (i : ℕ) (row : Row) → In row (manager_at c.network i).state.outs → resolved (manager_at c.network i).state row.destination ≡ AtPeer row.peer
+
+-- They do at each point of each run.
+abbrev pub RowsAreLed : Type 0
+RowsAreLed = Always AreRowsLed
 
 -- What is committed to a stream leads to a manager of the network.
 abbrev pub CommitmentsLeadToManagers : Type 0

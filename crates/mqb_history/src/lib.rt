@@ -20,7 +20,7 @@ ghost use Rattle.mqb_history.specs.Pumps.{NotesTellPumps};
 ghost use Rattle.mqb_history.specs.Sent.{AlwaysSentRightly};
 ghost use Rattle.mqb_history.specs.Traced.{TakenIsAsked};
 ghost use Rattle.mqb_history.specs.Choosing.{RepliesShowChoices, RunsAreShown};
-ghost use Rattle.mqb_history.specs.Leading.{CommitmentsLeadToManagers};
+ghost use Rattle.mqb_history.specs.Leading.{CommitmentsLeadToManagers, RowsAreLed};
 ghost use Rattle.mqb_history.specs.Links.{LinksAreBefore};
 ghost use Rattle.mqb_history.specs.Drafted.{AlwaysValid};
 
@@ -295,6 +295,11 @@ pub fn commitments_lead_to_managers()
 {
     ledger_is_written();
 }
+
+/// Each outgoing row leads to the peer to which its destination does.
+pub fn rows_are_led()
+    ensures { RowsAreLed }
+{}
 
 /// Each outgoing row keeps its stream as the ledger tells it, so the number to which a packet links is the greatest one below
 /// its own that was committed and did not expire, or 0.
