@@ -32,7 +32,7 @@ neither true b e = absurd (let no : ⊥ = cc in no)
 neither false b e = (refl, e)
 
 -- no row owes an acknowledgement
-none_owing : (peer : Guid) (rows : List InRow) (n : ℕ) → filter_map (owed_to peer) (enumerate_from n (zip rows (replicate (length rows) false))) ≡ []
+pub none_owing : (peer : Guid) (rows : List InRow) (n : ℕ) → filter_map (owed_to peer) (enumerate_from n (zip rows (replicate (length rows) false))) ≡ []
 none_owing peer [] n = refl
 none_owing peer (r ∷ rows) n = none_owing peer rows (n + 1)
 

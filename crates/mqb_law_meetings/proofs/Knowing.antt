@@ -38,7 +38,7 @@ unmet : (a a' b b' : Identity) → a ≡ a' → b ≡ b' → is_met a b ≡ fals
 unmet a a' b b' e f h = subst (λ z. same_guid z.guid b'.guid ≡ false) e (subst (λ z. same_guid a.guid z.guid ≡ false) f
     (first_of_two (same_guid a.guid b.guid) (same_ignoring_case a.host b.host) h))
 
-apart_guids : (known : List Identity) (i j : ℕ) (a b : Identity) → AreApart known → slice_get known i ≡ Some a → slice_get known j ≡ Some b
+pub apart_guids : (known : List Identity) (i j : ℕ) (a b : Identity) → AreApart known → slice_get known i ≡ Some a → slice_get known j ≡ Some b
     → (i ≡ j → ⊥) → same_guid b.guid a.guid ≡ false
 apart_guids known i j a b apart x y differ = at (nat_lt i j) refl
   where
@@ -81,7 +81,7 @@ other_is_peer own (p ∷ ps) (suc j) other e apart = at (same_guid p.guid own) (
 
 -- In an orderly course.
 
-if_there : {X : Type 0} (P : X → Type 0) (o : Option X) (x : X) → o ≡ Some x → IfSome o P → P x
+pub if_there : {X : Type 0} (P : X → Type 0) (o : Option X) (x : X) → o ≡ Some x → IfSome o P → P x
 if_there P o x e h = subst (λ y. IfSome y P) e h
 
 module _ (known : List Identity) (apart : AreApart known) (c : Course) (o : IsOrderly known c) (i j : ℕ) (in_i : i < length known) (in_j : j < length known) (differ : i ≡ j → ⊥) where

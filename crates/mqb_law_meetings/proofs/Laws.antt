@@ -105,7 +105,7 @@ module _ (c : Course) (a b now window_a window_b : ℕ) (s t : State) (h : ArePa
 -- Courses of runs are orderly.
 
 module _ (orderly : HistoriesAreOrderly) (histories : RunsHaveHistories) where
-  run_is_orderly : (known : List Identity) (ms : List Move) → AreApart known → IsRun known ms → IsOrderly known (after_run known ms)
+  pub run_is_orderly : (known : List Identity) (ms : List Move) → AreApart known → IsRun known ms → IsOrderly known (after_run known ms)
   run_is_orderly known ms apart run = let h = (histories known ms apart run (λ i. false)).0 in subst (IsOrderly known) h.2 (orderly known h.0 apart h.1)
 
   pub starts_leave_alone : StartsLeaveAlone

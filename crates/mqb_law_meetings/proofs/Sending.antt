@@ -20,7 +20,7 @@ use Rattle.mqb_law_meetings.proofs.Setting.{grown_once, linked_with}
 
 -- No record in doubt is kept: the course is as it was.
 
-settled_none : (c : Course) (is : List ℕ) → fold (settled_at (λ i. false)) c is ≡ c
+pub settled_none : (c : Course) (is : List ℕ) → fold (settled_at (λ i. false)) c is ≡ c
 settled_none c [] = refl
 settled_none c (i ∷ is) = ap (λ (z : Course). fold (settled_at (λ j. false)) z is) (same (is_none (doubt_of (manager_at c.network i).condition))) ∙ settled_none c is
   where

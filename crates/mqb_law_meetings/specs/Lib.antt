@@ -3,3 +3,4 @@ pub mod Drained
 pub mod Laws
 pub mod Work
 pub mod Worked
+pub mod Recovery

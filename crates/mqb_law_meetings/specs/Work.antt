@@ -1,5 +1,5 @@
 -- How much two managers have to bring to others.
-use Rattle.std.specs.Prelude.{◌*◌, ◌+◌, filter, if◌then◌else◌, length, map, nat_lt, sum, ℕ}
+use Rattle.std.specs.Prelude.{◌*◌, ◌+◌, if◌then◌else◌, map, sum, ℕ}
 use Rattle.mqb_base.specs.declared.message.Message.{Message}
 use Rattle.mqb_fate.specs.Asking.{is_ordinary}
 use Rattle.mqb_law_progress.specs.Progress.{unacknowledged}

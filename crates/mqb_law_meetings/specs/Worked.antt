@@ -1,5 +1,5 @@
 -- Small runs, and their recovery.
-use Rattle.std.specs.Prelude.{[], ◌++◌, ◌∷◌, ◌≡◌, List, codes, map, ℕ}
+use Rattle.std.specs.Prelude.{[], ◌++◌, ◌∷◌, ◌≡◌, List, codes, map, true, ℕ}
 use Rattle.mqb_base.specs.declared.ids.MessageId.{MessageId}
 use Rattle.mqb_model.specs.calls.Call.{Commit}
 use Rattle.mqb_model.specs.runs.Samples.{of_alpha}
@@ -9,7 +9,7 @@ use Rattle.mqb_network.specs.Events as event
 use Rattle.mqb_network.specs.Runs.{IsRunFrom, Move, after_run, course_after}
 use Rattle.mqb_network.specs.Scripts.{a_send, given, one_order, opening, pair, well}
 use Rattle.mqb_network.specs.Worked.{marks_of, queues_of}
-use Rattle.mqb_law_meetings.specs.Drained.{IsDrained}
+use Rattle.mqb_law_meetings.specs.Drained.{IsDrained, has_for}
 use Rattle.mqb_law_meetings.specs.Meetings.{meetings}
 use Rattle.mqb_law_meetings.specs.Work.{met, work}
 
@@ -48,3 +48,14 @@ pub record AreBroughtOver : Type 0 where
   pub commit_lost : IsBroughtOver commit_in_doubt (started Lost Well) 0 [] []
   pub arrival_kept : IsBroughtOver arrival_in_doubt (started Well Kept) 3 (of_alpha 1 ∷ []) ((1 ∷ 1 ∷ 1 ∷ []) ∷ [])
   pub arrival_lost : IsBroughtOver arrival_in_doubt (started Well Lost) 3 (of_alpha 1 ∷ []) ((1 ∷ 1 ∷ 1 ∷ []) ∷ [])
+
+-- one message is committed at a moment that four bytes do not hold
+abbrev pub late_stamp : List Move
+late_stamp = opening (well (event.Asks 0 (Commit 4294967296 (a_send (codes "one") ∷ []))) ∷ [])
+
+-- Behind as many meetings as there is work its sequence is not acknowledged, though the queue has the message.
+pub record StampsMustFit : Type 0 where
+  pub counted : work (behind late_stamp (started Well Well)).network 0 1 ≡ 3
+  pub run : IsRunFrom (after_run pair late_stamp) (started Well Well ++ map well (meetings 0 1 2000 3))
+  pub waits : has_for (met (behind late_stamp (started Well Well)) 0 1 2000).network 0 1 ≡ true
+  pub queue : queues_of (met (behind late_stamp (started Well Well)) 0 1 2000).network 1 ≡ (of_alpha 1 ∷ []) ∷ []

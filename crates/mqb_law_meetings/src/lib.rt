@@ -4,9 +4,13 @@
 #![tactic(auto)]
 
 ghost use Rattle.mqb_law_meetings.specs.Laws.{DrainedMeetInVain, GoodMovesExist, MeetingsBegin, SomethingIsSent, StartsLeaveAlone};
-ghost use Rattle.mqb_law_meetings.specs.Worked.{AreBroughtOver};
+ghost use Rattle.mqb_law_meetings.specs.Recovery.{Recovers};
+ghost use Rattle.mqb_law_meetings.specs.Worked.{AreBroughtOver, StampsMustFit};
 
-use mqb_history::{always_valid, histories_are_orderly, runs_have_histories};
+use mqb_history::{
+    always_machine_invariant, always_stream_invariant, always_valid, commitments_lead_to_managers,
+    histories_are_orderly, links_are_before, rows_are_led, runs_have_histories,
+};
 use mqb_law_progress::something_goes;
 
 /// In each event a good choice may be made: no disk has to fail.
@@ -48,7 +52,26 @@ pub fn drained_meet_in_vain()
     runs_have_histories();
 }
 
+/// Behind any run two managers are started, and meet as often as there is work. Then neither has anything for the other that is not acknowledged.
+pub fn recovers()
+    ensures { Recovers }
+{
+    histories_are_orderly();
+    runs_have_histories();
+    always_valid();
+    always_machine_invariant();
+    always_stream_invariant();
+    commitments_lead_to_managers();
+    links_are_before();
+    rows_are_led();
+}
+
 /// The schedule, worked out: a message is brought over, where a disk stopped under its commit, its offer or its arrival, with the record and without it.
 pub fn some_are_brought_over()
     ensures { AreBroughtOver }
+{}
+
+/// A sequence that began at a moment which four bytes do not hold is never acknowledged, worked out: so the law of recovery asks for stamps that fit.
+pub fn stamps_must_fit()
+    ensures { StampsMustFit }
 {}

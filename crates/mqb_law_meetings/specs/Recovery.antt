@@ -1,0 +1,28 @@
+-- The law of recovery.
+use Rattle.std.specs.Prelude.{◌<◌, ◌≡◌, All, List, length, map, true, ℕ}
+use Rattle.mqb_base.specs.declared.ids.Identity.{Identity}
+use Rattle.mqb_history.specs.Drafted.{AreInOrder, IsDraftedEvent}
+use Rattle.mqb_model.specs.state.State.{State}
+use Rattle.mqb_network.specs.Courses.{Course}
+use Rattle.mqb_network.specs.Network.{manager_at}
+use Rattle.mqb_network.specs.Runs.{IsRun, IsRunFrom, Move, after_run, course_after}
+use Rattle.mqb_law_meetings.specs.Drained.{IsDrained}
+use Rattle.mqb_law_meetings.specs.Meetings.{is_good, starts}
+use Rattle.mqb_law_meetings.specs.Work.{met}
+
+-- These moves start both, and no disk fails in them.
+pub record Starts (c : Course) (ms : List Move) (a b : ℕ) : Type 0 where
+  pub events : map (λ m. m.event) ms ≡ starts a b
+  pub good : All (λ m. is_good m.choice ≡ true) ms
+  pub run : IsRunFrom c ms
+
+-- The stamps of a manager's sequences fit the four bytes in which an acknowledgement spells them.
+abbrev pub AreStamped : State → Type 0
+AreStamped s = All (λ row. row.sequence.stamp < 4294967296) s.outs
+
+-- Behind any run, between each two managers, at any moment: both are started, and meet as often as there is work. Then nothing waits between them.
+abbrev pub Recovers : Type 0
+Recovers = (known : List Identity) (before ms : List Move) (a b now : ℕ) → AreInOrder known → All (λ m. IsDraftedEvent m.event) before → IsRun known before
+    → a < length known → b < length known → (a ≡ b → ⊥) → Starts (after_run known before) ms a b
+    → AreStamped (manager_at (course_after (after_run known before) ms).network a).state → AreStamped (manager_at (course_after (after_run known before) ms).network b).state
+    → IsDrained (met (course_after (after_run known before) ms) a b now).network a b
