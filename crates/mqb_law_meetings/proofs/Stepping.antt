@@ -2,7 +2,6 @@
 use Rattle.std.proofs.Common.{◌≡◌, ℕ, ◌+◌, ◌-◌, ◌<◌, ◌≤◌, ◌⊎◌, inl, inr, true, false, List, [], ◌∷◌, Some, refl, sym, ap, subst, ◌∙◌, arith}
 use Rattle.std.specs.Prelude.{All, Ok, map, slice_get}
 use Rattle.mqb_base.specs.declared.ids.Identity.{Identity}
-use Rattle.mqb_base.specs.declared.ids.SequenceId.{SequenceId}
 use Rattle.mqb_law_progress.specs.Steps.{AreInStep}
 use Rattle.mqb_model.specs.calls.hear.Hear.{hear}
 use Rattle.mqb_model.specs.calls.hear.Session.{HeardOutcome}
@@ -30,7 +29,7 @@ use Rattle.mqb_law_meetings.proofs.Lists.{get_within, within_get}
 use Rattle.mqb_law_meetings.proofs.Members.{all_each, all_there, mapped_at}
 use Rattle.mqb_law_meetings.proofs.Pumping.{core}
 use Rattle.mqb_law_meetings.proofs.Standing.{Stands, behind, flow_one, stands_behind, turned}
-use Rattle.mqb_law_meetings.specs.Recovery.{AreStamped}
+use Rattle.mqb_law_meetings.specs.Recovery.{AreStamped, IsSpelled}
 use Rattle.mqb_law_meetings.proofs.Turns.{AreRaised, Clear, Heard, Hears, IsSettled, IsUnder, OwesNone, Pends, Turn, Way, credit, ordinaries, promise, promised}
 
 -- Sums over both ends.
@@ -77,15 +76,14 @@ still_settled k x n same cursors settled i row c there got leads =
 -- The stamps of sequences stay.
 
 abbrev IsStamped : Row → Type 0
-IsStamped row = row.sequence.stamp < 4294967296
+IsStamped row = IsSpelled row.sequence
 
 core_stamped : (xs ys : List Row) → map core ys ≡ map core xs → All IsStamped xs → All IsStamped ys
 core_stamped xs ys same all = all_each IsStamped ys (λ i row there.
-    let m = mapped_at core xs ys same i row there in subst (λ v. v < 4294967296) (ap (λ (r : Row). r.sequence.stamp) m.2) (all_there IsStamped xs i m.0 all m.1))
+    let m = mapped_at core xs ys same i row there in subst IsSpelled (ap (λ (r : Row). r.sequence) m.2) (all_there IsStamped xs i m.0 all m.1))
 
 raised_stamped : (xs ys : List Row) → AreRaised xs ys → All IsStamped xs → All IsStamped ys
-raised_stamped xs ys raised all = all_each IsStamped ys (λ i row there.
-    let b = raised i row there in subst (λ (v : SequenceId). v.stamp < 4294967296) b.3 (all_there IsStamped xs i b.0 all b.1))
+raised_stamped xs ys raised all = all_each IsStamped ys (λ i row there. let b = raised i row there in subst IsSpelled b.3 (all_there IsStamped xs i b.0 all b.1))
 
 -- Rows of which more is acknowledged are settled.
 pub raised_settled : (l : ℕ) (xs ys : List Row) (cs ds : List ℕ) → AreRaised xs ys → ds ≡ cs → IsSettled l xs cs → IsSettled l ys ds

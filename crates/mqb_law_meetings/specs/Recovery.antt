@@ -1,6 +1,7 @@
 -- The law of recovery.
 use Rattle.std.specs.Prelude.{◌<◌, ◌≡◌, All, List, length, map, true, ℕ}
 use Rattle.mqb_base.specs.declared.ids.Identity.{Identity}
+use Rattle.mqb_base.specs.declared.ids.SequenceId.{SequenceId}
 use Rattle.mqb_history.specs.Drafted.{AreInOrder, IsDraftedEvent}
 use Rattle.mqb_model.specs.state.State.{State}
 use Rattle.mqb_network.specs.Courses.{Course}
@@ -16,9 +17,13 @@ pub record Starts (c : Course) (ms : List Move) (a b : ℕ) : Type 0 where
   pub good : All (λ m. is_good m.choice ≡ true) ms
   pub run : IsRunFrom c ms
 
--- The stamps of a manager's sequences fit the four bytes in which an acknowledgement spells them.
+-- a sequence's stamp fits the four bytes in which an acknowledgement spells it
+abbrev pub IsSpelled : SequenceId → Type 0
+IsSpelled sequence = sequence.stamp < 4294967296
+
+-- The stamps of all sequences of a manager do.
 abbrev pub AreStamped : State → Type 0
-AreStamped s = All (λ row. row.sequence.stamp < 4294967296) s.outs
+AreStamped s = All (λ row. IsSpelled row.sequence) s.outs
 
 -- Behind any run, between each two managers, at any moment: both are started, and meet as often as there is work. Then nothing waits between them.
 abbrev pub Recovers : Type 0
