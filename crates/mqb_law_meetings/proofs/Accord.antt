@@ -1,14 +1,13 @@
 -- What the states of two managers of a run agree on of the rows that lead from one to the other: what is acknowledged was decided, what was decided was offered, and nothing of a later sequence was.
-use Rattle.std.proofs.Common.{◌≡◌, ℕ, zero, suc, ◌+◌, ◌<◌, ◌≤◌, ◌==◌, ◌&&◌, ◌||◌, ◌⊎◌, inl, inr, Bool, true, false, cond, not, nat_lt, List, [], ◌∷◌, ◌++◌, Option, Some, None, refl, sym, ap, subst, ◌∙◌, arith}
-use Rattle.std.proofs.lemmas.Bool.{and_from, and_parts, lt-ltb, ltb-true, true≢false}
+use Rattle.std.proofs.Common.{◌≡◌, ℕ, zero, suc, ◌+◌, ◌<◌, ◌≤◌, ◌==◌, ◌&&◌, ◌||◌, inl, inr, Bool, true, false, cond, not, nat_lt, List, [], ◌∷◌, Some, None, refl, sym, ap, subst, ◌∙◌, arith}
+use Rattle.std.proofs.lemmas.Bool.{and_from, and_parts, ltb-true, true≢false}
 use Rattle.std.proofs.lemmas.Bool.Decides.{nat_tests}
 use Rattle.std.proofs.lemmas.List.Elements.{recursion_from_All}
 use Rattle.std.proofs.lemmas.Option.{slice_get_past}
-use Rattle.std.specs.List.{AllByRecursion, cons_option, list_any, range_with_len}
-use Rattle.std.specs.Prelude.{All, Contains, IfSome, filter_map, length, map, option_and_then, option_map, reverse, slice_get, unwrap_or}
+use Rattle.std.specs.List.{cons_option, list_any, range_with_len}
+use Rattle.std.specs.Prelude.{Contains, filter_map, length, option_and_then, option_map, reverse, slice_get, unwrap_or}
 use Rattle.mqb_base.specs.Same.{same_guid, same_name}
 use Rattle.mqb_base.specs.Sequences.{earlier, same_sequence}
-use Rattle.mqb_base.specs.declared.ids.Guid.{Guid}
 use Rattle.mqb_base.specs.declared.ids.Identity.{Identity}
 use Rattle.mqb_base.specs.declared.ids.MessageId.{MessageId}
 use Rattle.mqb_base.specs.declared.ids.SequenceId.{SequenceId}
@@ -20,7 +19,7 @@ use Rattle.mqb_base.specs.declared.class.Class.{Class}
 use Rattle.mqb_base.specs.declared.queue_names.QueueName.{QueueName}
 use Rattle.mqb_exactly_once.proofs.Members.{In_from_any, any_from_In}
 use Rattle.mqb_exactly_once.proofs.Numbers.{kept_within}
-use Rattle.mqb_exactly_once.proofs.Positions.{earlier_is_not_same, later_else, same_position_is, same_position_refl, same_sequence_is, same_sequence_refl}
+use Rattle.mqb_exactly_once.proofs.Positions.{same_position_is, same_position_refl, same_sequence_is, same_sequence_refl}
 use Rattle.mqb_exactly_once.specs.ExactlyOnce.{Rises}
 use Rattle.mqb_exactly_once.specs.Truths.{MarksStand}
 use Rattle.mqb_exactly_once.specs.Words.{In, is_committed, is_decided, is_expired, kept, last, newest, precedes, same_position}
@@ -33,31 +32,30 @@ use Rattle.mqb_history.specs.Invariants.{HaveStreamInvariants, MachineInvariant,
 use Rattle.mqb_history.specs.Leading.{AreCommitmentsLed, AreRowsLed, IsLed}
 use Rattle.mqb_history.specs.Links.{AreStreamsKept}
 use Rattle.mqb_history.specs.Orderly.{IsItself}
-use Rattle.mqb_history.specs.Shown.{HasMarks, Leads, Shows, channel_of, commitments_to, expiries_to, expiry_to, to_destination}
+use Rattle.mqb_history.specs.Shown.{HasMarks, Shows, channel_of, commitments_to, expiries_to, expiry_to, to_destination}
 use Rattle.mqb_history.specs.Told.{Joined, commitment_told, joined_by}
 use Rattle.mqb_law_progress.specs.Progress.{HasDecided}
 use Rattle.mqb_model.specs.Lists.{first_where}
-use Rattle.mqb_model.specs.declared.target.Target.TheVariants.{AtPeer}
 use Rattle.mqb_model.specs.managers.Manager.{Manager}
 use Rattle.mqb_model.specs.records.Applying.{lines_of}
-use Rattle.mqb_model.specs.state.Resolving.{peer_known, resolved}
+use Rattle.mqb_model.specs.state.Resolving.{peer_known}
 use Rattle.mqb_model.specs.state.Rows.{in_row, is_row_of, stream_of}
 use Rattle.mqb_model.specs.state.State.{State}
 use Rattle.mqb_network.specs.Courses.{Course, Written}
 use Rattle.mqb_network.specs.Laws.{AreApart, lines_written}
-use Rattle.mqb_network.specs.Network.{manager_at, nobody, others}
+use Rattle.mqb_network.specs.Network.{manager_at, nobody}
 use Rattle.mqb_orders.specs.Judging.{decided}
 use Rattle.mqb_orders.specs.KeptLists.{numbers}
 use Rattle.mqb_orders.specs.Rows.{Row}
 use Rattle.mqb_orders.specs.Streams.{expired_of, kept_of, number_committed, number_expired, same_stream}
 use Rattle.mqb_orders.specs.declared.kept.Kept.{Kept}
 use Rattle.mqb_orders.specs.declared.rows.InRow.{InRow}
-use Rattle.mqb_law_meetings.proofs.Chosen.{all_in, chosen_from, chosen_in, filter_in, flat_from, flat_in, in_contains, in_filter, in_got, in_reverse, in_reversed, map_from, map_in, same_name_is}
+use Rattle.mqb_law_meetings.proofs.Chosen.{all_in, chosen_from, chosen_in, filter_in, flat_from, flat_in, in_contains, in_filter, in_reverse, in_reversed, map_from, map_in}
 use Rattle.mqb_law_meetings.proofs.Finishing.{first_in}
 use Rattle.mqb_law_meetings.proofs.HearingRow.{placed_within}
 use Rattle.mqb_law_meetings.proofs.Knowing.{apart_guids, if_there}
 use Rattle.mqb_law_meetings.proofs.Lists.{apart_numbers, equal_numbers, same_guid_is, same_guid_refl, same_number, within_get}
-use Rattle.mqb_law_meetings.proofs.Same.{same_name_refl}
+use Rattle.mqb_law_meetings.proofs.Same.{same_name_is, same_name_refl}
 
 -- A position is of one commitment.
 
@@ -168,8 +166,15 @@ expired_line d (line.Expired stream n id moment) x e = at (same_name stream.dest
   where
     at : (b : Bool) → same_name stream.destination d ≡ b → cond b (Some (record { position = record { sequence = stream.sequence; number = n }; moment = moment })) None ≡ Some x
         → IsExpiredLine d (line.Expired stream n id moment) x
-    at true is f = record { stream = stream; number = n; id = id; moment = moment; line_is = refl; same = is;
-        position_is = let g : record { position = record { sequence = stream.sequence; number = n }; moment = moment } ≡ x = cc in sym (ap (λ (z : Expiry). z.position) g) }
+    at true is f = record {
+      stream = stream;
+      number = n;
+      id = id;
+      moment = moment;
+      line_is = refl;
+      same = is;
+      position_is = let g : record { position = record { sequence = stream.sequence; number = n }; moment = moment } ≡ x = cc in sym (ap (λ (z : Expiry). z.position) g);
+    }
     at false is f = absurd (let none : ⊥ = cc in none)
 expired_line d (line.Committed stream n id) x e = absurd (let none : ⊥ = cc in none)
 expired_line d (line.Put stream n id) x e = absurd (let none : ⊥ = cc in none)
@@ -332,33 +337,63 @@ module _ (known : List Identity) (separate : AreApart known) (c : Course) (inv :
           ∙ any_from_In (λ (x : Commitment). same_position x.position m.position) m (reverse (commitments_to d mine)) (in_reverse (commitments_to d mine) m (chosen_in (to_destination d) mine m m committed
           (ap (λ b. cond b (Some m) None) (ap (λ q. same_name q d) destination ∙ same_name_refl d)))) (same_position_refl m.position)
 
+      -- a line that says that it expired would be among those of the row's stream
+      module _ (x : Expiry) (expired : In x (expiries_to d (lines_written (written_of i c.written)))) (here : x.position ≡ m.position) where
+        abbrev of_source : List Line
+        of_source = lines_written (written_of i c.written)
+
+        from_line : (l : Line) × In l of_source × (expiry_to d l ≡ Some x)
+        from_line = chosen_from (expiry_to d) of_source x expired
+
+        is : IsExpiredLine d from_line.0 x
+        is = expired_line d from_line.0 x from_line.2
+
+        abbrev said : Line
+        said = line.Expired is.stream is.number is.id is.moment
+
+        line_in : In said of_source
+        line_in = subst (λ l. In l of_source) is.line_is from_line.1
+
+        sequence : is.stream.sequence ≡ row.sequence
+        sequence = ap (λ (p : Position). p.sequence) (sym is.position_is ∙ here)
+
+        number : is.number ≡ n.number
+        number = ap (λ (p : Position). p.number) (sym is.position_is ∙ here)
+
+        source : s.identity.guid ≡ is.stream.source
+        source = ap (λ (z : Joined). z.stream.source) (inv.expired_duly i is.stream is.number is.id is.moment line_in).joined
+
+        record_of : (v : Written) × In v (written_of i c.written) × In said (lines_of v.before v.entry)
+        record_of = flat_from (λ (v : Written). lines_of v.before v.entry) (written_of i c.written) said line_in
+
+        everywhere : In said lines
+        everywhere = flat_in (λ (v : Written). lines_of v.before v.entry) c.written record_of.0 said (filter_in (λ (v : Written). v.by == i) c.written record_of.0 record_of.1).0 record_of.2
+
+        alike : same_stream st is.stream ≡ true
+        alike = and_from (same_guid s.identity.guid is.stream.source) (same_name d is.stream.destination && same_sequence row.sequence is.stream.sequence)
+            (subst (λ g. same_guid s.identity.guid g ≡ true) source (same_guid_refl s.identity.guid))
+            (and_from (same_name d is.stream.destination) (same_sequence row.sequence is.stream.sequence)
+            (subst (λ q. same_name d q ≡ true) (sym (same_name_is is.stream.destination d is.same)) (same_name_refl d))
+            (subst (λ q. same_sequence row.sequence q ≡ true) (sym sequence) (same_sequence_refl row.sequence)))
+
+        among : In is.number (expired_of st lines)
+        among = chosen_in (λ line. number_expired st line) lines said is.number everywhere (ap (λ b. cond b (Some is.number) None) alike)
+
+        none_expired : ⊥
+        none_expired = true≢false (sym contained.1 ∙ ap not (any_from_In (λ z. z == n.number) is.number (expired_of st lines) among
+            (subst (λ z. (z == n.number) ≡ true) (sym number) (same_number n.number))))
+
       unexpired : is_expired w.expired m.position ≡ false
       unexpired = at (is_expired w.expired m.position) refl
         where
           gone : is_expired w.expired m.position ≡ true → ⊥
-          gone e =
-              let found = In_from_any (λ (x : Expiry). same_position x.position m.position) w.expired e in
-              let inside_lines = in_reversed (expiries_to d (lines_written (written_of i c.written))) found.0 (subst (In found.0) ((shown.1).at_source.expiries) found.1) in
-              let from_line = chosen_from (expiry_to d) (lines_written (written_of i c.written)) found.0 inside_lines in
-              let is = expired_line d from_line.0 found.0 from_line.2 in
-              let line_in : In (line.Expired is.stream is.number is.id is.moment) (lines_written (written_of i c.written)) = subst (λ l. In l (lines_written (written_of i c.written))) is.line_is from_line.1 in
-              let due = inv.expired_duly i is.stream is.number is.id is.moment line_in in
-              let source : s.identity.guid ≡ is.stream.source = ap (λ (x : Joined). x.stream.source) due.joined in
-              let position : found.0.position ≡ m.position = same_position_is found.0.position m.position found.2 in
-              let sequence : is.stream.sequence ≡ row.sequence = sym (ap (λ (p : Position). p.sequence) is.position_is) ∙ ap (λ (p : Position). p.sequence) position in
-              let number : is.number ≡ n.number = sym (ap (λ (p : Position). p.number) is.position_is) ∙ ap (λ (p : Position). p.number) position in
-              let record_of = flat_from (λ (v : Written). lines_of v.before v.entry) (written_of i c.written) (line.Expired is.stream is.number is.id is.moment) line_in in
-              let everywhere : In (line.Expired is.stream is.number is.id is.moment) lines = flat_in (λ (v : Written). lines_of v.before v.entry) c.written record_of.0 (line.Expired is.stream is.number is.id is.moment)
-                  (filter_in (λ (v : Written). v.by == i) c.written record_of.0 record_of.1).0 record_of.2 in
-              let alike : same_stream st is.stream ≡ true = and_from (same_guid s.identity.guid is.stream.source) (same_name d is.stream.destination && same_sequence row.sequence is.stream.sequence)
-                  (subst (λ g. same_guid s.identity.guid g ≡ true) source (same_guid_refl s.identity.guid))
-                  (and_from (same_name d is.stream.destination) (same_sequence row.sequence is.stream.sequence)
-                  (subst (λ q. same_name d q ≡ true) (sym (same_name_is is.stream.destination d is.same)) (same_name_refl d))
-                  (subst (λ q. same_sequence row.sequence q ≡ true) (sym sequence) (same_sequence_refl row.sequence))) in
-              let among : In is.number (expired_of st lines) = chosen_in (λ line. number_expired st line) lines (line.Expired is.stream is.number is.id is.moment) is.number everywhere
-                  (ap (λ b. cond b (Some is.number) None) alike) in
-              let any : list_any (λ x. x == n.number) (expired_of st lines) ≡ true = any_from_In (λ x. x == n.number) is.number (expired_of st lines) among (subst (λ x. (x == n.number) ≡ true) (sym number) (same_number n.number)) in
-              true≢false (sym contained.1 ∙ ap not any)
+          gone e = none_expired found.0 (in_reversed (expiries_to d written) found.0 (subst (In found.0) ((shown.1).at_source.expiries) found.1)) (same_position_is found.0.position m.position found.2)
+            where
+              written : List Line
+              written = lines_written (written_of i c.written)
+
+              found : (x : Expiry) × In x w.expired × (same_position x.position m.position ≡ true)
+              found = In_from_any (λ (x : Expiry). same_position x.position m.position) w.expired e
 
           at : (b : Bool) → is_expired w.expired m.position ≡ b → b ≡ false
           at true e = absurd (gone e)

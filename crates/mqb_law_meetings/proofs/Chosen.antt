@@ -1,20 +1,10 @@
 -- Members of lists that were chosen, turned round or joined, and names that are the same.
-use Rattle.std.proofs.Common.{◌≡◌, ℕ, zero, suc, ◌⊎◌, inl, inr, Bool, true, false, cond, List, [], ◌∷◌, ◌++◌, Option, Some, None, refl, sym, ap, ap₂, subst, ◌∙◌}
-use Rattle.std.proofs.lemmas.Bool.{and_parts, eqb-true, true≢false}
+use Rattle.std.proofs.Common.{◌≡◌, ℕ, zero, suc, ◌⊎◌, inl, inr, Bool, true, false, cond, List, [], ◌∷◌, ◌++◌, Option, Some, None, refl, sym, ap, subst, ◌∙◌}
 use Rattle.std.proofs.lemmas.List.{reverse-append}
 use Rattle.std.proofs.lemmas.List.Elements.{All-contains, All-from_recursion}
-use Rattle.std.specs.Cmp.Lexicographic.{bytes_decides}
 use Rattle.std.specs.List.{AllByRecursion, cons_option, flat_map}
 use Rattle.std.specs.Prelude.{Contains, filter, filter_map, map, reverse, slice_get}
-use Rattle.mqb_base.specs.Same.{same_bytes, same_flag, same_host, same_kind, same_name}
-use Rattle.mqb_base.specs.declared.queue_names.Host.{Host}
-use Rattle.mqb_base.specs.declared.queue_names.Host.TheVariants.{Os, Tcp}
-use Rattle.mqb_base.specs.declared.queue_names.MachineQueue.{MachineQueue}
-use Rattle.mqb_base.specs.declared.queue_names.MachineQueue.TheVariants.{DeadLetter, DeadXact, Journal}
-use Rattle.mqb_base.specs.declared.queue_names.QueueName.{QueueName}
-use Rattle.mqb_base.specs.declared.queue_names.QueueName.TheVariants.{Direct, Machine, Private, Public}
 use Rattle.mqb_exactly_once.specs.Words.{In}
-use Rattle.mqb_law_meetings.proofs.Lists.{same_guid_is}
 
 -- Members.
 
@@ -128,61 +118,3 @@ pub flat_in : {X Y : Type 0} (f : X → List Y) (xs : List X) (x : X) (y : Y) �
 flat_in f [] x y inside i = absurd inside
 flat_in f (z ∷ zs) x y (inl e) i = in_left (f z) (flat_map f zs) y (subst (λ w. In y (f w)) (sym e) i)
 flat_in f (z ∷ zs) x y (inr inside) i = in_right (f z) (flat_map f zs) y (flat_in f zs x y inside i)
-
--- Names that are the same are equal.
-
-same_bytes_is : (a b : List ℕ) → same_bytes a b ≡ true → a ≡ b
-same_bytes_is a b h = (bytes_decides a b).0 h
-
-same_flag_is : (a b : Bool) → same_flag a b ≡ true → a ≡ b
-same_flag_is true true h = refl
-same_flag_is true false h = absurd (true≢false (sym h))
-same_flag_is false true h = absurd (true≢false (sym h))
-same_flag_is false false h = refl
-
-same_host_is : (a b : Host) → same_host a b ≡ true → a ≡ b
-same_host_is (Os a) (Os b) h = ap (λ (x : List ℕ). Os x) (same_bytes_is a b h)
-same_host_is (Tcp a) (Tcp b) h = ap (λ (x : List ℕ). Tcp x) (same_bytes_is a b h)
-same_host_is (Os a) (Tcp b) h = absurd (true≢false (sym h))
-same_host_is (Tcp a) (Os b) h = absurd (true≢false (sym h))
-
-same_kind_is : (a b : MachineQueue) → same_kind a b ≡ true → a ≡ b
-same_kind_is DeadLetter DeadLetter h = refl
-same_kind_is DeadXact DeadXact h = refl
-same_kind_is Journal Journal h = refl
-same_kind_is DeadLetter DeadXact h = absurd (true≢false (sym h))
-same_kind_is DeadLetter Journal h = absurd (true≢false (sym h))
-same_kind_is DeadXact DeadLetter h = absurd (true≢false (sym h))
-same_kind_is DeadXact Journal h = absurd (true≢false (sym h))
-same_kind_is Journal DeadLetter h = absurd (true≢false (sym h))
-same_kind_is Journal DeadXact h = absurd (true≢false (sym h))
-
-pub same_name_is : (a b : QueueName) → same_name a b ≡ true → a ≡ b
-same_name_is (Public g i) (Public h j) e = let p = and_parts _ _ e in ap₂ (λ x y. Public x y) (same_guid_is g h p.0) (same_flag_is i j p.1)
-same_name_is (Private g m i) (Private h n j) e =
-    let p = and_parts _ _ e in
-    let q = and_parts _ _ p.0 in
-    let guid : g ≡ h = same_guid_is g h q.0 in
-    let number : m ≡ n = eqb-true m n q.1 in
-    let flag : i ≡ j = same_flag_is i j p.1 in
-    rw (guid, number, flag) refl
-same_name_is (Direct a p i) (Direct b q j) e =
-    let x = and_parts _ _ e in
-    let y = and_parts _ _ x.0 in
-    let host : a ≡ b = same_host_is a b y.0 in
-    let queue : p ≡ q = same_bytes_is p q y.1 in
-    let flag : i ≡ j = same_flag_is i j x.1 in
-    rw (host, queue, flag) refl
-same_name_is (Machine g k) (Machine h l) e = let p = and_parts _ _ e in ap₂ (λ x y. Machine x y) (same_guid_is g h p.0) (same_kind_is k l p.1)
-same_name_is (Public g i) (Private h n j) e = absurd (true≢false (sym e))
-same_name_is (Public g i) (Direct b q j) e = absurd (true≢false (sym e))
-same_name_is (Public g i) (Machine h l) e = absurd (true≢false (sym e))
-same_name_is (Private g m i) (Public h j) e = absurd (true≢false (sym e))
-same_name_is (Private g m i) (Direct b q j) e = absurd (true≢false (sym e))
-same_name_is (Private g m i) (Machine h l) e = absurd (true≢false (sym e))
-same_name_is (Direct a p i) (Public h j) e = absurd (true≢false (sym e))
-same_name_is (Direct a p i) (Private h n j) e = absurd (true≢false (sym e))
-same_name_is (Direct a p i) (Machine h l) e = absurd (true≢false (sym e))
-same_name_is (Machine g k) (Public h j) e = absurd (true≢false (sym e))
-same_name_is (Machine g k) (Private h n j) e = absurd (true≢false (sym e))
-same_name_is (Machine g k) (Direct b q j) e = absurd (true≢false (sym e))

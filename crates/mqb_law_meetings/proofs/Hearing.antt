@@ -1,11 +1,10 @@
 -- What a packet leaves of the end that hears it, whatever it brings.
-use Rattle.std.proofs.Common.{◌≡◌, ℕ, suc, ◌+◌, ◌-◌, ◌≤◌, ◌==◌, ◌&&◌, true, false, cond, not, List, [], ◌∷◌, ◌++◌, Option, Some, None, Err, refl, sym, ap, subst, ◌∙◌, arith}
+use Rattle.std.proofs.Common.{◌≡◌, ℕ, suc, ◌+◌, ◌≤◌, ◌==◌, ◌&&◌, true, false, cond, not, List, [], ◌∷◌, ◌++◌, Option, Some, None, Err, refl, sym, ap, subst, ◌∙◌, arith}
 use Rattle.std.proofs.lemmas.Bool.Decides.{nat_tests}
-use Rattle.std.proofs.lemmas.List.{append-nil}
 use Rattle.std.proofs.lemmas.List.Elements.{All-from_recursion, recursion_from_All}
 use Rattle.std.specs.List.{AllByRecursion}
 use Rattle.std.specs.Option.{option_map_or}
-use Rattle.std.specs.Prelude.{All, IfSome, IsNone, length, map, option_and_then, replicate, slice_get, sum, unwrap_or}
+use Rattle.std.specs.Prelude.{All, IfSome, IsNone, length, map, option_and_then, slice_get, sum, unwrap_or}
 use Rattle.mqb_base.specs.Same.{same_guid}
 use Rattle.mqb_base.specs.declared.heads.SessionHead.{SessionHead}
 use Rattle.mqb_base.specs.declared.heard.Cause.TheVariants as cause
@@ -39,12 +38,10 @@ use Rattle.mqb_session.specs.declared.heads.HeadHeard.{HeadHeard}
 use Rattle.mqb_session.specs.declared.heads.HeadHeard.TheVariants as head
 use Rattle.mqb_law_meetings.specs.Work.{state_work, work_for}
 use Rattle.mqb_law_meetings.proofs.Firsts.{all_got, changed_same, sum_cons}
+use Rattle.mqb_law_meetings.proofs.Members.{grown_same}
 use Rattle.mqb_law_meetings.proofs.Noticing.{IsFresh, ordinary_in}
 use Rattle.mqb_law_meetings.proofs.Releasing.{Clears, all_unmarked, clears_none, clears_one, none_released, one_released}
 use Rattle.mqb_law_meetings.proofs.Turns.{AreRaised, Heard, Hears, Pends, credit, sent_last}
-
-pub grown_full : {X : Type 0} (x : X) (xs : List X) (n : ℕ) → length xs ≡ n → grown x n xs ≡ xs
-grown_full x xs n e = ap (λ k. xs ++ replicate k x) (let none : n - length xs ≡ 0 = omega (arith, e) in none) ∙ append-nil xs
 
 unsent_of : (p : PlainLists) → IsFresh p → IsUnsent p
 unsent_of p f = record {
@@ -204,7 +201,7 @@ module _ (m : Manager) (b : one_end.State) (l : ℕ) (peer : Identity) (h : Hear
           express = All-from_recursion (λ (p : PlainLists). p.express ≡ []) made.plain (all_weaker IsFresh (λ (p : PlainLists). p.express ≡ []) (λ p f. f.express) made.plain takes.fresh);
           unsent = All-from_recursion IsUnsent made.plain (all_weaker IsFresh IsUnsent unsent_of made.plain takes.fresh);
           ordinary = takes.ordinary;
-          cursors = ap (grown 0 (length made.outs)) cursors ∙ grown_full 0 m.rest.cursors (length made.outs) (h.valid.cursors ∙ sym takes.count);
+          cursors = ap (grown 0 (length made.outs)) cursors ∙ grown_same 0 m.rest.cursors (length made.outs) (h.valid.cursors ∙ sym takes.count);
           raised = takes.raised;
           count = takes.count;
           work = takes.work;

@@ -15,6 +15,8 @@ use Rattle.mqb_base.specs.declared.heard.Heard.TheVariants as answer
 use Rattle.mqb_base.specs.declared.ids.Identity.{Identity}
 use Rattle.mqb_fate.specs.Orders.{ack_body, acked_by, is_order_name}
 use Rattle.mqb_fate.specs.declared.orders.OrderAck.{OrderAck}
+use Rattle.mqb_exactly_once.proofs.Members.{any_from_In}
+use Rattle.mqb_exactly_once.proofs.Positions.{same_sequence_refl}
 use Rattle.mqb_exactly_once.specs.Words.{In}
 use Rattle.mqb_law_progress.proofs.Answering.{each_is_in_order}
 use Rattle.mqb_law_progress.proofs.Falling.{acknowledging_falls}
@@ -45,6 +47,7 @@ use Rattle.mqb_session.specs.Sending.{stamped}
 use Rattle.mqb_session.specs.State as one_end
 use Rattle.mqb_session.specs.declared.heads.Kind.TheVariants as kind
 use Rattle.mqb_law_meetings.specs.Recovery.{AreStamped}
+use Rattle.mqb_law_meetings.proofs.Chosen.{in_got}
 use Rattle.mqb_law_meetings.proofs.Finishing.{changed_count, changed_raised, falls_pays, first_in}
 use Rattle.mqb_law_meetings.proofs.Firsts.{PairsByRecursion, all_got, first_at, pairs_of, position_cons}
 use Rattle.mqb_law_meetings.proofs.Hearing as hears
@@ -54,7 +57,7 @@ use Rattle.mqb_law_meetings.proofs.HearingRow.{hears_row}
 use Rattle.mqb_law_meetings.proofs.Leaving.{order_of}
 use Rattle.mqb_law_meetings.proofs.Lists.{changed_there, same_guid_refl, same_number}
 use Rattle.mqb_law_meetings.proofs.Releasing.{Clears}
-use Rattle.mqb_law_meetings.proofs.Same.{same_bytes_refl, same_sequence_refl}
+use Rattle.mqb_law_meetings.proofs.Same.{same_bytes_refl}
 use Rattle.mqb_law_meetings.proofs.Sides.{Accord, Acknowledged, HearsAll, HearsOrder, Quiet, after_user}
 use Rattle.mqb_law_meetings.proofs.Turns.{Hears, IsBrought, Pends}
 
@@ -84,15 +87,6 @@ ordinal_at (z ∷ zs) (suc i) row rises e = position_cons (has_ordinal row.seque
   where
     lower : (a b : ℕ) → a < b → (a == b) ≡ false
     lower a b less = grind (arith, nat_tests)
-
-any_at : {X : Type 0} (q : X → Bool) (xs : List X) (k : ℕ) (x : X) → slice_get xs k ≡ Some x → q x ≡ true → list_any q xs ≡ true
-any_at q [] k x e is = absurd (let none : ⊥ = cc in none)
-any_at q (z ∷ zs) zero x e is = let same : z ≡ x = cc in ap (λ b. b || list_any q zs) (ap q same ∙ is)
-any_at q (z ∷ zs) (suc k) x e is = ap (λ b. q z || b) (any_at q zs k x e is) ∙ or_true (q z)
-  where
-    or_true : (b : Bool) → (b || true) ≡ true
-    or_true true = refl
-    or_true false = refl
 
 up_to : (a b : ℕ) → a ≤ b → nat_le a b ≡ true
 up_to a b within = grind (arith, nat_tests)
@@ -158,7 +152,7 @@ module _ (x y : Manager) (a b : one_end.State) (l : ℕ) (peer : Identity) (now 
       or_true false = refl
 
   raised : list_any (raises (peer_heard (listening y z now)) ack) y.state.outs ≡ true
-  raised = any_at (raises (linked_peer y.state z) ack) y.state.outs i row br.there (and_from (row.peer == linked_peer y.state z && same_sequence row.sequence ack.sequence) (raises_ack ack.number row)
+  raised = any_from_In (raises (linked_peer y.state z) ack) row y.state.outs (in_got y.state.outs i row br.there) (and_from (row.peer == linked_peer y.state z && same_sequence row.sequence ack.sequence) (raises_ack ack.number row)
       (and_from (row.peer == linked_peer y.state z) (same_sequence row.sequence ack.sequence)
       (ap (λ k. row.peer == k) (hears.linked_to y b l peer h) ∙ ap (λ k. k == l) br.peer ∙ same_number l)
       (subst (λ q. same_sequence row.sequence q ≡ true) (sym br.sequence) (same_sequence_refl row.sequence)))

@@ -49,9 +49,10 @@ use Rattle.mqb_law_progress.proofs.Answering.{each_is_in_order}
 use Rattle.mqb_law_meetings.specs.Work.{plain_work, work_for}
 use Rattle.mqb_law_meetings.proofs.Finishing.{Finishes, finishes, raised_same, unacked_in}
 use Rattle.mqb_law_meetings.proofs.Hearing as hears
-use Rattle.mqb_law_meetings.proofs.Hearing.{Takes, grown_full}
+use Rattle.mqb_law_meetings.proofs.Hearing.{Takes}
 use Rattle.mqb_law_meetings.proofs.Leaving.{plain_of}
 use Rattle.mqb_law_meetings.proofs.Lists.{same_guid_refl}
+use Rattle.mqb_law_meetings.proofs.Members.{grown_same}
 use Rattle.mqb_law_meetings.proofs.Noticing.{IsFresh, Leaves, arrived_leaves, ordinary_in, puts, refuses_stored, same, stored_unrefused}
 use Rattle.mqb_law_meetings.proofs.Releasing.{Clears}
 use Rattle.mqb_law_meetings.proofs.Sides.{HearsAck, HearsPlain, Quiet, after_ack, after_user}
@@ -108,7 +109,7 @@ module _ (y : Manager) (a b : one_end.State) (l : ℕ) (peer : Identity) (ps : L
     stands = stands;
     heard = subst (λ n. Heard y n l x lowers raises) (sym behind) (hears.heard_behind y b l peer h ps pd x now who acks part told (with_session y.rest x) refl refl lowers raises takes);
     ins = ap (λ (n : Manager). n.state.ins) behind ∙ ins;
-    owes = ap (λ (n : Manager). n.rest.owes) behind ∙ grown_full false y.rest.owes (length (hears.made y b l peer h ps pd x now who acks part told).ins) (h.valid.owes ∙ sym (ap length ins));
+    owes = ap (λ (n : Manager). n.rest.owes) behind ∙ grown_same false y.rest.owes (length (hears.made y b l peer h ps pd x now who acks part told).ins) (h.valid.owes ∙ sym (ap length ins));
   })
     where
       behind : succeeded y (heard_as (listening y x now) part told) ≡ hears.behind y b l peer h ps pd x now who acks part told (with_session y.rest x) refl refl lowers raises takes

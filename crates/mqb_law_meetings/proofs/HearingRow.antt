@@ -56,17 +56,19 @@ use Rattle.mqb_session.specs.Sending.{stamped}
 use Rattle.mqb_session.specs.State as one_end
 use Rattle.mqb_session.specs.declared.heads.Kind.TheVariants as kind
 use Rattle.mqb_law_meetings.specs.Work.{work_for}
+use Rattle.mqb_law_meetings.proofs.Chosen.{all_in}
 use Rattle.mqb_law_meetings.proofs.Finishing.{first_in}
 use Rattle.mqb_law_meetings.proofs.Firsts.{PairsByRecursion, first_cons, pairs_of, position_cons}
 use Rattle.mqb_law_meetings.proofs.Hearing as hears
-use Rattle.mqb_law_meetings.proofs.Hearing.{Takes, grown_full}
+use Rattle.mqb_law_meetings.proofs.Hearing.{Takes}
 use Rattle.mqb_law_meetings.proofs.HearingPlain.{takes_leaves, takes_of}
 use Rattle.mqb_law_meetings.proofs.Lists.{get_within, same_guid_is, same_guid_refl, set_length, set_there}
+use Rattle.mqb_law_meetings.proofs.Members.{grown_same}
 use Rattle.mqb_law_meetings.proofs.Noticing.{Leaves, arrived_leaves, notices_of, puts, refuses, same, then}
 use Rattle.mqb_law_meetings.proofs.Releasing.{Clears}
-use Rattle.mqb_law_meetings.proofs.Same.{same_name_refl, same_sequence_is, same_sequence_refl}
+use Rattle.mqb_law_meetings.proofs.Same.{same_name_refl}
 use Rattle.mqb_law_meetings.proofs.Sides.{Brought, HearsRow, after_user}
-use Rattle.mqb_exactly_once.specs.Words.{In}
+use Rattle.mqb_exactly_once.proofs.Positions.{same_sequence_is, same_sequence_refl}
 use Rattle.mqb_law_meetings.proofs.Turns.{Heard, Hears, OwesAt, OwesNone, Pends, credit, first_unacked, row_credit}
 
 -- The first number that is not acknowledged.
@@ -224,12 +226,7 @@ module _ (y : Manager) (a b : one_end.State) (l : ℕ) (peer : Identity) (ps : L
   clears = hears.base_clears y b l peer h ps pd
 
   is_kept : IsKeptBy row n
-  is_kept = all_in row.kept (first_in (λ z. nat_lt row.acked z.number) row.kept n first).0 (recursion_from_All (IsKeptBy row) row.kept kept_in_order.kept)
-    where
-      all_in : (zs : List Kept) → In n zs → AllByRecursion (IsKeptBy row) zs → IsKeptBy row n
-      all_in [] inside all = absurd inside
-      all_in (z ∷ zs) (inl e) all = subst (IsKeptBy row) e all.0
-      all_in (z ∷ zs) (inr inside) all = all_in zs inside all.1
+  is_kept = all_in (IsKeptBy row) row.kept n (first_in (λ z. nat_lt row.acked z.number) row.kept n first).0 (recursion_from_All (IsKeptBy row) row.kept kept_in_order.kept)
 
   durable : is_express n.message.delivery ≡ false
   durable = by n.message.delivery is_kept.transactional
@@ -281,7 +278,7 @@ module _ (y : Manager) (a b : one_end.State) (l : ℕ) (peer : Identity) (ps : L
 
         owed : grown false (length made.ins) (slice_set (grown false (j + 1) y.rest.owes) j true) ≡ slice_set (replicate (length made.ins) false) j true
         owed = ap (λ bs. grown false (length made.ins) (slice_set bs j true)) (ap (grown false (j + 1)) owes ∙ grows)
-            ∙ grown_full false (slice_set (replicate (length made.ins) false) j true) (length made.ins) (set_length (replicate (length made.ins) false) j true ∙ length-replicate (length made.ins) false)
+            ∙ grown_same false (slice_set (replicate (length made.ins) false) j true) (length made.ins) (set_length (replicate (length made.ins) false) j true ∙ length-replicate (length made.ins) false)
 
   -- It is next.
 

@@ -21,7 +21,7 @@ use Rattle.mqb_plain.specs.declared.outgoing.Outgoing.{Outgoing}
 use Rattle.mqb_session.specs.State as one_end
 use Rattle.mqb_law_meetings.specs.Work.{plain_work, work_for}
 use Rattle.mqb_law_meetings.proofs.Firsts.{PairsByRecursion, all_got, changed_at_most, changed_cons, changed_falls, changed_same, first_at, pairs_between, pairs_of, pairs_right, position_cons, sum_cons}
-use Rattle.mqb_law_meetings.proofs.Lists.{same_guid_is, same_guid_refl, same_number}
+use Rattle.mqb_law_meetings.proofs.Lists.{other_numbers, same_guid_is, same_guid_refl, same_number}
 use Rattle.mqb_law_meetings.proofs.Noticing.{IsFresh, ordinary_in}
 
 -- A state of which plain messages left, and in which none counts as sent.
@@ -47,16 +47,9 @@ all_unmarked (o ∷ items) h = (unmarked o.mark h.0, all_unmarked items h.1)
 is_fresh : (p : PlainLists) → p.express ≡ [] → IsUnsent p → IsFresh p
 is_fresh p none unsent = record { express = none; unsent = all_unmarked p.recoverable (recursion_from_All (λ (o : Outgoing). IsNone o.mark) p.recoverable unsent.recoverable) }
 
-other_index : (a b : ℕ) → (a ≡ b → ⊥) → (a == b) ≡ false
-other_index a b apart = at (a == b) refl
-  where
-    at : (t : Bool) → (a == b) ≡ t → (a == b) ≡ false
-    at true e = absurd (apart (let same : a ≡ b = grind (arith, nat_tests) in same))
-    at false e = e
-
 module _ (x : one_end.State) (peer : ℕ) where
   one_fresh : (k : ℕ) (p : PlainLists) → (k ≡ peer → ⊥) → MayBear (k == peer) x p → p.express ≡ [] → IsFresh p
-  one_fresh k p apart bears none = is_fresh p none (subst (λ b. MayBear b x p) (other_index k peer apart) bears)
+  one_fresh k p apart bears none = is_fresh p none (subst (λ b. MayBear b x p) (other_numbers k peer apart) bears)
 
   behind_fresh : (k : ℕ) (ps : List PlainLists) → peer < k → BearMarks x peer k ps → AllByRecursion (λ p. p.express ≡ []) ps → AllByRecursion IsFresh ps
   behind_fresh k [] over bears none = tt
