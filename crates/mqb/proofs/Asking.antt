@@ -22,6 +22,7 @@ asks_none (Some (command.Attend seconds)) ended asked = for_none MOST_ATTENDED e
 asks_none (Some (command.Push host address)) ended asked = for_none 1 ended asked
 asks_none (Some (command.Fetch host address seconds)) ended asked = for_none 1 ended asked
 asks_none (Some command.Probe) ended asked = inl refl
+asks_none (Some command.Shell) ended asked = tt
 asks_none (Some (command.Call call)) ended asked = inl refl
 asks_none (Some (command.Peek place count)) ended asked = inl refl
 asks_none _ ended asked = refl

@@ -5,6 +5,7 @@ use Rattle.mqb_base.specs.declared.queues.Place.{Place}
 use Rattle.mqb_answers.specs.declared.told.CallEnd.{CallEnd}
 use Rattle.mqb_answers.specs.declared.told.CallEnd.TheVariants as call
 use Rattle.mqb_commands.specs.Called.{Calls, CallsAt, status_of}
+use Rattle.mqb_commands.specs.Causes.{DiskFaultHasCause}
 use Rattle.mqb_commands.specs.Checkpointed.{Checkpoints, end_of}
 use Rattle.mqb_commands.specs.Opened.{IsNotOpened}
 use Rattle.mqb_commands.specs.Peeked.{Peeks}
@@ -30,11 +31,13 @@ use Rattle.mqb_commands.specs.Shown.{Shows}
 use Rattle.mqb_commands.specs.Outputs.{ReadFaultHasCause, Says, Tells, WriteFaultHasCause}
 use Rattle.mqb_commands.specs.declared.status.Status.{Status}
 use Rattle.mqb_commands.specs.declared.status.Status.TheVariants as status
+use Rattle.mqb_shell.specs.Shells.{IsShellEnd, ShellsStore}
 use Rattle.mqb_transcript.specs.Generator.{generated}
 use Rattle.mqb_words.specs.declared.commands.Call as words
 use Rattle.mqb_words.specs.declared.commands.Command.{Command}
 use Rattle.mqb_words.specs.declared.commands.Command.TheVariants as command
 use Rattle.mqb.proofs.Peeking.{IsAnswer, peek_answers}
+use Rattle.mqb.proofs.Shelling.{shell_ends}
 use Rattle.mqb.specs.Completeness.{Completes, Faults, IsDoneOrPeer, IsReplayed, IsSound}
 
 -- what was told where the output did not fail
@@ -232,6 +235,12 @@ module _ (d e : View) (b : Devices) (held : Option (List ℕ)) (reads reads_now 
       → CompletesProbe d e reads reads_now writes writes_now r → Completes (Some command.Probe) d b held old new r
   probe_completes steady left before after probes ends calm =
       probe_ends (IsSound d) steady d e held left before after r probes (λ sound. ends sound calm.disk calm.input calm.output)
+
+  pub shell_completes : (steady : Option ℕ) (left before after : Option (List ℕ)) (asked asked_now : ℕ) (nets : served.Nets)
+      → ShellsStore steady d e held left before after asked asked_now nets r → IsShellEnd r → ReadFaultHasCause reads reads_now r → WriteFaultHasCause writes writes_now r
+      → DiskFaultHasCause d.faults e.faults r → Completes (Some command.Shell) d b held old new r
+  shell_completes steady left before after asked asked_now nets shells ends read write disk calm =
+      shell_ends steady d e held left before after asked asked_now nets reads reads_now writes writes_now r shells ends read write disk calm.input calm.output calm.disk
 
   pub serve_completes : (count : ℕ) → served.Completes d e net net_now writes writes_now r → Completes (Some (command.Serve count)) d b held old new r
   serve_completes count ends calm = serve_ends (IsSound d) r (λ sound. ends sound calm.disk calm.net calm.output)

@@ -64,6 +64,7 @@ EndsWell (Some command.Checkpoint) store devices held r = IsSound store → (r �
 EndsWell (Some command.List) store devices held r = IsSound store → r ≡ status.Done
 EndsWell (Some (command.Peek place count)) store devices held r = IsSound store → (r ≡ status.Done) ⊎ (r ≡ status.Refused)
 EndsWell (Some command.Probe) store devices held r = IsSound store → IsDoneOrPeer r
+EndsWell (Some command.Shell) store devices held r = IsSound store → IsDoneOrPeer r
 EndsWell (Some (command.Serve count)) store devices held r = IsSound store → r ≡ status.Done
 EndsWell (Some (command.Attend seconds)) store devices held r = IsSound store → r ≡ status.Done
 EndsWell (Some (command.Push host address)) store devices held r = IsSound store → IsDoneOrPeer r ⊎ (r ≡ status.Refused)

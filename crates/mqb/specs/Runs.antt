@@ -18,6 +18,7 @@ use Rattle.mqb_replay.specs.Replays.{HasFailed, Replays}
 use Rattle.mqb_replay.specs.Trials.{Tries}
 use Rattle.mqb_replay.specs.declared.faults.ReplayFault.{ReplayFault}
 use Rattle.mqb_commands.specs.Shown.{Shows}
+use Rattle.mqb_shell.specs.Shells.{ShellsStore}
 use Rattle.mqb_commands.specs.Outputs.{Says, Tells}
 use Rattle.mqb_commands.specs.declared.status.Status.{Status}
 use Rattle.mqb_serving.specs.declared.purpose.Errand.TheVariants as errand
@@ -26,7 +27,7 @@ use Rattle.mqb_words.specs.declared.commands.Command.{Command}
 use Rattle.mqb_words.specs.declared.commands.Command.TheVariants as command
 
 -- what is told of everything outside, before and after: what the input holds, what the output took, the disk that is a store, the medium and the two disks
--- of a replay, the net, and the one moment of a steady clock
+-- of a replay, the net, the one moment of a steady clock, and how often the clock was asked
 pub record Outside : Type 1 where
   pub held : Option (List ℕ)
   pub held_now : Option (List ℕ)
@@ -38,6 +39,8 @@ pub record Outside : Type 1 where
   pub devices_now : Devices
   pub net : Nets
   pub moment : Option ℕ
+  pub asked : ℕ
+  pub asked_now : ℕ
 
 -- a replay ended so, and the program with it
 abbrev pub EndsWith : (Result (Unit {0}) ReplayFault → Type 0) → Status → Type 0
@@ -55,6 +58,7 @@ Does command.Checkpoint o r = Says (Checkpoints o.disk o.disk_now) o.taken o.tak
 Does command.List o r = Says (Lists o.disk o.disk_now) o.taken o.taken_now r
 Does (command.Peek place count) o r = Says (Peeks place count o.moment o.disk o.disk_now) o.taken o.taken_now r
 Does command.Probe o r = ProbesStore o.moment o.disk o.disk_now o.held o.held_now o.taken o.taken_now r
+Does command.Shell o r = ShellsStore o.moment o.disk o.disk_now o.held o.held_now o.taken o.taken_now o.asked o.asked_now o.net r
 Does (command.Serve count) o r = ServesFrom count o.moment o.disk o.disk_now o.net o.taken o.taken_now r
 -- the seconds are how long it is waited for a peer, which no clause says
 Does (command.Attend seconds) o r = AttendsFrom o.moment o.disk o.disk_now o.net o.taken o.taken_now r
@@ -100,6 +104,8 @@ Asks (Some (command.Attend seconds)) ended ended_now asked asked_now = AsksForEa
 Asks (Some (command.Push host address)) ended ended_now asked asked_now = AsksForEach 1 ended ended_now asked asked_now
 Asks (Some (command.Fetch host address seconds)) ended ended_now asked asked_now = AsksForEach 1 ended ended_now asked asked_now
 Asks (Some command.Probe) ended ended_now asked asked_now = AsksOnce asked asked_now
+-- with each line of a shell it is told how often
+Asks (Some command.Shell) ended ended_now asked asked_now = Unit {0}
 Asks (Some (command.Call call)) ended ended_now asked asked_now = AsksOnce asked asked_now
 Asks (Some (command.Peek place count)) ended ended_now asked asked_now = AsksOnce asked asked_now
 Asks _ ended ended_now asked asked_now = asked_now ≡ asked

@@ -8,6 +8,7 @@ abbrev pub has_input : Command → Bool
 has_input command.Replay = true
 has_input command.Show = true
 has_input command.Probe = true
+has_input command.Shell = true
 has_input _ = false
 
 -- it plays a script, over two disks and a medium
@@ -22,4 +23,5 @@ has_net (command.Serve count) = true
 has_net (command.Attend seconds) = true
 has_net (command.Push host address) = true
 has_net (command.Fetch host address seconds) = true
+has_net command.Shell = true
 has_net _ = false

@@ -45,6 +45,9 @@ const PACKETS: &str =
 const PEER: &str =
     "what came ended badly, or did not fit: docs/FORMATS.md has the ends under \"Words, fault lines and exit statuses\"; what was committed is kept, so let it be sent again";
 
+const LINE: &str =
+    "the input ended within a line, which was not done: end each line with a line feed";
+
 const MEDIUM: &str = "the packets of the script do not fit: a replay has room for 268435456 bytes";
 
 const REFUSED: &str =
@@ -196,6 +199,7 @@ fn say_no_store(rt: &HostRuntime, store: &str, at: u64) -> io::Result<()> {
 fn peer_advice(asked: &Command) -> &'static str {
     match asked {
         Command::Show => PACKETS,
+        Command::Shell => LINE,
         _ => PEER,
     }
 }

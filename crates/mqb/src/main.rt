@@ -11,7 +11,7 @@ use hints::{Ending, say_memory, say_misfit, say_next, say_setting};
 use mqb_base::Memory;
 use mqb_commands::Status;
 use mqb_disk::{FileDisk, MemoryDisk, OpenFault};
-use mqb_net::{SystemClock, TcpNet};
+use mqb_net::{PatientNet, SystemClock, TcpNet};
 use mqb_outside::{Disk, MemoryMedium, Power, StdSink, StdSource};
 use mqb_words::{Command, WordsFault, command_of};
 use no_disk::NoDisk;
@@ -107,7 +107,7 @@ fn net_of(rt: &HostRuntime, command: &Command, settings: Settings) -> TcpNet {
     let mut net = TcpNet::with_port(rt, settings.port);
     net.set_max_wait(settings.wait);
     if let Command::Fetch { seconds, .. } = command {
-        net.end_by_silence(*seconds);
+        net.end_by_silence(Some(*seconds));
     }
     net
 }

@@ -15,14 +15,16 @@ use crate::saying::{
 };
 use mqb_commands::{Status, help, show, tell, version};
 use mqb_connections::{attend, probe, reach, serve};
-use mqb_outside::{Clock, Disk, Medium, Net, Power, Sink, Source};
+use mqb_net::PatientNet;
+use mqb_outside::{Clock, Disk, Medium, Power, Sink, Source};
 use mqb_replay::{replay, status_of, trial};
 use mqb_serving::Errand;
+use mqb_shell::run_shell;
 use mqb_words::{Command, WordsFault, command_of};
 use std::alloc::Global;
 
 /// Does a command.
-fn run_command<S: Source, K: Sink, D: Disk, P: Power, M: Medium, N: Net, C: Clock>(
+fn run_command<S: Source, K: Sink, D: Disk, P: Power, M: Medium, N: PatientNet, C: Clock>(
     alloc: Global,
     asked: &Command,
     input: &mut S,
@@ -56,6 +58,8 @@ fn run_command<S: Source, K: Sink, D: Disk, P: Power, M: Medium, N: Net, C: Cloc
         idle_now = N.idle net.new;
       };
       moment = C.steady clock.old;
+      asked = C.asked clock.old;
+      asked_now = C.asked clock.new;
     } in
         Does asked.now io result }
     ensures input { has_input asked.now ≡ false → input.new ≡ input.old }
@@ -104,6 +108,7 @@ fn run_command<S: Source, K: Sink, D: Disk, P: Power, M: Medium, N: Net, C: Cloc
         Command::List => say_listed(alloc, out, disk),
         Command::Peek { place, count } => say_peeked(alloc, place, *count, out, disk, clock),
         Command::Probe => probe(alloc, input, out, disk, clock),
+        Command::Shell => run_shell(alloc, input, out, disk, net, clock),
         Command::Serve { count } => serve(alloc, *count, out, disk, net, clock),
         Command::Attend { seconds } => attend(alloc, *seconds, out, disk, net, clock),
         Command::Push { host, address } => {
@@ -119,7 +124,7 @@ fn run_command<S: Source, K: Sink, D: Disk, P: Power, M: Medium, N: Net, C: Cloc
 
 /// Does what the words of a command line ask for. `disk` is the store of a command that has one; `first` and `second` are those of alpha and beta in a replay, and
 /// `medium`, which is empty, keeps its packets.
-pub fn run<S: Source, K: Sink, D: Disk, P: Power, M: Medium, N: Net, C: Clock>(
+pub fn run<S: Source, K: Sink, D: Disk, P: Power, M: Medium, N: PatientNet, C: Clock>(
     alloc: Global,
     words: &[String],
     input: &mut S,
@@ -154,6 +159,8 @@ pub fn run<S: Source, K: Sink, D: Disk, P: Power, M: Medium, N: Net, C: Clock>(
         idle_now = N.idle net.new;
       };
       moment = C.steady clock.old;
+      asked = C.asked clock.old;
+      asked_now = C.asked clock.new;
     } in
         Runs (command_of (map string_bytes words.now)) io result ⊎ ((result ≡ Status.Memory)
         × (input.new ≡ input.old) × (out.new ≡ out.old) × (disk.new ≡ disk.old)

@@ -49,6 +49,8 @@ mqb checkpoint STORE                writes what the manager holds anew, in place
     mqb checkpoint alpha.store
 mqb list STORE                      lists what the manager holds
     mqb list alpha.store
+mqb shell STORE                     does what the lines of the input ask, each without mqb and STORE, and ends each answer with its status
+    printf 'take replies\\nlist\\n' | mqb shell alpha.store
 mqb probe STORE                     serves one connection over input and output
     mqb probe beta.store < from_alpha.bin > to_alpha.bin
 mqb show                            shows the packets of the input

@@ -4,6 +4,7 @@
 #![tactic(auto)]
 
 mod ahead;
+mod patient_net;
 mod quiet;
 mod socket;
 mod system_clock;
@@ -12,6 +13,7 @@ mod tcp_net;
 mod two_way;
 
 pub use ahead::MAX_AHEAD;
+pub use patient_net::PatientNet;
 pub use quiet::MIN_BYTES;
 pub use socket::{SHORT_WAIT, Socket, Stop, TcpSocket};
 pub use system_clock::SystemClock;

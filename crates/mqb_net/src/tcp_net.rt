@@ -2,6 +2,7 @@ ghost use Rattle.std.specs.Prelude.{◌≡◌, ◌≢◌, None, Ok, false, IfOk,
 ghost use Rattle.mqb_outside.specs.Faults.{HasCause, Rose};
 ghost use Rattle.mqb_net.specs.Tcp.{IsFaultless, faults_of, idle_of, lost_by};
 
+use crate::patient_net::PatientNet;
 use crate::quiet::Waits;
 use crate::socket::SHORT_WAIT;
 use crate::tcp_conn::TcpConn;
@@ -72,14 +73,6 @@ impl TcpNet {
         ensures lost { lost_by self.new ≡ lost_by self.old }
     {
         self.waits.longest = millis;
-    }
-
-    /// A read of the connections to come finds the end of what comes where it has waited so many seconds without a byte.
-    pub fn end_by_silence(&mut self, seconds: u32)
-        ensures faults { faults_of self.new ≡ faults_of self.old }
-        ensures lost { lost_by self.new ≡ lost_by self.old }
-    {
-        self.waits.last = Some(u64::from(seconds) * 1000);
     }
 
     /// Listens, unless it does already, so that connections that peers make wait for an `accept`. It answers the port.
@@ -252,5 +245,14 @@ impl Net for TcpNet {
         } else {
             conn.end();
         }
+    }
+}
+
+impl PatientNet for TcpNet {
+    fn end_by_silence(&mut self, seconds: Option<u32>) {
+        self.waits.last = match seconds {
+            Some(seconds) => Some(u64::from(seconds) * 1000),
+            None => None,
+        };
     }
 }

@@ -205,6 +205,7 @@ command_good form.Checkpoint words = of_store_good command.Checkpoint words tt
 command_good form.List words = of_store_good command.List words tt
 command_good form.Peek words = peek_good words
 command_good form.Probe words = of_store_good command.Probe words tt
+command_good form.Shell words = of_store_good command.Shell words tt
 command_good form.Serve words = serve_good words
 command_good form.Attend words = attend_good words
 command_good form.Push words = push_good words

@@ -5,3 +5,4 @@ pub mod Words
 pub mod Stores
 pub mod Formed
 pub mod Misfits
+pub mod Lines

@@ -15,6 +15,7 @@ has_store command.Checkpoint = true
 has_store command.List = true
 has_store (command.Peek place count) = true
 has_store command.Probe = true
+has_store command.Shell = true
 has_store (command.Serve count) = true
 has_store (command.Attend seconds) = true
 has_store (command.Push host address) = true

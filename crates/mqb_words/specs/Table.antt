@@ -8,7 +8,7 @@ use Rattle.mqb_words.specs.declared.forms.Form.TheVariants as form
 
 abbrev pub forms : List Form
 forms = form.Replay ∷ form.Make ∷ form.Trial ∷ form.Show ∷ form.Init ∷ form.Peer ∷ form.Create ∷ form.Send ∷ form.Commit ∷ form.Take ∷ form.Purge
-    ∷ form.Tick ∷ form.Roll ∷ form.Checkpoint ∷ form.List ∷ form.Peek ∷ form.Probe ∷ form.Serve ∷ form.Attend ∷ form.Push ∷ form.Fetch ∷ form.Help
+    ∷ form.Tick ∷ form.Roll ∷ form.Checkpoint ∷ form.List ∷ form.Peek ∷ form.Probe ∷ form.Shell ∷ form.Serve ∷ form.Attend ∷ form.Push ∷ form.Fetch ∷ form.Help
     ∷ form.Version ∷ []
 
 abbrev pub word_of : Form → List ℕ
@@ -29,6 +29,7 @@ word_of form.Checkpoint = codes "checkpoint"
 word_of form.List = codes "list"
 word_of form.Peek = codes "peek"
 word_of form.Probe = codes "probe"
+word_of form.Shell = codes "shell"
 word_of form.Serve = codes "serve"
 word_of form.Attend = codes "attend"
 word_of form.Push = codes "push"

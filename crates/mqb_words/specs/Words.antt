@@ -108,6 +108,7 @@ command_with form.Checkpoint words = of_store command.Checkpoint words
 command_with form.List words = of_store command.List words
 command_with form.Peek words = peek_from words
 command_with form.Probe words = of_store command.Probe words
+command_with form.Shell words = of_store command.Shell words
 command_with form.Serve words = serve_from words
 command_with form.Attend words = attend_from words
 command_with form.Push words = push_from words

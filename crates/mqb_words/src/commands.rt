@@ -1,5 +1,6 @@
 ghost use Rattle.std.specs.Prelude.{◌≡◌};
 ghost use Rattle.std.specs.Option.{option_copied};
+ghost use Rattle.mqb_words.specs.Lines.{is_open_command};
 ghost use Rattle.mqb_words.specs.Stores.{has_store, store_of};
 
 use mqb_base::{Draft, Identity, Name, Place, QueuePlan};
@@ -36,6 +37,8 @@ pub enum Command {
     },
     /// `probe STORE`
     Probe,
+    /// `shell STORE`, whose lines are commands of its manager
+    Shell,
     /// `serve STORE COUNT`, from 1 to 1000000
     Serve {
         count: u32,
@@ -94,6 +97,7 @@ impl Command {
             | Command::List
             | Command::Peek { .. }
             | Command::Probe
+            | Command::Shell
             | Command::Serve { .. }
             | Command::Attend { .. }
             | Command::Push { .. }
@@ -102,6 +106,31 @@ impl Command {
             | Command::Make { .. }
             | Command::Trial { .. }
             | Command::Show
+            | Command::Help
+            | Command::Version => false,
+        }
+    }
+
+    /// Whether a manager that is open does it, its store being no matter.
+    pub fn is_open_command(&self) -> bool
+        ensures { result ≡ is_open_command self.now }
+    {
+        match self {
+            Command::Call(_)
+            | Command::Checkpoint
+            | Command::List
+            | Command::Peek { .. }
+            | Command::Serve { .. }
+            | Command::Attend { .. }
+            | Command::Push { .. }
+            | Command::Fetch { .. } => true,
+            Command::Replay
+            | Command::Make { .. }
+            | Command::Trial { .. }
+            | Command::Show
+            | Command::Init { .. }
+            | Command::Probe
+            | Command::Shell
             | Command::Help
             | Command::Version => false,
         }

@@ -26,6 +26,7 @@ pub enum Form {
     List,
     Peek,
     Probe,
+    Shell,
     Serve,
     Attend,
     Push,
@@ -34,7 +35,7 @@ pub enum Form {
     Version,
 }
 
-const FORMS: [Form; 23] = [
+const FORMS: [Form; 24] = [
     Form::Replay,
     Form::Make,
     Form::Trial,
@@ -52,6 +53,7 @@ const FORMS: [Form; 23] = [
     Form::List,
     Form::Peek,
     Form::Probe,
+    Form::Shell,
     Form::Serve,
     Form::Attend,
     Form::Push,
@@ -82,6 +84,7 @@ impl Form {
             Form::List => b"list",
             Form::Peek => b"peek",
             Form::Probe => b"probe",
+            Form::Shell => b"shell",
             Form::Serve => b"serve",
             Form::Attend => b"attend",
             Form::Push => b"push",
@@ -114,6 +117,7 @@ impl Form {
             Form::List => b"list STORE",
             Form::Peek => b"peek STORE orders 1",
             Form::Probe => b"probe STORE",
+            Form::Shell => b"shell STORE",
             Form::Serve => b"serve STORE 1",
             Form::Attend => b"attend STORE 60",
             Form::Push => b"push STORE beta 10.0.0.2",

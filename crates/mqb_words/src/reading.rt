@@ -150,6 +150,7 @@ fn command_with(alloc: Global, form: Form, words: &[&[u8]]) -> Result<Command, L
         Form::List => Ok(of_store(Command::List, words)?),
         Form::Peek => peek_from(alloc, words),
         Form::Probe => Ok(of_store(Command::Probe, words)?),
+        Form::Shell => Ok(of_store(Command::Shell, words)?),
         Form::Serve => Ok(serve_from(words)?),
         Form::Attend => Ok(attend_from(words)?),
         Form::Push => push_from(alloc, words),

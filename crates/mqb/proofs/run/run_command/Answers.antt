@@ -1,9 +1,10 @@
 use Rattle.std.proofs.Common.{refl, sym, subst}
 use Rattle.std.specs.Prelude.{Some}
-use Rattle.mqb.proofs.Completing.{attend_completes, call_completes, checkpoint_completes, fetch_completes, help_completes, init_completes, list_completes, make_completes, of_command, peek_completes, probe_completes, push_completes, replay_completes, serve_completes, show_completes, trial_completes, version_completes}
+use Rattle.mqb.proofs.Completing.{attend_completes, call_completes, checkpoint_completes, fetch_completes, help_completes, init_completes, list_completes, make_completes, of_command, peek_completes, probe_completes, push_completes, replay_completes, serve_completes, shell_completes, show_completes, trial_completes, version_completes}
 use Rattle.mqb.proofs.DiskFaults.{none_disk, store_disk}
 use Rattle.mqb.proofs.Quiet.{probe_net, probe_usage, shows_disk, told_disk}
 use Rattle.mqb.proofs.Replaying.{replay_disk, replay_does, replay_net, replay_read, replay_usage, replay_write, trial_disk, trial_does, trial_read}
+use Rattle.mqb.proofs.Shelling.{shell_net, shell_usage}
 use Rattle.mqb.specs.Runs.{NetCause}
 use Rattle.mqb.proofs.run.run_command.Goals as goal
 use Rattle.mqb_connections.specs.Causes.{NetFaultHasCause}
@@ -16,6 +17,12 @@ returns-in-Probe-clause-usage g c = probe_usage _ c.probe.result c.probe.ensures
 
 pub returns-in-Probe-clause-net_fault : goal.returns-in-Probe-clause-net_fault
 returns-in-Probe-clause-net_fault g c = probe_net _ c.probe.result c.probe.ensures.ends
+
+pub returns-in-Shell-clause-usage : goal.returns-in-Shell-clause-usage
+returns-in-Shell-clause-usage g c = shell_usage _ c.run_shell.result c.run_shell.ensures.ends
+
+pub returns-in-Shell-clause-net_fault : goal.returns-in-Shell-clause-net_fault
+returns-in-Shell-clause-net_fault g c = shell_net _ c.run_shell.result c.run_shell.ensures.ends
 
 pub returns-in-Serve-clause-net_fault : goal.returns-in-Serve-clause-net_fault
 returns-in-Serve-clause-net_fault g c =
@@ -177,6 +184,22 @@ returns-in-Probe-clause-complete g c =
     (g.K.Sink.write_faults c.args.out.now) (g.K.Sink.write_faults c.probe.new.out) (g.N.Net.faults c.args.net.now) (g.N.Net.faults c.args.net.now)
     (g.N.Net.lost c.args.net.now) (g.N.Net.lost c.args.net.now) c.probe.result (g.C.Clock.steady c.args.clock.now) (g.S.Source.held c.probe.new.input) (g.K.Sink.taken c.args.out.now) (g.K.Sink.taken c.probe.new.out) c.probe.ensures.probes c.probe.ensures.complete)
 
+pub returns-in-Shell-clause-complete : goal.returns-in-Shell-clause-complete
+returns-in-Shell-clause-complete g c =
+    let d = g.D.Disk.view c.args.disk.now in
+    let e = g.D.Disk.view c.run_shell.new.disk in
+    let b = devices (g.M.Medium.strings c.args.medium.now) (g.P.Disk.view c.args.first.now) (g.P.Disk.view c.args.second.now) in
+    let held = g.S.Source.held c.args.input.now in
+    of_command c.args.asked.now command.Shell d b held
+    (record { input = g.S.Source.read_faults c.args.input.now; output = g.K.Sink.write_faults c.args.out.now; disk = (g.D.Disk.view c.args.disk.now).faults; net = g.N.Net.faults c.args.net.now; lost = g.N.Net.lost c.args.net.now })
+    (record { input = g.S.Source.read_faults c.run_shell.new.input; output = g.K.Sink.write_faults c.run_shell.new.out; disk = (g.D.Disk.view c.run_shell.new.disk).faults; net = g.N.Net.faults c.run_shell.new.net; lost = g.N.Net.lost c.run_shell.new.net })
+    c.run_shell.result c.in-Shell.is
+    (shell_completes d e b held (g.S.Source.read_faults c.args.input.now) (g.S.Source.read_faults c.run_shell.new.input)
+    (g.K.Sink.write_faults c.args.out.now) (g.K.Sink.write_faults c.run_shell.new.out) (g.N.Net.faults c.args.net.now) (g.N.Net.faults c.run_shell.new.net)
+    (g.N.Net.lost c.args.net.now) (g.N.Net.lost c.run_shell.new.net) c.run_shell.result (g.C.Clock.steady c.args.clock.now) (g.S.Source.held c.run_shell.new.input)
+    (g.K.Sink.taken c.args.out.now) (g.K.Sink.taken c.run_shell.new.out) (g.C.Clock.asked c.args.clock.now) (g.C.Clock.asked c.run_shell.new.clock) _
+    c.run_shell.ensures.shell c.run_shell.ensures.ends c.run_shell.ensures.read_faults c.run_shell.ensures.write_faults c.run_shell.ensures.disk_faults)
+
 pub returns-in-Serve-clause-complete : goal.returns-in-Serve-clause-complete
 returns-in-Serve-clause-complete g c =
     let d = g.D.Disk.view c.args.disk.now in
@@ -334,6 +357,10 @@ returns-in-List-clause-disk_fault g c =
 pub returns-in-Probe-clause-disk_fault : goal.returns-in-Probe-clause-disk_fault
 returns-in-Probe-clause-disk_fault g c =
     store_disk c.args.asked.now command.Probe (g.D.Disk.view c.args.disk.now).faults (g.D.Disk.view c.probe.new.disk).faults _ _ c.probe.result c.in-Probe.is refl c.probe.ensures.disk_faults
+
+pub returns-in-Shell-clause-disk_fault : goal.returns-in-Shell-clause-disk_fault
+returns-in-Shell-clause-disk_fault g c =
+    store_disk c.args.asked.now command.Shell (g.D.Disk.view c.args.disk.now).faults (g.D.Disk.view c.run_shell.new.disk).faults _ _ c.run_shell.result c.in-Shell.is refl c.run_shell.ensures.disk_faults
 
 pub returns-in-Serve-clause-disk_fault : goal.returns-in-Serve-clause-disk_fault
 returns-in-Serve-clause-disk_fault g c =

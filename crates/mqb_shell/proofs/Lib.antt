@@ -1,0 +1,10 @@
+mod Feeds
+mod Chains
+mod Limits
+mod Ends
+mod Fronts
+mod Pieces
+mod Whole
+mod Opening
+mod Commanding
+mod Finishing
