@@ -1,34 +1,27 @@
 #!/usr/bin/env python3
-"""A client of mqb shell: commits, takes and lists over a pipe, and waits for each answer.
+"""A client of mqb shell: it commits, takes and lists over a pipe, and waits for each answer.
 
-    client.py MQB STORE
-
-The store is that of a manager alpha with a queue orders."""
-
-import subprocess
-import sys
+    client.py MQB STORE    at the store of a manager alpha with a queue orders, which is empty"""
+import re, subprocess, sys
 
 
 class Shell:
-    """A manager that stays open. It is asked line by line, and ends with its input."""
+    """A manager that stays open. It ends with its input."""
 
     def __init__(self, mqb, store):
-        self.program = subprocess.Popen(
-            [mqb, "shell", store], stdin=subprocess.PIPE, stdout=subprocess.PIPE
-        )
+        self.program = subprocess.Popen([mqb, "shell", store], stdin=subprocess.PIPE, stdout=subprocess.PIPE)
 
     def ask(self, *words):
-        """The status and the lines of the answer. Without an end of it nothing is known of what was asked: open the store again, and look."""
+        """The status and the lines of an answer. Where no end of it comes, the line was done or not: open the store again, and look."""
         self.program.stdin.write(" ".join(words).encode() + b"\n")
         self.program.stdin.flush()
         lines = []
         for line in self.program.stdout:
             # the whole line: a listing of a manager at a host named end has lines that begin so
-            end = line.rstrip(b"\n").split(b" ")
-            if len(end) == 2 and end[0] == b"end" and end[1].isdigit():
+            if end := re.fullmatch(rb"end (\d+)\n", line):
                 return int(end[1]), lines
             lines.append(line.decode().rstrip("\n"))
-        raise EOFError(f"no end of the answer to {words[0]}")
+        raise EOFError(f"the shell ended, with {self.program.wait()}, before its answer to {words[0]}")
 
     def close(self):
         """The status of the program."""

@@ -1,5 +1,5 @@
 #!/usr/bin/env bash
-# One program a store: each word that writes finds the store in use, by a `serve` and by flock(1), and is refused where it does not wait (MQB_HOLD=0); where the store is let go
+# One program a store: each word that writes finds the store in use, by a `serve`, a `shell` and flock(1), and is refused where it does not wait (MQB_HOLD=0); where the store is let go
 # within its wait, it does its work. `list` and `peek` share a store with one another, and with no word that writes.
 set -u
 top=$(cd "$(dirname "$0")/.." && pwd)
@@ -11,14 +11,14 @@ folder=$(mktemp -d)
 trap 'rm -rf "$folder"' EXIT
 cd "$folder" || exit
 
-words=(init peer create send commit take purge tick roll checkpoint serve attend probe push fetch list peek)
+words=(init peer create send commit take purge tick roll checkpoint shell serve attend probe push fetch list peek)
 declare -A call=(
   [init]="init alpha.store $alpha"
   [peer]='peer alpha.store gamma 3a3b3c3d-4142-4344-4546-4748494a4b4c 127.0.0.1'
   [create]='create alpha.store more tx 100 none'
   [send]='send alpha.store recoverable 3 send,DIRECT=OS:.\PRIVATE$\notes,-,-,-,-,-,one'
   [commit]='commit alpha.store take,orders send,DIRECT=OS:beta\PRIVATE$\orders,-,-,-,-,-,one'
-  [take]='take alpha.store orders' [purge]='purge alpha.store orders' [tick]='tick alpha.store' [roll]='roll alpha.store 10' [checkpoint]='checkpoint alpha.store'
+  [take]='take alpha.store orders' [purge]='purge alpha.store orders' [tick]='tick alpha.store' [roll]='roll alpha.store 10' [checkpoint]='checkpoint alpha.store' [shell]='shell alpha.store'
   [serve]='serve alpha.store 1' [attend]='attend alpha.store 4' [probe]='probe alpha.store' [push]='push alpha.store beta' [fetch]='fetch alpha.store beta 1'
   [list]='list alpha.store' [peek]='peek alpha.store orders'
 )
@@ -68,6 +68,13 @@ mqb serve alpha.store 1 >/dev/null &
 until listens "$MQB_PORT"; do sleep 0.02; done
 refused 'beside serve'
 mqb push beta.first alpha # the connection that serve waits for
+wait
+mkfifo lines
+mqb shell alpha.store <lines &
+exec 8>lines
+until is_held alpha.store; do sleep 0.02; done
+refused 'beside a shell'
+exec 8>&- # the end of its input
 wait
 exec 9<alpha.store
 flock 9

@@ -1,9 +1,19 @@
 #!/usr/bin/env bash
-# A manager on a local socket, for one client at a time: mqb shell behind socat, which keeps a connection whose client is silent.
-#   socket.sh MQB STORE SOCKET
-set -eu
-mqb=$1 store=$2 socket=$3
-socat -t 3600 "UNIX-LISTEN:$socket" EXEC:"$mqb shell $store" &
-for _ in $(seq 100); do [ ! -S "$socket" ] || break; sleep 0.1; done
-printf 'list\ntake orders\n' | socat -t 3600 - "UNIX-CONNECT:$socket"
-wait
+# A manager behind a local socket, for one client at a time: socat begins a shell for each that comes. Without `-t 3600` it would leave half a second behind the end of one side.
+set -u
+top=$(cd "$(dirname "$0")/.." && pwd)
+folder=$(mktemp -d)
+trap 'rm -rf "$folder"' EXIT
+cd "$folder" || exit
+mkdir bin && PATH=$folder/bin:$PATH
+printf '#!/bin/sh\nexec %q "$@" 2>/dev/null\n' "${MQB:-$top/mqb}" >bin/mqb && chmod +x bin/mqb # the hints on standard error are for people
+
+mqb init alpha.store alpha 0a0b0c0d-0e0f-1011-1213-141516171819 127.0.0.1
+socat -t 3600 UNIX-LISTEN:alpha.sock,fork EXEC:"mqb shell alpha.store" &
+listener=$!
+trap 'kill $listener; rm -rf "$folder"' EXIT
+until [ -S alpha.sock ]; do kill -0 $listener && sleep 0.02; done
+ask() { socat -t 3600 - UNIX-CONNECT:alpha.sock; }
+
+printf '%s\n' 'create orders tx 9 none' 'commit send,DIRECT=OS:alpha\PRIVATE$\orders,-,-,-,-,-,one' 'take other' | ask
+{ echo 'take orders'; sleep 1; echo list; } | ask # a client that is silent for a while
