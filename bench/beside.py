@@ -13,7 +13,7 @@ SQLite is Python's own, with a WAL and synchronous=FULL. Where Debian's packages
 (a durable queue, confirms; 64 messages before the confirms are awaited). DELAY is how many microseconds each sync waits besides, in all of them, by the library of delayed.c. FOLDER is where the files stand.
 All is over pipes, sockets of the file system and the loopback. MQB names another program than `./mqb --where` does; ONLY=mqb,SQLite names those that are tried.
 """
-import collections, ctypes, os, pathlib, re, shutil, socket, sqlite3, struct, subprocess, sys, threading, time
+import collections, ctypes, os, pathlib, shutil, signal, socket, sqlite3, struct, subprocess, sys, threading, time
 from managers import GUIDS, MQB, TOP, asked, folder
 
 SECONDS = float(sys.argv[1]) if len(sys.argv) > 1 else 2
@@ -297,8 +297,7 @@ class PostgreSQL:
         return self.ask("delete from orders where id = (select id from orders order by id limit 1 for update skip locked) returning body") != b"0"
 
     def close(self):
-        self.pq.PQfinish(self.end)
-        self.program.terminate()
+        self.program.send_signal(signal.SIGINT)  # it lets its clients go
         self.program.wait()
 
 

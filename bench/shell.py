@@ -6,7 +6,7 @@
 
 A client of `killed` is up to WINDOW lines (20) ahead of the answers that it has read. The numbers are drawn from SEED. The files stand in FOLDER, which decides what a sync costs; MQB names another program
 than `./mqb --where` does. `long` makes the library of delayed.c by the system's C compiler. It stands outside the gate, but for a few kills."""
-import collections, concurrent.futures, itertools, os, pathlib, random, re, shutil, signal, subprocess, sys, threading, time
+import collections, concurrent.futures, contextlib, os, pathlib, random, re, shutil, signal, subprocess, sys, threading, time
 from managers import GUIDS, MQB, TOP, asked, folder, mqb, send
 
 SEED = int(os.environ.get("SEED", "1"))
@@ -71,20 +71,20 @@ class Script:
         return "take orders", f"{took} [{took}]\n{body}end 0\n"
 
     def commit(self, *ops):
-        line, lines, bodies, sent = "commit", "", "", []
+        line, taken, sent, bodies, more = "commit", "", "", "", []
         if ops.count("take") > len(self.queue):
             return "list x", "fault: usage\nend 2\n"
         for op in ops:
             if op == "take":
                 took, body = self.taken()
-                line, lines, bodies = f"{line} take,orders", f"{lines} [{took}]", bodies + body
+                line, taken, bodies = f"{line} take,orders", f"{taken} [{took}]", bodies + body
                 continue
             for _ in range(int(op)):
                 self.made += 1
-                sent.append((self.made, f"body{self.made}"))
-                line, lines = f"{line} {ORDERS}body{self.made}", f"{lines} [local alpha.{self.made}]"
-        self.queue += sent
-        return line, f"committed{lines}\n{bodies}end 0\n"
+                more.append((self.made, f"body{self.made}"))
+                line, sent = f"{line} {ORDERS}body{self.made}", f"{sent} [local alpha.{self.made}]"
+        self.queue += more
+        return line, f"committed{taken}{sent}\n{bodies}end 0\n"
 
     def held(self):
         return [f"alpha.{number}" for number, _ in self.queue]
@@ -113,20 +113,22 @@ def outlived(store, script, draw):
         except (BrokenPipeError, ValueError):
             pass
 
-    writing, left = threading.Thread(target=write), draw.randrange(60)
+    writing, left, read = threading.Thread(target=write), draw.randrange(60), []
     writing.start()
-    read, rest = [], b""
+    if left == 0:  # it is about to open the store
+        threading.Timer(draw.uniform(0, 0.01), program.kill).start()
     for answer in answers_of(program.stdout):
+        read.append(answer)
+        left -= 1
         if left == 0:
             threading.Timer(draw.uniform(0, 0.002), program.kill).start()
-        left -= 1
-        read, rest = [*read, answer], answer
         ready.release()
     rest = read.pop()
-    program.kill()
     assert program.wait() == -signal.SIGKILL, program.returncode
     ready.release()
     writing.join()
+    with contextlib.suppress(BrokenPipeError):
+        program.stdin.close()
     assert read == wanted[:len(read)], [(came, want) for came, want in zip(read, wanted) if came != want][:1]
     assert not rest or wanted[len(read)].startswith(rest), (rest, wanted[len(read)])
     return read, states
