@@ -1,8 +1,6 @@
 #!/usr/bin/env python3
-"""A client of mqb shell: it commits, takes and lists over a pipe, and waits for each answer.
-
-    client.py MQB STORE    at the store of a manager alpha with a queue orders, which is empty"""
-import re, subprocess, sys
+"""A client of mqb shell: it takes, commits and lists over a pipe, and waits for each answer. The store is that of a manager alpha with a queue orders."""
+import re, subprocess
 
 
 class Shell:
@@ -30,18 +28,13 @@ class Shell:
 
 
 def main():
-    shell = Shell(*sys.argv[1:3])
+    shell = Shell("mqb", "alpha.store")
+    status, answer = shell.ask("take", "orders")
+    print(status, *answer)
     orders = r"send,DIRECT=OS:alpha\PRIVATE$\orders,-,-,-,-,-"
-    for words in (
-        ("commit", f"{orders},one", f"{orders},two"),
-        ("list",),
-        ("take", "orders"),
-        ("commit", "take,orders"),
-        ("take", "orders"),
-        ("take", "no such queue"),
-    ):
-        status, lines = shell.ask(*words)
-        print(*words[:1], status, *lines, sep="\n  ")
+    for words in (["commit", f"{orders},one", f"{orders},two"], ["list"], ["take", "orders"], ["commit", "take,orders"], ["take", "no such queue"]):
+        status, answer = shell.ask(*words)
+        print(words[0], status, *answer, sep="\n  ")
     print("ended", shell.close())
 
 

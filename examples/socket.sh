@@ -13,7 +13,6 @@ socat -t 3600 UNIX-LISTEN:alpha.sock,fork EXEC:"mqb shell alpha.store" &
 listener=$!
 trap 'kill $listener; rm -rf "$folder"' EXIT
 until [ -S alpha.sock ]; do kill -0 $listener && sleep 0.02; done
-ask() { socat -t 3600 - UNIX-CONNECT:alpha.sock; }
-
-printf '%s\n' 'create orders tx 9 none' 'commit send,DIRECT=OS:alpha\PRIVATE$\orders,-,-,-,-,-,one' 'take other' | ask
-{ echo 'take orders'; sleep 1; echo list; } | ask # a client that is silent for a while
+printf '%s\n' 'create orders tx 9 none' 'commit send,DIRECT=OS:alpha\PRIVATE$\orders,-,-,-,-,-,one' 'take other' | socat -t 3600 - UNIX-CONNECT:alpha.sock
+printf '%s\n' 'take orders' list | socat -t 3600 - UNIX-CONNECT:alpha.sock
+{ echo tick; sleep 1; echo tick; } | socat -t 3600 - UNIX-CONNECT:alpha.sock # a client that is silent for a while

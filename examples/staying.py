@@ -1,8 +1,6 @@
 #!/usr/bin/env python3
-"""Two managers that stay open, each in one shell: beta attends, fetches, takes and commits, as docs/OPERATIONS.md has it; alpha only calls out, with an order, and for its answer.
-
-    staying.py MQB         the stores are made in the present folder"""
-import subprocess, sys, threading, time
+"""Two managers that stay open, each in one shell: beta attends, fetches, takes and commits, as docs/OPERATIONS.md has it; alpha only calls out, with an order, and for its answer."""
+import os, subprocess, tempfile, threading, time
 from client import Shell
 
 ORDER = r"send,DIRECT=OS:beta\PRIVATE$\orders,-,-,d,-,-,order"
@@ -25,18 +23,18 @@ def stay(shell):
             shell.ask("commit", "take,orders", ANSWER)
 
 
-def opened(mqb, host, own, queue, peer, other):
-    subprocess.run([mqb, "init", f"{host}.store", host, *own], check=True)
-    shell = Shell(mqb, f"{host}.store")
+def made(host, own, queue, peer, other):
+    subprocess.run(["mqb", "init", f"{host}.store", host, *own], check=True)
+    shell = Shell("mqb", f"{host}.store")
     shell.ask("peer", peer, *other)
     shell.ask("create", queue, "tx", "1000", "none")
     return shell
 
 
 def main():
-    mqb = sys.argv[1]
-    beta = opened(mqb, "beta", BETA, "orders", "alpha", ALPHA)
-    shell = opened(mqb, "alpha", ALPHA, "answers", "beta", BETA)
+    os.environ.setdefault("MQB_PORT", "18147")  # another port than 1801, which may be taken
+    beta = made("beta", BETA, "orders", "alpha", ALPHA)
+    shell = made("alpha", ALPHA, "answers", "beta", BETA)
     threading.excepthook = lambda ended: None  # the loop ends when its shell is killed
     threading.Thread(target=stay, args=[beta]).start()
     print(*shell.ask("commit", ORDER)[1])
@@ -52,4 +50,6 @@ def main():
 
 
 if __name__ == "__main__":
-    main()
+    with tempfile.TemporaryDirectory() as folder:
+        os.chdir(folder)
+        main()
