@@ -4,25 +4,24 @@ use Rattle.std.proofs.lemmas.Bool.{or_cases, true≢false}
 use Rattle.std.proofs.lemmas.Bool.Decides.{nat_tests}
 use Rattle.std.specs.List.{list_any}
 use Rattle.std.specs.Option.{option_map_or}
-use Rattle.std.specs.Prelude.{filter, length, map, nat_le, slice_get, sum}
+use Rattle.std.specs.Prelude.{filter, length, map, slice_get, sum}
 use Rattle.mqb_base.specs.declared.message.Message.{Message}
 use Rattle.mqb_fate.specs.Asking.{is_ordinary}
 use Rattle.mqb_law_progress.proofs.Lists.{some_kept}
 use Rattle.mqb_law_progress.specs.Progress.{unacknowledged}
 use Rattle.mqb_model.specs.Lists.{first_where}
 use Rattle.mqb_model.specs.managers.Readers.{awaits, has_plain, is_outstanding_to}
-use Rattle.mqb_model.specs.state.Rows.{in_row}
 use Rattle.mqb_model.specs.state.State.{State}
-use Rattle.mqb_orders.specs.Judging.{decided}
 use Rattle.mqb_orders.specs.Rows.{Row, has_unacknowledged}
 use Rattle.mqb_orders.specs.declared.kept.Kept.{Kept}
 use Rattle.mqb_plain.specs.Lists.{messages_of}
 use Rattle.mqb_plain.specs.Plain.{PlainLists}
 use Rattle.mqb_plain.specs.declared.outgoing.Outgoing.{Outgoing}
 use Rattle.mqb_law_meetings.specs.Work.{plain_work, state_work, work_for}
+use Rattle.mqb_law_meetings.proofs.Finishing.{credit_most}
 use Rattle.mqb_law_meetings.proofs.Firsts.{first_cons, sum_cons}
 use Rattle.mqb_law_meetings.proofs.Members.{all_there}
-use Rattle.mqb_law_meetings.proofs.Turns.{IsWithoutExpress, Way, Clear, Carries, Brings, credit, first_unacked, ordinaries, promise, row_credit}
+use Rattle.mqb_law_meetings.proofs.Turns.{IsWithoutExpress, Way, Clear, Carries, Brings, credit, ordinaries, promise, row_credit}
 
 -- Sums of which one part is something.
 
@@ -96,26 +95,11 @@ module _ (s : State) (k : ℕ) where
       by true e rest = absurd (true≢false e)
       by false e rest = rest e
 
-  two_at_most : (t : State) (row : Row) → row_credit t row ≤ 2
-  two_at_most t row = at (first_unacked row)
-    where
-      by : (b : Bool) → cond b 2 0 ≤ 2
-      by true = omega arith
-      by false = omega arith
-
-      at : (o : Option Kept) → option_map_or (λ n. cond (nat_le n.number (decided (in_row t n.message) row.sequence)) 2 0) o 0 ≤ 2
-      at None = omega arith
-      at (Some n) = by (nat_le n.number (decided (in_row t n.message) row.sequence))
-
   pub credit_below : (t : State) → (credit s t k ≡ 0) ⊎ (credit s t k + 1 ≤ state_work s)
   credit_below t = at (list_any (awaits k) s.outs) refl
     where
-      most : (o : Option Row) → option_map_or (row_credit t) o 0 ≤ 2
-      most None = omega arith
-      most (Some row) = two_at_most t row
-
       at : (b : Bool) → list_any (awaits k) s.outs ≡ b → (credit s t k ≡ 0) ⊎ (credit s t k + 1 ≤ state_work s)
-      at true any = inr (let a = rows_work any in let b = most (first_where (awaits k) s.outs) in omega (arith, a, b))
+      at true any = inr (let a = rows_work any in let b = credit_most s t k in omega (arith, a, b))
       at false none = inl (ap (λ o. option_map_or (row_credit t) o 0) (none_first (awaits k) s.outs none))
 
   -- Ordinary plain messages are outstanding.

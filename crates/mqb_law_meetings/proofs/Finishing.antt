@@ -26,6 +26,7 @@ use Rattle.mqb_orders.specs.Rows.{Row, acknowledged, has_unacknowledged}
 use Rattle.mqb_orders.specs.declared.kept.Kept.{Kept}
 use Rattle.mqb_law_meetings.proofs.Firsts.{changed_falls, first_cons, position_cons}
 use Rattle.mqb_law_meetings.proofs.Lists.{changed_length}
+use Rattle.mqb_law_meetings.proofs.Members.{first_set, set_cases}
 use Rattle.mqb_law_meetings.proofs.Turns.{AreRaised, credit, first_unacked, row_credit}
 
 -- Filters.
@@ -135,22 +136,7 @@ module _ (t : State) (k : ℕ) where
   credit_of rows = option_map_or (row_credit t) (first_where (awaits k) rows) 0
 
   credit_set : (rows : List Row) (i : ℕ) (r z : Row) → slice_get rows i ≡ Some r → AreAlike r z → credit_of (slice_set rows i z) ≡ credit_of rows
-  credit_set [] i r z e a = refl
-  credit_set (y ∷ ys) zero r z e a = let same : y ≡ r = cc in let b : AreAlike y z = subst (λ w. AreAlike w z) (sym same) a in
-      ap (λ o. option_map_or (row_credit t) o 0) (first_cons (awaits k) z ys) ∙ ap (λ b. option_map_or (row_credit t) (cond b (Some z) (first_where (awaits k) ys)) 0) (alike_awaits k y z b)
-      ∙ at (awaits k y) (alike_credit t y z b) ∙ ap (λ o. option_map_or (row_credit t) o 0) (sym (first_cons (awaits k) y ys))
-    where
-      at : (b : Bool) → row_credit t z ≡ row_credit t y → option_map_or (row_credit t) (cond b (Some z) (first_where (awaits k) ys)) 0
-          ≡ option_map_or (row_credit t) (cond b (Some y) (first_where (awaits k) ys)) 0
-      at true is = is
-      at false is = refl
-  credit_set (y ∷ ys) (suc i) r z e a = ap (λ o. option_map_or (row_credit t) o 0) (first_cons (awaits k) y (slice_set ys i z)) ∙ at (awaits k y) (credit_set ys i r z e a)
-      ∙ ap (λ o. option_map_or (row_credit t) o 0) (sym (first_cons (awaits k) y ys))
-    where
-      at : (b : Bool) → credit_of (slice_set ys i z) ≡ credit_of ys → option_map_or (row_credit t) (cond b (Some y) (first_where (awaits k) (slice_set ys i z))) 0
-          ≡ option_map_or (row_credit t) (cond b (Some y) (first_where (awaits k) ys)) 0
-      at true is = refl
-      at false is = is
+  credit_set rows i r z e a = first_set (awaits k) (row_credit t) 0 rows i r z e (alike_awaits k r z a) (alike_credit t r z a)
 
 pub credit_most : (s t : State) (k : ℕ) → credit s t k ≤ 2
 credit_most s t k = at (first_where (awaits k) s.outs)
@@ -188,21 +174,11 @@ module _ (s u : State) (change : Row → Row) (i : ℕ) (row : Row) (there : sli
       let c : credit u t k ≡ credit s t k = ap (credit_of t k) set_is ∙ credit_set t k s.outs i row (change row) there a in omega (arith, f, c)
 
   pub changed_raised : (change row).peer ≡ row.peer → (change row).sequence ≡ row.sequence → row.acked ≤ (change row).acked → AreRaised s.outs u.outs
-  changed_raised peer sequence acked j r e = at s.outs i j there (subst (λ rows. slice_get rows j ≡ Some r) set_is e)
+  changed_raised peer sequence acked j r e = set_cases Before s.outs i j (change row) r (subst (λ rows. slice_get rows j ≡ Some r) set_is e)
+      (λ same. (row, subst (λ v. slice_get s.outs v ≡ Some row) (sym same) there, sym peer, sym sequence, acked)) (λ f. (r, f, refl, refl, omega arith))
     where
-      at : (rows : List Row) (i j : ℕ) → slice_get rows i ≡ Some row → slice_get (slice_set rows i (change row)) j ≡ Some r
-          → (before : Row) × (slice_get rows j ≡ Some before) × (before.peer ≡ r.peer) × (before.sequence ≡ r.sequence) × (before.acked ≤ r.acked)
-      at [] i j f g = absurd (let none : ⊥ = cc in none)
-      at (y ∷ ys) zero zero f g = let same : y ≡ row = cc in let is : change row ≡ r = cc in (
-        y,
-        refl,
-        ap (λ (z : Row). z.peer) same ∙ sym peer ∙ ap (λ (z : Row). z.peer) is,
-        ap (λ (z : Row). z.sequence) same ∙ sym sequence ∙ ap (λ (z : Row). z.sequence) is,
-        let a : y.acked ≡ row.acked = ap (λ (z : Row). z.acked) same in let b : (change row).acked ≡ r.acked = ap (λ (z : Row). z.acked) is in omega (arith, a, b, acked),
-      )
-      at (y ∷ ys) zero (suc j) f g = (r, g, refl, refl, omega arith)
-      at (y ∷ ys) (suc i) zero f g = (r, g, refl, refl, omega arith)
-      at (y ∷ ys) (suc i) (suc j) f g = at ys i j f g
+      Before : Row → Type 0
+      Before z = (before : Row) × (slice_get s.outs j ≡ Some before) × (before.peer ≡ z.peer) × (before.sequence ≡ z.sequence) × (before.acked ≤ z.acked)
 
   pub changed_count : length u.outs ≡ length s.outs
   changed_count = ap length are ∙ changed_length change s.outs i

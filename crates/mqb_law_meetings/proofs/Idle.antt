@@ -81,7 +81,7 @@ none_waiting s k (row ∷ rows) n none = ap (λ xs. xs ++ flat_map (waiting s k)
         at true false none = refl
         at false c none = refl
 
-and_false : (b : Bool) → (b && false) ≡ false
+pub and_false : (b : Bool) → (b && false) ≡ false
 and_false true = refl
 and_false false = refl
 

@@ -27,15 +27,12 @@ use Rattle.mqb_session.specs.Phases.{owed_by}
 use Rattle.mqb_session.specs.Sending.{is_ready, is_spent, is_used_up, may_send, stamped}
 use Rattle.mqb_session.specs.State as one_end
 use Rattle.mqb_session.specs.declared.heads.Kind.TheVariants as kind
+use Rattle.mqb_law_meetings.proofs.Idle.{and_false}
 use Rattle.mqb_law_meetings.proofs.Lists.{changed_length, get_within, within_get}
 use Rattle.mqb_law_meetings.proofs.Members.{first_changed_map, first_changed_same}
 use Rattle.mqb_law_meetings.proofs.Turns.{Hears, row_credit}
 
 -- One packet into a window of 1.
-
-and_false : (b : Bool) → (b && false) ≡ false
-and_false true = refl
-and_false false = refl
 
 full : (x : one_end.State) → nat_lt (x.sent - x.acked) x.peer_window ≡ false → may_send x ≡ false
 full x none = ap (λ b. is_ready x.phase && (not (is_used_up x) && b)) none ∙ ap (λ b. is_ready x.phase && b) (and_false (not (is_used_up x))) ∙ and_false (is_ready x.phase)
