@@ -27,7 +27,7 @@ use Rattle.mqb_law_meetings.proofs.Sides.{Accord}
 use Rattle.mqb_law_meetings.proofs.Turns.{first_unacked}
 
 -- no record in doubt is applied
-now : (P : Course → Type 0) (c : Course) → P (settled (λ j. false) c) → P c
+pub now : (P : Course → Type 0) (c : Course) → P (settled (λ j. false) c) → P c
 now P c h = subst P (settled_none c (range_with_len 0 (length c.network.managers))) h
 
 module _ (known : List Identity) (apart : AreApart known) (c : Course) (inv : MachineInvariant known c) (worlds : HaveStreamInvariants c) (keeps : AreStreamsKept c) (led : AreCommitmentsLed c)

@@ -36,3 +36,4 @@ pub mod HearingOrder
 pub mod Chosen
 pub mod Accord
 pub mod Agreeing
+pub mod Delivering

@@ -61,10 +61,10 @@ parted_none m none = at (is_down m)
 
 -- The moves of a meeting.
 
-meeting_drafted : (a b now : ℕ) → All (λ (m : Move). IsDraftedEvent m.event) (map well (meeting a b now))
+pub meeting_drafted : (a b now : ℕ) → All (λ (m : Move). IsDraftedEvent m.event) (map well (meeting a b now))
 meeting_drafted a b now = All-from_recursion (λ (m : Move). IsDraftedEvent m.event) (map well (meeting a b now)) (tt, (tt, (tt, (tt, (tt, (tt, (tt, tt)))))))
 
-meeting_runs : (c : Course) (a b now : ℕ) → IsRunFrom c (map well (meeting a b now))
+pub meeting_runs : (c : Course) (a b now : ℕ) → IsRunFrom c (map well (meeting a b now))
 meeting_runs c a b now = (refl, (refl, (refl, (refl, (refl, (refl, (refl, tt)))))))
 
 -- Two managers that are alone, at a point of a run.
@@ -246,7 +246,7 @@ module _ (known : List Identity) (order : AreInOrder known) (hears : HearsAll) (
           (credit (manager_at (z c r).network a).state (manager_at (z c r).network b).state k + credit (manager_at (z c r).network b).state (manager_at (z c r).network a).state l) n (falls c r m) enough)
 
 -- The moves that start both are in order.
-starts_drafted : (ms : List Move) (a b : ℕ) → map (λ m. m.event) ms ≡ starts a b → All (λ (m : Move). IsDraftedEvent m.event) ms
+pub starts_drafted : (ms : List Move) (a b : ℕ) → map (λ m. m.event) ms ≡ starts a b → All (λ (m : Move). IsDraftedEvent m.event) ms
 starts_drafted [] a b are = absurd (let no : ⊥ = cc in no)
 starts_drafted (m ∷ []) a b are = absurd (let no : ⊥ = cc in no)
 starts_drafted (m ∷ n ∷ x ∷ xs) a b are = absurd (let no : ⊥ = cc in no)

@@ -4,12 +4,13 @@
 #![tactic(auto)]
 
 ghost use Rattle.mqb_law_meetings.specs.Laws.{DrainedMeetInVain, GoodMovesExist, MeetingsBegin, SomethingIsSent, StartsLeaveAlone};
-ghost use Rattle.mqb_law_meetings.specs.Recovery.{Recovers};
+ghost use Rattle.mqb_law_meetings.specs.Recovery.{Delivers, Recovers};
 ghost use Rattle.mqb_law_meetings.specs.Worked.{AreBroughtOver, StampsMustFit};
 
 use mqb_history::{
-    always_machine_invariant, always_stream_invariant, always_valid, commitments_lead_to_managers,
-    histories_are_orderly, links_are_before, rows_are_led, runs_have_histories,
+    always_machine_invariant, always_stream_invariant, always_valid, always_waits_until_decided,
+    commitments_lead_to_managers, histories_are_orderly, links_are_before, rows_are_led,
+    runs_have_histories,
 };
 use mqb_law_progress::something_goes;
 
@@ -63,6 +64,15 @@ pub fn recovers()
     always_stream_invariant();
     commitments_lead_to_managers();
     links_are_before();
+    rows_are_led();
+}
+
+/// So each message that one of them committed to a name that leads to the other was decided where its row leads, or it expired.
+pub fn delivers()
+    ensures { Delivers }
+{
+    recovers();
+    always_waits_until_decided();
     rows_are_led();
 }
 

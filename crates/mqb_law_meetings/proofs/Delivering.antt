@@ -1,0 +1,86 @@
+-- What was committed is decided, or expired, behind the meetings that bring all over.
+use Rattle.std.proofs.Common.{◌≡◌, ℕ, zero, suc, ◌==◌, ◌||◌, ◌⊎◌, inl, inr, Bool, true, false, nat_lt, List, Some, refl, sym, ap, subst, ◌∙◌}
+use Rattle.std.proofs.lemmas.Bool.{and_from, lt-ltb, true≢false}
+use Rattle.std.specs.Option.{option_map_or}
+use Rattle.std.specs.Prelude.{map, slice_get}
+use Rattle.mqb_base.specs.declared.ids.Identity.{Identity}
+use Rattle.mqb_exactly_once.proofs.Members.{any_from_In}
+use Rattle.mqb_exactly_once.specs.Words.{In}
+use Rattle.mqb_exactly_once.specs.World.{Commitment}
+use Rattle.mqb_history.specs.Acked.{AreWaitingUntilDecided, WaitsAbove, WasDecidedThere}
+use Rattle.mqb_history.specs.Decided.{written_of}
+use Rattle.mqb_history.specs.Expired.{expiries_told}
+use Rattle.mqb_history.specs.Laws.{AlwaysWaitingUntilDecided}
+use Rattle.mqb_history.specs.Leading.{AreRowsLed, RowsAreLed}
+use Rattle.mqb_model.specs.declared.target.Target.TheVariants.{AtPeer}
+use Rattle.mqb_model.specs.managers.Readers.{awaits, has_plain, is_outstanding_to}
+use Rattle.mqb_model.specs.state.Resolving.{peer_known, resolved}
+use Rattle.mqb_model.specs.state.State.{State}
+use Rattle.mqb_network.specs.Courses.{Course}
+use Rattle.mqb_network.specs.Laws.{Always, AreApart, lines_written}
+use Rattle.mqb_network.specs.Network.{manager_at}
+use Rattle.mqb_network.specs.Runs.{after_run, course_after}
+use Rattle.mqb_network.specs.Scripts.{well}
+use Rattle.mqb_orders.specs.Rows.{has_unacknowledged}
+use Rattle.mqb_orders.specs.declared.kept.Kept.{Kept}
+use Rattle.mqb_law_meetings.specs.Drained.{IsDrained, has_for}
+use Rattle.mqb_law_meetings.specs.Meetings.{meeting, meetings}
+use Rattle.mqb_law_meetings.specs.Recovery.{Delivers, Recovers}
+use Rattle.mqb_law_meetings.specs.Work.{met, work}
+use Rattle.mqb_law_meetings.proofs.Agreeing.{now}
+use Rattle.mqb_law_meetings.proofs.Lists.{same_number}
+use Rattle.mqb_law_meetings.proofs.Recovering.{meeting_drafted, meeting_runs, starts_drafted}
+use Rattle.mqb_law_meetings.proofs.Running.{InRun, run_on}
+
+-- The meetings go on a run.
+meetings_run : (known : List Identity) (a b moment count : ℕ) (c : Course) → InRun known c → InRun known (course_after c (map well (meetings a b moment count)))
+meetings_run known a b moment zero c r = r
+meetings_run known a b moment (suc n) c r = meetings_run known a b moment n (course_after c (map well (meeting a b moment)))
+    (run_on known c (map well (meeting a b moment)) r (meeting_runs c a b moment) (meeting_drafted a b moment))
+
+-- a law of all runs, in a course of one
+of_run : (P : Course → Type 0) → Always P → (known : List Identity) → AreApart known → (c : Course) → InRun known c → P c
+of_run P always known apart c r = subst P (sym r.is) (now P (after_run known r.moves) (always known r.moves apart r.run (λ j. false)))
+
+-- A row that waits would be outstanding.
+module _ (c : Course) (a b k : ℕ) (m : Commitment) (rows : AreRowsLed c) (leads : resolved (manager_at c.network a).state m.message.destination ≡ AtPeer k)
+    (knows : peer_known (manager_at c.network a).state (manager_at c.network b).state.identity.guid ≡ Some k) (w : WaitsAbove (manager_at c.network a).state m) where
+  abbrev s : State
+  s = (manager_at c.network a).state
+
+  peer_is : w.row.peer ≡ k
+  peer_is = let same : AtPeer w.row.peer ≡ AtPeer k = sym (rows a w.row w.there) ∙ ap (resolved s) w.destination ∙ leads in cc
+
+  waits : awaits k w.row ≡ true
+  waits = and_from (w.row.peer == k) (has_unacknowledged w.row) (ap (λ n. n == k) peer_is ∙ same_number k)
+      (any_from_In (λ (x : Kept). nat_lt w.row.acked x.number) (record { number = m.position.number; message = m.message }) w.row.kept w.kept (lt-ltb w.row.acked m.position.number w.above))
+
+  has : has_for c.network a b ≡ true
+  has = ap (λ o. option_map_or (is_outstanding_to s) o false) knows
+      ∙ ap (λ t. option_map_or has_plain (slice_get s.plain k) false || t) (any_from_In (awaits k) w.row s.outs w.there waits) ∙ or_true (option_map_or has_plain (slice_get s.plain k) false)
+    where
+      or_true : (t : Bool) → (t || true) ≡ true
+      or_true true = refl
+      or_true false = refl
+
+pub delivers : Recovers → AlwaysWaitingUntilDecided → RowsAreLed → Delivers
+delivers recovers waiting led known before ms a b moment order drafted run in_a in_b differ starts stamps other_stamps m k committed leads knows =
+    by (of_run AreWaitingUntilDecided waiting known order.apart z in_run a m committed)
+  where
+    c : Course
+    c = course_after (after_run known before) ms
+
+    z : Course
+    z = met c a b moment
+
+    in_run : InRun known z
+    in_run = meetings_run known a b moment (work c.network a b) c
+        (run_on known (after_run known before) ms (record { moves = before; is = refl; drafted = drafted; run = run }) starts.run (starts_drafted ms a b starts.events))
+
+    drained : IsDrained z.network a b
+    drained = recovers known before ms a b moment order drafted run in_a in_b differ starts stamps other_stamps
+
+    by : WaitsAbove (manager_at z.network a).state m ⊎ (WasDecidedThere z a m ⊎ In m.position (expiries_told (lines_written (written_of a z.written))))
+        → WasDecidedThere z a m ⊎ In m.position (expiries_told (lines_written (written_of a z.written)))
+    by (inl above) = absurd (true≢false (sym (has z a b k m (of_run AreRowsLed led known order.apart z in_run) leads knows above) ∙ drained.first))
+    by (inr rest) = rest
