@@ -34,14 +34,13 @@ def rate(act, each=1):
     return done / spent
 
 
-def within(folder, words, *ready, **more):
-    """A program that runs until it is ended, once it listens."""
+def within(folder, words, at, **more):
+    """A program that runs until it is ended, once it listens there."""
     program = subprocess.Popen(words, cwd=folder, stdin=subprocess.DEVNULL, stdout=open(folder / "log", "wb"), stderr=subprocess.STDOUT, **more)
     till = time.monotonic() + 60
     while program.poll() is None and time.monotonic() < till:
         try:
-            for at in ready:
-                socket.create_connection(at).close() if isinstance(at, tuple) else unix(at).close()
+            (socket.create_connection(at) if isinstance(at, tuple) else unix(at)).close()
             return program
         except OSError:
             time.sleep(0.05)
@@ -61,7 +60,8 @@ def free_port():
 
 
 def found(name, *places):
-    return shutil.which(name, path=os.pathsep.join([os.environ["PATH"], "/usr/sbin", *places]))
+    """The path of a program, in one of these places or where programs are."""
+    return shutil.which(name, path=os.pathsep.join([*places, os.environ["PATH"], "/usr/sbin"]))
 
 
 class Raw:
@@ -306,14 +306,14 @@ class RabbitMQ:
     PLACES = ["/usr/lib/rabbitmq/bin"]
 
     def __init__(self, folder):
-        self.at = ("127.0.0.1", free_port())
-        name = f"mqb{self.at[1]}@localhost"
+        self.at, names = ("127.0.0.1", free_port()), ("127.0.0.1", free_port())
+        self.names = within(folder, [found("epmd", "/usr/lib/erlang/bin"), "-address", names[0], "-port", str(names[1])], names)
         (folder / "plugins").write_text("[].")
-        (folder / "conf.conf").write_text("listeners.tcp.default = 127.0.0.1:%d\n" % self.at[1])
-        env = {**os.environ, "HOME": str(folder), "RABBITMQ_NODENAME": name, "RABBITMQ_NODE_PORT": str(self.at[1]), "RABBITMQ_DIST_PORT": str(free_port()), "RABBITMQ_MNESIA_BASE": str(folder / "mnesia"),
-               "RABBITMQ_LOG_BASE": str(folder / "logs"), "RABBITMQ_ENABLED_PLUGINS_FILE": str(folder / "plugins"), "RABBITMQ_CONFIG_FILE": str(folder / "conf"), "ERL_EPMD_PORT": str(free_port()),
-               "ERL_EPMD_ADDRESS": "127.0.0.1", "RABBITMQ_PID_FILE": str(folder / "pid")}
-        self.env, self.program = env, within(folder, [found("rabbitmq-server", *self.PLACES)], self.at, env=env, start_new_session=True)
+        (folder / "conf.conf").write_text(f"listeners.tcp.default = {self.at[0]}:{self.at[1]}\n")
+        more = {"NODENAME": f"mqb{self.at[1]}@localhost", "DIST_PORT": str(free_port()), "MNESIA_BASE": str(folder / "mnesia"), "LOG_BASE": str(folder / "logs"), "PID_FILE": str(folder / "pid"),
+                "ENABLED_PLUGINS_FILE": str(folder / "plugins"), "CONFIG_FILE": str(folder / "conf")}
+        env = {**os.environ, "HOME": str(folder), "ERL_EPMD_PORT": str(names[1]), "ERL_EPMD_ADDRESS": names[0], **{f"RABBITMQ_{name}": value for name, value in more.items()}}
+        self.program = within(folder, [found("rabbitmq-server", *self.PLACES)], self.at, env=env, start_new_session=True)
         self.connect()
 
     def connect(self):
@@ -394,9 +394,10 @@ class RabbitMQ:
         return True
 
     def close(self):
-        os.killpg(self.program.pid, 9)
+        os.killpg(self.program.pid, signal.SIGKILL)
         self.program.wait()
-        subprocess.run([found("epmd", "/usr/lib/erlang/bin"), "-kill"], env=self.env, stdout=subprocess.DEVNULL, stderr=subprocess.DEVNULL)
+        self.names.kill()
+        self.names.wait()
 
 
 SYSTEMS = {

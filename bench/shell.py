@@ -6,7 +6,7 @@
 
 A client of `killed` is up to WINDOW lines (20) ahead of the answers that it has read. The numbers are drawn from SEED. The files stand in FOLDER, which decides what a sync costs; MQB names another program
 than `./mqb --where` does. `long` makes the library of delayed.c by the system's C compiler. It stands outside the gate, but for a few kills."""
-import collections, concurrent.futures, contextlib, os, pathlib, random, re, shutil, signal, subprocess, sys, threading, time
+import collections, concurrent.futures, contextlib, os, pathlib, random, re, resource, shutil, signal, subprocess, sys, threading, time
 from managers import GUIDS, MQB, TOP, asked, folder, mqb, send
 
 SEED = int(os.environ.get("SEED", "1"))
@@ -224,6 +224,12 @@ def drawn(count):
         print(f"{count} lines, {len(good)} of them good, each answered as by a command: " + ", ".join(f"{times} end {end}" for end, times in sorted(ends.items())))
 
 
+def processor():
+    """The seconds of a processor that the programs have taken that ended."""
+    used = resource.getrusage(resource.RUSAGE_CHILDREN)
+    return used.ru_utime + used.ru_stime
+
+
 def long():
     with folder() as name:
         library = f"{name}/delayed.so"
@@ -234,11 +240,11 @@ def long():
                 (input := pathlib.Path(name) / "line").write_bytes(line(size) + b"\n")
                 took = []
                 for piece in ("0", "1"):
-                    began = time.perf_counter()
+                    before = processor()
                     done = subprocess.run([MQB, "shell", store], stdin=open(input), stdout=subprocess.PIPE, env={**os.environ, "LD_PRELOAD": library, "DELAYED_PIECE": piece})
-                    took.append(time.perf_counter() - began)
+                    took.append(processor() - before)
                     assert done.stdout == FAULTY, done
-                print(f"{what}, {size:>10,} bytes: {took[1]:.2f} s byte by byte, {took[1] / size * 1e9:.0f} ns a byte; {took[0]:.2f} s as they come", flush=True)
+                print(f"{what}, {size:>10,} bytes: {took[1]:.2f} s of a processor byte by byte, {took[1] / size * 1e9:.0f} ns a byte; {took[0]:.2f} s as they come", flush=True)
 
 
 def high_water(pid):
