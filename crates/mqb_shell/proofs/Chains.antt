@@ -1,10 +1,10 @@
 -- Lines that were answered behind others.
-use Rattle.std.proofs.Common.{◌≡◌, ◌∙◌, ◌++◌, ◌∷◌, [], List, Option, ap, append-nil, append_assoc, refl, subst, sym, ℕ}
+use Rattle.std.proofs.Common.{◌≡◌, ◌∙◌, ◌++◌, ◌∷◌, [], List, Option, ap, append_assoc, refl, subst, sym, ℕ}
 use Rattle.std.proofs.lemmas.Grind.{flat_map-append}
 use Rattle.std.proofs.lemmas.List.{map-append}
 use Rattle.std.specs.List.{AllByRecursion}
 use Rattle.mqb_commands.specs.declared.status.Status.{Status}
-use Rattle.mqb_shell.specs.Answered.{Answered, Answers, GoesOver, Keeps, StopsIn, lines_of}
+use Rattle.mqb_shell.specs.Answered.{Answered, Answers, GoesOver, StopsIn, lines_of}
 use Rattle.mqb_shell.specs.Lines.{IsCut, IsOneLine, joined}
 use Rattle.mqb_shell.specs.Standing.{Standing}
 

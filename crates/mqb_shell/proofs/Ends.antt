@@ -1,15 +1,15 @@
 -- How a shell ends.
-use Rattle.std.proofs.Common.{◌≡◌, ◌≢◌, ◌⊎◌, ◌∙◌, [], List, None, Option, Some, Err, ap, append-nil, inl, inr, refl, subst, sym, ℕ}
-use Rattle.mqb_commands.specs.Outputs.{IsFaultLine, IsPlain, ReadFaultHasCause, Says, TookFront, WriteFaultHasCause}
+use Rattle.std.proofs.Common.{◌≡◌, ◌⊎◌, ◌∙◌, [], List, None, Option, Some, ap, append-nil, inl, inr, refl, subst, sym, ℕ}
+use Rattle.mqb_commands.specs.Outputs.{IsFaultLine, IsPlain, ReadFaultHasCause, Says, TookFront}
 use Rattle.mqb_commands.specs.Texts.{fault_text}
 use Rattle.mqb_commands.specs.declared.status.Status.{Status}
 use Rattle.mqb_commands.specs.declared.status.Status.TheVariants as status
 use Rattle.mqb_outside.specs.Told.{Took}
 use Rattle.mqb_serving.specs.declared.faults.PeerFault.TheVariants as peer
-use Rattle.mqb_shell.specs.Answered.{IsUnasked, StopsAt, StopsIn}
+use Rattle.mqb_shell.specs.Answered.{IsUnasked, StopsAt}
 use Rattle.mqb_shell.specs.Ends.{IsReadingEnd, IsStop}
 use Rattle.mqb_shell.specs.Lines.{IsOneLine}
-use Rattle.mqb_shell.specs.Shells.{EndsBehind, EndsReading, IsShellEnd, TellsReading}
+use Rattle.mqb_shell.specs.Shells.{EndsBehind, EndsReading, IsShellEnd}
 use Rattle.mqb_shell.specs.Standing.{Standing}
 
 -- nothing was taken

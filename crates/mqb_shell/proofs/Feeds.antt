@@ -1,5 +1,5 @@
 -- The first line feed of a text.
-use Rattle.std.proofs.Common.{◌≡◌, ◌≢◌, ◌∙◌, ◌+◌, ◌++◌, ◌<◌, ◌≤◌, ◌∷◌, ◌==◌, Bool, List, None, Option, Some, ap, cond, drop, false, get_or, length, nat_lt, refl, subst, suc, sym, take, true, arith, ℕ}
+use Rattle.std.proofs.Common.{◌≡◌, ◌≢◌, ◌∙◌, ◌+◌, ◌++◌, ◌<◌, ◌≤◌, ◌∷◌, ◌==◌, Bool, List, None, Some, ap, cond, drop, false, get_or, length, nat_lt, refl, subst, suc, sym, take, true, arith, ℕ}
 use Rattle.std.proofs.Math.Seq.{drop-cons}
 use Rattle.std.proofs.lemmas.Bool.Decides.{nat_tests}
 use Rattle.std.proofs.lemmas.Bool.{eqb-false, eqb-true}

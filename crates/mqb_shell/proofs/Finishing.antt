@@ -1,8 +1,8 @@
 -- How the answer of a line ends, and the shell with it.
-use Rattle.std.proofs.Common.{◌≡◌, ◌≢◌, ◌⊎◌, ◌∙◌, Bool, List, None, Option, Some, cond, false, inl, inr, refl, subst, sym, true, ℕ}
+use Rattle.std.proofs.Common.{◌≡◌, ◌≢◌, ◌∙◌, Bool, List, None, Option, Some, cond, false, inl, inr, refl, subst, sym, true, ℕ}
 use Rattle.std.specs.Prelude.{Err, IfErr, Ok, OnOk, Result, length, nat_le, ok_or}
 use Rattle.mqb_commands.specs.Causes.{DiskFaultHasCause}
-use Rattle.mqb_commands.specs.Outputs.{GoesOn, IsFaultLine, IsPlain, Says, WriteFaultHasCause}
+use Rattle.mqb_commands.specs.Outputs.{GoesOn, WriteFaultHasCause}
 use Rattle.mqb_commands.specs.declared.status.Status.{Status}
 use Rattle.mqb_commands.specs.declared.status.Status.TheVariants as status
 use Rattle.mqb_outside.specs.Faults.{Rose}

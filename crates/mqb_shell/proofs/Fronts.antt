@@ -1,5 +1,5 @@
 -- What a front of a piece comes to.
-use Rattle.std.proofs.Common.{[], ◌+◌, ◌++◌, ◌<◌, ◌≡◌, ◌≢◌, ◌∙◌, ◌∷◌, ◌⊎◌, Err, List, None, Ok, Option, Result, Some, ap, append-nil, append_assoc, drop, inl, inr, length, refl, subst, sym, take, arith, ℕ}
+use Rattle.std.proofs.Common.{[], ◌+◌, ◌++◌, ◌≡◌, ◌≢◌, ◌∙◌, ◌∷◌, ◌⊎◌, Err, List, None, Ok, Option, Result, Some, ap, append-nil, append_assoc, drop, inl, inr, length, refl, subst, sym, take, arith, ℕ}
 use Rattle.std.proofs.lemmas.Bool.{eqb-true}
 use Rattle.std.proofs.lemmas.List.Elements.{All-append}
 use Rattle.std.proofs.lemmas.List.Quantifiers.{position-Some}

@@ -1,5 +1,5 @@
 -- Of a line that is too long as many bytes are kept as say so.
-use Rattle.std.proofs.Common.{◌≡◌, ◌∙◌, ◌+◌, ◌++◌, ◌-◌, ◌<◌, ◌≤◌, Bool, Err, List, ap, append-nil, cond, false, length, min, nat_le, refl, subst, sym, take, true, arith, ℕ}
+use Rattle.std.proofs.Common.{◌≡◌, ◌∙◌, ◌+◌, ◌++◌, ◌-◌, ◌<◌, ◌≤◌, Bool, Err, List, ap, append-nil, cond, false, length, min, nat_le, refl, sym, take, true, arith, ℕ}
 use Rattle.std.proofs.Math.Seq.{take-append-add}
 use Rattle.std.proofs.lemmas.Bool.Decides.{nat_tests}
 use Rattle.std.proofs.lemmas.List.{length-take, take-append-le, take_all, take_min}

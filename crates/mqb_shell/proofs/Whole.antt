@@ -1,5 +1,5 @@
 -- What a shell has read and answered, and how it ends behind that.
-use Rattle.std.proofs.Common.{[], ◌+◌, ◌++◌, ◌<◌, ◌≡◌, ◌≢◌, ◌≤◌, ◌∙◌, ◌∷◌, List, None, Option, Some, ap, append-nil, inl, inr, length, length-append, refl, subst, sym, take, arith, ℕ}
+use Rattle.std.proofs.Common.{[], ◌+◌, ◌++◌, ◌<◌, ◌≡◌, ◌≢◌, ◌≤◌, ◌∙◌, ◌∷◌, List, None, Option, Some, ap, inl, inr, length, length-append, refl, subst, sym, take, arith, ℕ}
 use Rattle.std.proofs.lemmas.List.{take-append-le, take-take}
 use Rattle.mqb_commands.specs.Outputs.{IsFaultLine, Says}
 use Rattle.mqb_commands.specs.Shown.{IsAtEnd}
@@ -12,7 +12,7 @@ use Rattle.mqb_serving.specs.declared.faults.PeerFault.TheVariants as peer
 use Rattle.mqb_shell.specs.Answered.{Keeps, StopsIn}
 use Rattle.mqb_shell.specs.Ends.{IsStop}
 use Rattle.mqb_shell.specs.Lines.{IsOneLine}
-use Rattle.mqb_shell.specs.Shells.{EndsBehind, EndsInput, IsShellEnd, Shell}
+use Rattle.mqb_shell.specs.Shells.{EndsBehind, EndsInput, Shell}
 use Rattle.mqb_shell.specs.Standing.{Standing}
 use Rattle.mqb_shell.specs.declared.asking.TheConstants.{MAX_LINE}
 use Rattle.mqb_shell.proofs.Chains.{cut_none}

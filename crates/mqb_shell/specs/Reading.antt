@@ -1,5 +1,5 @@
 -- What is read of a line.
-use Rattle.std.specs.Prelude.{◌≡◌, Err, Ok, Result}
+use Rattle.std.specs.Prelude.{◌≡◌, Err, Result}
 use Rattle.mqb_commands.specs.declared.status.Status.{Status}
 use Rattle.mqb_commands.specs.declared.status.Status.TheVariants as status
 use Rattle.mqb_words.specs.declared.commands.Command.{Command}

@@ -1,5 +1,5 @@
 //! What lines ask, and how their answers end.
-ghost use Rattle.std.specs.Prelude.{◌≡◌, Err, IfErr, IfOk, OnOk, Ok, true};
+ghost use Rattle.std.specs.Prelude.{◌≡◌, IfOk, true};
 ghost use Rattle.mqb_shell.specs.Lines.{asked_in, end_line};
 ghost use Rattle.mqb_shell.specs.Reading.{Asks};
 ghost use Rattle.mqb_words.specs.Formed.{IsFormed};

@@ -1,4 +1,4 @@
-ghost use Rattle.std.specs.Prelude.{◌≡◌, ◌≢◌, None, Ok, take, []};
+ghost use Rattle.std.specs.Prelude.{◌≡◌, None};
 ghost use Rattle.mqb_commands.specs.Causes.{DiskFaultHasCause};
 ghost use Rattle.mqb_commands.specs.Outputs.{IsFaultLine, ReadFaultHasCause, Says, WriteFaultHasCause};
 ghost use Rattle.mqb_manager.specs.Keeping.{KeepsDisk};

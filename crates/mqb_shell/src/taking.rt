@@ -1,5 +1,5 @@
 //! Bytes are taken, and the lines that end in them are answered.
-ghost use Rattle.std.specs.Prelude.{[], ◌+◌, ◌++◌, ◌<◌, ◌==◌, ◌≡◌, ◌≢◌, ◌≤◌, Err, IfErr, IfOk, IfSome, List, None, OnErr, OnOk, Ok, length, position, take, ℕ};
+ghost use Rattle.std.specs.Prelude.{◌+◌, ◌++◌, ◌<◌, ◌==◌, ◌≡◌, ◌≢◌, ◌≤◌, IfErr, IfOk, List, None, OnOk, length, position, take, ℕ};
 ghost use Rattle.mqb_commands.specs.Causes.{DiskFaultHasCause};
 ghost use Rattle.mqb_commands.specs.Outputs.{WriteFaultHasCause};
 ghost use Rattle.mqb_manager.specs.Keeping.{KeepsDisk};

@@ -1,4 +1,4 @@
-use Rattle.std.proofs.Common.{List, Option, rules, subst, ℕ}
+use Rattle.std.proofs.Common.{rules, subst}
 use Rattle.std.specs.Prelude.{◌≢◌}
 use Rattle.mqb_commands.specs.declared.status.Status.TheVariants as status
 use Rattle.mqb_outside.specs.Told.{Took}

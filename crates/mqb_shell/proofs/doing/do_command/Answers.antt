@@ -1,4 +1,4 @@
-use Rattle.std.proofs.Common.{ap, inl, inr, refl, subst, sym}
+use Rattle.std.proofs.Common.{ap, refl, sym}
 use Rattle.mqb_commands.proofs.Answering.{calls_cause, look_cause}
 use Rattle.mqb_commands.proofs.Checkpointed.{checkpoints_cause, kept_as}
 use Rattle.mqb_connections.proofs.Reaches.{reached_from}

@@ -1,4 +1,4 @@
-use Rattle.std.proofs.Common.{◌<◌, ◌≡◌, length, ℕ}
+use Rattle.std.proofs.Common.{◌<◌, ◌≡◌, length}
 use Rattle.std.specs.Prelude.{None}
 use Rattle.mqb_manager.specs.Keeping.{KeepsDisk}
 use Rattle.mqb_manager.specs.States.{IsUp}

@@ -1,9 +1,9 @@
-use Rattle.std.proofs.Common.{ap, inl, inr, refl, subst, ℕ}
+use Rattle.std.proofs.Common.{inl, inr, refl}
 use Rattle.mqb_commands.specs.Causes.{DiskFaultHasCause}
 use Rattle.mqb_commands.specs.Outputs.{ReadFaultHasCause}
 use Rattle.mqb_commands.specs.lemmas.Opening.{line_fails, on_store}
 use Rattle.mqb_connections.proofs.Unopened.{unopened_disk, unopened_read}
-use Rattle.mqb_shell.specs.Shells.{IsShellEnd, Shell, standing, standing_now}
+use Rattle.mqb_shell.specs.Shells.{IsShellEnd}
 use Rattle.mqb_shell.proofs.Ends.{said_is}
 use Rattle.mqb_shell.proofs.Opening.{line_said, unopened_end, unopened_plain}
 use Rattle.mqb_shell.proofs.shell.run_shell.Goals as goal

@@ -1,4 +1,4 @@
-use Rattle.std.proofs.Common.{◌∙◌, length-drop, refl, arith, ℕ}
+use Rattle.std.proofs.Common.{◌∙◌, length-drop, refl, arith}
 use Rattle.std.proofs.lemmas.List.{take_all}
 use Rattle.mqb_manager.specs.lemmas.Keeping.{keeping_goes_on, nothing_keeps}
 use Rattle.mqb_shell.proofs.Pieces.{all_behind, front_more, keeps_none, keeps_then, stops_behind}
