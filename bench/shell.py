@@ -40,11 +40,12 @@ def answers_of(output):
 
 
 class Script:
-    """The lines of a shell that commits and takes, with the answer to each and what the queue holds behind it. The lines repeat, so that its length is bounded."""
-    LINES = ("commit 1", "take", "commit 3", "", "take", "commit take 1 take", "take other", "commit 1", "commit take", "take", "commit take 2 take", "take")
+    """The lines of a shell that commits and takes, with the answer to each and what the queue holds behind it, which tells how many were sent and taken: it is never empty. The lines repeat, and put as many as they take."""
+    LINES = ("commit 1", "take", "commit 3", "", "take", "commit take 1 take", "take other", "commit 1", "commit take", "take", "commit take 2 take")
+    FIRST = 20  # messages that are there
 
     def __init__(self):
-        self.number, self.made, self.queue = 0, 0, collections.deque()
+        self.number, self.made, self.queue = 0, self.FIRST, collections.deque((at, f"body{at}") for at in range(1, self.FIRST + 1))
 
     def step(self):
         """The next line, and its answer."""
@@ -65,15 +66,11 @@ class Script:
     def take(self, place="orders"):
         if place != "orders":
             return f"take {place}", "noqueue\nend 11\n"
-        if not self.queue:
-            return "take orders", "queueempty\nend 11\n"
         took, body = self.taken()
         return "take orders", f"{took} [{took}]\n{body}end 0\n"
 
     def commit(self, *ops):
         line, taken, sent, bodies, more = "commit", "", "", "", []
-        if ops.count("take") > len(self.queue):
-            return "list x", "fault: usage\nend 2\n"
         for op in ops:
             if op == "take":
                 took, body = self.taken()
@@ -138,8 +135,9 @@ def killed(kills):
     draw, script, counts = random.Random(SEED), Script(), collections.Counter()
     with folder() as name:
         store = made(name)
+        asked("commit", store, *(send("alpha", "orders", body) for _, body in script.queue))
         for _ in range(kills):
-            first, begun = script.number, Script()
+            begun = Script()
             begun.number, begun.made, begun.queue = script.number, script.made, collections.deque(script.queue)
             read, states = outlived(store, script, draw)
             held = queue_of(store)
