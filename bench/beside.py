@@ -11,7 +11,21 @@ A raw loop appends as many bytes as a record of mqb has and syncs; that of two s
 
 SQLite is Python's own, with a WAL and synchronous=FULL. Where Debian's packages are installed: beanstalkd (-f0, which has no transactions), Redis (appendfsync always), PostgreSQL and RabbitMQ
 (a durable queue, confirms; 64 messages before the confirms are awaited). DELAY is how many microseconds each sync waits besides, in all of them, by the library of delayed.c. FOLDER is where the files stand.
-All is over pipes, sockets of the file system and the loopback. MQB names another program than `./mqb --where` does; ONLY=mqb,SQLite names those that are tried.
+All is over pipes, sockets of the file system and the loopback. MQB names another program than `./mqb --where` does; ONLY=mqb,SQLite names those that are tried. It stands outside the gate.
+
+Seen of the proved program whose sum begins with 5c93fa77, with a processor of its own (ONLY=mqb,SQLite, chrt -f 10 taskset -c 3), in hundredths of the loop of two syncs, put, 64, pair and flight: where each sync waits half a
+millisecond besides mqb 97, 61, 51, 46 and SQLite, which syncs once, 152, 178, 175, 68; with the disk's own syncs, some 0.15 milliseconds each, mqb 86, 35, 66, 65 and SQLite 49, 128, 280, 104. A program of the same text
+that was not proved had 95 and 97, 64 and 62. Of 64 messages a manager computes 0.6 milliseconds, beside the two syncs.
+
+All of them, with DELAY=500, on the same machine with three times as many busy programs as processors, which blurs each number by a half and more, in hundredths of the loop of one sync, and of that of two:
+
+                     put           64            pair          flight
+    mqb              42     66     42    106     26     42     34     54
+    SQLite           52     81     40    101     65    103     29     46
+    beanstalkd       92    145                   15     24     58     91
+    Redis            48     76     27     68     73    114     32     50
+    PostgreSQL       99    155     13     34     49     76     33     52
+    RabbitMQ         34     54     12     30     20     31     22     34
 """
 import collections, ctypes, os, pathlib, shutil, signal, socket, sqlite3, struct, subprocess, sys, threading, time
 from managers import GUIDS, MQB, TOP, asked, folder
@@ -34,10 +48,15 @@ def rate(act, each=1):
     return done / spent
 
 
+class NotUp(Exception):
+    pass
+
+
 def within(folder, words, at, **more):
     """A program that runs until it is ended, once it listens there."""
-    program = subprocess.Popen(words, cwd=folder, stdin=subprocess.DEVNULL, stdout=open(folder / "log", "wb"), stderr=subprocess.STDOUT, **more)
-    till = time.monotonic() + 60
+    log = folder / f"{pathlib.Path(words[0]).name}.log"
+    program = subprocess.Popen(words, cwd=folder, stdin=subprocess.DEVNULL, stdout=open(log, "wb"), stderr=subprocess.STDOUT, **more)
+    till = time.monotonic() + 120
     while program.poll() is None and time.monotonic() < till:
         try:
             (socket.create_connection(at) if isinstance(at, tuple) else unix(at)).close()
@@ -45,7 +64,7 @@ def within(folder, words, at, **more):
         except OSError:
             time.sleep(0.05)
     program.kill()
-    raise SystemExit(f"{words[0]} does not listen: {(folder / 'log').read_text()[-500:]}")
+    raise NotUp(f"{words[0]} does not listen: {log.read_text()[-500:]}")
 
 
 def unix(path):
@@ -269,7 +288,7 @@ class PostgreSQL:
                 return
             self.pq.PQfinish(self.end)
             time.sleep(0.1)
-        raise SystemExit("PostgreSQL is not ready")
+        raise NotUp("PostgreSQL is not ready")
 
     def second(self):
         other = object.__new__(PostgreSQL)
@@ -313,7 +332,11 @@ class RabbitMQ:
         more = {"NODENAME": f"mqb{self.at[1]}@localhost", "DIST_PORT": str(free_port()), "MNESIA_BASE": str(folder / "mnesia"), "LOG_BASE": str(folder / "logs"), "PID_FILE": str(folder / "pid"),
                 "ENABLED_PLUGINS_FILE": str(folder / "plugins"), "CONFIG_FILE": str(folder / "conf")}
         env = {**os.environ, "HOME": str(folder), "ERL_EPMD_PORT": str(names[1]), "ERL_EPMD_ADDRESS": names[0], **{f"RABBITMQ_{name}": value for name, value in more.items()}}
-        self.program = within(folder, [found("rabbitmq-server", *self.PLACES)], self.at, env=env, start_new_session=True)
+        try:
+            self.program = within(folder, [found("rabbitmq-server", *self.PLACES)], self.at, env=env, start_new_session=True)
+        except NotUp:
+            self.names.kill()
+            raise
         self.connect()
 
     def connect(self):
@@ -457,14 +480,19 @@ def main():
     if "LD_PRELOAD" not in os.environ and DELAY != "0":
         with folder() as place:
             library = f"{place}/delayed.so"
+            pathlib.Path(place).chmod(0o755)  # PostgreSQL runs as another user
             subprocess.run(["cc", "-shared", "-fPIC", "-O2", "-Wall", "-o", library, TOP / "bench/delayed.c", "-ldl"], check=True)
             raise SystemExit(subprocess.run([sys.executable, *sys.argv], env={**os.environ, "LD_PRELOAD": library, "DELAYED_SYNC": DELAY}).returncode)
     names = [name for name in SYSTEMS if (name not in PROGRAMS or found(PROGRAMS[name][0], *PROGRAMS[name][1])) and (ONLY == [""] or name in ONLY or name.startswith("the disk"))]
     best = collections.defaultdict(float)
     for _ in range(3):
         for cell in CELLS:
-            for name in filter(lambda name: has(name, cell), names):
-                best[name, cell] = max(best[name, cell], tried(name, cell))
+            for name in [name for name in names if has(name, cell)]:
+                try:
+                    best[name, cell] = max(best[name, cell], tried(name, cell))
+                except NotUp as why:
+                    print(why, file=sys.stderr)
+                    names.remove(name)
     print(f"{'':20}" + "".join(f"{cell:>24}" for cell in CELLS))
     for name in names:
         line = f"{name:20}"

@@ -4,6 +4,11 @@
    shell.py long              lines of 1 to 16 million bytes that come byte by byte: the time is linear
    shell.py memory [LINES]    LINES lines (1,000,000) of commit and take in turn, of refused ones, of faulty ones, and of peeks and lists, beside a thousandth: the same memory
 
+Seen of the proved program whose sum begins with 5c93fa77, on a machine with twice as many busy programs as processors, with the files in memory. Of 1,000 kills 987 came behind an answer: 68,935 answers were read and
+hold, 92 lines were done whose answer was not read whole, each in another shell, and 12,780 were not done. Of 100,000 drawn lines 90,221 were faulty; the other 9,779 were answered as by single commands on a copy
+(5,585 end 0, 4,145 end 11, 49 end 7), behind which both stores said the same. A byte of a line that comes byte by byte took 284 to 402 nanoseconds of a processor in lines of one word, and 301 to 524 in lines of
+spaces, of 1 to 16 million bytes; the spaces took 289 MB of memory at most, read as they came too. The most memory of 1,000,000 lines was 9,800 to 10,036 kB, and of a thousandth of them 9,812 to 10,032.
+
 A client of `killed` is up to WINDOW lines (20) ahead of the answers that it has read. The numbers are drawn from SEED. The files stand in FOLDER, which decides what a sync costs; MQB names another program
 than `./mqb --where` does. `long` makes the library of delayed.c by the system's C compiler. It stands outside the gate, but for a few kills."""
 import collections, concurrent.futures, contextlib, os, pathlib, random, re, resource, shutil, signal, subprocess, sys, threading, time
