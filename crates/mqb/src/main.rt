@@ -18,6 +18,7 @@ use no_disk::NoDisk;
 use run::run;
 use settings::Settings;
 use std::alloc::Global;
+use std::fs::File;
 use std::process::ExitCode;
 use std::rt::Env;
 use std::time::Duration;
@@ -215,7 +216,18 @@ fn run_words(rt: &HostRuntime, alloc: Global) -> Result<Status, Memory> {
     }
 }
 
+/// Holds an empty file for each standard stream that is closed. Else the store would get the number of that stream, and with it what is written there.
+fn hold_streams(rt: &HostRuntime) -> [io::Result<File>; 3] {
+    let empty = "/dev/null";
+    [
+        File::open(rt, empty),
+        File::open(rt, empty),
+        File::open(rt, empty),
+    ]
+}
+
 fn main(rt: HostRuntime) -> ExitCode {
+    let _held = hold_streams(&rt);
     let alloc = rt.alloc();
     let status = match run_words(&rt, alloc) {
         Ok(status) => status,

@@ -16,6 +16,7 @@ use mqb_outside::StdSink;
 use running::run_worker;
 use status::WorkStatus;
 use std::alloc::Global;
+use std::fs::File;
 use std::process::ExitCode;
 use std::rt::Env;
 use std::{env, io};
@@ -85,7 +86,18 @@ fn run_words(rt: &HostRuntime, alloc: Global, words: &[String]) -> WorkStatus {
     }
 }
 
+/// Holds an empty file for each standard stream that is closed. Else the store would get the number of that stream, and with it what is written there.
+fn hold_streams(rt: &HostRuntime) -> [io::Result<File>; 3] {
+    let empty = "/dev/null";
+    [
+        File::open(rt, empty),
+        File::open(rt, empty),
+        File::open(rt, empty),
+    ]
+}
+
 fn main(rt: HostRuntime) -> ExitCode {
+    let _held = hold_streams(&rt);
     let alloc = rt.alloc();
     let status = match words_of(&rt, alloc) {
         Ok(words) => run_words(&rt, alloc, words.as_slice()),
