@@ -25,9 +25,9 @@ fn taken_back(queues: &mut Queues, alloc: Global, name: Name) -> Result<TakenBac
     let count = queues.count();
     let is_alone = queues.plan_numbered(2).is_none();
     let quota = queues.plan(0).quota;
-    let plan = queues.pop_queue().into_plan();
-    let quota_back = plan.quota;
-    drop(plan);
+    let queue = queues.pop_queue();
+    let quota_back = queue.plan().quota;
+    drop(queue);
     Ok((count, is_alone, quota, quota_back, queues.count()))
 }
 

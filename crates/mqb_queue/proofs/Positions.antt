@@ -1,7 +1,8 @@
 -- Where the first member of a list stands that passes.
-use Rattle.std.proofs.Common.{◌≡◌, ℕ, zero, suc, ◌+◌, ◌≤◌, Bool, true, false, cond, List, [], ◌∷◌, ◌++◌, length, take, drop, map, Option, Some, None, refl, sym, ap, ◌∙◌, subst, arith}
-use Rattle.std.specs.List.{All, remove, position, position_from, slice_get}
-use Rattle.std.specs.Option.{option_map}
+use Rattle.std.proofs.Common.{◌≡◌, ℕ, zero, suc, ◌+◌, ◌<◌, ◌≤◌, Bool, true, false, cond, ltb, List, [], ◌∷◌, ◌++◌, length, take, drop, map, Option, Some, None, refl, sym, ap, ◌∙◌, subst, arith}
+use Rattle.std.specs.List.{All, remove, position, position_from, position_or_len, slice_get}
+use Rattle.std.specs.Option.{IfSome, option_map}
+use Rattle.std.proofs.lemmas.Bool.{ltb-true}
 use Rattle.std.proofs.lemmas.Iterator.Adapters.{position_from-zero}
 use Rattle.std.proofs.lemmas.List.{take_all, take_more}
 use Rattle.std.proofs.lemmas.List.Elements.{All-nil, All-cons, All-head, All-push, All-tail, All-append, All-take, All-drop}
@@ -149,3 +150,11 @@ none_more {X} p xs k x none is fails =
 -- no one passes
 pub none_found : {X : Type 0} (p : X → Bool) (xs : List X) (k : ℕ) → All (λ y. p y ≡ false) (take k xs) → length xs ≤ k → position p xs ≡ None
 none_found {X} p xs k none past = passes_none p xs (subst (λ (ys : List X). All (λ y. p y ≡ false) ys) (take_all k xs past) none)
+
+-- where one is found, it is within the list
+pub position_within : {X : Type 0} (p : X → Bool) (xs : List X) → IfSome (position p xs) (λ k. k < length xs)
+position_within p xs = at (ltb (position_or_len p xs) (length xs)) (λ t. ltb-true (position_or_len p xs) (length xs) t)
+  where
+    at : (b : Bool) → (b ≡ true → position_or_len p xs < length xs) → IfSome (cond b (Some (position_or_len p xs)) None) (λ k. k < length xs)
+    at true inside = inside refl
+    at false inside = tt

@@ -8,3 +8,4 @@ pub mod Lending
 pub mod Names
 pub mod Levels
 pub mod Passes
+pub mod Empty

@@ -27,6 +27,5 @@ pub use laws::{
     at_most_one_first, found_by_its_name, oldest_is_first, one_named_place_changes,
     one_place_changes, plans_stay,
 };
-pub use name_keys::NameKey;
 pub use new_queue::NewQueue;
 pub use queues::Queues;

@@ -2,6 +2,7 @@ ghost use Rattle.std.specs.Prelude.{◌≡◌, ◌+◌, ◌<◌, ◌≤◌, ◌+
 ghost use Rattle.mqb_base.specs.declared.message.Lane.TheVariants.{Durable, Express};
 ghost use Rattle.mqb_base.specs.declared.message.Message.{Message};
 ghost use Rattle.mqb_base.specs.declared.roomed.TheConstants.{MAX_MEMBERS};
+ghost use Rattle.mqb_queue.specs.Empty.{AreEmpty, rooms_in};
 ghost use Rattle.mqb_queue.specs.First.{is_wanted, first_index, first_of, first_position};
 ghost use Rattle.mqb_queue.specs.Lists.{no_messages, no_room, count, messages_in, put, inserted, room_for, room_to_put, spare, without};
 
@@ -9,7 +10,7 @@ use crate::choice::Choice;
 use crate::first::Position;
 use crate::messages::MessageList;
 use mqb_base::{Lane, MAX_MEMBERS, Memory, Message};
-use mqb_deque::SplitSlice;
+use mqb_deque::{GapBuffer, SplitSlice};
 use std::alloc::Global;
 use std::marker::Model;
 
@@ -52,10 +53,25 @@ impl Lists {
     pub(crate) fn new(alloc: Global) -> Lists
         ensures { result ≡ record { lists = no_messages; rooms = no_room } }
     {
+        Lists::from_empty((GapBuffer::new(alloc), GapBuffer::new(alloc)))
+    }
+
+    pub(crate) fn from_empty(empty: (GapBuffer<Message>, GapBuffer<Message>)) -> Lists
+        requires { AreEmpty empty }
+        ensures { result ≡ record { lists = no_messages; rooms = rooms_in empty } }
+    {
         Lists {
-            durable: MessageList::new(alloc),
-            express: MessageList::new(alloc),
+            durable: MessageList::from_empty(empty.0),
+            express: MessageList::from_empty(empty.1),
         }
+    }
+
+    pub(crate) fn into_empty(self) -> (GapBuffer<Message>, GapBuffer<Message>)
+        requires { self.lists ≡ no_messages }
+        ensures empty { AreEmpty result }
+        ensures rooms { rooms_in result ≡ self.rooms }
+    {
+        (self.durable.into_messages(), self.express.into_messages())
     }
 
     pub(crate) fn count(&self) -> u32

@@ -7,7 +7,6 @@ use crate::passes::{NO_PASSES, Pass, go_on, raise, shift};
 use crate::search::first_index;
 use mqb_base::{Memory, Message};
 use mqb_deque::{GapBuffer, SplitSlice};
-use std::alloc::Global;
 use std::marker::Model;
 
 /// Messages, the oldest first. Contracts see the list, and its room.
@@ -35,15 +34,22 @@ impl Model for MessageList {
 }
 
 impl MessageList {
-    pub(crate) fn new(alloc: Global) -> MessageList
-        ensures { result ≡ record { items = []; room = 0 } }
+    pub(crate) fn from_empty(messages: GapBuffer<Message>) -> MessageList
+        requires { messages.items ≡ [] }
+        ensures { result ≡ messages }
     {
         MessageList {
-            messages: GapBuffer::new(alloc),
+            messages,
             counts: [0; LEVELS],
             top: 0,
             passes: NO_PASSES,
         }
+    }
+
+    pub(crate) fn into_messages(self) -> GapBuffer<Message>
+        ensures { result ≡ self }
+    {
+        self.messages
     }
 
     pub(crate) fn len(&self) -> usize

@@ -12,7 +12,7 @@ use mqb_base::{MAX_NAME, Memory, Name};
 
 /// A queue's name in lower case, followed by zeros.
 #[derive(Clone, Copy, Debug, PartialEq, Eq, Hash)]
-pub struct NameKey(pub [u8; 64]);
+pub(crate) struct NameKey(pub [u8; 64]);
 
 /// The key of a name.
 pub(crate) fn name_key(name: &Name) -> NameKey
@@ -26,13 +26,6 @@ pub(crate) fn name_key(name: &Name) -> NameKey
     NameKey(key)
 }
 
-/// The number of a key, where the table leads from it.
-pub(crate) fn number_of(names: &IndexMap<NameKey, u32>, key: NameKey) -> Option<u32>
-    ensures { result ≡ get same_key names.now key }
-{
-    names.get(&key).copied()
-}
-
 /// A key that the table does not have gets a number. It takes no memory.
 pub(crate) fn enter(names: &mut IndexMap<NameKey, u32>, key: NameKey, number: u32)
     requires room { 0 < spare names.old }
@@ -42,17 +35,6 @@ pub(crate) fn enter(names: &mut IndexMap<NameKey, u32>, key: NameKey, number: u3
     ensures spare { spare names.old ≤ spare names.new + 1 }
 {
     let _ = names.insert(key, number);
-}
-
-/// Makes room for one key more.
-pub(crate) fn make_room(names: &mut IndexMap<NameKey, u32>) -> Result<(), Memory>
-    ensures same { IsUnchanged names.old names.new }
-    ensures grows { spare names.old ≤ spare names.new }
-    ensures ok { OnOk result (1 ≤ spare names.new) }
-    ensures ready { 1 ≤ spare names.old → IsOk result }
-{
-    names.reserve(1)?;
-    Ok(())
 }
 
 /// The table has the names of these queues alone. It takes no memory.

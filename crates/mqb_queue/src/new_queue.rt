@@ -4,26 +4,28 @@ ghost use Rattle.mqb_queue.specs.Seen.{queue_of, rooms_of};
 
 use crate::lists::Lists;
 use crate::queue::Queue;
-use mqb_base::QueuePlan;
+use mqb_base::{Message, QueuePlan};
+use mqb_deque::GapBuffer;
 use std::alloc::Global;
 use std::marker::Model;
 
 /// A queue without messages, which is to join the others or was the last of them. Contracts see its plan, and the room that its lists have.
 #[derive(Debug, Drop)]
 pub struct NewQueue {
-    queue: Queue,
+    plan: QueuePlan,
+    lists: (GapBuffer<Message>, GapBuffer<Message>),
+    journal: (GapBuffer<Message>, GapBuffer<Message>),
 }
 
 impl Model for NewQueue {
-    ghost use Rattle.std.specs.Prelude.{◌≡◌};
-    ghost use Rattle.mqb_queue.specs.Places.{Empty, new_queue};
-    ghost use Rattle.mqb_queue.specs.Seen.{queue_of, rooms_of};
+    ghost use Rattle.mqb_queue.specs.Empty.{AreEmpty, seen_empty};
+    ghost use Rattle.mqb_queue.specs.Places.{Empty};
 
     ghost Value = { Empty };
 
-    ghost view = { λ n. record { plan = n.queue.plan; rooms = rooms_of n.queue } };
+    ghost view = { λ n. seen_empty n.plan n.lists n.journal };
 
-    ghost invariant = { λ n. queue_of n.queue ≡ new_queue n.queue.plan };
+    ghost invariant = { λ n. AreEmpty n.lists × AreEmpty n.journal };
 }
 
 impl NewQueue {
@@ -32,11 +34,9 @@ impl NewQueue {
         ensures { result ≡ record { plan = plan; rooms = no_queue_room } }
     {
         NewQueue {
-            queue: Queue {
-                plan,
-                lists: Lists::new(alloc),
-                journal: Lists::new(alloc),
-            },
+            plan,
+            lists: Lists::new(alloc).into_empty(),
+            journal: Lists::new(alloc).into_empty(),
         }
     }
 
@@ -44,7 +44,11 @@ impl NewQueue {
         requires { queue_of queue ≡ new_queue queue.plan }
         ensures { result ≡ record { plan = queue.plan; rooms = rooms_of queue } }
     {
-        NewQueue { queue }
+        NewQueue {
+            plan: queue.plan,
+            lists: queue.lists.into_empty(),
+            journal: queue.journal.into_empty(),
+        }
     }
 
     pub(crate) fn into_queue(self) -> Queue
@@ -52,18 +56,16 @@ impl NewQueue {
         ensures plan { result.plan ≡ self.plan }
         ensures rooms { rooms_of result ≡ self.rooms }
     {
-        self.queue
+        Queue {
+            plan: self.plan,
+            lists: Lists::from_empty(self.lists),
+            journal: Lists::from_empty(self.journal),
+        }
     }
 
     pub fn plan(&self) -> &QueuePlan
         ensures { result.now ≡ self.now.plan }
     {
-        &self.queue.plan
-    }
-
-    pub fn into_plan(self) -> QueuePlan
-        ensures { result ≡ self.plan }
-    {
-        self.queue.plan
+        &self.plan
     }
 }

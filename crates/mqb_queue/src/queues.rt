@@ -3,12 +3,11 @@ ghost use Rattle.std.specs.Borrow.{sem};
 ghost use Rattle.std.specs.Option.{option_map};
 ghost use Rattle.mqb_base.specs.declared.roomed.TheConstants.{MAX_MEMBERS};
 ghost use Rattle.mqb_queue.specs.Lending.{LendsLists};
-ghost use Rattle.mqb_queue.specs.Names.{LeadsTo};
 ghost use Rattle.mqb_queue.specs.Places.{NamesDiffer, found, lists_at, new_queue, no_queue_room, no_rooms, nothing, numbered, place_named, rooms_at, with_queue, with_queue_room, without_last};
 ghost use Rattle.mqb_queue.specs.Seen.{queue_of};
 
 use crate::lists::Lists;
-use crate::name_keys::{NameKey, enter, enter_all, make_room, name_key, number_of};
+use crate::name_keys::{NameKey, enter, enter_all, name_key};
 use crate::new_queue::NewQueue;
 use crate::queue::{Queue, numbered};
 use indexmap::IndexMap;
@@ -98,14 +97,7 @@ impl Queues {
         ensures few { length self.now.lists.queues ≤ MAX_MEMBERS }
     {
         let _count = self.queues.len();
-        number_of(&self.names, name_key(name))
-    }
-
-    /// The keys of the queues' names, each with the place of its queue in the list, from 0.
-    pub fn names(&self) -> &IndexMap<NameKey, u32>
-        ensures { LeadsTo self.now.lists.queues result.now }
-    {
-        &self.names
+        self.names.get(&name_key(name)).copied()
     }
 
     /// A place as the store names it, where it is there.
@@ -169,7 +161,7 @@ impl Queues {
         if self.queues.len() >= MAX_MEMBERS {
             return Err(Memory);
         }
-        make_room(&mut self.names)?;
+        self.names.reserve(1)?;
         self.queues.make_room(1)
     }
 
