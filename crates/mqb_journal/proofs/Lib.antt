@@ -10,6 +10,7 @@ pub mod Thrown
 pub mod Moments
 pub mod Halves
 pub mod Records
+pub mod Closing
 pub mod Fronts
 pub mod Chains
 pub mod Whole

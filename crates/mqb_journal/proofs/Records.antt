@@ -15,14 +15,11 @@ use Rattle.mqb_layout.specs.Layouts.{layout_of}
 use Rattle.mqb_journal.specs.lemmas.Carrying.{goes_on_stands}
 use Rattle.mqb_journal.specs.Gates.{HasRecord, KeepsGate, ClosedOrWhole}
 use Rattle.mqb_layout.specs.Gates.{IsClosedAt}
+use Rattle.mqb_journal.specs.Blocks.{block_of}
 use Rattle.mqb_journal.specs.Store.{Base, Nothing, After, HasFront, HasChain, IsSmall, framed, chain, IsBeforeOrAfter}
 use Rattle.mqb_layout.specs.Store.{header, head_of, place_of, place_told, uses_second}
 use Rattle.mqb_journal.proofs.Regions.{AgreesLater, length-chained, same_first, same_later, same_layout, stands_for}
 use Rattle.mqb_journal.proofs.Staging.{told_within}
-
--- what is written behind the gate
-abbrev pub block_of : List ℕ → List ℕ
-block_of entry = bytes_of 4 (length entry) ++ entry ++ 0 ∷ []
 
 pub chain-push : (records : List (List ℕ)) (entry : List ℕ) → chain (records ++ entry ∷ []) ≡ chain records ++ framed entry
 chain-push [] entry = append-nil (framed entry)

@@ -1,4 +1,5 @@
 pub mod Store
+pub mod Blocks
 pub mod Gates
 pub mod Scan
 pub mod States

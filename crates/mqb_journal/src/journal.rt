@@ -1,10 +1,10 @@
-ghost use Rattle.std.specs.Prelude.{◌≡◌, ◌≢◌, ◌↔◌, ◌+◌, ◌^◌, ◌<◌, ◌≤◌, max, ℕ, List, [], ◌∷◌, ◌++◌, length, vec_capacity, true, false, Err, IfOk, OnOk, OnErr};
-ghost use Rattle.mqb_fields.specs.Writing.{bytes_of};
-ghost use Rattle.mqb_outside.specs.Faults.{Rose};
+ghost use Rattle.std.specs.Prelude.{◌≡◌, ◌≢◌, ◌↔◌, ◌+◌, ◌^◌, ◌<◌, ◌≤◌, max, ℕ, List, [], ◌∷◌, ◌++◌, length, true, false, Err, IfOk, OnOk, OnErr};
+ghost use Rattle.mqb_outside.specs.Faults.{HasCause};
 ghost use Rattle.mqb_outside.specs.Images.{Each, Follows, Written};
 ghost use Rattle.mqb_outside.specs.Disk.{IsSettled, LeavesOnly, OnlyReads, Counted, AtMost};
 ghost use Rattle.mqb_outside.specs.declared.disk.TheConstants.{MAX_DISK};
-ghost use Rattle.mqb_journal.specs.Store.{Base, Nothing, IsSmall, IsBeforeOrAfter, bytes_in, framed};
+ghost use Rattle.mqb_journal.specs.Blocks.{IsBlock, record_of_block};
+ghost use Rattle.mqb_journal.specs.Store.{Base, Nothing, IsBeforeOrAfter, bytes_in, framed};
 ghost use Rattle.mqb_layout.specs.Layouts.{IsWithinStore};
 ghost use Rattle.mqb_layout.specs.Store.{header};
 ghost use Rattle.mqb_layout.specs.declared.limits.TheConstants.{MOST_HEAD, HEAD, AREA};
@@ -14,15 +14,17 @@ ghost use Rattle.mqb_journal.specs.Causes.{FaultsAsSaid, open_failed, append_fai
 
 use crate::durable::{write_behind, write_durably};
 use crate::faults::{AppendFault, OpenFault};
+use crate::framing::{begin_block, close_block};
 use crate::front::front_at;
 use crate::limits::{FIRST_BLOCK, MAX_RECORD};
 use crate::reading::reserve;
 use crate::scan::Scan;
-use mqb_base::{Guid, Memory};
+use mqb_base::{Failed, Guid};
 use mqb_layout::{HEADER, Layout, MIN_STORE, empty_store, is_open_at};
 use mqb_outside::Disk;
 use std::alloc::Global;
 use std::marker::Model;
+use std::mem::replace;
 
 /// The journal of one store. It is used with the disk on which it was formatted or begun, and nobody else writes that.
 #[derive(Debug, Drop)]
@@ -212,12 +214,54 @@ impl Journal {
         if entry.len() > MAX_RECORD {
             return Err(AppendFault::TooLarge);
         }
-        frame(&mut self.block, entry)?;
-        let Ok(()) = write_behind(disk, self.end, &self.block) else {
+        begin_block(&mut self.block)?;
+        if self.block.extend_from_slice(entry).is_err() {
+            return Err(AppendFault::Memory);
+        }
+        close_block(&mut self.block)?;
+        let block = replace(&mut self.block, Vec::new(self.alloc));
+        let done = self.append_block(disk, &block);
+        self.block = block;
+        match done {
+            Ok(()) => Ok(()),
+            Err(_) => Err(AppendFault::DiskFault),
+        }
+    }
+
+    /// Adds the record of a closed block, by four calls of the disk. At `Ok` each crash from then on leaves it.
+    pub fn append_block<D: Disk>(&mut self, disk: &mut D, block: &[u8]) -> Result<(), Failed>
+        requires up { self.old.down ≡ false }
+        requires gate { Each (D.view disk.old).reads (λ c. self.old.end < length c) }
+        requires closed { IsBlock block.now }
+        ensures done { (base : Base) (records : List (List ℕ))
+            → GoesOn (D.view disk.old) self.old base records
+            → OnOk result (GoesOn (D.view disk.new) self.new base
+            (records ++ record_of_block block.now ∷ [])) }
+        // The gate is opened, behind it stands the block, and all else is as it was.
+        ensures wrote { OnOk result (Follows (Written self.old.end (1 ∷ block.now))
+            (D.view disk.old).reads (D.view disk.new).reads) }
+        ensures settled { OnOk result (IsSettled (D.view disk.new)) }
+
+        // A crash at any moment of the call leaves the records from before it, with the new one or without.
+        ensures moments { (base : Base) (records : List (List ℕ))
+            → GoesOn (D.view disk.old) self.old base records
+            → IsSettled (D.view disk.old)
+            → LeavesOnly (D.view disk.old) (D.view disk.new)
+            (IsBeforeOrAfter self.old.guid.0 base records (record_of_block block.now)) }
+        ensures appended { OnOk result
+            (self.new ≡ appended self.old (length (record_of_block block.now))) }
+        ensures failed { OnErr result (self.new ≡ record self.old { down = true }) }
+        ensures reached { (D.view disk.new).reached ≡ (D.view disk.old).reached }
+        ensures calls { OnOk result (Counted 4 (D.view disk.old).calls (D.view disk.new).calls) }
+        ensures most { AtMost 4 (D.view disk.old).calls (D.view disk.new).calls }
+        ensures switch { (D.view disk.new).switch ≡ (D.view disk.old).switch }
+        ensures cause { HasCause (D.view disk.old).faults (D.view disk.new).faults result }
+    {
+        let Ok(()) = write_behind(disk, self.end, block) else {
             self.down = true;
-            return Err(AppendFault::DiskFault);
+            return Err(Failed);
         };
-        self.end += self.block.len() as u64;
+        self.end += block.len() as u64;
         self.count += 1;
         Ok(())
     }
@@ -242,19 +286,4 @@ impl Journal {
     {
         self.guid
     }
-}
-
-// Makes a record's block: its length, its bytes, and the closed gate behind it.
-fn frame(block: &mut Vec<u8>, entry: &[u8]) -> Result<(), Memory>
-    requires { IsSmall entry.now }
-    ensures framed { OnOk result
-        (block.new.items ≡ bytes_of 4 (length entry.now) ++ entry.now ++ 0 ∷ []) }
-    ensures room { vec_capacity block.old ≤ vec_capacity block.new }
-    ensures full { OnErr result (vec_capacity block.old < length entry.now + 5) }
-{
-    block.clear();
-    block.extend_from_slice(&(entry.len() as u32).to_le_bytes())?;
-    block.extend_from_slice(entry)?;
-    block.push(0)?;
-    Ok(())
 }

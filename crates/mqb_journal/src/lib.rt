@@ -11,6 +11,7 @@
 mod checkpoint;
 mod durable;
 mod faults;
+mod framing;
 mod front;
 mod journal;
 mod laws;
@@ -19,6 +20,7 @@ mod reading;
 mod scan;
 
 pub use faults::{AppendFault, CheckpointFault, OpenFault, ScanFault};
+pub use framing::{begin_block, close_block, record_of_block};
 pub use journal::Journal;
 pub use laws::{
     bad_at_one_place, chains_begin_alike, journal_goes_on, records_are_not_bad, records_or_bad,

@@ -1,6 +1,6 @@
 -- What is kept by a write.
 use Rattle.std.proofs.Common.{◌∙◌, ap}
-use Rattle.std.specs.Prelude.{[], ◌++◌, ◌≡◌, ◌∷◌, Err, IsSomeAnd, List, None, Option, Result, Some, true, ℕ}
+use Rattle.std.specs.Prelude.{[], ◌++◌, ◌≡◌, ◌∷◌, IsSomeAnd, List, None, Option, Some, true, ℕ}
 use Rattle.mqb_outside.specs.Disk.{IsSettled, LeavesOnly, View}
 use Rattle.mqb_journal.specs.Journals.{GoesOn}
 use Rattle.mqb_journal.specs.States.{JournalState}
@@ -13,8 +13,6 @@ use Rattle.mqb_model.specs.records.Record.{Record}
 use Rattle.mqb_model.specs.state.Durable.{durable}
 use Rattle.mqb_model.specs.state.State.{State}
 use Rattle.mqb_model.specs.state.Valid.{IsValidState}
-use Rattle.mqb_store.specs.declared.faults.WriteFault.{WriteFault}
-use Rattle.mqb_store.specs.declared.faults.WriteFault.TheVariants as fault
 use Rattle.mqb_store_laws.specs.lemmas.Carrying.{moments_open, on_beside, on_written}
 use Rattle.mqb_store_laws.specs.Images.{IsOn, Opens}
 use Rattle.mqb_store_laws.specs.Laws.{RecordsJoin}
@@ -41,9 +39,3 @@ pub written_moments : RecordsJoin → (d e : View) (j : JournalState) (s : State
 written_moments join d e j s entry None on new moments settled = absurd new.fit
 written_moments join d e j s entry (Some r) on new moments settled =
     moments_open join d e j s entry r on (record { valid = new.valid; reads = new.reads; fits = new.fit }) moments settled
-
--- an append that fails adds no record
-pub count_stays : {X : Type 0} (j k : JournalState) (why : WriteFault) (r : Result (Unit {0}) WriteFault) → r ≡ Err why
-    → (r ≡ Err fault.Memory → X × (k ≡ record j { room = k.room })) → (r ≡ Err fault.DiskFault → k ≡ record j { down = true; room = k.room }) → k.count ≡ j.count
-count_stays j k fault.Memory r is refused failed = ap (λ (i : JournalState). i.count) (refused is).1
-count_stays j k fault.DiskFault r is refused failed = ap (λ (i : JournalState). i.count) (failed is)

@@ -66,7 +66,7 @@ impl Store {
         }
         let mut base = Vec::new(self.alloc);
         self.state.spell(&mut base)?;
-        self.entry.clear();
+        self.block.clear();
         self.journal.checkpoint(disk, &base)
     }
 }

@@ -5,7 +5,6 @@
 //! `Store::checkpoint` writes the state as a base in place of all records.
 #![tactic(auto)]
 
-mod appending;
 mod checkpointing;
 mod faults;
 mod marks;

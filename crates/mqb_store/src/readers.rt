@@ -3,6 +3,7 @@ ghost use Rattle.mqb_model.specs.state.Valid.{IsValidState};
 
 use crate::store::Store;
 use mqb_base::Line;
+use mqb_journal::record_of_block;
 use mqb_state::State;
 
 /// What it has.
@@ -35,8 +36,9 @@ impl Store {
         ensures { option_copied result ≡ if self.now.journal.down
             && not (length self.now.entry == 0) then Some self.now.entry else None }
     {
-        if self.journal.is_down() && !self.entry.is_empty() {
-            Some(self.entry.as_slice())
+        let entry = record_of_block(&self.block);
+        if self.journal.is_down() && !entry.is_empty() {
+            Some(entry)
         } else {
             None
         }

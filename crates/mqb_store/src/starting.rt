@@ -1,23 +1,17 @@
-ghost use Rattle.std.specs.Prelude.{[], ◌+◌, ◌<◌, ◌≡◌, ◌≢◌, ◌≤◌, ◌∷◌, Err, IfOk, List, OnErr, OnOk, false, length, max, ℕ};
+ghost use Rattle.std.specs.Prelude.{[], ◌+◌, ◌<◌, ◌≡◌, ◌≢◌, ◌≤◌, Err, IfOk, List, OnOk, length, max, ℕ};
 ghost use Rattle.mqb_outside.specs.Disk.{AtMost, Counted, IsSettled, OnlyReads};
 ghost use Rattle.mqb_outside.specs.Images.{Each};
 ghost use Rattle.mqb_journal.specs.Causes.{FaultsAsSaid, open_failed};
-ghost use Rattle.mqb_journal.specs.Journals.{GoesOn};
-ghost use Rattle.mqb_journal.specs.States.{appended};
-ghost use Rattle.mqb_journal.specs.Store.{Nothing};
 ghost use Rattle.mqb_model.specs.state.Durable.{durable};
 ghost use Rattle.mqb_model.specs.state.State.{empty};
 ghost use Rattle.mqb_store.specs.Reaching.{ReadsInOrder};
 ghost use Rattle.mqb_store.specs.States.{IsStoredOn, IsUp};
-ghost use Rattle.mqb_store.specs.declared.spelling.TheConstants.{FIRST_RECORD};
 ghost use Rattle.mqb_store_laws.specs.Faults.{IsBadStore};
 ghost use Rattle.mqb_store_laws.specs.Images.{HasLastLines, OpensTo};
 ghost use Rattle.mqb_store_laws.specs.Settling.{OnlySettles};
 
-use crate::appending::append;
-use crate::faults::WriteFault;
 use crate::replaying::{first, replay_durably};
-use crate::spelling::spell_identity;
+use crate::spelling::identity_block;
 use crate::store::Store;
 use mqb_base::{Identity, Roomed};
 use mqb_journal::{Journal, OpenFault};
@@ -25,30 +19,6 @@ use mqb_outside::Disk;
 use mqb_state::State;
 use mqb_store_laws::entries_begin;
 use std::alloc::Global;
-
-/// Appends a first record, for which a journal that was formatted has the memory.
-fn append_first<D: Disk>(journal: &mut Journal, disk: &mut D, entry: &[u8]) -> Result<(), OpenFault>
-    requires up { journal.old.down ≡ false }
-    requires short { length entry.now ≤ FIRST_RECORD }
-    requires room { FIRST_RECORD + 5 ≤ journal.old.room }
-    requires on { GoesOn (D.view disk.old) journal.old Nothing [] }
-    ensures on { OnOk result (GoesOn (D.view disk.new) journal.new Nothing (entry.now ∷ [])) }
-    ensures settled { OnOk result (IsSettled (D.view disk.new)) }
-    ensures appended { OnOk result (journal.new
-        ≡ record (appended journal.old (length entry.now)) { room = journal.new.room }) }
-    ensures never { OnErr result (result ≡ Err OpenFault.DiskFault) }
-    ensures most { AtMost 4 (D.view disk.old).calls (D.view disk.new).calls }
-    ensures calls { OnOk result (Counted 4 (D.view disk.old).calls (D.view disk.new).calls) }
-    ensures switch { (D.view disk.new).switch ≡ (D.view disk.old).switch }
-    ensures cause { FaultsAsSaid open_failed (D.view disk.old).faults
-        (D.view disk.new).faults result }
-{
-    match append(journal, disk, entry) {
-        Ok(()) => Ok(()),
-        Err(WriteFault::DiskFault) => Err(OpenFault::DiskFault),
-        Err(WriteFault::Memory) => unreachable!(),
-    }
-}
 
 /// How a store begins.
 impl Store {
@@ -84,7 +54,7 @@ impl Store {
             (D.view disk.new).faults result }
     {
         entries_begin();
-        let entry = spell_identity(alloc, identity)?;
+        let block = identity_block(alloc, identity)?;
         let state = State::empty(alloc, identity)?;
         let mut journal = match Journal::format(alloc, disk, identity.guid) {
             Ok(journal) => journal,
@@ -93,17 +63,17 @@ impl Store {
                 return Err(fault);
             }
         };
-        match append_first(&mut journal, disk, &entry) {
+        match journal.append_block(disk, &block) {
             Ok(()) => Ok(Store {
                 state,
                 journal,
-                entry,
+                block,
                 lines: Roomed::new(alloc),
                 alloc,
             }),
-            Err(fault) => {
+            Err(_) => {
                 state.close();
-                Err(fault)
+                Err(OpenFault::DiskFault)
             }
         }
     }
@@ -140,7 +110,7 @@ impl Store {
             Ok(lines) => Ok(Store {
                 state,
                 journal: scan.finish(),
-                entry: Vec::new(alloc),
+                block: Vec::new(alloc),
                 lines,
                 alloc,
             }),

@@ -10,13 +10,15 @@ use std::marker::Model;
 pub struct Store {
     pub(crate) state: State,
     pub(crate) journal: Journal,
-    // What was spelled last. Where a write failed, that may be on the disk or not. A checkpoint leaves nothing here, since nothing of it is in doubt.
-    pub(crate) entry: Vec<u8>,
+    // The block of the entry that was spelled last. Where a write failed, that may be on the disk or not. A checkpoint leaves nothing here, since nothing of
+    // it is in doubt.
+    pub(crate) block: Vec<u8>,
     pub(crate) lines: Roomed<Line>,
     pub(crate) alloc: Global,
 }
 
 impl Model for Store {
+    ghost use Rattle.mqb_journal.specs.Blocks.{record_of_block};
     ghost use Rattle.mqb_store.specs.States.{StoreState};
 
     ghost Value = { StoreState };
@@ -24,7 +26,7 @@ impl Model for Store {
     ghost view = { λ w. record {
       state = w.state.lists;
       journal = w.journal;
-      entry = w.entry.items;
+      entry = record_of_block w.block.items;
       lines = w.lines.items;
     } };
 }

@@ -13,7 +13,6 @@ ghost use Rattle.mqb_entries.specs.SpelledEntries.{spelled};
 ghost use Rattle.mqb_store_laws.specs.Images.{Opens};
 ghost use Rattle.mqb_store_laws.specs.Writing.{WritesOne};
 
-use crate::appending::append;
 use crate::faults::WriteFault;
 use crate::preparing::prepare;
 use crate::spelling::spell;
@@ -95,16 +94,16 @@ impl Store {
     {
         records_join();
         self.state.is_valid();
-        spell(entry, &mut self.entry)?;
+        spell(entry, &mut self.block)?;
         let prepared = prepare(&mut self.state, Some(entry), work)?;
-        match append(&mut self.journal, disk, &self.entry) {
+        match self.journal.append_block(disk, &self.block) {
             Ok(()) => {
                 self.lines = install(&mut self.state, prepared, self.alloc);
                 Ok(())
             }
-            Err(fault) => {
+            Err(_) => {
                 prepared.discard();
-                Err(fault)
+                Err(WriteFault::DiskFault)
             }
         }
     }
