@@ -10,3 +10,4 @@ pub mod FieldFormats
 pub mod Forms
 pub mod Writing
 pub mod lemmas
+pub mod Packets

@@ -1,5 +1,6 @@
 use crate::lists::{Marks, Numbers, Ops};
-use crate::slices::{NameSlice, PacketSlice};
+use crate::packets::PacketSlice;
+use crate::slices::NameSlice;
 use mqb_base::{EntryPlace, Guid, MessageId};
 
 /// A manager: its host, its GUID and its IPv4 address.

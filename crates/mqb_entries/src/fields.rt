@@ -4,7 +4,8 @@ ghost use Rattle.mqb_fields.specs.Reading.{Reads, ReadsAs};
 ghost use Rattle.mqb_entries.specs.Fields.{address_at, counted_part, flag_at, guid_at, guid_part, id_at, id_part, name_at, packet_at, public_at, u32_at, u8_at};
 
 use crate::faults::EntryFault;
-use crate::slices::{NameSlice, PacketSlice};
+use crate::packets::PacketSlice;
+use crate::slices::NameSlice;
 use mqb_base::{Guid, MAX_NAME, MessageId, is_name_byte};
 use mqb_fields::{Cursor, Short};
 

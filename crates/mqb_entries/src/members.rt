@@ -8,8 +8,8 @@ ghost use Rattle.mqb_entries.specs.Writing.{room_of};
 
 use crate::faults::EntryFault;
 use crate::fields::{id_field, packet_field, u8_field, u32_field};
+use crate::packets::PacketSlice;
 use crate::puts::{put_id, put_packet, put_u8, put_u32};
-use crate::slices::PacketSlice;
 use mqb_base::MessageId;
 use mqb_fields::Cursor;
 
@@ -100,7 +100,7 @@ impl<'a> Member for OpView<'a> {
 
     fn again(&self) -> OpView<'a> {
         match self {
-            OpView::Send(packet) => OpView::Send(PacketSlice::new(packet.as_slice())),
+            OpView::Send(packet) => OpView::Send(packet.again()),
             OpView::Take { queue, id } => OpView::Take {
                 queue: *queue,
                 id: *id,
@@ -110,7 +110,7 @@ impl<'a> Member for OpView<'a> {
 
     fn spelled_len(&self) -> usize {
         match self {
-            OpView::Send(packet) => 5 + packet.as_slice().len(),
+            OpView::Send(packet) => 5 + packet.len(),
             OpView::Take { .. } => 25,
         }
     }

@@ -3,7 +3,8 @@ ghost use Rattle.mqb_fields.specs.Writing.{bytes_of};
 ghost use Rattle.mqb_entries.specs.Spelled.{IsGuid, IsId, IsName, IsPacket, spelled_flag, spelled_guid, spelled_id, spelled_name, spelled_packet, spelled_public};
 ghost use Rattle.mqb_entries.specs.Writing.{room_of};
 
-use crate::slices::{NameSlice, PacketSlice};
+use crate::packets::PacketSlice;
+use crate::slices::NameSlice;
 use mqb_base::{Guid, Memory, MessageId};
 
 /// Makes room for so many bytes.
@@ -92,9 +93,8 @@ pub(crate) fn put_packet(out: &mut Vec<u8>, packet: &PacketSlice<'_>)
     ensures room { room_of out.old ≤ 4 + length packet.now + room_of out.new }
     ensures fits { IsPacket packet.now }
 {
-    let bytes = packet.as_slice();
-    put_u32(out, bytes.len() as u32);
-    put(out, bytes);
+    put_u32(out, packet.len() as u32);
+    packet.put(out);
 }
 
 pub(crate) fn put_flag(out: &mut Vec<u8>, flag: bool)

@@ -1,4 +1,4 @@
-ghost use Rattle.std.specs.Prelude.{◌≡◌, ◌^◌, ◌<◌, None, length};
+ghost use Rattle.std.specs.Prelude.{◌≡◌, None};
 ghost use Rattle.mqb_base.specs.Names.{name_fault};
 
 use mqb_base::Name;
@@ -40,38 +40,6 @@ impl<'a> NameSlice<'a> {
     pub fn as_slice(&self) -> &'a [u8]
         ensures bytes { result.now ≡ self.now }
         ensures name { name_fault self.now ≡ None }
-    {
-        self.bytes
-    }
-}
-
-/// The bytes of a packet, fewer than 2^32, which are not read here. Contracts see them.
-#[derive(Debug, Drop)]
-pub struct PacketSlice<'a> {
-    bytes: &'a [u8],
-}
-
-impl<'a> Model for PacketSlice<'a> {
-    ghost use Rattle.std.specs.Prelude.{ℕ, List, ◌^◌, ◌<◌, length};
-
-    ghost Value = { List ℕ };
-
-    ghost view = { λ p. p.bytes.now };
-
-    ghost invariant = { λ p. length p.bytes.now < 2 ^ 32 };
-}
-
-impl<'a> PacketSlice<'a> {
-    pub fn new(bytes: &'a [u8]) -> PacketSlice<'a>
-        requires { length bytes.now < 2 ^ 32 }
-        ensures { result ≡ bytes.now }
-    {
-        PacketSlice { bytes }
-    }
-
-    pub fn as_slice(&self) -> &'a [u8]
-        ensures bytes { result.now ≡ self.now }
-        ensures len { length self.now < 2 ^ 32 }
     {
         self.bytes
     }

@@ -9,11 +9,11 @@ use crate::entry::{ArrivedPart, Entry, IdentityView, QueueView};
 use crate::kinds::EntryKind;
 use crate::laws::spelled_is_read;
 use crate::lists::{Marks, Numbers, Ops};
+use crate::packets::PacketSlice;
 use crate::puts::{
     make_room, put, put_flag, put_guid, put_id, put_name, put_packet, put_public, put_u8, put_u16,
     put_u32,
 };
-use crate::slices::PacketSlice;
 use mqb_base::{EntryPlace, Memory, MessageId};
 
 fn put_manager(out: &mut Vec<u8>, identity: &IdentityView<'_>)
@@ -73,7 +73,7 @@ fn put_commit(out: &mut Vec<u8>, now: u32, ops: &Ops<'_>) -> Result<(), Memory>
 fn put_plain(out: &mut Vec<u8>, now: u32, packet: &PacketSlice<'_>) -> Result<(), Memory>
     ensures { Puts (Plain now packet.now) out.old.items out.new.items result }
 {
-    make_room(out, 9 + packet.as_slice().len())?;
+    make_room(out, 9 + packet.len())?;
     put_u8(out, EntryKind::Plain.code());
     put_u32(out, now);
     put_packet(out, packet);
@@ -99,7 +99,7 @@ fn part_len(part: &ArrivedPart<'_>) -> usize
         ArrivedPart::Nothing => 1,
         ArrivedPart::OrderAcknowledged { .. } => 9,
         ArrivedPart::Decided(packet) | ArrivedPart::Stored(packet) | ArrivedPart::Final(packet) => {
-            5 + packet.as_slice().len()
+            5 + packet.len()
         }
     }
 }
