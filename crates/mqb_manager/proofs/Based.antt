@@ -23,7 +23,7 @@ use Rattle.mqb_store.specs.mqb_store_laws.Checkpoints.{checkpoint_made, checkpoi
 use Rattle.mqb_store.specs.States as stores
 use Rattle.mqb_store.specs.States.{IsSameStore, IsStoredOn, StoreState}
 use Rattle.mqb_store.specs.mqb_store_laws.Images.{IsOn, Opens}
-use Rattle.mqb_store.specs.mqb_store_laws.lemmas.Carrying.{on_with_room, quiet_opens}
+use Rattle.mqb_store.specs.mqb_store_laws.lemmas.Carrying.{quiet_opens}
 use Rattle.mqb_manager.specs.Calls.{Succeeds}
 use Rattle.mqb_manager.specs.Checkpoints.{EndsCheckpoint, IsCheckpoint, checkpoint_of}
 use Rattle.mqb_manager.specs.Seen.{seen}
@@ -200,7 +200,7 @@ quiet_checkpoint : (d : View) (w x : StoreState) (session : Option one_end.State
 quiet_checkpoint d w x session cs os why law up same differ ends = record {
   ends = ends;
   on = λ on still. subst (λ (j : JournalState). IsOn d j x.state) (sym same.journal)
-      (subst (λ (s : State). IsOn d (record w.journal { room = x.journal.room }) s) (sym same.state) (on_with_room d w.journal w.state x.journal.room on));
+      (subst (λ (s : State). IsOn d w.journal s) (sym same.state) on);
   settled = λ on settled still. settled;
   moments = λ on settled. quiet_opens d w.journal w.state None law on settled;
   doubt = λ on settled not_up. absurd (not_up (still_up w x session cs os up same));

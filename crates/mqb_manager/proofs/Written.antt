@@ -22,7 +22,7 @@ use Rattle.mqb_store.specs.States.{IsSameStore, IsStoredOn, StoreState}
 use Rattle.mqb_store.specs.Writing.{CanWrite, change_in, lines_then, write_failed, written}
 use Rattle.mqb_store.specs.declared.faults.WriteFault.{WriteFault}
 use Rattle.mqb_store.specs.declared.faults.WriteFault.TheVariants as fault
-use Rattle.mqb_store.specs.mqb_store_laws.lemmas.Carrying.{on_with_room, quiet_opens}
+use Rattle.mqb_store.specs.mqb_store_laws.lemmas.Carrying.{quiet_opens}
 use Rattle.mqb_store.specs.mqb_store_laws.lemmas.Writing.{writes_nothing}
 use Rattle.mqb_store.specs.mqb_store_laws.Images.{IsOn, Opens}
 use Rattle.mqb_store.specs.mqb_store_laws.Writing.{WritesOne}
@@ -51,7 +51,7 @@ pub record IsStored (d e : View) (w x : StoreState) (entry : Option Entry) (b : 
 pub record IsBroken (d e : View) (w x : StoreState) (entry : Option Entry) : Type 0 where
   pub state : x.state ≡ w.state
   pub lines : x.lines ≡ w.lines
-  pub journal : x.journal ≡ record w.journal { down = true; room = x.journal.room }
+  pub journal : x.journal ≡ record w.journal { down = true }
   pub doubt : IsSomeAnd entry (λ e. record_of x.entry ≡ record_in e)
   pub wrote : WritesOne d e w.journal x.journal x.entry (change_in entry)
   pub moments : IsSettled d → LeavesOnly d e (Opens w.journal w.state (change_in entry))
@@ -92,10 +92,10 @@ in_doubt x (Some e) doubt = doubt
 
 -- Images.
 
--- whether it is down, and how much room it has, is not of the images
-opens_down : (j : JournalState) (room : ℕ) (s : State) (r : Option Record) (image : List ℕ) → Opens j s r image → Opens (record j { down = true; room = room }) s r image
-opens_down j room s None image opens = opens
-opens_down j room s (Some r) image opens = opens
+-- whether it is down is not of the images
+opens_down : (j : JournalState) (s : State) (r : Option Record) (image : List ℕ) → Opens j s r image → Opens (record j { down = true }) s r image
+opens_down j s None image opens = opens
+opens_down j s (Some r) image opens = opens
 
 module _ (d e : View) (w x : StoreState) (session : Option one_end.State) (cs : List ℕ) (os : List Bool) (entry : Option Entry) (b : Beside) where
   abbrev m : ManagerState
@@ -185,7 +185,7 @@ module _ (d e : View) (w x : StoreState) (session : Option one_end.State) (cs : 
   same_call up same law = record {
     ends = inr (inl (refl, record { manager = same_manager up same; store = same }));
     on = λ on still. subst (λ (j : JournalState). IsOn d j x.state) (sym same.journal)
-        (subst (λ (s : State). IsOn d (record w.journal { room = x.journal.room }) s) (sym same.state) (on_with_room d w.journal w.state x.journal.room on));
+        (subst (λ (s : State). IsOn d w.journal s) (sym same.state) on);
     settled = λ on settled still. settled;
     wrote = writes_nothing d w.journal x.journal x.entry (change_in entry) law (ap (λ (j : JournalState). j.count) same.journal);
     moments = λ on settled. quiet_opens d w.journal w.state (change_in entry) law on settled;
@@ -220,9 +220,9 @@ module _ (d e : View) (w x : StoreState) (session : Option one_end.State) (cs : 
   left_open : IsBroken d e w x entry → IsSettled d → Each e.leaves (Opens x.journal x.state (record_of x.entry))
   left_open broken settled =
       subst (λ (j : JournalState). Each e.leaves (Opens j x.state (record_of x.entry))) (sym broken.journal)
-      (subst (λ (s : State). Each e.leaves (Opens (record w.journal { down = true; room = x.journal.room }) s (record_of x.entry))) (sym broken.state)
-      (subst (λ (r : Option Record). Each e.leaves (Opens (record w.journal { down = true; room = x.journal.room }) w.state r)) (sym (in_doubt x entry broken.doubt))
-      (λ c left. opens_down w.journal x.journal.room w.state (change_in entry) c ((broken.moments settled).now c left))))
+      (subst (λ (s : State). Each e.leaves (Opens (record w.journal { down = true }) s (record_of x.entry))) (sym broken.state)
+      (subst (λ (r : Option Record). Each e.leaves (Opens (record w.journal { down = true }) w.state r)) (sym (in_doubt x entry broken.doubt))
+      (λ c left. opens_down w.journal w.state (change_in entry) c ((broken.moments settled).now c left))))
 
   pub broken_call : IfSome entry (CanWrite w.state) → IsBroken d e w x entry
       → IsCall fault.Memory fault.DiskFault d e m (seen x None [] []) o (Err fault.DiskFault)

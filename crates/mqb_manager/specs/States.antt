@@ -35,7 +35,7 @@ IsUp m = stores.IsUp m.store
 abbrev pub IsOnDisk : View → ManagerState → Type 0
 IsOnDisk d m = IsStoredOn d m.store
 
--- the same but for room
+-- the same but for the entry that its store spelled last
 pub record IsSame (m n : ManagerState) : Type 0 where
   pub manager : manager_of n ≡ manager_of m
   pub store : IsSameStore m.store n.store

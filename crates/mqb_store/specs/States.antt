@@ -21,8 +21,8 @@ IsUp w = w.journal.down ≡ false
 abbrev pub IsStoredOn : View → StoreState → Type 0
 IsStoredOn d w = IsOn d w.journal w.state
 
--- the same but for the entry that was spelled last, and the room of the journal
+-- the same but for the entry that was spelled last
 pub record IsSameStore (w x : StoreState) : Type 0 where
   pub state : x.state ≡ w.state
-  pub journal : x.journal ≡ record w.journal { room = x.journal.room }
+  pub journal : x.journal ≡ w.journal
   pub lines : x.lines ≡ w.lines

@@ -82,8 +82,7 @@ impl Store {
             → (disk.new ≡ disk.old) × IsSameStore self.old self.new }
         ensures failed { result ≡ Err WriteFault.DiskFault
             → (self.new.state ≡ self.old.state) × (self.new.lines ≡ self.old.lines)
-            × (self.new.journal
-            ≡ record self.old.journal { down = true; room = self.new.journal.room }) }
+            × (self.new.journal ≡ record self.old.journal { down = true }) }
         ensures doubt { result ≡ Err WriteFault.DiskFault
             → record_of self.new.entry ≡ record_in entry.now }
         ensures kept { result ≡ Err WriteFault.DiskFault → self.new.entry ≡ spelled entry.now }
@@ -149,8 +148,7 @@ impl Store {
             → (disk.new ≡ disk.old) × IsSameStore self.old self.new }
         ensures failed { result ≡ Err WriteFault.DiskFault
             → (self.new.state ≡ self.old.state) × (self.new.lines ≡ self.old.lines)
-            × (self.new.journal
-            ≡ record self.old.journal { down = true; room = self.new.journal.room }) }
+            × (self.new.journal ≡ record self.old.journal { down = true }) }
 
         // What may be on the disk or not.
         ensures doubt { result ≡ Err WriteFault.DiskFault

@@ -5,7 +5,7 @@ use Rattle.mqb_base.specs.declared.ids.Guid.{Guid}
 use Rattle.mqb_outside.specs.Disk.{IsSettled, Lawful, LeavesOnly, OnlyReads, View}
 use Rattle.mqb_outside.specs.Images.{Each}
 use Rattle.mqb_outside.specs.lemmas.Runs.{started, weaker}
-use Rattle.mqb_journal.specs.lemmas.Carrying.{goes_on_read, goes_on_refused, goes_on_stands, goes_on_told}
+use Rattle.mqb_journal.specs.lemmas.Carrying.{goes_on_read, goes_on_stands, goes_on_told}
 use Rattle.mqb_journal.specs.Journals.{GoesOn}
 use Rattle.mqb_journal.specs.States.{JournalState}
 use Rattle.mqb_journal.specs.Store.{Base, IsBeforeOrAfter}
@@ -24,10 +24,6 @@ on_told d e j s on told = record { base = on.base; entries = on.entries; goes_on
 -- through a call that only reads
 pub on_read : (d e : View) (j : JournalState) (s : State) → IsOn d j s → OnlyReads d e → IsOn e j s
 on_read d e j s on reads = record { base = on.base; entries = on.entries; goes_on = goes_on_read d e j on.base on.entries on.goes_on reads; state = on.state }
-
--- whatever room the journal has
-pub on_with_room : (d : View) (j : JournalState) (s : State) (room : ℕ) → IsOn d j s → IsOn d (record j { room = room }) s
-on_with_room d j s room on = record { base = on.base; entries = on.entries; goes_on = goes_on_refused d j room on.base on.entries on.goes_on; state = on.state }
 
 -- by what is done beside a record
 pub on_beside : (d : View) (j : JournalState) (s t : State) → durable t ≡ durable s → IsOn d j s → IsOn d j t
