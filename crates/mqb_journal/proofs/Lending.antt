@@ -54,22 +54,6 @@ lent_more d e s t base records entry lent reads next fits behind guid later len 
   shut = λ ended. absurd (let no : true ≡ false = sym ended ∙ going in cc);
 }
 
-pub lent_all : (d : View) (s : ScanState) (base : Base) (records : List (List ℕ)) → Lent d s base records → s.is_open ≡ false → Lent d (ended s) base records
-lent_all d s base records lent shut = record {
-  first = lent.first;
-  behind = lent.behind;
-  front = lent.front;
-  laid = lent.laid;
-  begins = lent.begins;
-  long = lent.long;
-  small = lent.small;
-  place = lent.place;
-  count = lent.count;
-  held = lent.held;
-  gate = lent.gate;
-  shut = λ _. shut;
-}
-
 -- what stands at the front of a buffer whose contents were written as a whole
 pub front_of_written : (n len : ℕ) (new old : List ℕ) → length new ≡ len → take n (take len (new ++ drop (length new) old)) ≡ take n new
 front_of_written n len new old size = ap (λ (l : List ℕ). take n l) (take_at new (drop (length new) old) len size)

@@ -42,12 +42,6 @@ goes_on_refused d j room base records on = record {
   up = on.up;
 }
 
-pub settled_read : (d e : View) → IsSettled d → OnlyReads d e → IsSettled e
-settled_read d e settled reads c left = reads.unchanged.reads.none_lost c (settled c (reads.unchanged.leaves.none_new c left))
-
-pub settled_unchanged : (d e : View) → IsSettled d → Unchanged d e → IsSettled e
-settled_unchanged d e settled same c left = same.reads.none_lost c (settled c (same.leaves.none_new c left))
-
 -- what a read gives stands for the base and the records
 pub goes_on_stands : (d : View) (j : JournalState) (base : Base) (records : List (List ℕ)) → GoesOn d j base records → Each d.reads (StandsFor j.guid.0 base records)
 goes_on_stands d j base records on c told = let is = on.stands c told in record { first = on.first; front = is.front; small = on.small; stands = is.stands }
@@ -93,22 +87,5 @@ lent_taken d s base records lent = record {
   count = lent.count;
   held = tt;
   gate = lent.gate;
-  shut = lent.shut;
-}
-
--- through calls that only read
-pub lent_read : (d e : View) (s : ScanState) (base : Base) (records : List (List ℕ)) → Lent d s base records → OnlyReads d e → Lent e s base records
-lent_read d e s base records lent reads = record {
-  first = lent.first;
-  behind = lent.behind;
-  front = λ c told. lent.front c (reads.unchanged.reads.none_new c told);
-  laid = λ c told. lent.laid c (reads.unchanged.reads.none_new c told);
-  begins = λ c told. lent.begins c (reads.unchanged.reads.none_new c told);
-  long = λ c told. lent.long c (reads.unchanged.reads.none_new c told);
-  small = lent.small;
-  place = lent.place;
-  count = lent.count;
-  held = lent.held;
-  gate = λ c told. lent.gate c (reads.unchanged.reads.none_new c told);
   shut = lent.shut;
 }

@@ -1,7 +1,7 @@
 -- How far a chain of records was read.
 use Rattle.std.proofs.Common.{inl, inr, ℕ, ◌+◌, ◌≤◌, max, List, arith}
 use Rattle.mqb_journal.specs.Store.{Base, Nothing, After, HasFront}
-use Rattle.mqb_journal.specs.Scan.{GoesTo, ReadsOnlyAt}
+use Rattle.mqb_journal.specs.Scan.{ReadsOnlyAt}
 
 -- where the reads before them came to the gate at most
 pub reads_on : (gate before mid now : ℕ) (c : List ℕ) → mid ≤ max before (gate + 1) → ReadsOnlyAt gate mid now c → ReadsOnlyAt gate before now c
@@ -13,9 +13,3 @@ reads_on gate before mid now c so_far (inr (inr next)) = inr (inr (next.0, next.
 pub first_low : (guid : List ℕ) (base : Base) (first : ℕ) (image : List ℕ) → HasFront guid base first image → 24 ≤ first
 first_low guid Nothing first image is = let begins = is.begins in omega (arith, begins)
 first_low guid (After count bytes) first image is = let begins = is.begins in let low = is.head in let behind = is.behind in omega (arith, begins, low, behind)
-
--- and no gate before it
-pub gate_behind : (guid : List ℕ) (base : Base) (records : List (List ℕ)) (at : ℕ) (image : List ℕ) → GoesTo guid base records at image → 24 ≤ at
-gate_behind guid base records at image goes =
-    let low = first_low guid base goes.first image goes.front in
-    omega (arith, low, goes.place)

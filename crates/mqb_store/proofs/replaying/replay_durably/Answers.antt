@@ -3,7 +3,6 @@ use Rattle.std.proofs.lemmas.Result.{err_from_is_err_and}
 use Rattle.std.specs.Prelude.{Err, ℕ}
 use Rattle.mqb_journal.specs.declared.faults.OpenFault.{OpenFault}
 use Rattle.mqb_journal.specs.declared.faults.OpenFault.TheVariants as opening
-use Rattle.mqb_outside.specs.Disk.{View}
 use Rattle.mqb_store.proofs.Read.{read_settled}
 use Rattle.mqb_store.proofs.Steps.{same_fault}
 use Rattle.mqb_store.proofs.replaying.replay_durably.Goals as goal
