@@ -87,7 +87,7 @@ module _ (s : State) (k : ℕ) where
           by (inr any) = rows any
 
   -- A credit is less than the work.
-  none_first : {X : Type 0} (p : X → Bool) (xs : List X) → list_any p xs ≡ false → first_where p xs ≡ None
+  pub none_first : {X : Type 0} (p : X → Bool) (xs : List X) → list_any p xs ≡ false → first_where p xs ≡ None
   none_first p [] none = refl
   none_first p (x ∷ xs) none = first_cons p x xs ∙ by (p x) none (none_first p xs)
     where

@@ -1,8 +1,9 @@
 -- What was committed is decided, or expired, behind the meetings that bring all over.
-use Rattle.std.proofs.Common.{◌≡◌, ℕ, zero, suc, ◌==◌, ◌||◌, ◌⊎◌, inl, inr, Bool, true, false, nat_lt, List, Some, refl, sym, ap, subst, ◌∙◌}
+use Rattle.std.proofs.Common.{◌≡◌, ℕ, zero, suc, ◌==◌, ◌||◌, ◌⊎◌, inl, inr, Bool, true, false, nat_lt, List, [], ◌∷◌, Some, refl, sym, ap, subst, ◌∙◌}
 use Rattle.std.proofs.lemmas.Bool.{and_from, lt-ltb, true≢false}
+use Rattle.std.specs.List.{flat_map, range_with_len}
 use Rattle.std.specs.Option.{option_map_or}
-use Rattle.std.specs.Prelude.{map, slice_get}
+use Rattle.std.specs.Prelude.{length, map, slice_get}
 use Rattle.mqb_base.specs.declared.ids.Identity.{Identity}
 use Rattle.mqb_exactly_once.proofs.Members.{any_from_In}
 use Rattle.mqb_exactly_once.specs.Words.{In}
@@ -25,11 +26,13 @@ use Rattle.mqb_orders.specs.Rows.{has_unacknowledged}
 use Rattle.mqb_orders.specs.declared.kept.Kept.{Kept}
 use Rattle.mqb_law_meetings.specs.Drained.{IsDrained, has_for}
 use Rattle.mqb_law_meetings.specs.Meetings.{meeting, meetings}
-use Rattle.mqb_law_meetings.specs.Recovery.{Delivers, Recovers}
+use Rattle.mqb_law_meetings.specs.Recovery.{AreDelivered, Delivers, Recovers}
+use Rattle.mqb_law_meetings.specs.Rounds.{AllDeliver, AllRecover, all_met, behind_round, pairs, work_of_all}
 use Rattle.mqb_law_meetings.specs.Work.{met, work}
 use Rattle.mqb_law_meetings.proofs.Agreeing.{now}
 use Rattle.mqb_law_meetings.proofs.Lists.{same_number}
-use Rattle.mqb_law_meetings.proofs.Recovering.{meeting_drafted, meeting_runs, starts_drafted}
+use Rattle.mqb_law_meetings.proofs.Pairs.{round_split}
+use Rattle.mqb_law_meetings.proofs.Recovering.{meeting_drafted, meeting_runs, restarts_drafted, starts_drafted}
 use Rattle.mqb_law_meetings.proofs.Running.{InRun, run_on}
 
 -- The meetings go on a run.
@@ -63,24 +66,44 @@ module _ (c : Course) (a b k : ℕ) (m : Commitment) (rows : AreRowsLed c) (lead
       or_true true = refl
       or_true false = refl
 
+-- Two that are drained have delivered what the one committed for the other.
+delivered : AlwaysWaitingUntilDecided → RowsAreLed → (known : List Identity) → AreApart known → (z : Course) → InRun known z → (a b : ℕ) → IsDrained z.network a b → AreDelivered z a b
+delivered waiting led known apart z in_run a b drained m k committed leads knows = by (of_run AreWaitingUntilDecided waiting known apart z in_run a m committed)
+  where
+    by : WaitsAbove (manager_at z.network a).state m ⊎ (WasDecidedThere z a m ⊎ In m.position (expiries_told (lines_written (written_of a z.written))))
+        → WasDecidedThere z a m ⊎ In m.position (expiries_told (lines_written (written_of a z.written)))
+    by (inl above) = absurd (true≢false (sym (has z a b k m (of_run AreRowsLed led known apart z in_run) leads knows above) ∙ drained.first))
+    by (inr rest) = rest
+
 pub delivers : Recovers → AlwaysWaitingUntilDecided → RowsAreLed → Delivers
-delivers recovers waiting led known before ms a b moment order drafted run in_a in_b differ starts stamps other_stamps m k committed leads knows =
-    by (of_run AreWaitingUntilDecided waiting known order.apart z in_run a m committed)
+delivers recovers waiting led known before ms a b moment order drafted run in_a in_b differ starts stamps other_stamps =
+    delivered waiting led known order.apart (met c a b moment) (meetings_run known a b moment (work c.network a b) c in_run) a b
+    (recovers known before ms a b moment order drafted run in_a in_b differ starts stamps other_stamps)
   where
     c : Course
     c = course_after (after_run known before) ms
 
-    z : Course
-    z = met c a b moment
+    in_run : InRun known c
+    in_run = run_on known (after_run known before) ms (record { moves = before; is = refl; drafted = drafted; run = run }) starts.run (starts_drafted ms a b starts.events)
 
-    in_run : InRun known z
-    in_run = meetings_run known a b moment (work c.network a b) c
-        (run_on known (after_run known before) ms (record { moves = before; is = refl; drafted = drafted; run = run }) starts.run (starts_drafted ms a b starts.events))
+-- A round goes on a run.
+round_runs : (known : List Identity) (moment count : ℕ) (ps : List (ℕ × ℕ)) (c : Course) → InRun known c → InRun known (course_after c (map well (flat_map (λ (p : ℕ × ℕ). meetings p.0 p.1 moment count) ps)))
+round_runs known moment count [] c r = r
+round_runs known moment count (p ∷ ps) c r = subst (InRun known) (sym (round_split c p ps moment count))
+    (round_runs known moment count ps (course_after c (map well (meetings p.0 p.1 moment count))) (meetings_run known p.0 p.1 moment count c r))
 
-    drained : IsDrained z.network a b
-    drained = recovers known before ms a b moment order drafted run in_a in_b differ starts stamps other_stamps
+pub all_deliver : AllRecover → AlwaysWaitingUntilDecided → RowsAreLed → AllDeliver
+all_deliver recover waiting led known before ms moment order drafted run starts stamps a b in_a in_b differ =
+    delivered waiting led known order.apart (all_met c moment)
+    (round_runs known moment (work_of_all c.network) (pairs (length first.network.managers)) first (round_runs known moment (work_of_all c.network) (pairs (length c.network.managers)) c in_run)) a b
+    (recover known before ms moment order drafted run starts stamps a b in_a in_b differ)
+  where
+    c : Course
+    c = course_after (after_run known before) ms
 
-    by : WaitsAbove (manager_at z.network a).state m ⊎ (WasDecidedThere z a m ⊎ In m.position (expiries_told (lines_written (written_of a z.written))))
-        → WasDecidedThere z a m ⊎ In m.position (expiries_told (lines_written (written_of a z.written)))
-    by (inl above) = absurd (true≢false (sym (has z a b k m (of_run AreRowsLed led known order.apart z in_run) leads knows above) ∙ drained.first))
-    by (inr rest) = rest
+    first : Course
+    first = behind_round (work_of_all c.network) moment c
+
+    in_run : InRun known c
+    in_run = run_on known (after_run known before) ms (record { moves = before; is = refl; drafted = drafted; run = run }) starts.run
+        (restarts_drafted ms (range_with_len 0 (length (after_run known before).network.managers)) starts.events)

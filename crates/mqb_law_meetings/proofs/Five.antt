@@ -1,7 +1,9 @@
 -- The five flows of a meeting: whatever was outstanding, the work falls.
-use Rattle.std.proofs.Common.{◌≡◌, ℕ, zero, suc, ◌+◌, ◌-◌, ◌<◌, ◌≤◌, true, refl, sym, ap, subst, ◌∙◌, arith}
+use Rattle.std.proofs.Common.{◌≡◌, ℕ, zero, suc, ◌+◌, ◌-◌, ◌<◌, ◌≤◌, inr, Bool, true, refl, sym, ap, subst, ◌∙◌, arith}
 use Rattle.std.specs.Prelude.{List, length}
 use Rattle.mqb_base.specs.declared.ids.Identity.{Identity}
+use Rattle.mqb_base.specs.declared.message.Message.{Message}
+use Rattle.mqb_fate.specs.Asking.{is_ordinary}
 use Rattle.mqb_model.specs.managers.Manager.{Manager}
 use Rattle.mqb_model.specs.managers.Readers.{is_outstanding_to}
 use Rattle.mqb_model.specs.state.Resolving.{peer_known}
@@ -14,6 +16,7 @@ use Rattle.mqb_network.specs.Scripts.{well}
 use Rattle.mqb_session.specs.State as one_end
 use Rattle.mqb_law_meetings.specs.Work.{state_work}
 use Rattle.mqb_law_meetings.proofs.Bounds.{promise_most, some_ordinary}
+use Rattle.mqb_law_meetings.proofs.Lacking.{BringsNone, Lessens, brings_still, of_ordinary, then}
 use Rattle.mqb_law_meetings.proofs.Running.{Facts, InRun, run_move}
 use Rattle.mqb_law_meetings.proofs.Sides.{Accord, HearsAll}
 use Rattle.mqb_law_meetings.proofs.Standing.{Stands}
@@ -57,7 +60,7 @@ gain_second p1 p2 p3 p4 p5 none one last = let a = less p1 in let b = less_one p
 module _ (known : List Identity) (hears : HearsAll) (fact : (c : Course) → InRun known c → Facts known c) (now : ℕ) where
   -- one flow
   pub step_on : (c : Course) → InRun known c → (i j : ℕ) → i < length known → j < length known → (i ≡ j → ⊥) → (d : Connection) (x y : Manager) (a b : one_end.State) (k l : ℕ) (own other : Identity) (way : Way) (n : ℕ)
-      → Turn x y a b k l own other way n → n < 65535 → AreStamped y.state → Stands c.network i j d x y → Moved (moved_on c (well (event.Flow i now))) i j d x y k l own other way n
+      → Turn x y a b k l own other way n → n < 65535 → AreStamped y.state → Stands c.network i j d x y → Moved c (moved_on c (well (event.Flow i now))) i j d x y k l own other way n
   step_on c r i j in_i in_j differ d x y a b k l own other way n t few stamps st =
       turn_moves c (moved_on c (well (event.Flow i now))) i j now d x y a b k l own other way n t few st (move_in_course c (well (event.Flow i now)))
       (fact (moved_on c (well (event.Flow i now))) (run_move known c (well (event.Flow i now)) r refl tt)).valid hears there back stamps
@@ -72,8 +75,8 @@ module _ (known : List Identity) (hears : HearsAll) (fact : (c : Course) → InR
           ((fact c r).accord j i l in_j in_i (λ e. differ (sym e)) (ap (λ (m : Manager). peer_known m.state (manager_at c.network i).state.identity.guid) st.at_j
           ∙ ap (λ (m : Manager). peer_known y.state m.state.identity.guid) st.at_i ∙ ap (λ (g : Identity). peer_known y.state g.guid) t.own_is ∙ t.two.knows)))
 
-  module _ (a b : ℕ) (in_a : a < length known) (in_b : b < length known) (differ : a ≡ b → ⊥) (d : Connection) (x y : Manager) (k l : ℕ) (own other : Identity) (z2 : Course) (r2 : InRun known z2)
-      (m1 : Moved z2 a b d x y k l own other Clear 0) (stamps : AreStamped x.state) (other_stamps : AreStamped y.state) where
+  module _ (a b : ℕ) (in_a : a < length known) (in_b : b < length known) (differ : a ≡ b → ⊥) (d : Connection) (x y : Manager) (k l : ℕ) (own other : Identity) (z1 z2 : Course) (r2 : InRun known z2)
+      (m1 : Moved z1 z2 a b d x y k l own other Clear 0) (stamps : AreStamped x.state) (other_stamps : AreStamped y.state) where
     differ_back : b ≡ a → ⊥
     differ_back e = differ (sym e)
 
@@ -104,17 +107,17 @@ module _ (known : List Identity) (hears : HearsAll) (fact : (c : Course) → InR
     pub r6 : InRun known z6
     r6 = run_move known z5 (well (event.Flow a now)) r5 refl tt
 
-    pub m2 : Moved z3 b a d m1.hearer m1.sender l k other own m1.next (0 + 1)
+    pub m2 : Moved z2 z3 b a d m1.hearer m1.sender l k other own m1.next (0 + 1)
     m2 = step_on z2 r2 b a in_b in_a differ_back d m1.hearer m1.sender m1.heard m1.told l k other own m1.next (0 + 1) m1.turn (small (0 + 1) (omega arith)) (m1.stamps stamps) m1.stands
 
-    pub m3 : Moved z4 a b d m2.hearer m2.sender k l own other m2.next (0 + 1 + 1)
+    pub m3 : Moved z3 z4 a b d m2.hearer m2.sender k l own other m2.next (0 + 1 + 1)
     m3 = step_on z3 r3 a b in_a in_b differ d m2.hearer m2.sender m2.heard m2.told k l own other m2.next (0 + 1 + 1) m2.turn (small (0 + 1 + 1) (omega arith)) (m2.stamps (m1.other_stamps other_stamps)) m2.stands
 
-    pub m4 : Moved z5 b a d m3.hearer m3.sender l k other own m3.next (0 + 1 + 1 + 1)
+    pub m4 : Moved z4 z5 b a d m3.hearer m3.sender l k other own m3.next (0 + 1 + 1 + 1)
     m4 = step_on z4 r4 b a in_b in_a differ_back d m3.hearer m3.sender m3.heard m3.told l k other own m3.next (0 + 1 + 1 + 1) m3.turn (small (0 + 1 + 1 + 1) (omega arith))
         (m3.stamps (m2.other_stamps (m1.stamps stamps))) m3.stands
 
-    pub m5 : Moved z6 a b d m4.hearer m4.sender k l own other m4.next (0 + 1 + 1 + 1 + 1)
+    pub m5 : Moved z5 z6 a b d m4.hearer m4.sender k l own other m4.next (0 + 1 + 1 + 1 + 1)
     m5 = step_on z5 r5 a b in_a in_b differ d m4.hearer m4.sender m4.heard m4.told k l own other m4.next (0 + 1 + 1 + 1 + 1) m4.turn (small (0 + 1 + 1 + 1 + 1) (omega arith))
         (m4.stamps (m3.other_stamps (m2.stamps (m1.other_stamps other_stamps)))) m4.stands
 
@@ -123,6 +126,34 @@ module _ (known : List Identity) (hears : HearsAll) (fact : (c : Course) → InR
 
     pub last_other_stamps : AreStamped m5.hearer.state
     last_other_stamps = m5.other_stamps (m4.stamps (m3.other_stamps (m2.stamps (m1.other_stamps other_stamps))))
+
+    -- what either lacks it still lacks, but for notices about what the other one had
+    pub all_lessen : (test : Message → Bool) → BringsNone test x.state k → BringsNone test y.state l → Lessens test x.state m5.sender.state × Lessens test y.state m5.hearer.state
+    all_lessen test brings other_brings =
+        let c1 = m1.lessens test brings in
+        let o1 = m1.lessens is_ordinary (inr of_ordinary) in
+        let b1 = brings_still test y.state m1.hearer.state l o1.1 other_brings in
+        let a1 = brings_still test x.state m1.sender.state k o1.0 brings in
+        let c2 = m2.lessens test b1 in
+        let o2 = m2.lessens is_ordinary (inr of_ordinary) in
+        let a2 = brings_still test m1.sender.state m2.hearer.state k o2.1 a1 in
+        let b2 = brings_still test m1.hearer.state m2.sender.state l o2.0 b1 in
+        let c3 = m3.lessens test a2 in
+        let o3 = m3.lessens is_ordinary (inr of_ordinary) in
+        let b3 = brings_still test m2.sender.state m3.hearer.state l o3.1 b2 in
+        let a3 = brings_still test m2.hearer.state m3.sender.state k o3.0 a2 in
+        let c4 = m4.lessens test b3 in
+        let o4 = m4.lessens is_ordinary (inr of_ordinary) in
+        let a4 = brings_still test m3.sender.state m4.hearer.state k o4.1 a3 in
+        let c5 = m5.lessens test a4 in
+        (then test x.state m1.sender.state m5.sender.state c1.0 (then test m1.sender.state m2.hearer.state m5.sender.state c2.1 (then test m2.hearer.state m3.sender.state m5.sender.state c3.0
+        (then test m3.sender.state m4.hearer.state m5.sender.state c4.1 c5.0))),
+        then test y.state m1.hearer.state m5.hearer.state c1.1 (then test m1.hearer.state m2.sender.state m5.hearer.state c2.0 (then test m2.sender.state m3.hearer.state m5.hearer.state c3.1
+        (then test m3.hearer.state m4.sender.state m5.hearer.state c4.0 c5.1))))
+
+    -- and other managers stay
+    pub all_others : (v : ℕ) → (a ≡ v → ⊥) → (b ≡ v → ⊥) → manager_at z6.network v ≡ manager_at z1.network v
+    all_others v not_a not_b = m5.others v not_a not_b ∙ m4.others v not_b not_a ∙ m3.others v not_a not_b ∙ m2.others v not_b not_a ∙ m1.others v not_a not_b
 
     -- what was asked for of the first end stays
     last_ordinary : promise m5.next - 1 ≤ ordinaries m2.hearer.state k

@@ -26,6 +26,8 @@ pub mod Five
 pub mod Meets
 pub mod Recovering
 pub mod Noticing
+pub mod Lacking
+pub mod Bringing
 pub mod Releasing
 pub mod Same
 pub mod Hearing
@@ -37,3 +39,7 @@ pub mod Chosen
 pub mod Accord
 pub mod Agreeing
 pub mod Delivering
+pub mod Totals
+pub mod Pairs
+pub mod Rounds
+pub mod AllRecovering

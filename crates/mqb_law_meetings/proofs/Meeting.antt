@@ -239,3 +239,7 @@ module _ (c : Course) (a b now window_a window_b : ℕ) (s t : State) (h : ArePa
   pub ready_keeps : Keeps begins ready_on a b (went c.network a b now window_a window_b s t h) []
   ready_keeps = keeps_ready c.network a b now window_a window_b s t h begins (flow a now Well begins).after (exchanged a b now begins)
       (flow a now Well (exchanged a b now begins)).after ready_on between refl refl refl refl begins_stands
+
+  -- other managers stay
+  pub ready_others : (v : ℕ) → (a ≡ v → ⊥) → (b ≡ v → ⊥) → manager_at ready_on.network v ≡ manager_at c.network v
+  ready_others v not_a not_b = ready_keeps.others v not_a not_b ∙ elsewhere first b v asked_b not_b ∙ elsewhere c.network a v asked_a not_a

@@ -1,8 +1,9 @@
 -- A meeting of two managers, of which one has something for the other: the work falls.
-use Rattle.std.proofs.Common.{◌≡◌, ℕ, zero, suc, ◌*◌, ◌+◌, ◌<◌, ◌≤◌, ◌⊎◌, inl, inr, true, false, cond, List, [], ◌∷◌, Some, refl, sym, ap, subst, ◌∙◌, arith}
+use Rattle.std.proofs.Common.{◌≡◌, ℕ, zero, suc, ◌*◌, ◌+◌, ◌<◌, ◌≤◌, ◌⊎◌, inl, inr, Bool, true, false, cond, List, [], ◌∷◌, Some, refl, sym, ap, subst, ◌∙◌, arith}
 use Rattle.std.proofs.lemmas.Bool.{true≢false}
 use Rattle.std.specs.Prelude.{All, length, map, replicate, slice_get, sum, unwrap_or}
 use Rattle.mqb_base.specs.declared.ids.Identity.{Identity}
+use Rattle.mqb_base.specs.declared.message.Message.{Message}
 use Rattle.mqb_law_progress.specs.Progress.{unacknowledged}
 use Rattle.mqb_model.specs.calls.pump.Pump.{pump}
 use Rattle.mqb_model.specs.managers.Beside.{all_unmarked}
@@ -30,6 +31,7 @@ use Rattle.mqb_law_meetings.specs.Work.{plain_work, state_work, work_for}
 use Rattle.mqb_law_meetings.proofs.Bounds.{some_ordinary}
 use Rattle.mqb_law_meetings.proofs.Five as five
 use Rattle.mqb_law_meetings.proofs.Idle as idle
+use Rattle.mqb_law_meetings.proofs.Lacking.{BringsNone, Lessens, parted_lessens, then}
 use Rattle.mqb_law_meetings.proofs.Lists.{any_found}
 use Rattle.mqb_law_meetings.proofs.Meeting as meets
 use Rattle.mqb_law_meetings.proofs.Meeting.{ArePartners}
@@ -42,7 +44,7 @@ use Rattle.mqb_law_meetings.proofs.Standing.{Stands, turned}
 use Rattle.mqb_law_meetings.proofs.Stepping.{Moved, both_work, credits, moved_idle, none_pends}
 use Rattle.mqb_law_meetings.specs.Recovery.{AreStamped}
 use Rattle.mqb_law_meetings.proofs.Turns.{Clear, Hears, IsSettled, IsWithoutExpress, Turn, credit, ordinaries, promise}
-use Rattle.mqb_law_meetings.proofs.Vain.{connect_is, ended_a, ended_b, parted_state}
+use Rattle.mqb_law_meetings.proofs.Vain.{connect_is, ended_a, ended_b, ended_others, parted_state}
 
 -- What a parting leaves.
 
@@ -92,6 +94,9 @@ pub record Meets (known : List Identity) (c z : Course) (a b k l : ℕ) : Type 0
   pub falls : state_work first + state_work second + (credit (manager_at c.network a).state (manager_at c.network b).state k + credit (manager_at c.network b).state (manager_at c.network a).state l) + 1
       ≤ state_work (manager_at c.network a).state + state_work (manager_at c.network b).state + (credit first second k + credit second first l)
   pub run : InRun known z
+  pub lessens : (test : Message → Bool) → BringsNone test (manager_at c.network a).state k → BringsNone test (manager_at c.network b).state l
+      → Lessens test (manager_at c.network a).state first × Lessens test (manager_at c.network b).state second
+  pub others : (v : ℕ) → (a ≡ v → ⊥) → (b ≡ v → ⊥) → manager_at z.network v ≡ manager_at c.network v
 
 module _ (known : List Identity) (hears : HearsAll) (fact : (c : Course) → InRun known c → Facts known c) (c : Course) (r : InRun known c) (a b now : ℕ) (in_a : a < length known) (in_b : b < length known)
     (s t : State) (h : ArePartners c.network a b s t) (peer_is : h.peer ≡ t.identity) (peer_b_is : h.peer_b ≡ s.identity) (express : IsWithoutExpress s) (other_express : IsWithoutExpress t)
@@ -199,10 +204,21 @@ module _ (known : List Identity) (hears : HearsAll) (fact : (c : Course) → InR
       plain_sum : (m n pm pn s t c d : ℕ) → pm ≡ m → pn ≡ n → m + n + c + 1 ≤ s + t + d → pm + pn + c + 1 ≤ s + t + d
       plain_sum m n pm pn s t c d one two h = omega (arith, one, two, h)
 
+  abbrev AllLessen : State → State → Type 0
+  AllLessen m n = (test : Message → Bool) → BringsNone test s h.place_a → BringsNone test t h.place_b → Lessens test s m × Lessens test t n
+
+  lessens_at : (test : Message → Bool) (m n : State) → Lessens test s m × Lessens test t n
+      → Lessens test (manager_at c.network a).state (parted_state m) × Lessens test (manager_at c.network b).state (parted_state n)
+  lessens_at test m n less = (
+    subst (λ (v : Manager). Lessens test v.state (parted_state m)) (sym h.at_a) (then test s m (parted_state m) less.0 (parted_lessens test m)),
+    subst (λ (v : Manager). Lessens test v.state (parted_state n)) (sym h.at_b) (then test t n (parted_state n) less.1 (parted_lessens test n)),
+  )
+
   -- it ends
   ends : (z : Course) → InRun known z → (m n : Manager) → Stands z.network a b d m n → m.condition ≡ Up → n.condition ≡ Up → IsWithoutExpress m.state → IsWithoutExpress n.state
-      → AreStamped m.state → AreStamped n.state → Falls m n → Meets known c (moved_on z (well (event.Disconnect a))) a b h.place_a h.place_b
-  ends z rz m n st up_m up_n none_m none_n stamps_m stamps_n falls = record {
+      → AreStamped m.state → AreStamped n.state → Falls m n → AllLessen m.state n.state
+      → ((v : ℕ) → (a ≡ v → ⊥) → (b ≡ v → ⊥) → manager_at z.network v ≡ manager_at z1.network v) → Meets known c (moved_on z (well (event.Disconnect a))) a b h.place_a h.place_b
+  ends z rz m n st up_m up_n none_m none_n stamps_m stamps_n falls lessen others = record {
     first = parted_state m.state;
     second = parted_state n.state;
     at_a = ap (λ (v : Course). manager_at v.network a) parted_on ∙ ended_a z.network a b d m n st refl refl ∙ parted_up m up_m;
@@ -213,6 +229,10 @@ module _ (known : List Identity) (hears : HearsAll) (fact : (c : Course) → InR
     other_stamps = stamps_n;
     falls = falls_at m n falls;
     run = run_move known z (well (event.Disconnect a)) rz refl tt;
+    lessens = λ test brings other_brings. lessens_at test m.state n.state
+        (lessen test (subst (λ (v : Manager). BringsNone test v.state h.place_a) h.at_a brings) (subst (λ (v : Manager). BringsNone test v.state h.place_b) h.at_b other_brings));
+    others = λ v not_a not_b. ap (λ (u : Course). manager_at u.network v) parted_on ∙ ended_others z.network a b d m n st refl refl v not_a not_b ∙ others v not_a not_b
+        ∙ ap (λ (u : Course). manager_at u.network v) met ∙ meets.ready_others c a b now 1 1 s t h v not_a not_b;
   }
     where
       parted_on : moved_on z (well (event.Disconnect a)) ≡ moved (ended a) z
@@ -220,25 +240,27 @@ module _ (known : List Identity) (hears : HearsAll) (fact : (c : Course) → InR
           ∙ ap (λ v. (cond v (record { reply = reply.Disconnected; after = moved (ended a) z }) (only z reply.Unlinked)).after) (any_found (is_end a) z.network.connections d st.of_i)
 
   -- whichever its first flow was
-  meets_from : (m1 : Moved z2 a b d x y h.place_a h.place_b s.identity t.identity Clear 0)
+  meets_from : (m1 : Moved z1 z2 a b d x y h.place_a h.place_b s.identity t.identity Clear 0)
       → (0 < promise m1.next) ⊎ ((promise m1.next ≡ 0) × (ordinaries m1.sender.state h.place_a ≡ 0) × (is_outstanding_to m1.hearer.state h.place_b ≡ true))
       → Meets known c (course_after c (map well (meeting a b now))) a b h.place_a h.place_b
   meets_from m1 some =
-      let last = five.m5 known hears fact now a b in_a in_b h.apart d x y h.place_a h.place_b s.identity t.identity z2 r2 m1 stamps other_stamps in
-      ends (five.z6 known hears fact now a b in_a in_b h.apart d x y h.place_a h.place_b s.identity t.identity z2 r2 m1 stamps other_stamps)
-      (five.r6 known hears fact now a b in_a in_b h.apart d x y h.place_a h.place_b s.identity t.identity z2 r2 m1 stamps other_stamps)
+      let last = five.m5 known hears fact now a b in_a in_b h.apart d x y h.place_a h.place_b s.identity t.identity z1 z2 r2 m1 stamps other_stamps in
+      ends (five.z6 known hears fact now a b in_a in_b h.apart d x y h.place_a h.place_b s.identity t.identity z1 z2 r2 m1 stamps other_stamps)
+      (five.r6 known hears fact now a b in_a in_b h.apart d x y h.place_a h.place_b s.identity t.identity z1 z2 r2 m1 stamps other_stamps)
       last.sender last.hearer
-      (turned (five.z6 known hears fact now a b in_a in_b h.apart d x y h.place_a h.place_b s.identity t.identity z2 r2 m1 stamps other_stamps).network b a d last.hearer last.sender last.stands)
+      (turned (five.z6 known hears fact now a b in_a in_b h.apart d x y h.place_a h.place_b s.identity t.identity z1 z2 r2 m1 stamps other_stamps).network b a d last.hearer last.sender last.stands)
       last.turn.two.up last.turn.one.up last.turn.two.express last.turn.one.express
-      (five.last_stamps known hears fact now a b in_a in_b h.apart d x y h.place_a h.place_b s.identity t.identity z2 r2 m1 stamps other_stamps)
-      (five.last_other_stamps known hears fact now a b in_a in_b h.apart d x y h.place_a h.place_b s.identity t.identity z2 r2 m1 stamps other_stamps)
+      (five.last_stamps known hears fact now a b in_a in_b h.apart d x y h.place_a h.place_b s.identity t.identity z1 z2 r2 m1 stamps other_stamps)
+      (five.last_other_stamps known hears fact now a b in_a in_b h.apart d x y h.place_a h.place_b s.identity t.identity z1 z2 r2 m1 stamps other_stamps)
       (at some)
+      (five.all_lessen known hears fact now a b in_a in_b h.apart d x y h.place_a h.place_b s.identity t.identity z1 z2 r2 m1 stamps other_stamps)
+      (five.all_others known hears fact now a b in_a in_b h.apart d x y h.place_a h.place_b s.identity t.identity z1 z2 r2 m1 stamps other_stamps)
     where
       at : (0 < promise m1.next) ⊎ ((promise m1.next ≡ 0) × (ordinaries m1.sender.state h.place_a ≡ 0) × (is_outstanding_to m1.hearer.state h.place_b ≡ true))
-          → Falls (five.m5 known hears fact now a b in_a in_b h.apart d x y h.place_a h.place_b s.identity t.identity z2 r2 m1 stamps other_stamps).sender
-          (five.m5 known hears fact now a b in_a in_b h.apart d x y h.place_a h.place_b s.identity t.identity z2 r2 m1 stamps other_stamps).hearer
-      at (inl one) = five.first_falls known hears fact now a b in_a in_b h.apart d x y h.place_a h.place_b s.identity t.identity z2 r2 m1 stamps other_stamps one
-      at (inr two) = five.second_falls known hears fact now a b in_a in_b h.apart d x y h.place_a h.place_b s.identity t.identity z2 r2 m1 stamps other_stamps two.0 two.1 two.2
+          → Falls (five.m5 known hears fact now a b in_a in_b h.apart d x y h.place_a h.place_b s.identity t.identity z1 z2 r2 m1 stamps other_stamps).sender
+          (five.m5 known hears fact now a b in_a in_b h.apart d x y h.place_a h.place_b s.identity t.identity z1 z2 r2 m1 stamps other_stamps).hearer
+      at (inl one) = five.first_falls known hears fact now a b in_a in_b h.apart d x y h.place_a h.place_b s.identity t.identity z1 z2 r2 m1 stamps other_stamps one
+      at (inr two) = five.second_falls known hears fact now a b in_a in_b h.apart d x y h.place_a h.place_b s.identity t.identity z1 z2 r2 m1 stamps other_stamps two.0 two.1 two.2
 
   -- the first one has something, or the second one alone
   pub meets_with : (is_outstanding_to s h.place_a ≡ true) ⊎ ((is_outstanding_to s h.place_a ≡ false) × (is_outstanding_to t h.place_b ≡ true))

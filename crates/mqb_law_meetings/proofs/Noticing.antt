@@ -260,22 +260,25 @@ refuses_stored s p = at (is_for_order_layer s p.message.destination)
     at true = refl
     at false = refuses s p
 
-put_leaves : (s t : State) (target : Target) (d : Delivery) (m : Message) → target_refusal s target d ≡ None → Leaves t (placed t target m) 0
-put_leaves s t (Here (Some number)) d m e = kept t _ 0 refl refl refl refl refl
-put_leaves s t (Here None) d m e = absurd (let none : ⊥ = cc in none)
-put_leaves s t (AtPeer k) d m e = absurd (let none : ⊥ = cc in none)
-put_leaves s t Nowhere d m e = absurd (let none : ⊥ = cc in none)
+-- what is not refused is for a queue here
+pub lands : (s : State) (p : UserPacket) → refusal_of s p ≡ None → (number : ℕ) × (resolved s p.message.destination ≡ Here (Some number))
+lands s p e = at (resolved s p.message.destination) refl (unrefused (p.remaining == 0) e)
+  where
+    unrefused : (b : Bool) → cond b (Some REACH_TIMEOUT) (target_refusal s (resolved s p.message.destination) p.message.delivery) ≡ None
+        → target_refusal s (resolved s p.message.destination) p.message.delivery ≡ None
+    unrefused true n = absurd (let none : ⊥ = cc in none)
+    unrefused false n = n
 
--- what is not refused is put here
+    at : (target : Target) → resolved s p.message.destination ≡ target → target_refusal s target p.message.delivery ≡ None → (number : ℕ) × (resolved s p.message.destination ≡ Here (Some number))
+    at (Here (Some number)) is n = (number, is)
+    at (Here None) is n = absurd (let none : ⊥ = cc in none)
+    at (AtPeer k) is n = absurd (let none : ⊥ = cc in none)
+    at Nowhere is n = absurd (let none : ⊥ = cc in none)
+
+-- and put there
 pub puts : (s : State) (p : UserPacket) → refusal_of s p ≡ None → (t : State) → resolved t p.message.destination ≡ resolved s p.message.destination
     → (m : Message) → Leaves t (placed t (resolved t p.message.destination) m) 0
-puts s p e t same_target m = subst (λ target. Leaves t (placed t target m) 0) (sym same_target)
-    (put_leaves s t (resolved s p.message.destination) p.message.delivery m (at (p.remaining == 0) e))
-  where
-    at : (b : Bool) → cond b (Some REACH_TIMEOUT) (target_refusal s (resolved s p.message.destination) p.message.delivery) ≡ None
-        → target_refusal s (resolved s p.message.destination) p.message.delivery ≡ None
-    at true n = absurd (let none : ⊥ = cc in none)
-    at false n = n
+puts s p e t same_target m = let h = lands s p e in subst (λ target. Leaves t (placed t target m) 0) (sym (same_target ∙ h.1)) (kept t _ 0 refl refl refl refl refl)
 
 pub stored_unrefused : (s : State) (p : UserPacket) → storing_refusal s p ≡ None → refusal_of s p ≡ None
 stored_unrefused s p = at (is_for_order_layer s p.message.destination)

@@ -1,6 +1,7 @@
 -- As many meetings as there is work bring everything over.
 use Rattle.std.proofs.Common.{◌≡◌, ℕ, zero, suc, ◌+◌, ◌<◌, ◌≤◌, ◌⊎◌, inl, inr, Bool, true, false, cond, List, [], ◌∷◌, Some, refl, sym, ap, subst, ◌∙◌, arith}
 use Rattle.std.proofs.lemmas.List.Elements.{All-from_recursion}
+use Rattle.std.specs.List.{AllByRecursion}
 use Rattle.std.specs.Prelude.{All, length, map, position, slice_get}
 use Rattle.mqb_base.specs.Same.{same_guid}
 use Rattle.mqb_base.specs.declared.ids.Identity.{Identity}
@@ -48,11 +49,11 @@ durable_express [] k q e = absurd (let no : ⊥ = cc in no)
 durable_express (p ∷ ps) zero q e = let same : durable_plain p ≡ q = cc in subst (λ (x : PlainLists). x.express ≡ []) same refl
 durable_express (p ∷ ps) (suc k) q e = durable_express ps k q e
 
-started_express : (m : Manager) (kept : Bool) → IsWithoutExpress (restarted m kept).state
+pub started_express : (m : Manager) (kept : Bool) → IsWithoutExpress (restarted m kept).state
 started_express m true = all_each (λ (p : PlainLists). p.express ≡ []) (restarted m true).state.plain (durable_express _)
 started_express m false = all_each (λ (p : PlainLists). p.express ≡ []) (restarted m false).state.plain (durable_express _)
 
-parted_none : (m : Manager) → IsWithoutExpress m.state → IsWithoutExpress (parted m).state
+pub parted_none : (m : Manager) → IsWithoutExpress m.state → IsWithoutExpress (parted m).state
 parted_none m none = at (is_down m)
   where
     at : (b : Bool) → IsWithoutExpress (cond b m (succeeded m (unlink m))).state
@@ -88,7 +89,7 @@ knows_as known c o i j own other at_i at_j =
     ap (λ (ps : List Identity). position (λ (p : Identity). same_guid p.guid (manager_at c.network j).state.identity.guid) ps) itself.peers
     ∙ ap (λ (x : Identity). position (λ (p : Identity). same_guid p.guid x.guid) (others known own)) it.identity
 
-knows_still : (known : List Identity) (c z : Course) → IsOrderly known c → IsOrderly known z → (i j k : ℕ) → i < length known → j < length known
+pub knows_still : (known : List Identity) (c z : Course) → IsOrderly known c → IsOrderly known z → (i j k : ℕ) → i < length known → j < length known
     → peer_known (manager_at c.network i).state (manager_at c.network j).state.identity.guid ≡ Some k → peer_known (manager_at z.network i).state (manager_at z.network j).state.identity.guid ≡ Some k
 knows_still known c z o p i j k in_i in_j knows =
     let own = within_get known i in_i in
@@ -120,13 +121,13 @@ module _ (known : List Identity) (order : AreInOrder known) (hears : HearsAll) (
     abbrev z : Course
     z = course_after c (map well (meeting a b now))
 
-    h : ArePartners c.network a b s t
+    pub h : ArePartners c.network a b s t
     h = partners known order.apart c (fact c r.run).orderly a b in_a in_b differ r.first r.second
 
-    place_is : h.place_a ≡ k
+    pub place_is : h.place_a ≡ k
     place_is = let both : Some h.place_a ≡ Some k = sym h.knows ∙ r.knows in let same : h.place_a ≡ k = cc in same
 
-    other_place_is : h.place_b ≡ l
+    pub other_place_is : h.place_b ≡ l
     other_place_is = let both : Some h.place_b ≡ Some l = sym h.known ∙ r.known_by in let same : h.place_b ≡ l = cc in same
 
     run_z : InRun known z
@@ -151,7 +152,7 @@ module _ (known : List Identity) (order : AreInOrder known) (hears : HearsAll) (
     }
 
     -- one of them has
-    some : (has_for c.network a b ≡ true) ⊎ ((has_for c.network a b ≡ false) × (has_for c.network b a ≡ true)) → Meets known c z a b h.place_a h.place_b
+    pub some : (has_for c.network a b ≡ true) ⊎ ((has_for c.network a b ≡ false) × (has_for c.network b a ≡ true)) → Meets known c z a b h.place_a h.place_b
     some has = meets_with known hears fact c r.run a b now in_a in_b s t h
         (peer_is known order.apart c (fact c r.run).orderly a b in_a in_b h.place_a h.peer h.knows h.there)
         (peer_is known order.apart c (fact c r.run).orderly b a in_b in_a h.place_b h.peer_b h.known h.there_b) r.express r.other_express r.stamps r.other_stamps (at has)
@@ -167,7 +168,7 @@ module _ (known : List Identity) (order : AreInOrder known) (hears : HearsAll) (
     worked (inr two) = let e = work_there t h.place_b r.other_express (sym has_b ∙ two.1) in omega (arith, e)
 
     -- and they are ready again
-    ready_again : IsAlone z.network a → IsAlone z.network b → IsWithoutExpress (manager_at z.network a).state → IsWithoutExpress (manager_at z.network b).state
+    pub ready_again : IsAlone z.network a → IsAlone z.network b → IsWithoutExpress (manager_at z.network a).state → IsWithoutExpress (manager_at z.network b).state
         → AreStamped (manager_at z.network a).state → AreStamped (manager_at z.network b).state → AreReady known z a b k l
     ready_again one two none other_none stamps other_stamps = record {
       run = run_z;
@@ -181,12 +182,12 @@ module _ (known : List Identity) (order : AreInOrder known) (hears : HearsAll) (
       known_by = knows_still known c z (fact c r.run).orderly (fact z run_z).orderly b a l in_b in_a r.known_by;
     }
 
-    ready_with : (m : Meets known c z a b h.place_a h.place_b) → AreReady known z a b k l
+    pub ready_with : (m : Meets known c z a b h.place_a h.place_b) → AreReady known z a b k l
     ready_with m = ready_again (m.at_a ∙ ap (λ (v : Manager). unlinked v.state) (sym m.at_a)) (m.at_b ∙ ap (λ (v : Manager). unlinked v.state) (sym m.at_b))
         (subst (λ (v : Manager). IsWithoutExpress v.state) (sym m.at_a) m.express) (subst (λ (v : Manager). IsWithoutExpress v.state) (sym m.at_b) m.other_express)
         (subst (λ (v : Manager). AreStamped v.state) (sym m.at_a) m.stamps) (subst (λ (v : Manager). AreStamped v.state) (sym m.at_b) m.other_stamps)
 
-    falls : (m : Meets known c z a b h.place_a h.place_b)
+    pub falls : (m : Meets known c z a b h.place_a h.place_b)
         → state_work (manager_at z.network a).state + state_work (manager_at z.network b).state + (credit s t k + credit t s l) + 1
         ≤ state_work s + state_work t + (credit (manager_at z.network a).state (manager_at z.network b).state k + credit (manager_at z.network b).state (manager_at z.network a).state l)
     falls m = subst (λ p. state_work (manager_at z.network a).state + state_work (manager_at z.network b).state + (credit s t p + credit t s l) + 1
@@ -207,14 +208,14 @@ module _ (known : List Identity) (order : AreInOrder known) (hears : HearsAll) (
       stays_drained count (course_after c (map well (meeting a b now))) (run_on known c (map well (meeting a b now)) run (meeting_runs c a b now) (meeting_drafted a b now)) v.first v.second v.drained
 
   -- what they have, less what is credited
-  abbrev Enough : ℕ → Course → Type 0
+  abbrev pub Enough : ℕ → Course → Type 0
   Enough n c = state_work (manager_at c.network a).state + state_work (manager_at c.network b).state
       ≤ n + (credit (manager_at c.network a).state (manager_at c.network b).state k + credit (manager_at c.network b).state (manager_at c.network a).state l)
 
-  abbrev Has : Course → Type 0
+  abbrev pub Has : Course → Type 0
   Has c = (has_for c.network a b ≡ true) ⊎ ((has_for c.network a b ≡ false) × (has_for c.network b a ≡ true))
 
-  either : (c : Course) → AreReady known c a b k l → IsDrained c.network a b ⊎ Has c
+  pub either : (c : Course) → AreReady known c a b k l → IsDrained c.network a b ⊎ Has c
   either c r = at (has_for c.network a b) refl (has_for c.network b a) refl
     where
       at : (p : Bool) → has_for c.network a b ≡ p → (q : Bool) → has_for c.network b a ≡ q → IsDrained c.network a b ⊎ Has c
@@ -223,7 +224,7 @@ module _ (known : List Identity) (order : AreInOrder known) (hears : HearsAll) (
       at false e false f = inl (drained_now c r e f)
 
   -- As many as there is work suffice.
-  suffice : (count : ℕ) (c : Course) → AreReady known c a b k l → Enough count c → IsDrained (course_after c (map well (meetings a b now count))).network a b
+  pub suffice : (count : ℕ) (c : Course) → AreReady known c a b k l → Enough count c → IsDrained (course_after c (map well (meetings a b now count))).network a b
   suffice zero c r enough = at (either c r)
     where
       at : IsDrained c.network a b ⊎ Has c → IsDrained c.network a b
@@ -245,13 +246,20 @@ module _ (known : List Identity) (order : AreInOrder known) (hears : HearsAll) (
           (credit (manager_at c.network a).state (manager_at c.network b).state k + credit (manager_at c.network b).state (manager_at c.network a).state l)
           (credit (manager_at (z c r).network a).state (manager_at (z c r).network b).state k + credit (manager_at (z c r).network b).state (manager_at (z c r).network a).state l) n (falls c r m) enough)
 
--- The moves that start both are in order.
+-- The moves that start managers are in order.
+pub restarts_drafted : (ms : List Move) (is : List ℕ) → map (λ m. m.event) ms ≡ map (λ i. event.Restart i) is → All (λ (m : Move). IsDraftedEvent m.event) ms
+restarts_drafted ms is are = All-from_recursion (λ (m : Move). IsDraftedEvent m.event) ms (each ms is are)
+  where
+    each : (ms : List Move) (is : List ℕ) → map (λ m. m.event) ms ≡ map (λ i. event.Restart i) is → AllByRecursion (λ (m : Move). IsDraftedEvent m.event) ms
+    each [] is are = tt
+    each (m ∷ ms) [] are = absurd (let no : ⊥ = cc in no)
+    each (m ∷ ms) (i ∷ is) are = (
+      let e : m.event ≡ event.Restart i = cc in subst IsDraftedEvent (sym e) tt,
+      let rest : map (λ x. x.event) ms ≡ map (λ k. event.Restart k) is = cc in each ms is rest,
+    )
+
 pub starts_drafted : (ms : List Move) (a b : ℕ) → map (λ m. m.event) ms ≡ starts a b → All (λ (m : Move). IsDraftedEvent m.event) ms
-starts_drafted [] a b are = absurd (let no : ⊥ = cc in no)
-starts_drafted (m ∷ []) a b are = absurd (let no : ⊥ = cc in no)
-starts_drafted (m ∷ n ∷ x ∷ xs) a b are = absurd (let no : ⊥ = cc in no)
-starts_drafted (m ∷ n ∷ []) a b are = All-from_recursion (λ (x : Move). IsDraftedEvent x.event) (m ∷ n ∷ [])
-    (let e : m.event ≡ event.Restart a = cc in let f : n.event ≡ event.Restart b = cc in (subst IsDraftedEvent (sym e) tt, (subst IsDraftedEvent (sym f) tt, tt)))
+starts_drafted ms a b are = restarts_drafted ms (a ∷ b ∷ []) are
 
 pub recovers : HistoriesAreOrderly → RunsHaveHistories → AlwaysValid → AlwaysAccord → HearsAll → Recovers
 recovers orderly histories always accords hears known before ms a b now order drafted run in_a in_b differ starts stamps other_stamps =

@@ -23,7 +23,7 @@ pub record InRun (known : List Identity) (c : Course) : Type 0 where
   pub drafted : All (λ (m : Move). IsDraftedEvent m.event) moves
   pub run : IsRun known moves
 
-after_append : (c : Course) (xs ys : List Move) → course_after c (xs ++ ys) ≡ course_after (course_after c xs) ys
+pub after_append : (c : Course) (xs ys : List Move) → course_after c (xs ++ ys) ≡ course_after (course_after c xs) ys
 after_append c [] ys = refl
 after_append c (x ∷ xs) ys = after_append (moved_on c x) xs ys
 

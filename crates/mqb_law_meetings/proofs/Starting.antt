@@ -1,8 +1,9 @@
 -- A manager that was started anew is alone, and stays so when another one is.
-use Rattle.std.proofs.Common.{◌≡◌, ℕ, ◌<◌, ◌==◌, Bool, true, false, List, [], ◌∷◌, Option, Some, None, refl, sym, ap, subst, ◌∙◌}
+use Rattle.std.proofs.Common.{◌≡◌, ℕ, ◌<◌, ◌⊎◌, inl, inr, ◌==◌, Bool, true, false, List, [], ◌∷◌, Option, Some, None, refl, sym, ap, subst, ◌∙◌}
 use Rattle.std.specs.Option.{option_map_or}
 use Rattle.std.specs.Prelude.{All, length, map, option_map, slice_get, unwrap_or}
 use Rattle.std.proofs.lemmas.List.Elements.{All-head, All-tail}
+use Rattle.mqb_exactly_once.specs.Words.{In}
 use Rattle.mqb_model.specs.managers.Manager.{Manager, unlinked}
 use Rattle.mqb_model.specs.managers.Restarts.{restarted}
 use Rattle.mqb_network.proofs.Joining.{move_in_course}
@@ -95,59 +96,53 @@ module _ (P : Manager → Type 0) (parts : (m : Manager) → P m → P (parted m
             (restart_starts choice good (subst (λ k. k < length c.network.managers) (sym (equal_numbers i j e)) within))
         at false e = other_keeps choice good j (apart_numbers i j e) had
 
-  -- Both are started.
-  pub both_have : (c : Course) (ms : List Move) (a b : ℕ) → a < length c.network.managers → b < length c.network.managers → map (λ m. m.event) ms ≡ starts a b
-      → All (λ m. is_good m.choice ≡ true) ms → P (manager_at (course_after c ms).network a) × P (manager_at (course_after c ms).network b)
-  both_have c [] a b in_a in_b are good = absurd (let no : ⊥ = cc in no)
-  both_have c (m ∷ []) a b in_a in_b are good = absurd (let no : ⊥ = cc in no)
-  both_have c (m ∷ k ∷ x ∷ xs) a b in_a in_b are good = absurd (let no : ⊥ = cc in no)
-  both_have c (m ∷ k ∷ []) a b in_a in_b are good = (
-    subst (λ (y : Course). P (manager_at y.network a)) (sym two) (restart_keeps z b k.choice good_k a in_z_a one_alone),
-    subst (λ (y : Course). P (manager_at y.network b)) (sym two) (restart_starts z b k.choice good_k in_z_b),
-  )
+  -- These are started, one after another, whatever becomes of the records in doubt.
+  pub all_have : (is : List ℕ) (c : Course) (ms : List Move) → map (λ m. m.event) ms ≡ map (λ i. event.Restart i) is → All (λ m. is_good m.choice ≡ true) ms → (j : ℕ) → j < length c.network.managers
+      → P (manager_at c.network j) ⊎ In j is → P (manager_at (course_after c ms).network j)
+  all_have [] c [] are good j within (inl had) = had
+  all_have [] c [] are good j within (inr none) = absurd none
+  all_have [] c (m ∷ ms) are good j within had = absurd (let no : ⊥ = cc in no)
+  all_have (i ∷ is) c [] are good j within had = absurd (let no : ⊥ = cc in no)
+  all_have (i ∷ is) c (m ∷ ms) are good j within had = all_have is z ms (let rest : map (λ x. x.event) ms ≡ map (λ k. event.Restart k) is = cc in rest)
+      (All-tail (λ (x : Move). is_good x.choice ≡ true) m ms good) j in_z (next had)
     where
       good_m : is_good m.choice ≡ true
-      good_m = All-head (λ (x : Move). is_good x.choice ≡ true) m (k ∷ []) good
+      good_m = All-head (λ (x : Move). is_good x.choice ≡ true) m ms good
 
-      good_k : is_good k.choice ≡ true
-      good_k = All-head (λ (x : Move). is_good x.choice ≡ true) k [] (All-tail (λ (x : Move). is_good x.choice ≡ true) m (k ∷ []) good)
-
-      event_m : m.event ≡ event.Restart a
+      event_m : m.event ≡ event.Restart i
       event_m = cc
-
-      event_k : k.event ≡ event.Restart b
-      event_k = cc
 
       z : Course
       z = moved_on c m
 
-      one : z ≡ (restart a m.choice c).after
-      one = move_in_course c m ∙ ap (λ e. (answer_to e (packet_of c.sent m.event) m.choice c).after) event_m
+      restarts : z ≡ (restart i m.choice c).after
+      restarts = move_in_course c m ∙ ap (λ e. (answer_to e (packet_of c.sent m.event) m.choice c).after) event_m
 
-      two : moved_on z k ≡ (restart b k.choice z).after
-      two = move_in_course z k ∙ ap (λ e. (answer_to e (packet_of z.sent k.event) k.choice z).after) event_k
+      in_z : j < length z.network.managers
+      in_z = subst (λ n. j < n) (sym (ap (λ (y : Course). length y.network.managers) restarts ∙ restart_length c i m.choice good_m)) within
 
-      same_count : length z.network.managers ≡ length c.network.managers
-      same_count = ap (λ (y : Course). length y.network.managers) one ∙ restart_length c a m.choice good_m
+      there_now : P (manager_at (restart i m.choice c).after.network j) → P (manager_at z.network j)
+      there_now h = subst (λ (y : Course). P (manager_at y.network j)) (sym restarts) h
 
-      in_z_a : a < length z.network.managers
-      in_z_a = subst (λ n. a < n) (sym same_count) in_a
+      next : P (manager_at c.network j) ⊎ In j (i ∷ is) → P (manager_at z.network j) ⊎ In j is
+      next (inl had) = inl (there_now (restart_keeps c i m.choice good_m j within had))
+      next (inr (inl is)) = inl (there_now (subst (λ k. P (manager_at (restart i m.choice c).after.network k)) is (restart_starts c i m.choice good_m (subst (λ k. k < length c.network.managers) (sym is) within))))
+      next (inr (inr rest)) = inr rest
 
-      in_z_b : b < length z.network.managers
-      in_z_b = subst (λ n. b < n) (sym same_count) in_b
-
-      one_alone : P (manager_at z.network a)
-      one_alone = subst (λ (y : Course). P (manager_at y.network a)) (sym one) (restart_starts c a m.choice good_m in_a)
+  -- Both are.
+  pub both_have : (c : Course) (ms : List Move) (a b : ℕ) → a < length c.network.managers → b < length c.network.managers → map (λ m. m.event) ms ≡ starts a b
+      → All (λ m. is_good m.choice ≡ true) ms → P (manager_at (course_after c ms).network a) × P (manager_at (course_after c ms).network b)
+  both_have c ms a b in_a in_b are good = (all_have (a ∷ b ∷ []) c ms are good a in_a (inr (inl refl)), all_have (a ∷ b ∷ []) c ms are good b in_b (inr (inr (inl refl))))
 
 -- So both are alone, and have nothing express.
 
-parted_alone : (m : Manager) → m ≡ unlinked m.state → parted m ≡ unlinked (parted m).state
+pub parted_alone : (m : Manager) → m ≡ unlinked m.state → parted m ≡ unlinked (parted m).state
 parted_alone m alone = ap parted alone ∙ ap (λ (x : Manager). unlinked (parted x).state) (sym alone)
+
+pub started_alone : (m : Manager) (kept : Bool) → restarted m kept ≡ unlinked (restarted m kept).state
+started_alone m true = refl
+started_alone m false = refl
 
 pub both_alone : (c : Course) (ms : List Move) (a b : ℕ) → a < length c.network.managers → b < length c.network.managers → map (λ m. m.event) ms ≡ starts a b
     → All (λ m. is_good m.choice ≡ true) ms → IsAlone (course_after c ms).network a × IsAlone (course_after c ms).network b
-both_alone c ms a b in_a in_b are good = both_have (λ m. m ≡ unlinked m.state) parted_alone begins c ms a b in_a in_b are good
-  where
-    begins : (m : Manager) (kept : Bool) → restarted m kept ≡ unlinked (restarted m kept).state
-    begins m true = refl
-    begins m false = refl
+both_alone c ms a b in_a in_b are good = both_have (λ m. m ≡ unlinked m.state) parted_alone started_alone c ms a b in_a in_b are good

@@ -1,7 +1,9 @@
 -- A flow of an end whose turn it is: one packet goes and is heard, and then it is the turn of the other end.
-use Rattle.std.proofs.Common.{◌≡◌, ℕ, ◌+◌, ◌-◌, ◌<◌, ◌≤◌, ◌⊎◌, inl, inr, true, false, List, [], ◌∷◌, Some, refl, sym, ap, subst, ◌∙◌, arith}
+use Rattle.std.proofs.Common.{◌≡◌, ℕ, ◌+◌, ◌-◌, ◌<◌, ◌≤◌, ◌⊎◌, inl, inr, Bool, true, false, List, [], ◌∷◌, Some, refl, sym, ap, subst, ◌∙◌, arith}
 use Rattle.std.specs.Prelude.{All, Ok, map, slice_get}
 use Rattle.mqb_base.specs.declared.ids.Identity.{Identity}
+use Rattle.mqb_base.specs.declared.message.Message.{Message}
+use Rattle.mqb_fate.specs.Asking.{is_ordinary}
 use Rattle.mqb_law_progress.specs.Steps.{AreInStep}
 use Rattle.mqb_model.specs.calls.hear.Hear.{hear}
 use Rattle.mqb_model.specs.calls.hear.Session.{HeardOutcome}
@@ -23,12 +25,14 @@ use Rattle.mqb_packet.specs.declared.packet.Packet.{Packet}
 use Rattle.mqb_plain.specs.Plain.{PlainLists}
 use Rattle.mqb_session.specs.State as one_end
 use Rattle.mqb_law_meetings.specs.Work.{state_work}
+use Rattle.mqb_law_meetings.proofs.Bringing.{hear_lessens, pump_lessens}
+use Rattle.mqb_law_meetings.proofs.Lacking.{BringsNone, IsOfOrdinary, Lacks, Lessens, SaysNoOrdinary, stays}
 use Rattle.mqb_law_meetings.proofs.Leaving.{Gone, idle_is}
 use Rattle.mqb_law_meetings.proofs.Meeting.{Idles, flow_idle}
 use Rattle.mqb_law_meetings.proofs.Lists.{get_within, within_get}
 use Rattle.mqb_law_meetings.proofs.Members.{all_each, all_there, mapped_at}
 use Rattle.mqb_law_meetings.proofs.Pumping.{core}
-use Rattle.mqb_law_meetings.proofs.Standing.{Stands, behind, flow_one, stands_behind, turned}
+use Rattle.mqb_law_meetings.proofs.Standing.{Stands, behind, flow_one, keeps_behind, stands_behind, turned}
 use Rattle.mqb_law_meetings.specs.Recovery.{AreStamped, IsSpelled}
 use Rattle.mqb_law_meetings.proofs.Turns.{AreRaised, Clear, Heard, Hears, IsSettled, IsUnder, OwesNone, Pends, Turn, Way, credit, ordinaries, promise, promised}
 
@@ -41,7 +45,7 @@ abbrev pub credits : Manager → Manager → (k l : ℕ) → ℕ
 credits x y k l = credit x.state y.state k + credit y.state x.state l
 
 -- what a flow comes to
-pub record Moved (z : Course) (i j : ℕ) (d : Connection) (x y : Manager) (k l : ℕ) (own other : Identity) (way : Way) (n : ℕ) : Type 0 where
+pub record Moved (c z : Course) (i j : ℕ) (d : Connection) (x y : Manager) (k l : ℕ) (own other : Identity) (way : Way) (n : ℕ) : Type 0 where
   pub sender : Manager
   pub hearer : Manager
   pub told : one_end.State
@@ -56,6 +60,8 @@ pub record Moved (z : Course) (i j : ℕ) (d : Connection) (x y : Manager) (k l 
   pub live : is_outstanding_to x.state k ≡ true → 0 < promise way + promise next
   pub stamps : AreStamped x.state → AreStamped sender.state
   pub other_stamps : AreStamped y.state → AreStamped hearer.state
+  pub lessens : (test : Message → Bool) → BringsNone test x.state k → Lessens test x.state sender.state × Lessens test y.state hearer.state
+  pub others : (v : ℕ) → (i ≡ v → ⊥) → (j ≡ v → ⊥) → manager_at z.network v ≡ manager_at c.network v
 
 -- the sums of it
 linear : (s m x y cxy cyx csy cys csm cms w v lowers raises : ℕ) → s ≡ x → csy ≡ cxy → cys ≡ cyx → m + cys + lowers ≤ y + cms + raises → w ≤ lowers → raises + csy ≤ csm + v
@@ -154,10 +160,10 @@ module _ (c z : Course) (i j now : ℕ) (d : Connection) (x y : Manager) (a b : 
         at (inl owes) = absurd (let no : ⊥ = cc in no)
         at (inr told) = told
 
-    pub moved_idle : (m : Moved z i j d x y k l own other way n) × (promise m.next ≡ 0) × (m.hearer ≡ y) × (m.sender ≡ x)
+    pub moved_idle : (m : Moved c z i j d x y k l own other way n) × (promise m.next ≡ 0) × (m.hearer ≡ y) × (m.sender ≡ x)
     moved_idle = (moves, refl, refl, refl)
       where
-        moves : Moved z i j d x y k l own other way n
+        moves : Moved c z i j d x y k l own other way n
         moves = record {
           sender = x;
           hearer = y;
@@ -191,6 +197,8 @@ module _ (c z : Course) (i j now : ℕ) (d : Connection) (x y : Manager) (a b : 
           live = λ some. absurd (let no : ⊥ = cc in no);
           stamps = λ h. h;
           other_stamps = λ h. h;
+          lessens = λ test brings. (stays test x.state, stays test y.state);
+          others = idles.keeps.others;
         }
 
   -- A packet goes, and is heard.
@@ -219,8 +227,9 @@ module _ (c z : Course) (i j now : ℕ) (d : Connection) (x y : Manager) (a b : 
       pub under : IsUnder next m s f k
       pub seldom : promise next - 1 ≤ ordinaries x.state k
       pub live : is_outstanding_to x.state k ≡ true → 0 < promise way + promise next
+      pub says : Lacks is_ordinary x.state k → SaysNoOrdinary p
 
-    pub moved_by : Goes → Moved z i j d x y k l own other way n
+    pub moved_by : Goes → Moved c z i j d x y k l own other way n
     moved_by g = record {
       sender = s;
       hearer = m;
@@ -254,8 +263,14 @@ module _ (c z : Course) (i j now : ℕ) (d : Connection) (x y : Manager) (a b : 
       live = g.live;
       stamps = core_stamped x.state.outs s.state.outs g.gone.same;
       other_stamps = raised_stamped y.state.outs m.state.outs g.hearing.raised;
+      lessens = λ test brings. (subst (λ (v : Manager). Lessens test x.state v.state) g.after (pump_lessens test x now), hear_lessens test y now p (says test brings));
+      others = λ v not_i not_j. ap (λ (u : Course). manager_at u.network v) went ∙ (keeps_behind c i j now d x y st p).others v not_i not_j;
     }
       where
+        says : (test : Message → Bool) → BringsNone test x.state k → SaysNoOrdinary p ⊎ IsOfOrdinary test
+        says test (inl lacks) = inl (g.says lacks)
+        says test (inr silent) = inr silent
+
         went : z ≡ behind c i j now d x y st p
         went = is ∙ flow_one c i j now d x y st p 1 g.answer g.packets g.open_
 

@@ -1,5 +1,6 @@
 -- A turn in which a number of a row goes, or the acknowledgement of one; and each turn.
 use Rattle.std.proofs.Common.{◌≡◌, ℕ, ◌<◌, ◌≤◌, ◌⊎◌, inl, inr, true, false, nat_lt, List, [], ◌∷◌, Some, refl, sym, ap, subst, ◌∙◌, arith}
+use Rattle.std.proofs.lemmas.Bool.{true≢false}
 use Rattle.std.specs.List.{enumerate_from}
 use Rattle.std.specs.Prelude.{All, length, map, slice_get, slice_set, sum, zip}
 use Rattle.mqb_base.specs.Same.{same_guid}
@@ -10,6 +11,7 @@ use Rattle.mqb_model.specs.calls.pump.Candidates.{of_row}
 use Rattle.mqb_model.specs.calls.pump.Pump.{PumpOutcome, packet_for, pump, sending_all}
 use Rattle.mqb_model.specs.managers.Manager.{Manager}
 use Rattle.mqb_model.specs.managers.Outcomes.{succeeded}
+use Rattle.mqb_model.specs.managers.Readers.{awaits}
 use Rattle.mqb_model.specs.managers.Valid.{IsUnsent, IsValidManager}
 use Rattle.mqb_model.specs.state.Valid.{IsInOrder, IsOwn}
 use Rattle.mqb_network.specs.Choices.{Well}
@@ -23,6 +25,8 @@ use Rattle.mqb_session.specs.State as one_end
 use Rattle.mqb_session.specs.declared.heads.Kind.TheVariants as kind
 use Rattle.mqb_law_meetings.specs.Work.{work_for}
 use Rattle.mqb_law_meetings.proofs.Choosing.{Waits}
+use Rattle.mqb_law_meetings.proofs.Finishing.{first_in}
+use Rattle.mqb_law_meetings.proofs.Firsts.{all_got}
 use Rattle.mqb_law_meetings.proofs.Going as going
 use Rattle.mqb_law_meetings.proofs.Leaving as leaves
 use Rattle.mqb_law_meetings.proofs.Leaving.{order_of}
@@ -38,7 +42,7 @@ use Rattle.mqb_law_meetings.proofs.Turns.{AreRaised, Brings, Carries, Clear, IsB
 module _ (c z : Course) (i j now : ℕ) (d : Connection) (x y : Manager) (a b : one_end.State) (k l : ℕ) (own other : Identity) (way : Way) (n : ℕ)
     (t : Turn x y a b k l own other way n) (few : n < 65535) (st : Stands c.network i j d x y) (is : z ≡ (flow i now Well c).after) (valid : (v : ℕ) → IsValidManager (manager_at z.network v)) where
   abbrev Result : Type 0
-  Result = Moved z i j d x y k l own other way n
+  Result = Moved c z i j d x y k l own other way n
 
   abbrev few_a : a.sent < 65535
   few_a = turning.few_a c z i j now d x y a b k l own other way n t few st is valid
@@ -116,6 +120,7 @@ module _ (c z : Course) (i j now : ℕ) (d : Connection) (x y : Manager) (a b : 
           );
           seldom = omega arith;
           live = λ some. omega arith;
+          says = λ lacks. absurd (true≢false (sym (first_in (awaits k) x.state.outs w.row w.waits).1 ∙ all_got (λ (r : Row). awaits k r ≡ false) x.state.outs w.index w.row w.there lacks.rows));
         })
 
   -- The acknowledgement of a row goes.
@@ -152,6 +157,7 @@ module _ (c z : Course) (i j now : ℕ) (d : Connection) (x y : Manager) (a b : 
           under = (t.unsent, still_settled k x s gone.same refl t.settled, turning.still_none c z i j now d x y a b k l own other way n t few st is valid m h.quiet.ins h.quiet.owes);
           seldom = omega arith;
           live = λ some. let r = ap promise brought in omega (arith, r);
+          says = λ lacks. refl;
         })
       where
         settled : (m : Manager) (row : Row) → slice_get m.state.outs at ≡ Some row → number.number ≤ row.acked → AreRaised y.state.outs m.state.outs → m.rest.cursors ≡ y.rest.cursors

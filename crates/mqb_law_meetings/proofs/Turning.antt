@@ -3,7 +3,7 @@ use Rattle.std.proofs.Common.{◌≡◌, ℕ, ◌+◌, ◌-◌, ◌<◌, ◌≤�
 use Rattle.std.proofs.lemmas.List.Elements.{recursion_from_All}
 use Rattle.std.specs.List.{AllByRecursion}
 use Rattle.std.specs.Option.{option_map_or}
-use Rattle.std.specs.Prelude.{filter, length, map, replicate, slice_get, sum}
+use Rattle.std.specs.Prelude.{IfSome, filter, length, map, replicate, slice_get, sum}
 use Rattle.mqb_base.specs.Same.{same_guid}
 use Rattle.mqb_base.specs.declared.ids.Identity.{Identity}
 use Rattle.mqb_base.specs.declared.message.Message.{Message}
@@ -33,6 +33,7 @@ use Rattle.mqb_session.specs.State as one_end
 use Rattle.mqb_session.specs.declared.heads.Kind.TheVariants as kind
 use Rattle.mqb_law_meetings.specs.Work.{work_for}
 use Rattle.mqb_law_meetings.proofs.Going as going
+use Rattle.mqb_law_meetings.proofs.Lacking.{HasNone, NoneOf}
 use Rattle.mqb_law_meetings.proofs.Leaving as leaves
 use Rattle.mqb_law_meetings.proofs.Leaving.{order_of, plain_of}
 use Rattle.mqb_law_meetings.proofs.Members.{all_parts, flat_part}
@@ -53,7 +54,7 @@ enough_of w (inr e) = subst (λ v. promise v ≤ sum (map work_for (promised v))
 module _ (c z : Course) (i j now : ℕ) (d : Connection) (x y : Manager) (a b : one_end.State) (k l : ℕ) (own other : Identity) (way : Way) (n : ℕ)
     (t : Turn x y a b k l own other way n) (few : n < 65535) (st : Stands c.network i j d x y) (is : z ≡ (flow i now Well c).after) (valid : (v : ℕ) → IsValidManager (manager_at z.network v)) where
   abbrev Result : Type 0
-  Result = Moved z i j d x y k l own other way n
+  Result = Moved c z i j d x y k l own other way n
 
   pub few_a : a.sent < 65535
   few_a = let e = t.few in omega (arith, e, few)
@@ -163,6 +164,7 @@ module _ (c z : Course) (i j now : ℕ) (d : Connection) (x y : Manager) (a b : 
           under = (t.unsent, t.settled, still_none (succeeded y (hear y p now)) h.ins h.owes);
           seldom = omega arith;
           live = λ some. absurd (let no : ⊥ = cc in no);
+          says = λ lacks. tt;
         })
 
     -- A plain message.
@@ -195,6 +197,7 @@ module _ (c z : Course) (i j now : ℕ) (d : Connection) (x y : Manager) (a b : 
           under = (refl, still_settled k x s (leaves.plain_gone x a k other t.one now first.message).same refl t.settled, still_none m h.ins h.owes);
           seldom = seldom first rest lists there are;
           live = λ some. above (is_ordinary first.message) (promise way);
+          says = λ lacks. none lists first rest are (subst (λ o. IfSome o (HasNone is_ordinary)) there lacks.plain);
         })
       where
         credited : (o : Bool) (before after : ℕ) → after ≡ before → cond o 1 0 + before ≤ after + (cond o 2 1 - 1)
@@ -204,6 +207,9 @@ module _ (c z : Course) (i j now : ℕ) (d : Connection) (x y : Manager) (a b : 
         above : (o : Bool) (w : ℕ) → 0 < w + cond o 2 1
         above true w = omega arith
         above false w = omega arith
+
+        none : (lists : PlainLists) (first : Outgoing) (rest : List Outgoing) → lists.recoverable ≡ first ∷ rest → HasNone is_ordinary lists → is_ordinary first.message ≡ false
+        none lists first rest are h = let all : NoneOf is_ordinary (first ∷ rest) = subst (NoneOf is_ordinary) are h in all.0
 
         mine : (first : Outgoing) (rest : List Outgoing) (lists : PlainLists) → slice_get x.state.plain k ≡ Some lists → lists.recoverable ≡ first ∷ rest
             → (same_guid first.message.id.qm own.guid ≡ true) × (is_recoverable first.message.delivery ≡ true)

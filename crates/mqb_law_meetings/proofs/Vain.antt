@@ -60,6 +60,9 @@ module _ (n : Network) (a b : ℕ) (d : Connection) (ma mb : Manager) (h : Stand
       ∙ ap (option_map parted) (changed_apart parted n.managers a b h.apart))
       ∙ got_parted n.managers b h.in_j ∙ ap parted h.at_j
 
+  pub ended_others : (v : ℕ) → (a ≡ v → ⊥) → (b ≡ v → ⊥) → manager_at (ended a n) v ≡ manager_at n v
+  ended_others v not_a not_b = ended_is v ∙ ap (λ (o : Option Manager). unwrap_or o nobody) (changed_apart parted (with_changed parted n.managers a) b v not_b ∙ changed_apart parted n.managers a v not_a)
+
 -- what is left of a manager's state: nothing counts as sent
 abbrev pub parted_state : State → State
 parted_state s = record s { plain = map all_unmarked s.plain }
@@ -122,6 +125,10 @@ module _ (a b now : ℕ) (d : Connection) (ma mb : Manager) (first : d.first ≡
   pub left_b : manager_at z7.network b ≡ parted mb
   left_b = ap (λ (z : Course). manager_at z.network b) parted_on ∙ ended_b z6.network a b d ma mb step_6.stands first second
 
+  pub others_same : (v : ℕ) → (a ≡ v → ⊥) → (b ≡ v → ⊥) → manager_at z7.network v ≡ manager_at z1.network v
+  others_same v not_a not_b = ap (λ (z : Course). manager_at z.network v) parted_on ∙ ended_others z6.network a b d ma mb step_6.stands first second v not_a not_b
+      ∙ step_6.keeps.others v not_a not_b ∙ step_5.keeps.others v not_b not_a ∙ step_4.keeps.others v not_a not_b ∙ step_3.keeps.others v not_b not_a ∙ step_2.keeps.others v not_a not_b
+
   pub sent_same : z7.sent ≡ z1.sent
   sent_same = ap (λ (z : Course). z.sent) parted_on ∙ step_6.keeps.sent ∙ append-nil z5.sent ∙ step_5.keeps.sent ∙ append-nil z4.sent
       ∙ step_4.keeps.sent ∙ append-nil z3.sent ∙ step_3.keeps.sent ∙ append-nil z2.sent ∙ step_2.keeps.sent ∙ append-nil z1.sent
@@ -131,6 +138,13 @@ module _ (a b now : ℕ) (d : Connection) (ma mb : Manager) (first : d.first ≡
       ∙ step_4.keeps.written ∙ append-nil z3.written ∙ step_3.keeps.written ∙ append-nil z2.written ∙ step_2.keeps.written ∙ append-nil z1.written
 
 -- The meeting of two that have nothing for one another.
+
+-- what it leaves
+pub record IsVain (c z : Course) (a b : ℕ) (s t : State) : Type 0 where
+  pub meets : MeetsInVain c z a b
+  pub at_a : manager_at z.network a ≡ unlinked (parted_state s)
+  pub at_b : manager_at z.network b ≡ unlinked (parted_state t)
+  pub others : (v : ℕ) → (a ≡ v → ⊥) → (b ≡ v → ⊥) → manager_at z.network v ≡ manager_at c.network v
 
 module _ (c : Course) (a b now : ℕ) (s t : State) (h : ArePartners c.network a b s t) where
   none_down : any_down c.network a b ≡ false
@@ -155,8 +169,8 @@ module _ (c : Course) (a b now : ℕ) (s t : State) (h : ArePartners c.network a
 
   pub vain : is_outstanding_to s h.place_a ≡ false → is_outstanding_to t h.place_b ≡ false → (z1 z2 z3 z4 z5 z6 z7 : Course)
       → z1 ≡ (connect a b now 1 1 c).after → z2 ≡ (flow a now Well z1).after → z3 ≡ (flow b now Well z2).after → z4 ≡ (flow a now Well z3).after
-      → z5 ≡ (flow b now Well z4).after → z6 ≡ (flow a now Well z5).after → z7 ≡ (disconnect a z6).after → MeetsInVain c z7 a b
-  vain none_a none_b z1 z2 z3 z4 z5 z6 z7 is_1 is_2 is_3 is_4 is_5 is_6 is_7 = record {
+      → z5 ≡ (flow b now Well z4).after → z6 ≡ (flow a now Well z5).after → z7 ≡ (disconnect a z6).after → IsVain c z7 a b s t
+  vain none_a none_b z1 z2 z3 z4 z5 z6 z7 is_1 is_2 is_3 is_4 is_5 is_6 is_7 = record { meets = record {
     packets = meets.went c.network a b now 1 1 s t h;
     four = refl;
     sent = all_sent ∙ ap (λ (z : Course). z.sent) met ∙ (meets.ready_keeps c a b now 1 1 s t h).sent;
@@ -169,7 +183,7 @@ module _ (c : Course) (a b now : ℕ) (s t : State) (h : ArePartners c.network a
       first = has_is z7.network a b h.place_a (parted_state s) (parted_state t) at_a at_b h.knows ∙ outstanding_parted s h.place_a ∙ none_a;
       second = has_is z7.network b a h.place_b (parted_state t) (parted_state s) at_b at_a h.known ∙ outstanding_parted t h.place_b ∙ none_b;
     };
-  }
+  }; at_a = at_a; at_b = at_b; others = all_others }
     where
       met : z1 ≡ meets.ready_on c a b now 1 1 s t h
       met = is_1 ∙ connect_is 1 1
@@ -199,6 +213,10 @@ module _ (c : Course) (a b now : ℕ) (s t : State) (h : ArePartners c.network a
       at_b : manager_at z7.network b ≡ unlinked (parted_state t)
       at_b = left_b a b now d ma mb refl refl idle_a same_a idle_b same_b z1 z2 z3 z4 z5 z6 z7 stands is_2 is_3 is_4 is_5 is_6 is_7
 
+      all_others : (v : ℕ) → (a ≡ v → ⊥) → (b ≡ v → ⊥) → manager_at z7.network v ≡ manager_at c.network v
+      all_others v not_a not_b = others_same a b now d ma mb refl refl idle_a same_a idle_b same_b z1 z2 z3 z4 z5 z6 z7 stands is_2 is_3 is_4 is_5 is_6 is_7 v not_a not_b
+          ∙ ap (λ (z : Course). manager_at z.network v) met ∙ meets.ready_others c a b now 1 1 s t h v not_a not_b
+
       all_sent : z7.sent ≡ z1.sent
       all_sent = sent_same a b now d ma mb refl refl idle_a same_a idle_b same_b z1 z2 z3 z4 z5 z6 z7 stands is_2 is_3 is_4 is_5 is_6 is_7
 
@@ -222,8 +240,11 @@ meeting_is c a b now P f =
     (move_in_course z6 (well (event.Disconnect a)))
 
 -- So it is where neither has anything for the other.
-pub meets_in_vain : (c : Course) (a b now : ℕ) (s t : State) → ArePartners c.network a b s t → IsDrained c.network a b
-    → MeetsInVain c (course_after c (map well (meeting a b now))) a b
-meets_in_vain c a b now s t h drained = meeting_is c a b now (λ z. MeetsInVain c z a b) (vain c a b now s t h
+pub vain_meeting : (c : Course) (a b now : ℕ) (s t : State) → ArePartners c.network a b s t → IsDrained c.network a b → IsVain c (course_after c (map well (meeting a b now))) a b s t
+vain_meeting c a b now s t h drained = meeting_is c a b now (λ z. IsVain c z a b s t) (vain c a b now s t h
     (sym (has_is c.network a b h.place_a s t h.at_a h.at_b h.knows) ∙ drained.first)
     (sym (has_is c.network b a h.place_b t s h.at_b h.at_a h.known) ∙ drained.second))
+
+pub meets_in_vain : (c : Course) (a b now : ℕ) (s t : State) → ArePartners c.network a b s t → IsDrained c.network a b
+    → MeetsInVain c (course_after c (map well (meeting a b now))) a b
+meets_in_vain c a b now s t h drained = (vain_meeting c a b now s t h drained).meets

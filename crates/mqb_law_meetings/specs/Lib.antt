@@ -4,3 +4,5 @@ pub mod Laws
 pub mod Work
 pub mod Worked
 pub mod Recovery
+pub mod Rounds
+pub mod WorkedRounds

@@ -5,7 +5,9 @@
 
 ghost use Rattle.mqb_law_meetings.specs.Laws.{DrainedMeetInVain, GoodMovesExist, MeetingsBegin, SomethingIsSent, StartsLeaveAlone};
 ghost use Rattle.mqb_law_meetings.specs.Recovery.{Delivers, Recovers};
+ghost use Rattle.mqb_law_meetings.specs.Rounds.{AllDeliver, AllRecover};
 ghost use Rattle.mqb_law_meetings.specs.Worked.{AreBroughtOver, StampsMustFit};
+ghost use Rattle.mqb_law_meetings.specs.WorkedRounds.{OneRoundIsNotEnough};
 
 use mqb_history::{
     always_machine_invariant, always_stream_invariant, always_valid, always_waits_until_decided,
@@ -76,6 +78,29 @@ pub fn delivers()
     rows_are_led();
 }
 
+/// Behind any run all of any number of managers are started, and there are two rounds, in which each pair meets as often as all have work. Then nothing waits between any two.
+pub fn all_recover()
+    ensures { AllRecover }
+{
+    histories_are_orderly();
+    runs_have_histories();
+    always_valid();
+    always_machine_invariant();
+    always_stream_invariant();
+    commitments_lead_to_managers();
+    links_are_before();
+    rows_are_led();
+}
+
+/// So each message that one of them committed to a name that leads to another one was decided where its row leads, or it expired.
+pub fn all_deliver()
+    ensures { AllDeliver }
+{
+    all_recover();
+    always_waits_until_decided();
+    rows_are_led();
+}
+
 /// The schedule, worked out: a message is brought over, where a disk stopped under its commit, its offer or its arrival, with the record and without it.
 pub fn some_are_brought_over()
     ensures { AreBroughtOver }
@@ -84,4 +109,9 @@ pub fn some_are_brought_over()
 /// A sequence that began at a moment which four bytes do not hold is never acknowledged, worked out: so the law of recovery asks for stamps that fit.
 pub fn stamps_must_fit()
     ensures { StampsMustFit }
+{}
+
+/// What is heard in the first round may bring a notice for a manager that was met before, worked out: so there are two.
+pub fn one_round_is_not_enough()
+    ensures { OneRoundIsNotEnough }
 {}
