@@ -9,14 +9,15 @@ use Rattle.std.specs.Prelude.{IsTrue, None, Some, cond, nat_le, ◌==◌}
 use Rattle.mqb_base.specs.declared.draft.Op.{Op}
 use Rattle.mqb_forms.specs.Sends.{is_body_byte}
 use Rattle.mqb_forms.specs.Values.{MOST}
+use Rattle.mqb_script.specs.Hosts.{AreEnds}
 use Rattle.mqb_script.specs.Spelling.{IsSpelled, IsSpelledOp, IsTold}
 use Rattle.mqb_script.specs.Spelling as spell
 use Rattle.mqb_script.specs.declared.events.Event.{Event}
 use Rattle.mqb_script.specs.declared.events.Event.TheVariants.{Disconnect, Restart}
-use Rattle.mqb_script.specs.declared.managers.Which.TheVariants.{Alpha, Beta}
+use Rattle.mqb_script.specs.declared.grammar.Grammar.TheVariants.{Pair}
 use Rattle.mqb_outside.specs.declared.power.Pick.TheVariants.{Old}
 use Rattle.mqb_transcript.specs.Generator.{block_count, moment_of}
-use Rattle.mqb_script.specs.Orders.{block_of, breaks_in, broken_by, events_of, flows_at, head_events, order, order_body, order_names, order_terms, order_within, orders_in}
+use Rattle.mqb_script.specs.Orders.{alpha, beta, block_of, breaks_in, broken_by, events_of, flows_at, head_events, order, order_body, order_names, order_terms, order_within, orders_in}
 
 -- Numbers are printable.
 
@@ -65,8 +66,11 @@ all_append : {A : Type 0} (P : A → Type 0) (xs ys : List A) → AllByRecursion
 all_append P [] ys first second = second
 all_append P (x ∷ xs) ys first second = (first.0, all_append P xs ys first.1 second)
 
-broken_spelled : (here : Bool) (e : Event) (moment : ℕ) → IsSpelled e → moment ≤ MOST → AllByRecursion IsSpelled (broken_by here e moment)
-broken_spelled true e moment is small = (is, (spell.connect Alpha moment 64 64 small (omega arith) (omega arith) (omega arith) (omega arith), tt))
+ends : AreEnds Pair alpha beta
+ends = (omega arith, omega arith, (λ same. cc))
+
+broken_spelled : (here : Bool) (e : Event) (moment : ℕ) → IsSpelled Pair e → moment ≤ MOST → AllByRecursion (IsSpelled Pair) (broken_by here e moment)
+broken_spelled true e moment is small = (is, (spell.connect alpha beta moment 64 64 ends small (omega arith) (omega arith) (omega arith) (omega arith), tt))
 broken_spelled false e moment is small = tt
 
 -- Blocks.
@@ -82,41 +86,41 @@ module _ (n block : ℕ) (within : n ≤ 10000) (least : 1 ≤ block) (most : bl
   has_first = grind (arith, nat_tests)
 
   abbrev a : List Event
-  a = broken_by (block == block_count n / 4 + 1) Disconnect (moment_of block)
+  a = broken_by (block == block_count n / 4 + 1) (Disconnect alpha) (moment_of block)
 
   abbrev b : List Event
-  b = broken_by (block == block_count n / 2 + 1) (Restart Alpha Old) (moment_of block)
+  b = broken_by (block == block_count n / 2 + 1) (Restart alpha Old) (moment_of block)
 
   abbrev c : List Event
-  c = broken_by (block == 3 * block_count n / 4 + 1) (Restart Beta Old) (moment_of block)
+  c = broken_by (block == 3 * block_count n / 4 + 1) (Restart beta Old) (moment_of block)
 
   abbrev d : List Event
-  d = broken_by (block == block_count n) Disconnect (moment_of block)
+  d = broken_by (block == block_count n) (Disconnect alpha) (moment_of block)
 
-  breaks_spelled : AllByRecursion IsSpelled (breaks_in (block_count n) block)
-  breaks_spelled = all_append IsSpelled ((a ++ b) ++ c) d (all_append IsSpelled (a ++ b) c (all_append IsSpelled a b
-      (broken_spelled (block == block_count n / 4 + 1) Disconnect (moment_of block) spell.disconnect now_fits)
-      (broken_spelled (block == block_count n / 2 + 1) (Restart Alpha Old) (moment_of block) (spell.restart Alpha Old) now_fits))
-      (broken_spelled (block == 3 * block_count n / 4 + 1) (Restart Beta Old) (moment_of block) (spell.restart Beta Old) now_fits))
-      (broken_spelled (block == block_count n) Disconnect (moment_of block) spell.disconnect now_fits)
+  breaks_spelled : AllByRecursion (IsSpelled Pair) (breaks_in (block_count n) block)
+  breaks_spelled = all_append (IsSpelled Pair) ((a ++ b) ++ c) d (all_append (IsSpelled Pair) (a ++ b) c (all_append (IsSpelled Pair) a b
+      (broken_spelled (block == block_count n / 4 + 1) (Disconnect alpha) (moment_of block) (spell.disconnect alpha refl) now_fits)
+      (broken_spelled (block == block_count n / 2 + 1) (Restart alpha Old) (moment_of block) (spell.restart alpha Old (omega arith)) now_fits))
+      (broken_spelled (block == 3 * block_count n / 4 + 1) (Restart beta Old) (moment_of block) (spell.restart beta Old (omega arith)) now_fits))
+      (broken_spelled (block == block_count n) (Disconnect alpha) (moment_of block) (spell.disconnect alpha refl) now_fits)
 
-  block_spelled : AllByRecursion IsSpelled (block_of n block)
+  block_spelled : AllByRecursion (IsSpelled Pair) (block_of n block)
   block_spelled = (
-    spell.commit Alpha (moment_of block) (orders_in n block) now_fits
+    spell.commit alpha (moment_of block) (orders_in n block) (omega arith) now_fits
         (first_order n (4 * block - 3) (filter_map (order_within n) (range_with_len (4 * block - 3 + 1) 3)) has_first)
         (orders_spelled n (4 * block - 3) 4 (omega arith)),
-    all_append IsSpelled (breaks_in (block_count n) block) (flows_at (moment_of block)) breaks_spelled
-        (spell.flow Alpha (moment_of block) now_fits, (spell.flow Beta (moment_of block) now_fits, (spell.flow Alpha (moment_of block) now_fits, tt))),
+    all_append (IsSpelled Pair) (breaks_in (block_count n) block) (flows_at (moment_of block)) breaks_spelled
+        (spell.flow alpha (moment_of block) (omega arith) now_fits, (spell.flow beta (moment_of block) (omega arith) now_fits, (spell.flow alpha (moment_of block) (omega arith) now_fits, tt))),
   )
 
-blocks_spelled : (n from count : ℕ) → n ≤ 10000 → 1 ≤ from → from + count ≤ block_count n + 1 → AllByRecursion IsSpelled (flat_map (block_of n) (range_with_len from count))
+blocks_spelled : (n from count : ℕ) → n ≤ 10000 → 1 ≤ from → from + count ≤ block_count n + 1 → AllByRecursion (IsSpelled Pair) (flat_map (block_of n) (range_with_len from count))
 blocks_spelled n from zero within least most = tt
-blocks_spelled n from (suc count) within least most = all_append IsSpelled (block_of n from) (flat_map (block_of n) (range_with_len (from + 1) count))
+blocks_spelled n from (suc count) within least most = all_append (IsSpelled Pair) (block_of n from) (flat_map (block_of n) (range_with_len (from + 1) count))
     (block_spelled n from within least (omega arith)) (blocks_spelled n (from + 1) count within (omega arith) (omega arith))
 
-head_spelled : AllByRecursion IsSpelled head_events
-head_spelled = (spell.queue Alpha _ refl (omega arith) tt, (spell.queue Beta _ refl (omega arith) tt, (spell.connect Alpha 1000 64 64 (omega arith) (omega arith) (omega arith) (omega arith) (omega arith), tt)))
+head_spelled : AllByRecursion (IsSpelled Pair) head_events
+head_spelled = (spell.queue alpha _ (omega arith) refl (omega arith) tt, (spell.queue beta _ (omega arith) refl (omega arith) tt, (spell.connect alpha beta 1000 64 64 ends (omega arith) (omega arith) (omega arith) (omega arith) (omega arith), tt)))
 
-pub all_spelled : (n : ℕ) → n ≤ 10000 → AllByRecursion IsSpelled (events_of n)
-all_spelled n within = all_append IsSpelled head_events (flat_map (block_of n) (range_with_len 1 (block_count n))) head_spelled
+pub all_spelled : (n : ℕ) → n ≤ 10000 → AllByRecursion (IsSpelled Pair) (events_of n)
+all_spelled n within = all_append (IsSpelled Pair) head_events (flat_map (block_of n) (range_with_len 1 (block_count n))) head_spelled
     (blocks_spelled n 1 (block_count n) within (omega arith) (omega arith))

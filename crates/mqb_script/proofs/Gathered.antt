@@ -1,7 +1,7 @@
 -- What a line adds to the events that were read, and what a read adds to the bytes that were taken.
-use Rattle.std.proofs.Common.{◌≡◌, ℕ, ◌+◌, ◌-◌, ◌<◌, ◌≤◌, Bool, true, false, ◌==◌, List, [], ◌∷◌, ◌++◌, length, take, drop, cond, map, get_or, count_by, Option, Some, None, Result, Ok, Err, refl, sym, ap, ◌∙◌, arith, append_assoc, append-nil, Bor}
+use Rattle.std.proofs.Common.{◌≡◌, ℕ, ◌+◌, ◌-◌, ◌<◌, ◌≤◌, Bool, true, false, ◌==◌, List, [], ◌∷◌, ◌++◌, length, take, drop, cond, map, get_or, count_by, Option, Some, None, Result, Ok, Err, refl, sym, ap, ◌∙◌, arith, append_assoc, Bor}
 use Rattle.std.specs.List.{onto_first}
-use Rattle.std.proofs.lemmas.List.{at_drop_more, drop_all}
+use Rattle.std.proofs.lemmas.List.{at_drop_more}
 use Rattle.std.proofs.lemmas.List.Sums.{count_by-le-length, sum_by-cons}
 use Rattle.std.proofs.lemmas.List.Splits.{length-slice_split}
 use Rattle.mqb_outside.specs.Told.{Gave}
@@ -10,6 +10,7 @@ use Rattle.mqb_forms.specs.declared.faults.LineKind.{LineKind}
 use Rattle.mqb_forms.specs.Faults.{behind}
 use Rattle.mqb_script.specs.declared.faults.ScriptFault.{ScriptFault}
 use Rattle.mqb_script.specs.declared.faults.ScriptFault.TheVariants as fault
+use Rattle.mqb_script.specs.declared.grammar.Grammar.{Grammar}
 use Rattle.mqb_script.specs.declared.events.Event.{Event}
 use Rattle.mqb_script.specs.Script.{lines_of, numbered, script_from}
 use Rattle.mqb_script.specs.Lines.{is_skipped, event_of}
@@ -28,9 +29,9 @@ added n (Ok event) before after r is =
     pushed n event before r ∙ ap (λ events. in_front events r) same
 added n (Err kind) before after r is = absurd cc
 
-faulty_line : (n : ℕ) (line : List ℕ) (first : ℕ × LineKind) (before : List (ℕ × Event)) (rest : List (List ℕ)) → is_skipped line ≡ false
-    → numbered n (event_of line) ≡ Err first → in_front before (script_from n (line ∷ rest)) ≡ Err first
-faulty_line n line first before rest kept is = rw (kept, is) refl
+faulty_line : (g : Grammar) (n : ℕ) (line : List ℕ) (first : ℕ × LineKind) (before : List (ℕ × Event)) (rest : List (List ℕ)) → is_skipped line ≡ false
+    → numbered n (event_of g line) ≡ Err first → in_front before (script_from g n (line ∷ rest)) ≡ Err first
+faulty_line g n line first before rest kept is = rw (kept, is) refl
 
 pub few_lines : (text : List ℕ) → length (lines_of text) ≤ length text + 1
 few_lines text =
@@ -66,36 +67,36 @@ begun_lines [] some = absurd (omega arith)
 begun_lines (b ∷ text) some = let same : length (b ∷ text) - 1 ≡ length text = omega arith in rw same (begun_from b text)
 
 -- The lines before a place were read: the whole is their events in front of what the lines from there on give, the first of which is line n.
-abbrev pub IsGathered : Result (List (ℕ × Event)) (ℕ × LineKind) → ℕ → ℕ → List (Bor (List ℕ)) → List (ℕ × Event) → Type 0
-IsGathered whole n place lines before = whole ≡ in_front before (script_from n (map (λ line. line.now) (drop place lines)))
+abbrev pub IsGathered : Grammar → Result (List (ℕ × Event)) (ℕ × LineKind) → ℕ → ℕ → List (Bor (List ℕ)) → List (ℕ × Event) → Type 0
+IsGathered g whole n place lines before = whole ≡ in_front before (script_from g n (map (λ line. line.now) (drop place lines)))
 
-pub goes_on : (whole : Result (List (ℕ × Event)) (ℕ × LineKind)) (n place : ℕ) (lines : List (Bor (List ℕ))) (before after : List (ℕ × Event))
+pub goes_on : (g : Grammar) (whole : Result (List (ℕ × Event)) (ℕ × LineKind)) (n place : ℕ) (lines : List (Bor (List ℕ))) (before after : List (ℕ × Event))
     (d : Bor (List ℕ))
-    → IsGathered whole n place lines before → place < length lines → ReadsLine n (get_or lines place d).now before after
-    → IsGathered whole (n + 1) (place + 1) lines after
-goes_on whole n place lines before after d read within line =
-    read ∙ at_drop_more (λ rest. in_front before (script_from n (map (λ l. l.now) rest))) lines place d within
+    → IsGathered g whole n place lines before → place < length lines → ReadsLine g n (get_or lines place d).now before after
+    → IsGathered g whole (n + 1) (place + 1) lines after
+goes_on g whole n place lines before after d read within line =
+    read ∙ at_drop_more (λ rest. in_front before (script_from g n (map (λ l. l.now) rest))) lines place d within
     ∙ line (map (λ l. l.now) (drop (place + 1) lines))
 
-stops_at : (whole : Result (List (ℕ × Event)) (ℕ × LineKind)) (n place : ℕ) (lines : List (Bor (List ℕ))) (before : List (ℕ × Event)) (d : Bor (List ℕ))
+stops_at : (g : Grammar) (whole : Result (List (ℕ × Event)) (ℕ × LineKind)) (n place : ℕ) (lines : List (Bor (List ℕ))) (before : List (ℕ × Event)) (d : Bor (List ℕ))
     (first : ℕ × LineKind)
-    → IsGathered whole n place lines before → place < length lines → is_skipped (get_or lines place d).now ≡ false
-    → numbered n (event_of (get_or lines place d).now) ≡ Err first
+    → IsGathered g whole n place lines before → place < length lines → is_skipped (get_or lines place d).now ≡ false
+    → numbered n (event_of g (get_or lines place d).now) ≡ Err first
     → whole ≡ Err first
-stops_at whole n place lines before d first read within kept is =
-    read ∙ at_drop_more (λ rest. in_front before (script_from n (map (λ l. l.now) rest))) lines place d within
-    ∙ faulty_line n _ first before (map (λ l. l.now) (drop (place + 1) lines)) kept is
+stops_at g whole n place lines before d first read within kept is =
+    read ∙ at_drop_more (λ rest. in_front before (script_from g n (map (λ l. l.now) rest))) lines place d within
+    ∙ faulty_line g n _ first before (map (λ l. l.now) (drop (place + 1) lines)) kept is
 
-pub stops : (whole : Result (List (ℕ × Event)) (ℕ × LineKind)) (n place : ℕ) (lines : List (Bor (List ℕ))) (before : List (ℕ × Event))
+pub stops : (g : Grammar) (whole : Result (List (ℕ × Event)) (ℕ × LineKind)) (n place : ℕ) (lines : List (Bor (List ℕ))) (before : List (ℕ × Event))
     (d : Bor (List ℕ)) (e : ScriptFault)
-    → IsGathered whole n place lines before → place < length lines → is_skipped (get_or lines place d).now ≡ false
-    → IsScriptFault (numbered n (event_of (get_or lines place d).now)) e
+    → IsGathered g whole n place lines before → place < length lines → is_skipped (get_or lines place d).now ≡ false
+    → IsScriptFault (numbered n (event_of g (get_or lines place d).now)) e
     → IsScriptFault whole e
-stops whole n place lines before d (fault.Line number kind) read within kept is = stops_at whole n place lines before d (number, kind) read within kept is
-stops whole n place lines before d fault.Memory read within kept is = tt
-stops whole n place lines before d fault.TooLong read within kept is = is
-stops whole n place lines before d fault.TooManyLines read within kept is = is
-stops whole n place lines before d fault.ReadFault read within kept is = is
+stops g whole n place lines before d (fault.Line number kind) read within kept is = stops_at g whole n place lines before d (number, kind) read within kept is
+stops g whole n place lines before d fault.Memory read within kept is = tt
+stops g whole n place lines before d fault.TooLong read within kept is = is
+stops g whole n place lines before d fault.TooManyLines read within kept is = is
+stops g whole n place lines before d fault.ReadFault read within kept is = is
 
 pub gave_more : (first middle last : Option (List ℕ)) (text more : List ℕ) → Gave first middle text → Gave middle last more
     → Gave first last (text ++ more)

@@ -2,6 +2,8 @@ pub mod Counts
 pub mod Faulty
 pub mod Gathered
 pub mod Bounds
+pub mod Unread
+mod Ringed
 pub mod Splitting
 pub mod Decimals
 pub mod Fields

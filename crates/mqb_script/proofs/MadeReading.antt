@@ -11,10 +11,11 @@ use Rattle.mqb_script.specs.Reading.{begun}
 use Rattle.mqb_script.specs.Script.{lines_of, script_from}
 use Rattle.mqb_script.specs.Spelling.{IsSpelled, line_of}
 use Rattle.mqb_script.specs.declared.events.Event.{Event}
+use Rattle.mqb_script.specs.declared.grammar.Grammar.TheVariants.{Pair}
 
 -- the text of events, a line each
 abbrev pub text_of : List Event → List ℕ
-text_of es = flat_map (λ e. line_of e ++ 10 ∷ []) es
+text_of es = flat_map (λ e. line_of Pair e ++ 10 ∷ []) es
 
 -- events with the numbers of their lines
 abbrev pub counted_from : ℕ → List Event → List (ℕ × Event)
@@ -39,38 +40,38 @@ none_feed [] is = tt
 none_feed (b ∷ bs) is = let two = both (is_printable b) (list_all is_printable bs) is in (no_feed b two.0, none_feed bs two.1)
 
 -- a line that is an event is printable
-printable : (line : List ℕ) (e : Event) → event_of line ≡ Ok e → list_all is_printable line ≡ true
+printable : (line : List ℕ) (e : Event) → event_of Pair line ≡ Ok e → list_all is_printable line ≡ true
 unfolding event_of
 printable line e is = at (list_all is_printable line) refl is
   where
-    at : (t : Bool) → list_all is_printable line ≡ t → cond t (event_of_words (words_of line)) (Err Byte) ≡ Ok e → list_all is_printable line ≡ true
+    at : (t : Bool) → list_all is_printable line ≡ t → cond t (event_of_words Pair (words_of line)) (Err Byte) ≡ Ok e → list_all is_printable line ≡ true
     at true same is = same
     at false same is = absurd (let none : ⊥ = cc in none)
 
 -- The law of lines.
 pub record ReadBack : Type 0 where
-  pub kept : (e : Event) → IsSpelled e → is_skipped (line_of e) ≡ false
-  pub event : (e : Event) → IsSpelled e → event_of (line_of e) ≡ Ok e
+  pub kept : (e : Event) → IsSpelled Pair e → is_skipped (line_of Pair e) ≡ false
+  pub event : (e : Event) → IsSpelled Pair e → event_of Pair (line_of Pair e) ≡ Ok e
 
 module _ (law : ReadBack) where
   -- the first line is cut off
-  cut : (e : Event) (rest : List ℕ) → IsSpelled e → lines_of ((line_of e ++ 10 ∷ []) ++ rest) ≡ line_of e ∷ lines_of rest
-  cut e rest spelled = ap lines_of (append_assoc (line_of e) (10 ∷ []) rest)
-      ∙ slice_split_at (λ (b : ℕ). b == 10) (line_of e) 10 rest
-      (All-from_recursion (λ (b : ℕ). (b == 10) ≡ false) (line_of e) (none_feed (line_of e) (printable (line_of e) e (law.event e spelled)))) refl
+  cut : (e : Event) (rest : List ℕ) → IsSpelled Pair e → lines_of ((line_of Pair e ++ 10 ∷ []) ++ rest) ≡ line_of Pair e ∷ lines_of rest
+  cut e rest spelled = ap lines_of (append_assoc (line_of Pair e) (10 ∷ []) rest)
+      ∙ slice_split_at (λ (b : ℕ). b == 10) (line_of Pair e) 10 rest
+      (All-from_recursion (λ (b : ℕ). (b == 10) ≡ false) (line_of Pair e) (none_feed (line_of Pair e) (printable (line_of Pair e) e (law.event e spelled)))) refl
 
   -- an event and those behind it
-  first_read : (n : ℕ) (line : List ℕ) (lines : List (List ℕ)) (e : Event) (es : List (ℕ × Event)) → is_skipped line ≡ false → event_of line ≡ Ok e → script_from (n + 1) lines ≡ Ok es
-      → script_from n (line ∷ lines) ≡ Ok ((n, e) ∷ es)
+  first_read : (n : ℕ) (line : List ℕ) (lines : List (List ℕ)) (e : Event) (es : List (ℕ × Event)) → is_skipped line ≡ false → event_of Pair line ≡ Ok e → script_from Pair (n + 1) lines ≡ Ok es
+      → script_from Pair n (line ∷ lines) ≡ Ok ((n, e) ∷ es)
   first_read n line lines e es kept is rest = rw (kept, is, rest) refl
 
-  pub all_read : (n : ℕ) (es : List Event) → AllByRecursion IsSpelled es → script_from n (lines_of (text_of es)) ≡ Ok (counted_from n es)
+  pub all_read : (n : ℕ) (es : List Event) → AllByRecursion (IsSpelled Pair) es → script_from Pair n (lines_of (text_of es)) ≡ Ok (counted_from n es)
   all_read n [] spelled = refl
-  all_read n (e ∷ es) spelled = ap (script_from n) (cut e (text_of es) spelled.0)
-      ∙ first_read n (line_of e) (lines_of (text_of es)) e (counted_from (n + 1) es) (law.kept e spelled.0) (law.event e spelled.0) (all_read (n + 1) es spelled.1)
+  all_read n (e ∷ es) spelled = ap (script_from Pair n) (cut e (text_of es) spelled.0)
+      ∙ first_read n (line_of Pair e) (lines_of (text_of es)) e (counted_from (n + 1) es) (law.kept e spelled.0) (law.event e spelled.0) (all_read (n + 1) es spelled.1)
 
   -- as many lines as events, and what is behind the last one
-  pub lines_counted : (es : List Event) → AllByRecursion IsSpelled es → length (lines_of (text_of es)) ≡ length es + 1
+  pub lines_counted : (es : List Event) → AllByRecursion (IsSpelled Pair) es → length (lines_of (text_of es)) ≡ length es + 1
   lines_counted [] spelled = refl
   lines_counted (e ∷ es) spelled = ap length (cut e (text_of es) spelled.0) ∙ (let rest = lines_counted es spelled.1 in omega (arith, rest))
 

@@ -6,14 +6,15 @@ use Rattle.std.specs.List.{cons_option, filter_map, flat_map, join_with_byte, ra
 use Rattle.std.specs.Prelude.{None, Some, ◌==◌, codes, map, nat_le}
 use Rattle.mqb_base.specs.declared.draft.Op.{Op}
 use Rattle.mqb_outside.specs.declared.power.Pick.TheVariants.{Old}
-use Rattle.mqb_script.specs.Managers.{host_of}
+use Rattle.mqb_script.specs.Managers.{host_of, index_of}
+use Rattle.mqb_script.specs.declared.grammar.Grammar.TheVariants.{Pair}
 use Rattle.mqb_script.specs.Spelling.{line_of, op_text}
 use Rattle.mqb_script.specs.declared.events.Event.{Event}
 use Rattle.mqb_script.specs.declared.events.Event.TheVariants.{Commit, Disconnect, Flow, Restart}
 use Rattle.mqb_script.specs.declared.managers.Which.{Which}
 use Rattle.mqb_script.specs.declared.managers.Which.TheVariants.{Alpha, Beta}
 use Rattle.mqb_transcript.specs.Generator.{block_count, block_text, breaks_text, broken_text, commit_text, connect_text, flow_text, flows_text, generated, head_text, moment_of, order_of, order_text}
-use Rattle.mqb_script.specs.Orders.{block_of, breaks_in, broken_by, connection_at, events_of, flows_at, head_events, order, order_within, orders_in}
+use Rattle.mqb_script.specs.Orders.{alpha, beta, block_of, breaks_in, broken_by, connection_at, events_of, flows_at, head_events, order, order_within, orders_in}
 use Rattle.mqb_script.proofs.MadeReading.{text_of}
 
 -- Numbers that stand in it.
@@ -59,11 +60,11 @@ orders_are n [] = refl
 orders_are n (k ∷ ks) = one_order n k ks (nat_le k n) (orders_are n ks)
 
 text_more : (es fs : List Event) → text_of (es ++ fs) ≡ text_of es ++ text_of fs
-text_more es fs = flat_map-append (λ (e : Event). line_of e ++ 10 ∷ []) es fs
+text_more es fs = flat_map-append (λ (e : Event). line_of Pair e ++ 10 ∷ []) es fs
 
 -- the text of one event
 abbrev line_text : Event → List ℕ
-line_text e = line_of e ++ 10 ∷ []
+line_text e = line_of Pair e ++ 10 ∷ []
 
 windows_are : (moment : ℕ) → decimal moment ++ codes " 64 64\n" ≡ (decimal moment ++ 32 ∷ (decimal 64 ++ 32 ∷ decimal 64)) ++ 10 ∷ []
 windows_are moment = sym (append_assoc (decimal moment) (codes " 64 64") (10 ∷ []))
@@ -73,7 +74,7 @@ connect_is : (moment : ℕ) → connect_text moment ≡ line_text (connection_at
 unfolding connect_text
 connect_is moment = ap (λ (t : List ℕ). codes "connect alpha " ++ t) (windows_are moment)
 
-flow_is : (which : Which) (moment : ℕ) → flow_text (host_of which) moment ≡ line_text (Flow which moment)
+flow_is : (which : Which) (moment : ℕ) → flow_text (host_of which) moment ≡ line_text (Flow (index_of which) moment)
 unfolding flow_text
 flow_is Alpha moment = refl
 flow_is Beta moment = refl
@@ -94,9 +95,9 @@ block_texts c b f e bs fs is_c is_b is_f = rw (is_c, is_b, is_f) (append_assoc (
 flows_are : (moment : ℕ) → flows_text moment ≡ text_of (flows_at moment)
 unfolding flows_text
 flows_are moment = three_texts (flow_text (host_of Alpha) moment) (flow_text (host_of Beta) moment) (flow_text (host_of Alpha) moment)
-    (Flow Alpha moment) (Flow Beta moment) (Flow Alpha moment) (flow_is Alpha moment) (flow_is Beta moment) (flow_is Alpha moment)
+    (Flow alpha moment) (Flow beta moment) (Flow alpha moment) (flow_is Alpha moment) (flow_is Beta moment) (flow_is Alpha moment)
 
-broken_is : (here : Bool) (line : List ℕ) (e : Event) (moment : ℕ) → line ≡ line_of e → broken_text here line moment ≡ text_of (broken_by here e moment)
+broken_is : (here : Bool) (line : List ℕ) (e : Event) (moment : ℕ) → line ≡ line_of Pair e → broken_text here line moment ≡ text_of (broken_by here e moment)
 unfolding broken_text
 broken_is true line e moment is = ap (λ (l : List ℕ). (l ++ 10 ∷ []) ++ connect_text moment) is
     ∙ ap (λ (t : List ℕ). line_text e ++ t) (connect_is moment ∙ sym (append-nil (line_text (connection_at moment))))
@@ -106,10 +107,10 @@ module _ (n block : ℕ) (orders : List ℕ) (ops : List Op) (is : orders ≡ sp
   ops_are : (decimal (moment_of block) ++ orders) ++ 10 ∷ [] ≡ join_with_byte 32 (decimal (moment_of block) ∷ map op_text ops) ++ 10 ∷ []
   ops_are = ap (λ (t : List ℕ). t ++ 10 ∷ []) (ap (λ (t : List ℕ). decimal (moment_of block) ++ t) is ∙ sym (words_are (decimal (moment_of block)) (map op_text ops)))
 
-  commit_by : ((codes "commit alpha " ++ decimal (moment_of block)) ++ orders) ++ codes "\n" ≡ line_text (Commit Alpha (moment_of block) ops)
+  commit_by : ((codes "commit alpha " ++ decimal (moment_of block)) ++ orders) ++ codes "\n" ≡ line_text (Commit alpha (moment_of block) ops)
   commit_by = ap (λ (t : List ℕ). codes "commit alpha " ++ t) ops_are
 
-commit_is : (n block : ℕ) → commit_text n block ≡ line_text (Commit Alpha (moment_of block) (orders_in n block))
+commit_is : (n block : ℕ) → commit_text n block ≡ line_text (Commit alpha (moment_of block) (orders_in n block))
 unfolding commit_text
 commit_is n block = commit_by n block (flat_map (order_of n) (range_with_len (4 * block - 3) 4)) (orders_in n block) (orders_are n (range_with_len (4 * block - 3) 4))
 
@@ -118,17 +119,17 @@ unfolding breaks_text
 breaks_are count block = four_texts
     (broken_text (block == count / 4 + 1) (codes "disconnect") (moment_of block)) (broken_text (block == count / 2 + 1) (codes "restart alpha old") (moment_of block))
     (broken_text (block == 3 * count / 4 + 1) (codes "restart beta old") (moment_of block)) (broken_text (block == count) (codes "disconnect") (moment_of block))
-    (broken_by (block == count / 4 + 1) Disconnect (moment_of block)) (broken_by (block == count / 2 + 1) (Restart Alpha Old) (moment_of block))
-    (broken_by (block == 3 * count / 4 + 1) (Restart Beta Old) (moment_of block)) (broken_by (block == count) Disconnect (moment_of block))
-    (broken_is (block == count / 4 + 1) (codes "disconnect") Disconnect (moment_of block) refl)
-    (broken_is (block == count / 2 + 1) (codes "restart alpha old") (Restart Alpha Old) (moment_of block) refl)
-    (broken_is (block == 3 * count / 4 + 1) (codes "restart beta old") (Restart Beta Old) (moment_of block) refl)
-    (broken_is (block == count) (codes "disconnect") Disconnect (moment_of block) refl)
+    (broken_by (block == count / 4 + 1) (Disconnect alpha) (moment_of block)) (broken_by (block == count / 2 + 1) (Restart alpha Old) (moment_of block))
+    (broken_by (block == 3 * count / 4 + 1) (Restart beta Old) (moment_of block)) (broken_by (block == count) (Disconnect alpha) (moment_of block))
+    (broken_is (block == count / 4 + 1) (codes "disconnect") (Disconnect alpha) (moment_of block) refl)
+    (broken_is (block == count / 2 + 1) (codes "restart alpha old") (Restart alpha Old) (moment_of block) refl)
+    (broken_is (block == 3 * count / 4 + 1) (codes "restart beta old") (Restart beta Old) (moment_of block) refl)
+    (broken_is (block == count) (codes "disconnect") (Disconnect alpha) (moment_of block) refl)
 
 block_is : (n block : ℕ) → block_text n block ≡ text_of (block_of n block)
 unfolding block_text
 block_is n block = block_texts (commit_text n block) (breaks_text (block_count n) block) (flows_text (moment_of block))
-    (Commit Alpha (moment_of block) (orders_in n block)) (breaks_in (block_count n) block) (flows_at (moment_of block))
+    (Commit alpha (moment_of block) (orders_in n block)) (breaks_in (block_count n) block) (flows_at (moment_of block))
     (commit_is n block) (breaks_are (block_count n) block) (flows_are (moment_of block))
 
 blocks_are : (n : ℕ) (blocks : List ℕ) → flat_map (block_text n) blocks ≡ text_of (flat_map (block_of n) blocks)

@@ -7,9 +7,8 @@ use Rattle.std.specs.Prelude.{codes, cond, nat_le, ◌==◌}
 use Rattle.mqb_script.specs.declared.events.Event.{Event}
 use Rattle.mqb_outside.specs.declared.power.Pick.TheVariants.{Old}
 use Rattle.mqb_script.specs.declared.events.Event.TheVariants.{Disconnect, Restart}
-use Rattle.mqb_script.specs.declared.managers.Which.TheVariants.{Alpha, Beta}
 use Rattle.mqb_transcript.specs.Generator.{block_count, block_text, breaks_text, broken_text, commit_text, connect_text, flow_text, flows_text, generated, head_text, moment_of, order_of, order_text}
-use Rattle.mqb_script.specs.Orders.{block_of, breaks_in, broken_by, events_of, flows_at, head_events}
+use Rattle.mqb_script.specs.Orders.{alpha, beta, block_of, breaks_in, broken_by, events_of, flows_at, head_events}
 
 -- How long its texts are.
 
@@ -114,16 +113,16 @@ breaks_few : (count block : ℕ) → length (breaks_in count block) ≤ 8
 breaks_few count block = lengths_add ((a ++ b) ++ c) d 6 2 (lengths_add (a ++ b) c 4 2 (lengths_add a b 2 2 (broken_few _ _ _) (broken_few _ _ _)) (broken_few _ _ _)) (broken_few _ _ _)
   where
     a : List Event
-    a = broken_by (block == count / 4 + 1) Disconnect (moment_of block)
+    a = broken_by (block == count / 4 + 1) (Disconnect alpha) (moment_of block)
 
     b : List Event
-    b = broken_by (block == count / 2 + 1) (Restart Alpha Old) (moment_of block)
+    b = broken_by (block == count / 2 + 1) (Restart alpha Old) (moment_of block)
 
     c : List Event
-    c = broken_by (block == 3 * count / 4 + 1) (Restart Beta Old) (moment_of block)
+    c = broken_by (block == 3 * count / 4 + 1) (Restart beta Old) (moment_of block)
 
     d : List Event
-    d = broken_by (block == count) Disconnect (moment_of block)
+    d = broken_by (block == count) (Disconnect alpha) (moment_of block)
 
 block_few : (n block : ℕ) → length (block_of n block) ≤ 12
 block_few n block = let behind = lengths_add (breaks_in (block_count n) block) (flows_at (moment_of block)) 8 3 (breaks_few (block_count n) block) (omega arith) in omega (arith, behind)

@@ -1,5 +1,5 @@
 -- The line of an event is read back as the event.
-use Rattle.std.proofs.Common.{◌≡◌, ℕ, ◌≤◌, Bool, true, false, ◌==◌, List, [], ◌∷◌, length, drop, map, codes, Option, Some, None, Result, Ok, refl, ap, ◌∙◌, arith}
+use Rattle.std.proofs.Common.{◌≡◌, ℕ, zero, suc, ◌<◌, ◌≤◌, Bool, true, false, ◌==◌, List, [], ◌∷◌, length, drop, map, codes, Option, Some, None, Result, Ok, refl, ap, ◌∙◌, arith}
 use Rattle.std.specs.List.{AllByRecursion, join_with_byte}
 use Rattle.std.specs.Option.{IfSome}
 use Rattle.std.specs.Fmt.{decimal}
@@ -19,24 +19,25 @@ use Rattle.mqb_forms.specs.Words.{number_in}
 use Rattle.mqb_forms.specs.Values.{MOST, MOST_WINDOW, MOST_CALL, MOST_ROLL, choice_of}
 use Rattle.mqb_forms.specs.Sends.{parts_of}
 use Rattle.mqb_forms.specs.Plans.{plan_of, how_of}
-use Rattle.mqb_script.specs.declared.managers.Which.{Which}
+use Rattle.mqb_script.specs.declared.grammar.Grammar.{Grammar}
+use Rattle.mqb_script.specs.declared.grammar.Grammar.TheVariants.{Pair, Ring}
 use Rattle.mqb_script.specs.declared.forms.Form.{Form}
 use Rattle.mqb_script.specs.declared.forms.Form.TheVariants as form
 use Rattle.mqb_script.specs.declared.events.Event.{Event}
 use Rattle.mqb_script.specs.declared.events.Event.TheVariants.{Queue, Commit, Send, Take, Purge, Tick, Connect, Disconnect, Pump, Deliver, Drop, Flow, Resend, Arm, Restart, Roll, Checkpoint}
-use Rattle.mqb_script.specs.Managers.{host_of}
+use Rattle.mqb_script.specs.Hosts.{MOST_MANAGERS, count_of, host_at, AreEnds, IsEnd}
 use Rattle.mqb_script.specs.Forms.{word_of, has_count}
-use Rattle.mqb_script.specs.Grammar.{queue_from, commit_from, sent_with, send_event, take_event, purge_from, tick_from, connect_from, disconnect_from, pump_from, deliver_from, drop_from, flow_from, resend_from, arm_from, restart_from, roll_from, checkpoint_from, event_from}
+use Rattle.mqb_script.specs.Grammar.{queue_from, commit_from, sent_with, send_event, take_event, purge_from, tick_from, connect_pair, connect_named, connect_from, disconnect_from, pump_from, deliver_from, drop_from, flow_from, resend_from, arm_from, restart_from, roll_from, checkpoint_from, event_from}
 use Rattle.mqb_script.specs.Lines.{is_skipped, event_of}
-use Rattle.mqb_script.specs.Spelling.{choice_text, mode_text, pick_text, place_text, public_words, op_text, words_from, line_of, IsTold, IsSpelledOp, IsPlaceName, IsSpelled}
+use Rattle.mqb_script.specs.Spelling.{connect_words, disconnect_words, choice_text, mode_text, pick_text, place_text, public_words, op_text, words_from, line_of, IsTold, IsSpelledOp, IsPlaceName, IsSpelled}
 use Rattle.mqb_script.proofs.Decimals.{number_up_to, number_back}
-use Rattle.mqb_script.proofs.WordsBack.{are_words, at_back, choice_word, host_word, line_back, manager_back, mode_back, mode_word, name_back, name_word, number_word, pick_back, pick_word, place_back, place_word, public_back, public_words_are}
+use Rattle.mqb_script.proofs.WordsBack.{Named, is_word, are_words, at_back, choice_word, host_word, line_back, manager_back, mode_back, mode_word, name_back, name_word, number_word, pick_back, pick_word, place_back, place_word, public_back, public_words_are}
 use Rattle.mqb_script.proofs.StepsBack.{ops_back, ops_words, send_back, told_text, told_word, told_word_is}
 
 -- The forms of lines.
 
-queue_words : (which : Which) (plan : QueuePlan) → IsName plan.name → plan.quota ≤ MOST
-    → are_words (host_of which ∷ plan.name ∷ choice_text (codes "tx") (codes "plain") plan.transactional ∷ decimal plan.quota
+queue_words : {g : Grammar} (which : Named g) (plan : QueuePlan) → IsName plan.name → plan.quota ≤ MOST
+    → are_words (host_at g which.at ∷ plan.name ∷ choice_text (codes "tx") (codes "plain") plan.transactional ∷ decimal plan.quota
     ∷ choice_text (codes "journal") (codes "none") plan.journal ∷ public_words plan.public) ≡ true
 queue_words which plan name quota =
     rw (
@@ -48,9 +49,9 @@ queue_words which plan name quota =
       public_words_are plan.public,
     ) refl
 
-queue_count : (a b c d e : List ℕ) (public : Option Guid) → has_count form.Queue (length (a ∷ b ∷ c ∷ d ∷ e ∷ public_words public)) ≡ true
-queue_count a b c d e None = refl
-queue_count a b c d e (Some guid) = refl
+queue_count : (g : Grammar) (a b c d e : List ℕ) (public : Option Guid) → has_count g form.Queue (length (a ∷ b ∷ c ∷ d ∷ e ∷ public_words public)) ≡ true
+queue_count g a b c d e None = refl
+queue_count g a b c d e (Some guid) = refl
 
 choice_back : (first second : List ℕ) (choice : Bool) → same_bytes first first ≡ true → same_bytes second first ≡ false → same_bytes second second ≡ true
     → choice_of first second (choice_text first second choice) ≡ Ok choice
@@ -71,28 +72,28 @@ plan_back plan name quota guid =
       choice_back (codes "journal") (codes "none") plan.journal refl refl refl,
     ) refl
 
-queue_back : (which : Which) (plan : QueuePlan) → IsName plan.name → plan.quota ≤ MOST → IfSome plan.public (λ guid. AreBytes 16 guid.0)
-    → queue_from (host_of which ∷ plan.name ∷ choice_text (codes "tx") (codes "plain") plan.transactional ∷ decimal plan.quota
-    ∷ choice_text (codes "journal") (codes "none") plan.journal ∷ public_words plan.public) ≡ Ok (Queue which plan)
+queue_back : {g : Grammar} (which : Named g) (plan : QueuePlan) → IsName plan.name → plan.quota ≤ MOST → IfSome plan.public (λ guid. AreBytes 16 guid.0)
+    → queue_from g (host_at g which.at ∷ plan.name ∷ choice_text (codes "tx") (codes "plain") plan.transactional ∷ decimal plan.quota
+    ∷ choice_text (codes "journal") (codes "none") plan.journal ∷ public_words plan.public) ≡ Ok (Queue which.at plan)
 unfolding queue_from
 queue_back which plan name quota guid = rw (manager_back which, plan_back plan name quota guid) refl
 
-commit_words : (which : Which) (now : ℕ) (ops : List Op) → now ≤ MOST → AllByRecursion IsSpelledOp ops
-    → are_words (host_of which ∷ decimal now ∷ map op_text ops) ≡ true
+commit_words : {g : Grammar} (which : Named g) (now : ℕ) (ops : List Op) → now ≤ MOST → AllByRecursion IsSpelledOp ops
+    → are_words (host_at g which.at ∷ decimal now ∷ map op_text ops) ≡ true
 commit_words which now ops most all = rw (host_word which, number_word now most, ops_words ops all) refl
 
-commit_count : (a b : List ℕ) (ops : List Op) → 1 ≤ length ops → has_count form.Commit (length (a ∷ b ∷ map op_text ops)) ≡ true
-commit_count a b [] some = absurd (omega arith)
-commit_count a b (step ∷ ops) some = grind (arith, nat_tests)
+commit_count : (g : Grammar) (a b : List ℕ) (ops : List Op) → 1 ≤ length ops → has_count g form.Commit (length (a ∷ b ∷ map op_text ops)) ≡ true
+commit_count g a b [] some = absurd (omega arith)
+commit_count g a b (step ∷ ops) some = grind (arith, nat_tests)
 
-commit_back : (which : Which) (now : ℕ) (ops : List Op) → now ≤ MOST → AllByRecursion IsSpelledOp ops
-    → commit_from (host_of which ∷ decimal now ∷ map op_text ops) ≡ Ok (Commit which now ops)
+commit_back : {g : Grammar} (which : Named g) (now : ℕ) (ops : List Op) → now ≤ MOST → AllByRecursion IsSpelledOp ops
+    → commit_from g (host_at g which.at ∷ decimal now ∷ map op_text ops) ≡ Ok (Commit which.at now ops)
 unfolding commit_from
 commit_back which now ops most all = rw (at_back which now most, ops_back ops all) refl
 
-sent_words : (which : Which) (now : ℕ) (recoverable : Bool) (priority : ℕ) (names : Names) (terms : Terms) (body : List ℕ) → now ≤ MOST
+sent_words : {g : Grammar} (which : Named g) (now : ℕ) (recoverable : Bool) (priority : ℕ) (names : Names) (terms : Terms) (body : List ℕ) → now ≤ MOST
     → priority ≤ 7 → IsTold names terms body
-    → are_words (host_of which ∷ decimal now ∷ choice_text (codes "recoverable") (codes "express") recoverable ∷ decimal priority
+    → are_words (host_at g which.at ∷ decimal now ∷ choice_text (codes "recoverable") (codes "express") recoverable ∷ decimal priority
     ∷ told_word names terms body ∷ []) ≡ true
 sent_words which now recoverable priority names terms body most seven told =
     rw (
@@ -109,60 +110,113 @@ unfolding how_of
 how_back recoverable priority seven =
     rw (choice_back (codes "recoverable") (codes "express") recoverable refl refl refl, number_up_to 0 7 priority (omega arith) seven (omega arith)) refl
 
-sent_back : (which : Which) (now : ℕ) (recoverable : Bool) (priority : ℕ) (names : Names) (terms : Terms) (body : List ℕ) → now ≤ MOST
+sent_back : {g : Grammar} (which : Named g) (now : ℕ) (recoverable : Bool) (priority : ℕ) (names : Names) (terms : Terms) (body : List ℕ) → now ≤ MOST
     → priority ≤ 7 → IsTold names terms body
-    → send_event (host_of which ∷ decimal now ∷ choice_text (codes "recoverable") (codes "express") recoverable ∷ decimal priority
-    ∷ told_word names terms body ∷ []) ≡ Ok (Send which now recoverable (parts_of priority names terms body))
+    → send_event g (host_at g which.at ∷ decimal now ∷ choice_text (codes "recoverable") (codes "express") recoverable ∷ decimal priority
+    ∷ told_word names terms body ∷ []) ≡ Ok (Send which.at now recoverable (parts_of priority names terms body))
 unfolding send_event sent_with
 sent_back which now recoverable priority names terms body most seven told =
     rw (at_back which now most, how_back recoverable priority seven, send_back priority names terms body told) refl
 
-placed_words : (which : Which) (now : ℕ) (from : Place) → now ≤ MOST → IsPlaceName from
-    → are_words (host_of which ∷ decimal now ∷ place_text from ∷ []) ≡ true
+placed_words : {g : Grammar} (which : Named g) (now : ℕ) (from : Place) → now ≤ MOST → IsPlaceName from
+    → are_words (host_at g which.at ∷ decimal now ∷ place_text from ∷ []) ≡ true
 placed_words which now from most is = rw (host_word which, number_word now most, place_word from is) refl
 
-take_back : (which : Which) (now : ℕ) (from : Place) → now ≤ MOST → IsPlaceName from
-    → take_event (host_of which ∷ decimal now ∷ place_text from ∷ []) ≡ Ok (Take which now from)
+take_back : {g : Grammar} (which : Named g) (now : ℕ) (from : Place) → now ≤ MOST → IsPlaceName from
+    → take_event g (host_at g which.at ∷ decimal now ∷ place_text from ∷ []) ≡ Ok (Take which.at now from)
 unfolding take_event
 take_back which now from most is = rw (at_back which now most, place_back from is) refl
 
-purge_back : (which : Which) (now : ℕ) (from : Place) → now ≤ MOST → IsPlaceName from
-    → purge_from (host_of which ∷ decimal now ∷ place_text from ∷ []) ≡ Ok (Purge which now from)
+purge_back : {g : Grammar} (which : Named g) (now : ℕ) (from : Place) → now ≤ MOST → IsPlaceName from
+    → purge_from g (host_at g which.at ∷ decimal now ∷ place_text from ∷ []) ≡ Ok (Purge which.at now from)
 unfolding purge_from
 purge_back which now from most is = rw (at_back which now most, place_back from is) refl
 
-at_words : (which : Which) (now : ℕ) → now ≤ MOST → are_words (host_of which ∷ decimal now ∷ []) ≡ true
+at_words : {g : Grammar} (which : Named g) (now : ℕ) → now ≤ MOST → are_words (host_at g which.at ∷ decimal now ∷ []) ≡ true
 at_words which now most = rw (host_word which, number_word now most) refl
 
-tick_back : (which : Which) (now : ℕ) → now ≤ MOST → tick_from (host_of which ∷ decimal now ∷ []) ≡ Ok (Tick which now)
+tick_back : {g : Grammar} (which : Named g) (now : ℕ) → now ≤ MOST → tick_from g (host_at g which.at ∷ decimal now ∷ []) ≡ Ok (Tick which.at now)
 unfolding tick_from
 tick_back which now most = rw (at_back which now most) refl
 
-pump_back : (which : Which) (now : ℕ) → now ≤ MOST → pump_from (host_of which ∷ decimal now ∷ []) ≡ Ok (Pump which now)
+pump_back : {g : Grammar} (which : Named g) (now : ℕ) → now ≤ MOST → pump_from g (host_at g which.at ∷ decimal now ∷ []) ≡ Ok (Pump which.at now)
 unfolding pump_from
 pump_back which now most = rw (at_back which now most) refl
 
-flow_back : (which : Which) (now : ℕ) → now ≤ MOST → flow_from (host_of which ∷ decimal now ∷ []) ≡ Ok (Flow which now)
+flow_back : {g : Grammar} (which : Named g) (now : ℕ) → now ≤ MOST → flow_from g (host_at g which.at ∷ decimal now ∷ []) ≡ Ok (Flow which.at now)
 unfolding flow_from
 flow_back which now most = rw (at_back which now most) refl
 
-connect_words : (which : Which) (now alpha beta : ℕ) → now ≤ MOST → alpha ≤ MOST_WINDOW → beta ≤ MOST_WINDOW
-    → are_words (host_of which ∷ decimal now ∷ decimal alpha ∷ decimal beta ∷ []) ≡ true
-connect_words which now alpha beta most a b =
-    rw (host_word which, number_word now most, number_word alpha (omega arith), number_word beta (omega arith)) refl
+host_words : {g : Grammar} (which : Named g) → are_words (host_at g which.at ∷ []) ≡ true
+host_words which = rw (host_word which) refl
 
 window_back : (n : ℕ) → 1 ≤ n → n ≤ MOST_WINDOW → number_in 1 MOST_WINDOW (decimal n) ≡ Ok n
 window_back n some most = number_up_to 1 MOST_WINDOW n some most (omega arith)
 
-connect_back : (which : Which) (now alpha beta : ℕ) → now ≤ MOST → 1 ≤ alpha → alpha ≤ MOST_WINDOW → 1 ≤ beta → beta ≤ MOST_WINDOW
-    → connect_from (host_of which ∷ decimal now ∷ decimal alpha ∷ decimal beta ∷ []) ≡ Ok (Connect which now alpha beta)
-unfolding connect_from
-connect_back which now alpha beta most a a_most b b_most =
-    rw (at_back which now most, window_back alpha a a_most, window_back beta b b_most) refl
+first_window : (n : ℕ) → 1 ≤ n → n ≤ MOST_WINDOW → is_word (decimal n) ≡ true
+first_window n some most = number_word n (omega arith)
 
-disconnect_back : disconnect_from [] ≡ Ok Disconnect
-unfolding disconnect_from
-disconnect_back = refl
+module _ (now own other : ℕ) (most : now ≤ MOST) (a : 1 ≤ own) (a_most : own ≤ MOST_WINDOW) (b : 1 ≤ other) (b_most : other ≤ MOST_WINDOW) where
+  pair_words : (initiator acceptor : ℕ) → AreEnds Pair initiator acceptor → are_words (connect_words Pair initiator acceptor now own other) ≡ true
+  pair_words zero acceptor ends = rw (number_word now most, first_window own a a_most, first_window other b b_most) refl
+  pair_words (suc i) acceptor ends = rw (number_word now most, first_window own a a_most, first_window other b b_most) refl
+
+  pair_count : (initiator acceptor : ℕ) → has_count Pair form.Connect (length (connect_words Pair initiator acceptor now own other)) ≡ true
+  pair_count zero acceptor = refl
+  pair_count (suc i) acceptor = refl
+
+  second_of : (acceptor : ℕ) → AreEnds Pair 0 acceptor → acceptor ≡ 1
+  second_of zero ends = absurd (ends.2 refl)
+  second_of (suc zero) ends = refl
+  second_of (suc (suc i)) ends = absurd (let small = ends.1 in omega (arith, small))
+
+  first_of : (acceptor : ℕ) → AreEnds Pair 1 acceptor → acceptor ≡ 0
+  first_of zero ends = refl
+  first_of (suc zero) ends = absurd (ends.2 refl)
+  first_of (suc (suc i)) ends = absurd (let small = ends.1 in omega (arith, small))
+
+  abbrev pair_named : (i : ℕ) → i < 2 → Named Pair
+  pair_named i one = record { at = i; one = one; few = omega arith }
+
+  pair_back : (initiator acceptor : ℕ) → AreEnds Pair initiator acceptor
+      → connect_pair (connect_words Pair initiator acceptor now own other) ≡ Ok (Connect initiator acceptor now own other)
+  unfolding connect_pair
+  pair_back zero acceptor ends = rw (at_back (pair_named 0 (omega arith)) now most, window_back own a a_most, window_back other b b_most, second_of acceptor ends) refl
+  pair_back (suc zero) acceptor ends = rw (at_back (pair_named 1 (omega arith)) now most, window_back own a a_most, window_back other b b_most, first_of acceptor ends) refl
+  pair_back (suc (suc i)) acceptor ends = absurd (let small = ends.0 in omega (arith, small))
+
+  module _ (count initiator acceptor : ℕ) (ends : AreEnds (Ring count) initiator acceptor) (few : count ≤ MOST_MANAGERS) where
+    abbrev first : Named (Ring count)
+    first = record { at = initiator; one = ends.0; few = few }
+
+    abbrev second : Named (Ring count)
+    second = record { at = acceptor; one = ends.1; few = few }
+
+    ring_words : are_words (connect_words (Ring count) initiator acceptor now own other) ≡ true
+    ring_words = rw (host_word first, host_word second, number_word now most, first_window own a a_most, first_window other b b_most) refl
+
+    not_same : (initiator == acceptor) ≡ false
+    not_same = let apart = ends.2 in grind (arith, nat_tests)
+
+    ring_back : connect_named (Ring count) (connect_words (Ring count) initiator acceptor now own other) ≡ Ok (Connect initiator acceptor now own other)
+    unfolding connect_named
+    ring_back = rw (at_back first now most, manager_back second, window_back own a a_most, window_back other b b_most, not_same) refl
+
+  connect_line : (g : Grammar) (initiator acceptor : ℕ) → AreEnds g initiator acceptor → count_of g ≤ MOST_MANAGERS
+      → event_of g (join_with_byte 32 (word_of form.Connect ∷ connect_words g initiator acceptor now own other)) ≡ Ok (Connect initiator acceptor now own other)
+  unfolding event_from connect_from
+  connect_line Pair initiator acceptor ends few = line_back Pair form.Connect (connect_words Pair initiator acceptor now own other)
+      (Connect initiator acceptor now own other) (pair_words initiator acceptor ends) (pair_count initiator acceptor) (pair_back initiator acceptor ends)
+  connect_line (Ring count) initiator acceptor ends few = line_back (Ring count) form.Connect (connect_words (Ring count) initiator acceptor now own other)
+      (Connect initiator acceptor now own other) (ring_words count initiator acceptor ends few) refl (ring_back count initiator acceptor ends few)
+
+disconnect_line : (g : Grammar) (manager : ℕ) → IsEnd g manager → count_of g ≤ MOST_MANAGERS
+    → event_of g (join_with_byte 32 (word_of form.Disconnect ∷ disconnect_words g manager)) ≡ Ok (Disconnect manager)
+unfolding event_from disconnect_from
+disconnect_line Pair manager is few = line_back Pair form.Disconnect [] (Disconnect manager) refl refl (rw is refl)
+disconnect_line (Ring count) manager is few =
+    let which : Named (Ring count) = record { at = manager; one = is; few = few } in
+    line_back (Ring count) form.Disconnect (host_at (Ring count) manager ∷ []) (Disconnect manager) (host_words which) refl (rw (manager_back which) refl)
 
 deliver_words : (packet now : ℕ) → packet ≤ MOST → now ≤ MOST → are_words (decimal packet ∷ decimal now ∷ []) ≡ true
 deliver_words packet now p most = rw (number_word packet p, number_word now most) refl
@@ -178,91 +232,90 @@ drop_back : (packet : ℕ) → 1 ≤ packet → packet ≤ MOST → drop_from (d
 unfolding drop_from
 drop_back packet some p = rw (number_back 1 packet some p) refl
 
-host_words : (which : Which) → are_words (host_of which ∷ []) ≡ true
-host_words which = rw (host_word which) refl
-
-resend_back : (which : Which) → resend_from (host_of which ∷ []) ≡ Ok (Resend which)
+resend_back : {g : Grammar} (which : Named g) → resend_from g (host_at g which.at ∷ []) ≡ Ok (Resend which.at)
 unfolding resend_from
 resend_back which = rw (manager_back which) refl
 
-arm_words : (which : Which) (call : ℕ) (mode : Mode) → call ≤ MOST_CALL → are_words (host_of which ∷ decimal call ∷ mode_text mode ∷ []) ≡ true
+arm_words : {g : Grammar} (which : Named g) (call : ℕ) (mode : Mode) → call ≤ MOST_CALL → are_words (host_at g which.at ∷ decimal call ∷ mode_text mode ∷ []) ≡ true
 arm_words which call mode most = rw (host_word which, number_word call (omega arith), mode_word mode) refl
 
-arm_back : (which : Which) (call : ℕ) (mode : Mode) → 1 ≤ call → call ≤ MOST_CALL
-    → arm_from (host_of which ∷ decimal call ∷ mode_text mode ∷ []) ≡ Ok (Arm which call mode)
+arm_back : {g : Grammar} (which : Named g) (call : ℕ) (mode : Mode) → 1 ≤ call → call ≤ MOST_CALL
+    → arm_from g (host_at g which.at ∷ decimal call ∷ mode_text mode ∷ []) ≡ Ok (Arm which.at call mode)
 unfolding arm_from
 arm_back which call mode some most =
     rw (manager_back which, number_up_to 1 MOST_CALL call some most (omega arith), mode_back mode) refl
 
-restart_words : (which : Which) (pick : Pick) → are_words (host_of which ∷ pick_text pick ∷ []) ≡ true
+restart_words : {g : Grammar} (which : Named g) (pick : Pick) → are_words (host_at g which.at ∷ pick_text pick ∷ []) ≡ true
 restart_words which pick = rw (host_word which, pick_word pick) refl
 
-restart_back : (which : Which) (pick : Pick) → restart_from (host_of which ∷ pick_text pick ∷ []) ≡ Ok (Restart which pick)
+restart_back : {g : Grammar} (which : Named g) (pick : Pick) → restart_from g (host_at g which.at ∷ pick_text pick ∷ []) ≡ Ok (Restart which.at pick)
 unfolding restart_from
 restart_back which pick = rw (manager_back which, pick_back pick) refl
 
-roll_words : (which : Which) (count : ℕ) → count ≤ MOST_ROLL → are_words (host_of which ∷ decimal count ∷ []) ≡ true
+roll_words : {g : Grammar} (which : Named g) (count : ℕ) → count ≤ MOST_ROLL → are_words (host_at g which.at ∷ decimal count ∷ []) ≡ true
 roll_words which count most = rw (host_word which, number_word count (omega arith)) refl
 
-roll_back : (which : Which) (count : ℕ) → 1 ≤ count → count ≤ MOST_ROLL → roll_from (host_of which ∷ decimal count ∷ []) ≡ Ok (Roll which count)
+roll_back : {g : Grammar} (which : Named g) (count : ℕ) → 1 ≤ count → count ≤ MOST_ROLL → roll_from g (host_at g which.at ∷ decimal count ∷ []) ≡ Ok (Roll which.at count)
 unfolding roll_from
 roll_back which count some most = rw (manager_back which, number_up_to 1 MOST_ROLL count some most (omega arith)) refl
 
-checkpoint_back : (which : Which) → checkpoint_from (host_of which ∷ []) ≡ Ok (Checkpoint which)
+checkpoint_back : {g : Grammar} (which : Named g) → checkpoint_from g (host_at g which.at ∷ []) ≡ Ok (Checkpoint which.at)
 unfolding checkpoint_from
 checkpoint_back which = rw (manager_back which) refl
 
 -- Every event that a line can tell.
 
-pub read_back : {event : Event} → IsSpelled event → event_of (line_of event) ≡ Ok event
+abbrev named : (g : Grammar) (i : ℕ) → i < count_of g → count_of g ≤ MOST_MANAGERS → Named g
+named g i one few = record { at = i; one = one; few = few }
+
+pub read_back : (g : Grammar) → count_of g ≤ MOST_MANAGERS → {event : Event} → IsSpelled g event → event_of g (line_of g event) ≡ Ok event
 unfolding event_from
-read_back (IsSpelled.queue which plan name quota guid) =
-    line_back form.Queue (host_of which ∷ plan.name ∷ choice_text (codes "tx") (codes "plain") plan.transactional ∷ decimal plan.quota
-    ∷ choice_text (codes "journal") (codes "none") plan.journal ∷ public_words plan.public) (Queue which plan)
-    (queue_words which plan name quota) (queue_count (host_of which) plan.name (choice_text (codes "tx") (codes "plain") plan.transactional) (decimal plan.quota)
-    (choice_text (codes "journal") (codes "none") plan.journal) plan.public) (queue_back which plan name quota guid)
-read_back (IsSpelled.commit which now ops most some all) =
-    line_back form.Commit (host_of which ∷ decimal now ∷ map op_text ops) (Commit which now ops) (commit_words which now ops most all)
-    (commit_count (host_of which) (decimal now) ops some) (commit_back which now ops most all)
-read_back (IsSpelled.send which now recoverable priority names terms body most seven told) =
-    ap (λ text. event_of (join_with_byte 32 (word_of form.Send ∷ host_of which ∷ decimal now
+read_back g few (IsSpelled.queue manager plan one name quota guid) =
+    line_back g form.Queue (host_at g manager ∷ plan.name ∷ choice_text (codes "tx") (codes "plain") plan.transactional ∷ decimal plan.quota
+    ∷ choice_text (codes "journal") (codes "none") plan.journal ∷ public_words plan.public) (Queue manager plan)
+    (queue_words (named g manager one few) plan name quota) (queue_count g (host_at g manager) plan.name (choice_text (codes "tx") (codes "plain") plan.transactional) (decimal plan.quota)
+    (choice_text (codes "journal") (codes "none") plan.journal) plan.public) (queue_back (named g manager one few) plan name quota guid)
+read_back g few (IsSpelled.commit manager now ops one most some all) =
+    line_back g form.Commit (host_at g manager ∷ decimal now ∷ map op_text ops) (Commit manager now ops) (commit_words (named g manager one few) now ops most all)
+    (commit_count g (host_at g manager) (decimal now) ops some) (commit_back (named g manager one few) now ops most all)
+read_back g few (IsSpelled.send manager now recoverable priority names terms body one most seven told) =
+    ap (λ text. event_of g (join_with_byte 32 (word_of form.Send ∷ host_at g manager ∷ decimal now
     ∷ choice_text (codes "recoverable") (codes "express") recoverable ∷ decimal priority ∷ text ∷ []))) (told_text priority names terms body)
-    ∙ line_back form.Send (host_of which ∷ decimal now ∷ choice_text (codes "recoverable") (codes "express") recoverable ∷ decimal priority
-    ∷ told_word names terms body ∷ []) (Send which now recoverable (parts_of priority names terms body))
-    (sent_words which now recoverable priority names terms body most seven told) refl
-    (sent_back which now recoverable priority names terms body most seven told)
-read_back (IsSpelled.take which now from most is) =
-    line_back form.Take (host_of which ∷ decimal now ∷ place_text from ∷ []) (Take which now from) (placed_words which now from most is) refl
-    (take_back which now from most is)
-read_back (IsSpelled.purge which now from most is) =
-    line_back form.Purge (host_of which ∷ decimal now ∷ place_text from ∷ []) (Purge which now from) (placed_words which now from most is) refl
-    (purge_back which now from most is)
-read_back (IsSpelled.tick which now most) =
-    line_back form.Tick (host_of which ∷ decimal now ∷ []) (Tick which now) (at_words which now most) refl (tick_back which now most)
-read_back (IsSpelled.connect which now alpha beta most a a_most b b_most) =
-    line_back form.Connect (host_of which ∷ decimal now ∷ decimal alpha ∷ decimal beta ∷ []) (Connect which now alpha beta)
-    (connect_words which now alpha beta most a_most b_most) refl (connect_back which now alpha beta most a a_most b b_most)
-read_back IsSpelled.disconnect = line_back form.Disconnect [] Disconnect refl refl disconnect_back
-read_back (IsSpelled.pump which now most) =
-    line_back form.Pump (host_of which ∷ decimal now ∷ []) (Pump which now) (at_words which now most) refl (pump_back which now most)
-read_back (IsSpelled.deliver packet now some p most) =
-    line_back form.Deliver (decimal packet ∷ decimal now ∷ []) (Deliver packet now) (deliver_words packet now p most) refl
+    ∙ line_back g form.Send (host_at g manager ∷ decimal now ∷ choice_text (codes "recoverable") (codes "express") recoverable ∷ decimal priority
+    ∷ told_word names terms body ∷ []) (Send manager now recoverable (parts_of priority names terms body))
+    (sent_words (named g manager one few) now recoverable priority names terms body most seven told) refl
+    (sent_back (named g manager one few) now recoverable priority names terms body most seven told)
+read_back g few (IsSpelled.take manager now from one most is) =
+    line_back g form.Take (host_at g manager ∷ decimal now ∷ place_text from ∷ []) (Take manager now from) (placed_words (named g manager one few) now from most is) refl
+    (take_back (named g manager one few) now from most is)
+read_back g few (IsSpelled.purge manager now from one most is) =
+    line_back g form.Purge (host_at g manager ∷ decimal now ∷ place_text from ∷ []) (Purge manager now from) (placed_words (named g manager one few) now from most is) refl
+    (purge_back (named g manager one few) now from most is)
+read_back g few (IsSpelled.tick manager now one most) =
+    line_back g form.Tick (host_at g manager ∷ decimal now ∷ []) (Tick manager now) (at_words (named g manager one few) now most) refl (tick_back (named g manager one few) now most)
+read_back g few (IsSpelled.connect initiator acceptor now own other ends most a a_most b b_most) =
+    connect_line now own other most a a_most b b_most g initiator acceptor ends few
+read_back g few (IsSpelled.disconnect manager is) = disconnect_line g manager is few
+read_back g few (IsSpelled.pump manager now one most) =
+    line_back g form.Pump (host_at g manager ∷ decimal now ∷ []) (Pump manager now) (at_words (named g manager one few) now most) refl (pump_back (named g manager one few) now most)
+read_back g few (IsSpelled.deliver packet now some p most) =
+    line_back g form.Deliver (decimal packet ∷ decimal now ∷ []) (Deliver packet now) (deliver_words packet now p most) refl
     (deliver_back packet now some p most)
-read_back (IsSpelled.drop packet some p) =
-    line_back form.Drop (decimal packet ∷ []) (Drop packet) (drop_words packet p) refl (drop_back packet some p)
-read_back (IsSpelled.flow which now most) =
-    line_back form.Flow (host_of which ∷ decimal now ∷ []) (Flow which now) (at_words which now most) refl (flow_back which now most)
-read_back (IsSpelled.resend which) =
-    line_back form.Resend (host_of which ∷ []) (Resend which) (host_words which) refl (resend_back which)
-read_back (IsSpelled.arm which call mode some most) =
-    line_back form.Arm (host_of which ∷ decimal call ∷ mode_text mode ∷ []) (Arm which call mode) (arm_words which call mode most) refl
-    (arm_back which call mode some most)
-read_back (IsSpelled.restart which pick) =
-    line_back form.Restart (host_of which ∷ pick_text pick ∷ []) (Restart which pick) (restart_words which pick) refl (restart_back which pick)
-read_back (IsSpelled.roll which count some most) =
-    line_back form.Roll (host_of which ∷ decimal count ∷ []) (Roll which count) (roll_words which count most) refl (roll_back which count some most)
-read_back (IsSpelled.checkpoint which) =
-    line_back form.Checkpoint (host_of which ∷ []) (Checkpoint which) (host_words which) refl (checkpoint_back which)
+read_back g few (IsSpelled.drop packet some p) =
+    line_back g form.Drop (decimal packet ∷ []) (Drop packet) (drop_words packet p) refl (drop_back packet some p)
+read_back g few (IsSpelled.flow manager now one most) =
+    line_back g form.Flow (host_at g manager ∷ decimal now ∷ []) (Flow manager now) (at_words (named g manager one few) now most) refl (flow_back (named g manager one few) now most)
+read_back g few (IsSpelled.resend manager one) =
+    line_back g form.Resend (host_at g manager ∷ []) (Resend manager) (host_words (named g manager one few)) refl (resend_back (named g manager one few))
+read_back g few (IsSpelled.arm manager call mode one some most) =
+    line_back g form.Arm (host_at g manager ∷ decimal call ∷ mode_text mode ∷ []) (Arm manager call mode) (arm_words (named g manager one few) call mode most) refl
+    (arm_back (named g manager one few) call mode some most)
+read_back g few (IsSpelled.restart manager pick one) =
+    line_back g form.Restart (host_at g manager ∷ pick_text pick ∷ []) (Restart manager pick) (restart_words (named g manager one few) pick) refl (restart_back (named g manager one few) pick)
+read_back g few (IsSpelled.roll manager count one some most) =
+    line_back g form.Roll (host_at g manager ∷ decimal count ∷ []) (Roll manager count) (roll_words (named g manager one few) count most) refl (roll_back (named g manager one few) count some most)
+read_back g few (IsSpelled.checkpoint manager one) =
+    line_back g form.Checkpoint (host_at g manager ∷ []) (Checkpoint manager) (host_words (named g manager one few)) refl (checkpoint_back (named g manager one few))
 
 -- the first word begins with a letter
 kept_line : (b : ℕ) (word : List ℕ) (words : List (List ℕ)) → (b == 0x23) ≡ false → is_skipped (join_with_byte 32 ((b ∷ word) ∷ words)) ≡ false
@@ -288,28 +341,28 @@ form_kept form.Restart words = kept_line 114 (codes "estart") words refl
 form_kept form.Roll words = kept_line 114 (codes "oll") words refl
 form_kept form.Checkpoint words = kept_line 99 (codes "heckpoint") words refl
 
-pub line_kept : (event : Event) → is_skipped (line_of event) ≡ false
-line_kept (Queue which plan) = form_kept form.Queue (drop 1 (words_from (Queue which plan)))
-line_kept (Commit which now ops) = form_kept form.Commit (drop 1 (words_from (Commit which now ops)))
-line_kept (Send which now recoverable parts) = form_kept form.Send (drop 1 (words_from (Send which now recoverable parts)))
-line_kept (Take which now from) = form_kept form.Take (drop 1 (words_from (Take which now from)))
-line_kept (Purge which now from) = form_kept form.Purge (drop 1 (words_from (Purge which now from)))
-line_kept (Tick which now) = form_kept form.Tick (drop 1 (words_from (Tick which now)))
-line_kept (Connect which now alpha beta) = form_kept form.Connect (drop 1 (words_from (Connect which now alpha beta)))
-line_kept Disconnect = form_kept form.Disconnect (drop 1 (words_from Disconnect))
-line_kept (Pump which now) = form_kept form.Pump (drop 1 (words_from (Pump which now)))
-line_kept (Deliver packet now) = form_kept form.Deliver (drop 1 (words_from (Deliver packet now)))
-line_kept (Drop packet) = form_kept form.Drop (drop 1 (words_from (Drop packet)))
-line_kept (Flow which now) = form_kept form.Flow (drop 1 (words_from (Flow which now)))
-line_kept (Resend which) = form_kept form.Resend (drop 1 (words_from (Resend which)))
-line_kept (Arm which call mode) = form_kept form.Arm (drop 1 (words_from (Arm which call mode)))
-line_kept (Restart which pick) = form_kept form.Restart (drop 1 (words_from (Restart which pick)))
-line_kept (Roll which count) = form_kept form.Roll (drop 1 (words_from (Roll which count)))
-line_kept (Checkpoint which) = form_kept form.Checkpoint (drop 1 (words_from (Checkpoint which)))
+pub line_kept : (g : Grammar) (event : Event) → is_skipped (line_of g event) ≡ false
+line_kept g (Queue which plan) = form_kept form.Queue (drop 1 (words_from g (Queue which plan)))
+line_kept g (Commit which now ops) = form_kept form.Commit (drop 1 (words_from g (Commit which now ops)))
+line_kept g (Send which now recoverable parts) = form_kept form.Send (drop 1 (words_from g (Send which now recoverable parts)))
+line_kept g (Take which now from) = form_kept form.Take (drop 1 (words_from g (Take which now from)))
+line_kept g (Purge which now from) = form_kept form.Purge (drop 1 (words_from g (Purge which now from)))
+line_kept g (Tick which now) = form_kept form.Tick (drop 1 (words_from g (Tick which now)))
+line_kept g (Connect initiator acceptor now own other) = form_kept form.Connect (connect_words g initiator acceptor now own other)
+line_kept g (Disconnect manager) = form_kept form.Disconnect (disconnect_words g manager)
+line_kept g (Pump which now) = form_kept form.Pump (drop 1 (words_from g (Pump which now)))
+line_kept g (Deliver packet now) = form_kept form.Deliver (drop 1 (words_from g (Deliver packet now)))
+line_kept g (Drop packet) = form_kept form.Drop (drop 1 (words_from g (Drop packet)))
+line_kept g (Flow which now) = form_kept form.Flow (drop 1 (words_from g (Flow which now)))
+line_kept g (Resend which) = form_kept form.Resend (drop 1 (words_from g (Resend which)))
+line_kept g (Arm which call mode) = form_kept form.Arm (drop 1 (words_from g (Arm which call mode)))
+line_kept g (Restart which pick) = form_kept form.Restart (drop 1 (words_from g (Restart which pick)))
+line_kept g (Roll which count) = form_kept form.Roll (drop 1 (words_from g (Roll which count)))
+line_kept g (Checkpoint which) = form_kept form.Checkpoint (drop 1 (words_from g (Checkpoint which)))
 
 same_event : (a b : Event) (r s : Result Event LineKind) → r ≡ Ok a → s ≡ Ok b → r ≡ s → a ≡ b
 same_event a b r s is_a is_b same = cc
 
-pub one_event : (a b : Event) → IsSpelled a → IsSpelled b → line_of a ≡ line_of b → a ≡ b
-one_event a b is_a is_b same =
-    same_event a b (event_of (line_of a)) (event_of (line_of b)) (read_back is_a) (read_back is_b) (ap event_of same)
+pub one_event : (g : Grammar) → count_of g ≤ MOST_MANAGERS → (a b : Event) → IsSpelled g a → IsSpelled g b → line_of g a ≡ line_of g b → a ≡ b
+one_event g few a b is_a is_b same =
+    same_event a b (event_of g (line_of g a)) (event_of g (line_of g b)) (read_back g few is_a) (read_back g few is_b) (ap (event_of g) same)

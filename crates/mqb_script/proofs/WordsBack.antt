@@ -1,5 +1,5 @@
 -- The words of an event's line are read back.
-use Rattle.std.proofs.Common.{◌≡◌, ℕ, zero, suc, ◌-◌, ◌^◌, ◌<◌, ◌≤◌, Bool, true, false, ◌==◌, ◌&&◌, not, nat_le, if◌then◌else◌, List, [], ◌∷◌, ◌++◌, length, drop, codes, Option, Some, None, Ok, inl, refl, sym, ap, ◌∙◌, arith, length-append}
+use Rattle.std.proofs.Common.{◌≡◌, ℕ, zero, suc, ◌+◌, ◌-◌, ◌^◌, ◌<◌, ◌≤◌, Bool, true, false, ◌==◌, ◌&&◌, not, nat_le, if◌then◌else◌, List, [], ◌∷◌, ◌++◌, length, drop, codes, Option, Some, None, Ok, inl, refl, sym, ap, ◌∙◌, arith, length-append}
 use Rattle.std.specs.List.{list_all, join_with_byte}
 use Rattle.std.specs.Option.{IfSome}
 use Rattle.std.specs.Fmt.{decimal}
@@ -24,18 +24,18 @@ use Rattle.mqb_forms.specs.Values.{MOST, mode_of, pick_of, name_of, guid_from, g
 use Rattle.mqb_forms.specs.Sends.{is_body_byte}
 use Rattle.mqb_forms.specs.Plans.{public_of}
 use Rattle.mqb_forms.proofs.Tests.{both}
-use Rattle.mqb_script.specs.declared.managers.Which.{Which}
-use Rattle.mqb_script.specs.declared.managers.Which.TheVariants.{Alpha, Beta}
+use Rattle.mqb_script.specs.declared.grammar.Grammar.{Grammar}
+use Rattle.mqb_script.specs.declared.grammar.Grammar.TheVariants.{Pair, Ring}
 use Rattle.mqb_script.specs.declared.forms.Form.{Form}
 use Rattle.mqb_script.specs.declared.forms.Form.TheVariants as form
 use Rattle.mqb_script.specs.declared.events.Event.{Event}
-use Rattle.mqb_script.specs.Managers.{host_of, manager_of}
+use Rattle.mqb_script.specs.Hosts.{MOST_MANAGERS, count_of, host_at, manager_of}
 use Rattle.mqb_script.specs.Lines.{words_of, is_printable, is_some_word, are_counted, event_of_words, event_of}
 use Rattle.mqb_script.specs.Forms.{word_of, form_of, has_count}
 use Rattle.mqb_script.specs.Grammar.{at_of, event_from}
 use Rattle.mqb_script.specs.Spelling.{choice_text, mode_text, pick_text, place_text, public_words, IsPlaceName}
 use Rattle.mqb_script.proofs.Splitting.{all_lack, split_join, lacks_where}
-use Rattle.mqb_script.proofs.Decimals.{number_back}
+use Rattle.mqb_script.proofs.Decimals.{number_back, number_up_to}
 use Rattle.std.proofs.lemmas.Fmt.{decimal_nonempty}
 use Rattle.mqb_script.proofs.Fields.{is_field, all_weaker, field-append, name_bytes, name_field, number_field, guid_field}
 
@@ -144,40 +144,31 @@ form_back form.Restart = refl
 form_back form.Roll = refl
 form_back form.Checkpoint = refl
 
-counted_words : (f : Form) (words : List (List ℕ)) → are_words words ≡ true → has_count f (length words) ≡ true → are_counted f words ≡ true
+counted_words : (g : Grammar) (f : Form) (words : List (List ℕ)) → are_words words ≡ true → has_count g f (length words) ≡ true → are_counted g f words ≡ true
 unfolding are_counted
-counted_words f words are count = rw (words_some words are, count) refl
+counted_words g f words are count = rw (words_some words are, count) refl
 
-event_words : (f : Form) (words : List (List ℕ)) → are_words words ≡ true → has_count f (length words) ≡ true
-    → event_of_words (word_of f ∷ words) ≡ event_from f words
+event_words : (g : Grammar) (f : Form) (words : List (List ℕ)) → are_words words ≡ true → has_count g f (length words) ≡ true
+    → event_of_words g (word_of f ∷ words) ≡ event_from g f words
 unfolding event_of_words
-event_words f words are count = rw (form_back f, counted_words f words are count) refl
+event_words g f words are count = rw (form_back f, counted_words g f words are count) refl
 
-event_line : (words : List (List ℕ)) (line : List ℕ) → list_all is_printable line ≡ true → words_of line ≡ words → event_of line ≡ event_of_words words
+event_line : (g : Grammar) (words : List (List ℕ)) (line : List ℕ) → list_all is_printable line ≡ true → words_of line ≡ words → event_of g line ≡ event_of_words g words
 unfolding event_of
-event_line words line printable is = rw (printable, is) refl
+event_line g words line printable is = rw (printable, is) refl
 
 -- a line of a form, its words behind the first one
-pub line_back : (f : Form) (words : List (List ℕ)) (event : Event) → are_words words ≡ true → has_count f (length words) ≡ true
-    → event_from f words ≡ Ok event
-    → event_of (join_with_byte 32 (word_of f ∷ words)) ≡ Ok event
-line_back f words event are count is =
+pub line_back : (g : Grammar) (f : Form) (words : List (List ℕ)) (event : Event) → are_words words ≡ true → has_count g f (length words) ≡ true
+    → event_from g f words ≡ Ok event
+    → event_of g (join_with_byte 32 (word_of f ∷ words)) ≡ Ok event
+line_back g f words event are count is =
     let all : are_words (word_of f ∷ words) ≡ true = rw (form_word f, are) refl in
-    event_line (word_of f ∷ words) (join_with_byte 32 (word_of f ∷ words))
+    event_line g (word_of f ∷ words) (join_with_byte 32 (word_of f ∷ words))
     (join_all is_printable 32 refl (word_of f) words (words_printable (word_of f ∷ words) all))
     (split_join 32 (word_of f) words (words_lack (word_of f ∷ words) all))
-    ∙ event_words f words are count ∙ is
+    ∙ event_words g f words are count ∙ is
 
 -- Managers, moments and other numbers.
-
-pub host_word : (which : Which) → is_word (host_of which) ≡ true
-host_word Alpha = refl
-host_word Beta = refl
-
-pub manager_back : (which : Which) → manager_of (host_of which) ≡ Ok which
-unfolding manager_of
-manager_back Alpha = refl
-manager_back Beta = refl
 
 some_digits : (n : ℕ) → n < 2 ^ 64 → is_some_word (decimal n) ≡ true
 some_digits n fits = let some = decimal_nonempty n fits in grind (arith, nat_tests)
@@ -186,7 +177,34 @@ pub number_word : (n : ℕ) → n ≤ MOST → is_word (decimal n) ≡ true
 number_word n most =
     let fits : n < 2 ^ 64 = omega arith in rw (some_digits n fits, field_bytes (decimal n) (number_field n fits)) refl
 
-pub at_back : (which : Which) (now : ℕ) → now ≤ MOST → at_of (host_of which) (decimal now) ≡ Ok (which, now)
+-- one of the managers of a script
+pub record Named (g : Grammar) : Type 0 where
+  pub at : ℕ
+  pub one : at < count_of g
+  pub few : count_of g ≤ MOST_MANAGERS
+
+ring_word : (i : ℕ) → i < MOST_MANAGERS → is_word (codes "m" ++ decimal (i + 1)) ≡ true
+ring_word i small = word_from 0x6D (decimal (i + 1)) (field_bytes (decimal (i + 1)) (number_field (i + 1) (omega arith)))
+
+named_word : (g : Grammar) (i : ℕ) → i < MOST_MANAGERS → is_word (host_at g i) ≡ true
+named_word Pair zero small = refl
+named_word Pair (suc i) small = refl
+named_word (Ring count) i small = ring_word i small
+
+pub host_word : {g : Grammar} (which : Named g) → is_word (host_at g which.at) ≡ true
+host_word {g} which = let one = which.one in let few = which.few in named_word g which.at (omega (arith, one, few))
+
+named_back : (g : Grammar) (i : ℕ) → i < count_of g → count_of g ≤ MOST_MANAGERS → manager_of g (host_at g i) ≡ Ok i
+unfolding manager_of
+named_back Pair zero one few = refl
+named_back Pair (suc zero) one few = refl
+named_back Pair (suc (suc i)) one few = absurd (omega arith)
+named_back (Ring count) i one few = rw (number_up_to 1 count (i + 1) (omega arith) (omega arith) (omega arith)) (ap Ok (omega arith))
+
+pub manager_back : {g : Grammar} (which : Named g) → manager_of g (host_at g which.at) ≡ Ok which.at
+manager_back {g} which = named_back g which.at which.one which.few
+
+pub at_back : {g : Grammar} (which : Named g) (now : ℕ) → now ≤ MOST → at_of g (host_at g which.at) (decimal now) ≡ Ok (which.at, now)
 unfolding at_of
 at_back which now most = rw (manager_back which, number_back 0 now (omega arith) most) refl
 

@@ -1,17 +1,28 @@
 -- What the fields of an event keep that their types do not say.
-use Rattle.std.specs.Prelude.{◌≤◌, length}
+use Rattle.std.specs.Prelude.{◌<◌, ◌≤◌, length}
 use Rattle.std.specs.List.{AllByRecursion}
 use Rattle.mqb_forms.specs.Values.{MOST_CALL, MOST_ROLL}
 use Rattle.mqb_forms.specs.Formed.{IsPlain, IsFormedOp}
+use Rattle.mqb_script.specs.declared.grammar.Grammar.{Grammar}
 use Rattle.mqb_script.specs.declared.events.Event.{Event}
-use Rattle.mqb_script.specs.declared.events.Event.TheVariants.{Commit, Send, Connect, Deliver, Drop, Arm, Roll}
+use Rattle.mqb_script.specs.declared.events.Event.TheVariants.{Queue, Commit, Send, Take, Purge, Tick, Connect, Disconnect, Pump, Deliver, Drop, Flow, Resend, Arm, Restart, Roll, Checkpoint}
+use Rattle.mqb_script.specs.Hosts.{count_of, AreEnds, IsEnd}
 
-abbrev pub IsFormed : Event → Type 0
-IsFormed (Commit manager now ops) = (1 ≤ length ops) × AllByRecursion IsFormedOp ops
-IsFormed (Send manager now recoverable parts) = IsPlain parts
-IsFormed (Connect manager now alpha beta) = (1 ≤ alpha) × (1 ≤ beta)
-IsFormed (Deliver packet now) = 1 ≤ packet
-IsFormed (Drop packet) = 1 ≤ packet
-IsFormed (Arm manager call mode) = (1 ≤ call) × (call ≤ MOST_CALL)
-IsFormed (Roll manager count) = (1 ≤ count) × (count ≤ MOST_ROLL)
-IsFormed _ = Unit {0}
+abbrev pub IsFormed : Grammar → Event → Type 0
+IsFormed grammar (Queue manager plan) = manager < count_of grammar
+IsFormed grammar (Commit manager now ops) = (manager < count_of grammar) × (1 ≤ length ops) × AllByRecursion IsFormedOp ops
+IsFormed grammar (Send manager now recoverable parts) = (manager < count_of grammar) × IsPlain parts
+IsFormed grammar (Take manager now place) = manager < count_of grammar
+IsFormed grammar (Purge manager now place) = manager < count_of grammar
+IsFormed grammar (Tick manager now) = manager < count_of grammar
+IsFormed grammar (Connect initiator acceptor now own other) = AreEnds grammar initiator acceptor × (1 ≤ own) × (1 ≤ other)
+IsFormed grammar (Disconnect manager) = IsEnd grammar manager
+IsFormed grammar (Pump manager now) = manager < count_of grammar
+IsFormed grammar (Deliver packet now) = 1 ≤ packet
+IsFormed grammar (Drop packet) = 1 ≤ packet
+IsFormed grammar (Flow manager now) = manager < count_of grammar
+IsFormed grammar (Resend manager) = manager < count_of grammar
+IsFormed grammar (Arm manager call mode) = (manager < count_of grammar) × (1 ≤ call) × (call ≤ MOST_CALL)
+IsFormed grammar (Restart manager pick) = manager < count_of grammar
+IsFormed grammar (Roll manager count) = (manager < count_of grammar) × (1 ≤ count) × (count ≤ MOST_ROLL)
+IsFormed grammar (Checkpoint manager) = manager < count_of grammar

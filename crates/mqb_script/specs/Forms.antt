@@ -1,9 +1,11 @@
 -- The forms of lines.
-use Rattle.std.specs.Prelude.{ℕ, Bool, ◌==◌, ◌||◌, nat_le, List, [], ◌∷◌, codes, find, Option, ok_or, Result}
+use Rattle.std.specs.Prelude.{ℕ, ◌+◌, Bool, ◌==◌, ◌||◌, nat_le, List, [], ◌∷◌, codes, find, Option, ok_or, Result}
 use Rattle.mqb_base.specs.Same.{same_bytes}
 use Rattle.mqb_forms.specs.declared.faults.LineKind.{LineKind}
 use Rattle.mqb_forms.specs.declared.faults.LineKind.TheVariants.{Word}
+use Rattle.mqb_script.specs.declared.grammar.Grammar.{Grammar}
 use Rattle.mqb_script.specs.declared.forms.Form.{Form}
+use Rattle.mqb_script.specs.Hosts.{more_words}
 use Rattle.mqb_script.specs.declared.forms.Form.TheVariants.{Queue, Commit, Send, Take, Purge, Tick, Connect, Disconnect, Pump, Deliver, Drop, Flow, Resend, Arm, Restart, Roll, Checkpoint}
 
 abbrev pub forms : List Form
@@ -36,21 +38,21 @@ unfoldable pub form_of : List ℕ → Result Form LineKind
 form_of word = ok_or (form_among forms word) Word
 
 -- how many words stand behind the first one
-abbrev pub has_count : Form → ℕ → Bool
-has_count Queue n = n == 5 || n == 6
-has_count Commit n = nat_le 3 n
-has_count Send n = n == 5
-has_count Take n = n == 3
-has_count Purge n = n == 3
-has_count Tick n = n == 2
-has_count Connect n = n == 4
-has_count Disconnect n = n == 0
-has_count Pump n = n == 2
-has_count Deliver n = n == 2
-has_count Drop n = n == 1
-has_count Flow n = n == 2
-has_count Resend n = n == 1
-has_count Arm n = n == 3
-has_count Restart n = n == 2
-has_count Roll n = n == 2
-has_count Checkpoint n = n == 1
+abbrev pub has_count : Grammar → Form → ℕ → Bool
+has_count grammar Queue n = n == 5 || n == 6
+has_count grammar Commit n = nat_le 3 n
+has_count grammar Send n = n == 5
+has_count grammar Take n = n == 3
+has_count grammar Purge n = n == 3
+has_count grammar Tick n = n == 2
+has_count grammar Connect n = n == 4 + more_words grammar
+has_count grammar Disconnect n = n == more_words grammar
+has_count grammar Pump n = n == 2
+has_count grammar Deliver n = n == 2
+has_count grammar Drop n = n == 1
+has_count grammar Flow n = n == 2
+has_count grammar Resend n = n == 1
+has_count grammar Arm n = n == 3
+has_count grammar Restart n = n == 2
+has_count grammar Roll n = n == 2
+has_count grammar Checkpoint n = n == 1

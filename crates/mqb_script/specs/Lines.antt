@@ -4,6 +4,7 @@ use Rattle.std.specs.List.{list_all, slice_split}
 use Rattle.mqb_fields.specs.Reading.{◌>>=◌}
 use Rattle.mqb_forms.specs.declared.faults.LineKind.{LineKind}
 use Rattle.mqb_forms.specs.declared.faults.LineKind.TheVariants.{Byte, Word, Count}
+use Rattle.mqb_script.specs.declared.grammar.Grammar.{Grammar}
 use Rattle.mqb_script.specs.declared.forms.Form.{Form}
 use Rattle.mqb_script.specs.declared.events.Event.{Event}
 use Rattle.mqb_script.specs.Forms.{form_of, has_count}
@@ -25,16 +26,16 @@ abbrev pub is_some_word : List ℕ → Bool
 is_some_word word = not (length word == 0)
 
 -- no word is empty, and there are as many as the form has
-unfoldable pub are_counted : Form → List (List ℕ) → Bool
-are_counted form words = list_all is_some_word words && has_count form (length words)
+unfoldable pub are_counted : Grammar → Form → List (List ℕ) → Bool
+are_counted grammar form words = list_all is_some_word words && has_count grammar form (length words)
 
 -- a first word, its form and the words behind it
-unfoldable pub event_of_words : List (List ℕ) → Result Event LineKind
-event_of_words [] = Err Word
-event_of_words (word ∷ words) = do
+unfoldable pub event_of_words : Grammar → List (List ℕ) → Result Event LineKind
+event_of_words grammar [] = Err Word
+event_of_words grammar (word ∷ words) = do
   form ← form_of word
-  if are_counted form words then event_from form words else Err Count
+  if are_counted grammar form words then event_from grammar form words else Err Count
 
 -- The event of a line, or what is wrong with it: a byte, or else its first word, or else the count of its words, or else one of their values.
-unfoldable pub event_of : List ℕ → Result Event LineKind
-event_of line = if list_all is_printable line then event_of_words (words_of line) else Err Byte
+unfoldable pub event_of : Grammar → List ℕ → Result Event LineKind
+event_of grammar line = if list_all is_printable line then event_of_words grammar (words_of line) else Err Byte

@@ -1,8 +1,5 @@
 -- The two managers of a replay.
-use Rattle.std.specs.Prelude.{ℕ, List, codes, Result, Ok, Err, if◌then◌else◌}
-use Rattle.mqb_base.specs.Same.{same_bytes}
-use Rattle.mqb_forms.specs.declared.faults.LineKind.{LineKind}
-use Rattle.mqb_forms.specs.declared.faults.LineKind.TheVariants.{Value}
+use Rattle.std.specs.Prelude.{ℕ, zero, suc, List, codes}
 use Rattle.mqb_script.specs.declared.managers.Which.{Which}
 use Rattle.mqb_script.specs.declared.managers.Which.TheVariants.{Alpha, Beta}
 
@@ -16,8 +13,12 @@ abbrev pub other : Which → Which
 other Alpha = Beta
 other Beta = Alpha
 
--- the manager that a word is
-unfoldable pub manager_of : List ℕ → Result Which LineKind
-manager_of word = if same_bytes word (host_of Alpha) then Ok Alpha
-    else if same_bytes word (host_of Beta) then Ok Beta
-    else Err Value
+-- its index, by which the events of a script name it
+abbrev pub index_of : Which → ℕ
+index_of Alpha = 0
+index_of Beta = 1
+
+-- the manager of an index
+abbrev pub which_at : ℕ → Which
+which_at zero = Alpha
+which_at (suc i) = Beta

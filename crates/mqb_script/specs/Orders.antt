@@ -15,6 +15,7 @@ use Rattle.mqb_forms.specs.declared.sends.Names.{Names}
 use Rattle.mqb_forms.specs.declared.sends.Terms.{Terms}
 use Rattle.mqb_script.specs.declared.events.Event.{Event}
 use Rattle.mqb_script.specs.declared.events.Event.TheVariants.{Commit, Connect, Disconnect, Flow, Queue, Restart}
+use Rattle.mqb_script.specs.Managers.{index_of}
 use Rattle.mqb_script.specs.declared.managers.Which.TheVariants.{Alpha, Beta}
 use Rattle.mqb_transcript.specs.Generator.{block_count, moment_of}
 
@@ -47,30 +48,36 @@ order_within n k = if nat_le k n then Some (order k) else None
 abbrev pub orders_in : ℕ → ℕ → List Op
 orders_in n block = filter_map (order_within n) (range_with_len (4 * block - 3) 4)
 
+abbrev pub alpha : ℕ
+alpha = index_of Alpha
+
+abbrev pub beta : ℕ
+beta = index_of Beta
+
 abbrev pub connection_at : ℕ → Event
-connection_at moment = Connect Alpha moment 64 64
+connection_at moment = Connect alpha beta moment 64 64
 
 -- where it is said, the connection ends by an event and a new one begins
 abbrev pub broken_by : Bool → Event → ℕ → List Event
 broken_by here e moment = if here then e ∷ connection_at moment ∷ [] else []
 
 abbrev pub breaks_in : ℕ → ℕ → List Event
-breaks_in count block = broken_by (block == count / 4 + 1) Disconnect (moment_of block)
-    ++ broken_by (block == count / 2 + 1) (Restart Alpha Old) (moment_of block)
-    ++ broken_by (block == 3 * count / 4 + 1) (Restart Beta Old) (moment_of block)
-    ++ broken_by (block == count) Disconnect (moment_of block)
+breaks_in count block = broken_by (block == count / 4 + 1) (Disconnect alpha) (moment_of block)
+    ++ broken_by (block == count / 2 + 1) (Restart alpha Old) (moment_of block)
+    ++ broken_by (block == 3 * count / 4 + 1) (Restart beta Old) (moment_of block)
+    ++ broken_by (block == count) (Disconnect alpha) (moment_of block)
 
 abbrev pub flows_at : ℕ → List Event
-flows_at moment = Flow Alpha moment ∷ Flow Beta moment ∷ Flow Alpha moment ∷ []
+flows_at moment = Flow alpha moment ∷ Flow beta moment ∷ Flow alpha moment ∷ []
 
 abbrev pub block_of : ℕ → ℕ → List Event
-block_of n block = Commit Alpha (moment_of block) (orders_in n block) ∷ (breaks_in (block_count n) block ++ flows_at (moment_of block))
+block_of n block = Commit alpha (moment_of block) (orders_in n block) ∷ (breaks_in (block_count n) block ++ flows_at (moment_of block))
 
 abbrev pub plan_of : List ℕ → (transactional : Bool) → QueuePlan
 plan_of name transactional = record { name = name; public = None; transactional = transactional; quota = 100000; journal = false }
 
 abbrev pub head_events : List Event
-head_events = Queue Alpha (plan_of (codes "replies") false) ∷ Queue Beta (plan_of (codes "orders") true) ∷ connection_at 1000 ∷ []
+head_events = Queue alpha (plan_of (codes "replies") false) ∷ Queue beta (plan_of (codes "orders") true) ∷ connection_at 1000 ∷ []
 
 -- those of the script of n orders
 abbrev pub events_of : ℕ → List Event

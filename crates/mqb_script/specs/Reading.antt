@@ -4,8 +4,9 @@ use Rattle.mqb_outside.specs.Faults.{Rose}
 use Rattle.mqb_forms.specs.declared.faults.LineKind.{LineKind}
 use Rattle.mqb_script.specs.declared.faults.ScriptFault.{ScriptFault}
 use Rattle.mqb_script.specs.declared.faults.ScriptFault.TheVariants as fault
+use Rattle.mqb_script.specs.declared.grammar.Grammar.{Grammar}
 use Rattle.mqb_script.specs.declared.events.Event.{Event}
-use Rattle.mqb_script.specs.Script.{lines_of, script_from, script_of}
+use Rattle.mqb_script.specs.Script.{lines_of, script_from}
 
 -- the greatest length of a script
 abbrev pub LONGEST : ℕ
@@ -26,37 +27,41 @@ abbrev pub line_count : List ℕ → ℕ
 line_count text = begun (lines_of text)
 
 -- the answer to the bytes that were taken, once they were taken to the end of the input or until there were too many
-abbrev pub Answers : List ℕ → Result (List (ℕ × Event)) ScriptFault → Type 0
-Answers text (Ok events) = (length text ≤ LONGEST) × (line_count text ≤ MOST_LINES) × (script_of text ≡ Ok events)
-Answers text (Err (fault.Line number kind)) = (length text ≤ LONGEST) × (line_count text ≤ MOST_LINES) × (script_of text ≡ Err (number, kind))
-Answers text (Err fault.TooLong) = LONGEST < length text
-Answers text (Err fault.TooManyLines) = (length text ≤ LONGEST) × (MOST_LINES < line_count text)
-Answers text (Err fault.ReadFault) = length text ≤ LONGEST
-Answers text (Err fault.Memory) = length text ≤ LONGEST
+abbrev pub Answers : {T : Type 0} → (List ℕ → Result T (ℕ × LineKind)) → List ℕ → Result T ScriptFault → Type 0
+Answers script_of text (Ok script) = (length text ≤ LONGEST) × (line_count text ≤ MOST_LINES) × (script_of text ≡ Ok script)
+Answers script_of text (Err (fault.Line number kind)) = (length text ≤ LONGEST) × (line_count text ≤ MOST_LINES) × (script_of text ≡ Err (number, kind))
+Answers script_of text (Err fault.TooLong) = LONGEST < length text
+Answers script_of text (Err fault.TooManyLines) = (length text ≤ LONGEST) × (MOST_LINES < line_count text)
+Answers script_of text (Err fault.ReadFault) = length text ≤ LONGEST
+Answers script_of text (Err fault.Memory) = length text ≤ LONGEST
 
 -- the answers for which the input was read to its end
-abbrev pub AtEnd : Option (List ℕ) → Result (List (ℕ × Event)) ScriptFault → Type 0
-AtEnd after (Ok events) = IfSome after (λ rest. rest ≡ [])
+abbrev pub AtEnd : {T : Type 0} → Option (List ℕ) → Result T ScriptFault → Type 0
+AtEnd after (Ok script) = IfSome after (λ rest. rest ≡ [])
 AtEnd after (Err (fault.Line number kind)) = IfSome after (λ rest. rest ≡ [])
 AtEnd after (Err fault.TooManyLines) = IfSome after (λ rest. rest ≡ [])
 AtEnd after (Err _) = Unit {0}
 
--- A script was read from a source that held before and holds after.
-pub record ReadsScript (before after : Option (List ℕ)) (r : Result (List (ℕ × Event)) ScriptFault) : Type 0 where
+-- A script was read from a source that held before and holds after, as this says which texts are scripts.
+pub record ReadsScript {T : Type 0} (script_of : List ℕ → Result T (ℕ × LineKind)) (before after : Option (List ℕ)) (r : Result T ScriptFault) : Type 0 where
   -- what was taken
   pub text : List ℕ
   pub gave : Gave before after text
-  pub answers : Answers text r
+  pub answers : Answers script_of text r
   pub ended : AtEnd after r
 
+-- No text of a script was read, whichever texts are scripts.
+abbrev pub IsUnread : Option (List ℕ) → Option (List ℕ) → ScriptFault → Type 0
+IsUnread before after f = (script_of : List ℕ → Result (Unit {0}) (ℕ × LineKind)) → ReadsScript script_of before after (Err f)
+
 -- only a fault of the source raises its count of faults
-abbrev pub ReadCause : ℕ → ℕ → Result (List (ℕ × Event)) ScriptFault → Type 0
-ReadCause before after (Err fault.ReadFault) = Rose before after
-ReadCause before after (Err (fault.Line number kind)) = after ≡ before
-ReadCause before after (Err fault.TooLong) = after ≡ before
-ReadCause before after (Err fault.TooManyLines) = after ≡ before
-ReadCause before after (Err fault.Memory) = after ≡ before
-ReadCause before after (Ok events) = after ≡ before
+abbrev pub IsCause : ℕ → ℕ → ScriptFault → Type 0
+IsCause before after fault.ReadFault = Rose before after
+IsCause before after _ = after ≡ before
+
+abbrev pub ReadCause : {T : Type 0} → ℕ → ℕ → Result T ScriptFault → Type 0
+ReadCause before after (Ok script) = after ≡ before
+ReadCause before after (Err f) = IsCause before after f
 
 -- All that a source held was taken, and it is no longer than a script may be.
 pub record IsWhole (before after : Option (List ℕ)) (text : List ℕ) : Type 0 where
@@ -76,5 +81,5 @@ in_front events (Ok more) = Ok (events ++ more)
 in_front events (Err first) = Err first
 
 -- Line n was read behind the events of the lines before it.
-abbrev pub ReadsLine : ℕ → List ℕ → List (ℕ × Event) → List (ℕ × Event) → Type 0
-ReadsLine n line before after = (rest : List (List ℕ)) → in_front before (script_from n (line ∷ rest)) ≡ in_front after (script_from (n + 1) rest)
+abbrev pub ReadsLine : Grammar → ℕ → List ℕ → List (ℕ × Event) → List (ℕ × Event) → Type 0
+ReadsLine grammar n line before after = (rest : List (List ℕ)) → in_front before (script_from grammar n (line ∷ rest)) ≡ in_front after (script_from grammar (n + 1) rest)

@@ -1,58 +1,60 @@
-use crate::managers::Which;
 use mqb_base::{Draft, Place, QueuePlan};
 use mqb_forms::Ops;
 use mqb_outside::{Mode, Pick};
 
-/// A line of a script. Moments are seconds since 1970, packets are numbered from 1.
+/// A line of a script. Managers are told by their index, from 0; moments are seconds since 1970, packets are numbered from 1.
 #[derive(Debug, Drop)]
 pub enum Event {
     /// `queue M NAME tx|plain QUOTA journal|none [GUID]`
     Queue {
-        manager: Which,
+        manager: u32,
         plan: QueuePlan,
     },
     /// `commit M NOW OP ..`, one op or more
     Commit {
-        manager: Which,
+        manager: u32,
         now: u32,
         ops: Ops,
     },
     /// `send M NOW express|recoverable PRIORITY SEND`, the priority in the draft
     Send {
-        manager: Which,
+        manager: u32,
         now: u32,
         recoverable: bool,
         draft: Draft,
     },
     /// `take M NOW PLACE`
     Take {
-        manager: Which,
+        manager: u32,
         now: u32,
         place: Place,
     },
     /// `purge M NOW PLACE`
     Purge {
-        manager: Which,
+        manager: u32,
         now: u32,
         place: Place,
     },
     /// `tick M NOW`
     Tick {
-        manager: Which,
+        manager: u32,
         now: u32,
     },
-    /// `connect M NOW WALPHA WBETA`, each window from 1 to 65535
+    /// `connect M NOW WALPHA WBETA` of a pair, `connect M M NOW W W` of a ring; each window from 1 to 65535
     Connect {
-        manager: Which,
+        initiator: u32,
+        acceptor: u32,
         now: u32,
-        alpha_window: u16,
-        beta_window: u16,
+        initiator_window: u16,
+        acceptor_window: u16,
     },
-    /// `disconnect`
-    Disconnect,
+    /// `disconnect` of a pair, `disconnect M` of a ring
+    Disconnect {
+        manager: u32,
+    },
     /// `pump M NOW`
     Pump {
-        manager: Which,
+        manager: u32,
         now: u32,
     },
     /// `deliver K NOW`
@@ -66,31 +68,31 @@ pub enum Event {
     },
     /// `flow M NOW`
     Flow {
-        manager: Which,
+        manager: u32,
         now: u32,
     },
     /// `resend M`
     Resend {
-        manager: Which,
+        manager: u32,
     },
     /// `arm M CALL stop|fail`, the call from 1 to 1000
     Arm {
-        manager: Which,
+        manager: u32,
         call: u32,
         mode: Mode,
     },
     /// `restart M old|new|half|ones`
     Restart {
-        manager: Which,
+        manager: u32,
         pick: Pick,
     },
     /// `roll M COUNT`, the count from 1 to 65535
     Roll {
-        manager: Which,
+        manager: u32,
         count: u32,
     },
     /// `checkpoint M`
     Checkpoint {
-        manager: Which,
+        manager: u32,
     },
 }

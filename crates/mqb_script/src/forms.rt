@@ -3,6 +3,7 @@ ghost use Rattle.std.specs.Option.{option_copied};
 ghost use Rattle.mqb_base.specs.Same.{same_bytes};
 ghost use Rattle.mqb_script.specs.Forms.{form_among, form_of, word_of, has_count};
 
+use crate::grammar::Grammar;
 use mqb_forms::{LineKind, is_word};
 
 /// The form of a line, which its first word tells.
@@ -73,19 +74,19 @@ impl Form {
     }
 
     /// Whether so many words may stand behind the first one.
-    pub(crate) fn has_count(self, count: usize) -> bool
-        ensures { result ≡ has_count self count }
+    pub(crate) fn has_count(self, grammar: Grammar, count: usize) -> bool
+        ensures { result ≡ has_count grammar self count }
     {
         match self {
             Form::Queue => count == 5 || count == 6,
             Form::Commit => count >= 3,
             Form::Send => count == 5,
-            Form::Connect => count == 4,
+            Form::Connect => count == 4 + grammar.more_words(),
             Form::Take | Form::Purge | Form::Arm => count == 3,
             Form::Tick | Form::Pump | Form::Deliver | Form::Flow | Form::Restart | Form::Roll =>
                 count == 2,
             Form::Drop | Form::Resend | Form::Checkpoint => count == 1,
-            Form::Disconnect => count == 0,
+            Form::Disconnect => count == grammar.more_words(),
         }
     }
 }

@@ -1,8 +1,5 @@
 ghost use Rattle.std.specs.Prelude.{◌≡◌};
-ghost use Rattle.mqb_forms.specs.declared.faults.LineKind.TheVariants.{Value};
-ghost use Rattle.mqb_script.specs.Managers.{host_of, other, manager_of};
-
-use mqb_forms::{LineKind, is_word};
+ghost use Rattle.mqb_script.specs.Managers.{host_of, index_of, other, which_at};
 
 /// One of the two managers of a replay.
 #[derive(Clone, Copy, Debug, PartialEq, Eq)]
@@ -22,6 +19,27 @@ impl Which {
         }
     }
 
+    /// Its index, by which the events of a script name it.
+    pub fn index(self) -> u32
+        ensures { result ≡ index_of self }
+    {
+        match self {
+            Which::Alpha => 0,
+            Which::Beta => 1,
+        }
+    }
+
+    /// The manager of an index.
+    pub fn at(index: u32) -> Which
+        ensures { result ≡ which_at index }
+    {
+        if index == 0 {
+            Which::Alpha
+        } else {
+            Which::Beta
+        }
+    }
+
     /// The manager that this one is connected with.
     pub fn other(self) -> Which
         ensures { result ≡ other self }
@@ -31,17 +49,4 @@ impl Which {
             Which::Beta => Which::Alpha,
         }
     }
-}
-
-#[tactic(auto, unfolding(crate::specs::Managers::manager_of))]
-pub(crate) fn manager_of(word: &[u8]) -> Result<Which, LineKind>
-    ensures { result ≡ manager_of word.now }
-{
-    if is_word(word, Which::Alpha.host()) {
-        return Ok(Which::Alpha);
-    }
-    if is_word(word, Which::Beta.host()) {
-        return Ok(Which::Beta);
-    }
-    Err(LineKind::Value)
 }

@@ -1,12 +1,14 @@
-ghost use Rattle.std.specs.Prelude.{◌≡◌, ◌==◌, ◌≤◌, ◌++◌, ◌∷◌, [], false, length, Ok, Err, IfOk, IfErr, OnOk, OnErr};
+ghost use Rattle.mqb_script.specs.declared.grammar.Grammar.TheVariants.{Pair};
+ghost use Rattle.std.specs.Prelude.{◌≡◌, ◌+◌, map, ◌==◌, ◌≤◌, ◌++◌, ◌∷◌, [], false, length, Ok, Err, IfOk, IfErr, OnOk, OnErr};
 ghost use Rattle.std.specs.List.{AllByRecursion, count_by};
 ghost use Rattle.mqb_script.specs.Lines.{is_skipped, event_of};
-ghost use Rattle.mqb_script.specs.Script.{numbered, script_of};
-ghost use Rattle.mqb_script.specs.Reading.{LONGEST, MOST_LINES, line_count, ReadsScript, ReadCause, ReadsLine, IsScriptFault, IsWhole};
+ghost use Rattle.mqb_script.specs.Script.{numbered, script_from, script_of};
+ghost use Rattle.mqb_script.specs.Reading.{LONGEST, MOST_LINES, line_count, ReadsScript, IsUnread, IsCause, ReadCause, ReadsLine, IsScriptFault, IsWhole};
 ghost use Rattle.mqb_script.specs.Formed.{IsFormed};
 
 use crate::events::Event;
 use crate::faults::{ScriptFault, at_line};
+use crate::grammar::Grammar;
 use crate::lines::{add_event, is_skipped};
 use mqb_base::Memory;
 use mqb_forms::parts;
@@ -47,15 +49,21 @@ impl Script {
 
     /// Adds the event of a line, where it is not one that is skipped.
     #[tactic(auto, using(crate::proofs::Faulty::at_line_fault))]
-    fn read_line(&mut self, alloc: Global, number: u32, line: &[u8]) -> Result<(), ScriptFault>
-        ensures line { OnOk result (ReadsLine number line.now self.old self.new) }
+    fn read_line(
+        &mut self,
+        grammar: Grammar,
+        alloc: Global,
+        number: u32,
+        line: &[u8],
+    ) -> Result<(), ScriptFault>
+        ensures line { OnOk result (ReadsLine grammar number line.now self.old self.new) }
         ensures kept { IfErr result (λ _. is_skipped line.now ≡ false) }
-        ensures fault { IfErr result (IsScriptFault (numbered number (event_of line.now))) }
+        ensures fault { IfErr result (IsScriptFault (numbered number (event_of grammar line.now))) }
     {
         if is_skipped(line) {
             return Ok(());
         }
-        add_event(self, alloc, number, line).map_err(|fault| at_line(number, fault))
+        add_event(self, grammar, alloc, number, line).map_err(|fault| at_line(number, fault))
     }
 }
 
@@ -68,11 +76,9 @@ const MAX_LINES: usize = 200_000;
 /// Takes all bytes of a source, up to the longest script.
 fn read_all<S: Source>(alloc: Global, source: &mut S) -> Result<Vec<u8>, ScriptFault>
     ensures whole { IfOk result (λ t. IsWhole (S.held source.old) (S.held source.new) t.items) }
-    ensures fault { IfErr result (λ fault. ReadsScript (S.held source.old) (S.held source.new)
-        (Err fault)) }
+    ensures fault { IfErr result (IsUnread (S.held source.old) (S.held source.new)) }
     ensures quiet { OnOk result (S.read_faults source.new ≡ S.read_faults source.old) }
-    ensures cause { IfErr result (λ fault. ReadCause (S.read_faults source.old)
-        (S.read_faults source.new) (Err fault)) }
+    ensures cause { IfErr result (IsCause (S.read_faults source.old) (S.read_faults source.new)) }
 {
     let mut text = Vec::new(alloc);
     let mut buffer = [0; 4096];
@@ -108,34 +114,63 @@ fn line_count(text: &[u8]) -> usize
     line_feeds(front) + 1
 }
 
+/// The script that these lines are, whose numbers go on behind this one, or the first of them that fails.
+pub(crate) fn script_from(
+    grammar: Grammar,
+    alloc: Global,
+    before: u32,
+    lines: &[&[u8]],
+) -> Result<Script, ScriptFault>
+    requires { before + length lines.now ≤ LONGEST + 1 }
+    ensures script { IfOk result (λ script. script_from grammar (before + 1)
+        (map (λ line. line.now) lines.now) ≡ Ok script) }
+    ensures fault { IfErr result (IsScriptFault (script_from grammar (before + 1)
+        (map (λ line. line.now) lines.now))) }
+{
+    let mut script = Script {
+        events: Vec::new(alloc),
+    };
+    let mut number = before;
+    for line in lines {
+        number += 1;
+        script.read_line(grammar, alloc, number, line)?;
+    }
+    Ok(script)
+}
+
 /// The script that a text is, or the first of its lines that fails.
 fn script_of(alloc: Global, text: &[u8]) -> Result<Script, ScriptFault>
     requires { length text.now ≤ LONGEST }
     ensures script { IfOk result (λ script. script_of text.now ≡ Ok script) }
     ensures fault { IfErr result (IsScriptFault (script_of text.now)) }
 {
-    let mut script = Script {
-        events: Vec::new(alloc),
-    };
-    let mut number = 0;
     let lines = parts(alloc, text, b'\n')?;
-    for line in &lines {
-        number += 1;
-        script.read_line(alloc, number, line)?;
-    }
-    Ok(script)
+    script_from(Grammar::Pair, alloc, 0, lines.as_slice())
 }
 
-/// Reads a script whole. Its lines are looked at only once the input was read to its end, and they are counted first.
-pub fn read_script<S: Source>(alloc: Global, source: &mut S) -> Result<Script, ScriptFault>
-    ensures reads { ReadsScript (S.held source.old) (S.held source.new) result }
-    ensures formed { IfOk result (λ script. AllByRecursion (λ e. IsFormed e.1) script) }
-    ensures few { IfOk result (λ script. length script ≤ MOST_LINES) }
-    ensures cause { ReadCause (S.read_faults source.old) (S.read_faults source.new) result }
+/// The text of a script, which was read to its end and is within the limits.
+pub(crate) fn read_text<S: Source>(alloc: Global, source: &mut S) -> Result<Vec<u8>, ScriptFault>
+    ensures whole { IfOk result (λ t. IsWhole (S.held source.old) (S.held source.new) t.items) }
+    ensures few { IfOk result (λ t. line_count t.items ≤ MOST_LINES) }
+    ensures fault { IfErr result (IsUnread (S.held source.old) (S.held source.new)) }
+    ensures quiet { OnOk result (S.read_faults source.new ≡ S.read_faults source.old) }
+    ensures cause { IfErr result (IsCause (S.read_faults source.old) (S.read_faults source.new)) }
 {
     let text = read_all(alloc, source)?;
     if line_count(text.as_slice()) > MAX_LINES {
         return Err(ScriptFault::TooManyLines);
     }
+    Ok(text)
+}
+
+/// Reads a script of a pair whole. Its lines are looked at only once the input was read to its end, and they are counted first.
+#[tactic(auto, using(crate::proofs::Unread::unread))]
+pub fn read_script<S: Source>(alloc: Global, source: &mut S) -> Result<Script, ScriptFault>
+    ensures reads { ReadsScript script_of (S.held source.old) (S.held source.new) result }
+    ensures formed { IfOk result (λ script. AllByRecursion (λ e. IsFormed Pair e.1) script) }
+    ensures few { IfOk result (λ script. length script ≤ MOST_LINES) }
+    ensures cause { ReadCause (S.read_faults source.old) (S.read_faults source.new) result }
+{
+    let text = read_text(alloc, source)?;
     script_of(alloc, text.as_slice())
 }
