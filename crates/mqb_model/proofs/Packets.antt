@@ -7,14 +7,17 @@ use Rattle.std.specs.Result.{result_ok}
 use Rattle.mqb_entries.specs.Formats.{IsBytes}
 use Rattle.mqb_packet.specs.mqb_heads.declared.base.TheConstants.{MAX_PACKET}
 use Rattle.mqb_packet.specs.Parts.{packet_of}
-use Rattle.mqb_packet.specs.Plain.{IsWellFormedUser, packet_size, session_size, tx_size}
+use Rattle.mqb_packet.specs.Plain.{IsWellFormedUser, message_size, packet_size, session_size, tx_size}
 use Rattle.mqb_packet.specs.Spelled.{Spells, packet_in}
 use Rattle.mqb_packet.specs.Values.{IsUserPacket}
+use Rattle.mqb_base.specs.declared.message.Message.{Message}
+use Rattle.mqb_packet.specs.declared.packet.Headers.TheVariants as headers
 use Rattle.mqb_packet.specs.declared.packet.Packet.{Packet}
 use Rattle.mqb_packet.specs.declared.packet.Packet.TheVariants as packet
 use Rattle.mqb_packet.specs.declared.packet.UserPacket.{UserPacket}
 use Rattle.mqb_packet.specs.ReadPackets.{IsReadOf}
 use Rattle.mqb_model.specs.records.Carrying.{IsRecorded}
+use Rattle.mqb_model.specs.records.Packets.{is_too_large}
 use Rattle.mqb_model.specs.records.Reading.{as_user, user_packet_of}
 
 pub then_some : {X Y : Type 0} (f : X → Option Y) (o : Option X) (y : Y) → option_and_then f o ≡ Some y → (x : X) × (o ≡ Some x) × (f x ≡ Some y)
@@ -61,3 +64,7 @@ packet_is_read are bytes p small e =
       named = record { destination = message.destination; admin = message.admin; response = message.response };
       size = bare_is_small _ _ (tx_size p.tx) _ (session_size p.session) (length bytes) MAX_PACKET (are.size bytes p read) (are.fits bytes p read);
     }
+
+-- where the packet that tells of a message may be written, so may it be without further headers
+pub bare_is_not_large : (m : Message) → message_size headers.Bare m ≤ MAX_PACKET → is_too_large headers.Bare m ≡ false
+bare_is_not_large m small = grind (arith, nat_tests)

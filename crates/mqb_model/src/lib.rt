@@ -29,7 +29,7 @@ pub use limits::{
     FIRST_EXPRESS, MAX_EXPRESS, MAX_NUMBER, MAX_OPS, MAX_ORDINAL, MAX_PACKETS, MAX_PEERS,
     MAX_PUMP_BYTES, MAX_QUEUES, MAX_RECORD, MAX_RELEASED, MAX_ROLL,
 };
-pub use record_laws::{entries_are_read, packets_are_read};
+pub use record_laws::{entries_are_read, packets_are_read, told_is_read};
 pub use runs::{
     one_expires, one_is_committed, one_is_dropped, one_is_express, one_is_in_doubt, one_is_put,
     one_is_refused, one_is_released, one_is_taken, one_is_unseen, one_rolls,
