@@ -1,15 +1,14 @@
 -- Two rounds bring everything over: behind the first one only notices wait, and what is heard in the second one brings none.
-use Rattle.std.proofs.Common.{◌≡◌, ℕ, ◌+◌, ◌<◌, ◌≤◌, ◌⊎◌, inl, inr, Bool, true, false, nat_lt, List, [], ◌∷◌, Option, Some, None, refl, sym, ap, subst, ◌∙◌, arith}
+use Rattle.std.proofs.Common.{◌≡◌, ℕ, ◌+◌, ◌<◌, ◌≤◌, ◌⊎◌, inl, inr, Bool, true, false, nat_lt, List, [], ◌∷◌, Option, Some, refl, sym, ap, subst, ◌∙◌, arith}
 use Rattle.std.proofs.lemmas.Bool.Decides.{nat_tests}
 use Rattle.std.specs.List.{AllByRecursion, flat_map, range_with_len}
-use Rattle.std.specs.Prelude.{All, length, map, slice_get, unwrap_or}
+use Rattle.std.specs.Prelude.{length, map, unwrap_or}
 use Rattle.mqb_base.specs.declared.ids.Identity.{Identity}
 use Rattle.mqb_base.specs.declared.message.Message.{Message}
 use Rattle.mqb_exactly_once.specs.Words.{In}
 use Rattle.mqb_fate.specs.Asking.{is_ordinary}
 use Rattle.mqb_history.specs.Drafted.{AlwaysValid, AreInOrder}
 use Rattle.mqb_history.specs.Laws.{HistoriesAreOrderly, RunsHaveHistories}
-use Rattle.mqb_history.specs.Orderly.{IsOrderly}
 use Rattle.mqb_model.specs.managers.Manager.{Manager, is_down, unlinked}
 use Rattle.mqb_model.specs.managers.Readers.{is_outstanding_to}
 use Rattle.mqb_model.specs.state.Resolving.{peer_known}
@@ -24,7 +23,7 @@ use Rattle.mqb_law_meetings.specs.Recovery.{AreStamped}
 use Rattle.mqb_law_meetings.specs.Rounds.{AllRecover, all_met, behind_round, pairs, round, work_of_all}
 use Rattle.mqb_law_meetings.specs.Work.{state_work}
 use Rattle.mqb_law_meetings.proofs.Knowing.{partners}
-use Rattle.mqb_law_meetings.proofs.Lacking.{BringsNone, IsOfOrdinary, Lacks, Lessens, of_ordinary, stays}
+use Rattle.mqb_law_meetings.proofs.Lacking.{BringsNone, IsOfOrdinary, Lacks, of_ordinary, stays}
 use Rattle.mqb_law_meetings.proofs.Lists.{within_get}
 use Rattle.mqb_law_meetings.proofs.Meeting.{ArePartners}
 use Rattle.mqb_law_meetings.proofs.Members.{all_there}
@@ -37,7 +36,7 @@ use Rattle.mqb_law_meetings.proofs.Running.{AlwaysAccord, Facts, InRun, facts_of
 use Rattle.mqb_law_meetings.proofs.Sides.{HearsAll}
 use Rattle.mqb_law_meetings.proofs.Starting.{all_have, parted_alone, started_alone}
 use Rattle.mqb_law_meetings.proofs.Totals.{two_changed, two_within}
-use Rattle.mqb_law_meetings.proofs.Turns.{IsWithoutExpress, credit}
+use Rattle.mqb_law_meetings.proofs.Turns.{IsWithoutExpress}
 use Rattle.mqb_law_meetings.proofs.Vain.{has_is}
 
 module _ (known : List Identity) (order : AreInOrder known) (hears : HearsAll) (fact : (c : Course) → InRun known c → Facts known c) (now : ℕ) where
@@ -87,10 +86,13 @@ module _ (known : List Identity) (order : AreInOrder known) (hears : HearsAll) (
       lessen = met.lessen test (brought brings).0 (brought brings).1;
       notices = met.lessen is_ordinary (inr of_ordinary) (inr of_ordinary);
       fewer = fewer;
-      clear = (record {
-        there = λ k knows. drained_lacks test (manager_at z.network a).state k (none_there k knows);
-        back = λ k knows. drained_lacks test (manager_at z.network b).state k (none_back k knows);
-      }, tt);
+      clear = (
+        record {
+          there = λ k knows. drained_lacks test (manager_at z.network a).state k (none_there k knows);
+          back = λ k knows. drained_lacks test (manager_at z.network b).state k (none_back k knows);
+        },
+        tt,
+      );
     }
       where
         a : ℕ

@@ -1,5 +1,5 @@
 -- Neither a pump nor a packet that is heard brings what a manager lacks, but for notices about what is heard.
-use Rattle.std.proofs.Common.{◌≡◌, ℕ, ◌⊎◌, ◌==◌, ◌&&◌, Bool, true, false, cond, not, List, [], ◌∷◌, Option, Some, None, refl, sym, ap, subst, ◌∙◌}
+use Rattle.std.proofs.Common.{◌≡◌, ℕ, ◌⊎◌, ◌==◌, ◌&&◌, Bool, true, false, cond, not, List, [], ◌∷◌, Option, Some, None, refl}
 use Rattle.std.specs.List.{list_any}
 use Rattle.std.specs.Option.{option_map_or}
 use Rattle.std.specs.Prelude.{Err, Ok, fold, is_none, length, map, slice_get}
@@ -14,12 +14,12 @@ use Rattle.mqb_base.specs.declared.message.Message.{Message}
 use Rattle.mqb_fate.specs.Asking.{is_ordinary}
 use Rattle.mqb_fate.specs.declared.orders.OrderAck.{OrderAck}
 use Rattle.mqb_model.specs.calls.hear.Hear.{hear, hear_acknowledgement, hear_behind, hear_linked, hear_refusal, hear_user, listening}
-use Rattle.mqb_model.specs.calls.hear.Plain.{express_answer, hear_arriving, hear_express, hear_final, hear_in_order, hear_message, hear_plain, hear_recoverable, hear_stored, stored_answer}
+use Rattle.mqb_model.specs.calls.hear.Plain.{hear_arriving, hear_express, hear_final, hear_message, hear_plain, hear_recoverable, hear_stored, stored_answer}
 use Rattle.mqb_model.specs.calls.hear.Session.{HeardOutcome, Listening, ack_heard, arrival_entry, discarded, heard_as, numbers_released, peer_heard, user_heard}
-use Rattle.mqb_model.specs.calls.hear.Streams.{acknowledged_in, decided_answer, duplicate_heard, has_sequence, hear_duplicate, hear_in_stream, hear_order_ack, index_for, judged, order_acked, owing, raises}
+use Rattle.mqb_model.specs.calls.hear.Streams.{acknowledged_in, decided_answer, duplicate_heard, has_sequence, hear_in_stream, hear_order_ack, index_for, judged, order_acked, owing, raises}
 use Rattle.mqb_model.specs.calls.pump.Candidates.{Candidate, candidates}
 use Rattle.mqb_model.specs.calls.pump.Choosing.{chosen, with_heads}
-use Rattle.mqb_model.specs.calls.pump.Pump.{PumpOutcome, marks_for, offered_entry, origin_of, pump, pump_at, pump_linked, pump_owed, pump_ready, pump_refusal, pump_to, pump_with, sending_all, sending_chosen, sending_one}
+use Rattle.mqb_model.specs.calls.pump.Pump.{PumpOutcome, marks_for, offered_entry, origin_of, pump, pump_at, pump_linked, pump_owed, pump_ready, pump_refusal, pump_to, sending_all, sending_chosen, sending_one}
 use Rattle.mqb_model.specs.declared.faults.HearFault.{HearFault}
 use Rattle.mqb_model.specs.declared.faults.HearFault.TheVariants as hear_fault
 use Rattle.mqb_model.specs.declared.faults.PumpFault.{PumpFault}

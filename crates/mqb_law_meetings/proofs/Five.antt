@@ -145,11 +145,12 @@ module _ (known : List Identity) (hears : HearsAll) (fact : (c : Course) → InR
         let c4 = m4.lessens test b3 in
         let o4 = m4.lessens is_ordinary (inr of_ordinary) in
         let a4 = brings_still test m3.sender.state m4.hearer.state k o4.1 a3 in
-        let c5 = m5.lessens test a4 in
-        (then test x.state m1.sender.state m5.sender.state c1.0 (then test m1.sender.state m2.hearer.state m5.sender.state c2.1 (then test m2.hearer.state m3.sender.state m5.sender.state c3.0
-        (then test m3.sender.state m4.hearer.state m5.sender.state c4.1 c5.0))),
-        then test y.state m1.hearer.state m5.hearer.state c1.1 (then test m1.hearer.state m2.sender.state m5.hearer.state c2.0 (then test m2.sender.state m3.hearer.state m5.hearer.state c3.1
-        (then test m3.hearer.state m4.sender.state m5.hearer.state c4.0 c5.1))))
+        let c5 = m5.lessens test a4 in (
+          then test x.state m1.sender.state m5.sender.state c1.0 (then test m1.sender.state m2.hearer.state m5.sender.state c2.1 (then test m2.hearer.state m3.sender.state m5.sender.state c3.0
+              (then test m3.sender.state m4.hearer.state m5.sender.state c4.1 c5.0))),
+          then test y.state m1.hearer.state m5.hearer.state c1.1 (then test m1.hearer.state m2.sender.state m5.hearer.state c2.0 (then test m2.sender.state m3.hearer.state m5.hearer.state c3.1
+              (then test m3.hearer.state m4.sender.state m5.hearer.state c4.0 c5.1))),
+        )
 
     -- and other managers stay
     pub all_others : (v : ℕ) → (a ≡ v → ⊥) → (b ≡ v → ⊥) → manager_at z6.network v ≡ manager_at z1.network v

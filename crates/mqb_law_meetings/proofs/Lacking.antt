@@ -1,5 +1,5 @@
 -- What a manager lacks for a peer it lacks behind whatever it sends and hears, but for notices about what it hears.
-use Rattle.std.proofs.Common.{◌≡◌, ℕ, zero, suc, ◌+◌, ◌≤◌, ◌⊎◌, inl, inr, ◌==◌, ◌&&◌, ◌||◌, Bool, true, false, cond, max, not, nat_le, nat_lt, List, [], ◌∷◌, ◌++◌, Option, Some, None, refl, sym, ap, subst, ◌∙◌, arith}
+use Rattle.std.proofs.Common.{◌≡◌, ℕ, zero, suc, ◌≤◌, ◌⊎◌, inl, inr, ◌==◌, ◌&&◌, ◌||◌, Bool, true, false, cond, max, not, nat_lt, List, [], ◌∷◌, Option, Some, None, refl, sym, ap, subst, ◌∙◌, arith}
 use Rattle.std.proofs.lemmas.Bool.{and_parts, true≢false}
 use Rattle.std.proofs.lemmas.Bool.Decides.{nat_tests}
 use Rattle.std.specs.List.{AllByRecursion, list_any}
@@ -16,7 +16,6 @@ use Rattle.mqb_base.specs.declared.ids.Identity.{Identity}
 use Rattle.mqb_base.specs.declared.ids.MessageId.{MessageId}
 use Rattle.mqb_base.specs.declared.message.Delivery.{Delivery}
 use Rattle.mqb_base.specs.declared.message.Delivery.TheVariants as delivery
-use Rattle.mqb_base.specs.declared.message.Lane.{Lane}
 use Rattle.mqb_base.specs.declared.message.Lane.TheVariants as lane
 use Rattle.mqb_base.specs.declared.message.Message.{Message}
 use Rattle.mqb_base.specs.declared.queue_names.QueueName.{QueueName}
@@ -26,7 +25,6 @@ use Rattle.mqb_fate.specs.Asking.{asks_for, final_is_due, is_ordinary, is_transa
 use Rattle.mqb_fate.specs.Notices.{admin_delivery, notice_about}
 use Rattle.mqb_fate.specs.Orders.{order_layer}
 use Rattle.mqb_model.specs.Lists.{with_changed, with_first_changed, without_first}
-use Rattle.mqb_model.specs.declared.limits.TheConstants.{MAX_NUMBER}
 use Rattle.mqb_model.specs.declared.target.Target.{Target}
 use Rattle.mqb_model.specs.declared.target.Target.TheVariants.{AtPeer, Here, Nowhere}
 use Rattle.mqb_model.specs.managers.Beside.{all_unmarked}
@@ -35,7 +33,7 @@ use Rattle.mqb_model.specs.records.Arrived.{part_made}
 use Rattle.mqb_model.specs.records.Decisions.{message_decided, with_decided}
 use Rattle.mqb_model.specs.records.Finals.{dead_for, final_stored, finished_at, finished_by, finished_row, index_finished, is_offered_as, kept_named, with_finished}
 use Rattle.mqb_model.specs.records.Record.{Decided, Final, Nothing, OrderAcknowledged, Part, Stored}
-use Rattle.mqb_model.specs.records.Releases.{has_recoverable, is_released_by, message_released, releases_made, without_recoverable}
+use Rattle.mqb_model.specs.records.Releases.{has_recoverable, is_released_by, message_released, without_recoverable}
 use Rattle.mqb_model.specs.rules.Arrivals.{refusal_of, storing_refusal}
 use Rattle.mqb_model.specs.rules.Effects.{Effect, joined}
 use Rattle.mqb_model.specs.rules.Notices.{admin_told, arrived, buried, dead_place, final_told, final_told_at, may_go, meets, told}
@@ -130,10 +128,12 @@ module _ (test : Message → Bool) where
   -- States of which the one lacks what the other one lacks.
 
   pub lessens_same : (s t : State) → t.plain ≡ s.plain → t.outs ≡ s.outs → Lessens test s t
-  lessens_same s t plain outs = record { lacks = λ k h. record {
-    plain = subst (λ (ps : List PlainLists). IfSome (slice_get ps k) (HasNone test)) (sym plain) h.plain;
-    rows = subst (λ (rows : List Row). AllByRecursion (λ row. awaits k row ≡ false) rows) (sym outs) h.rows;
-  } }
+  lessens_same s t plain outs = record {
+    lacks = λ k h. record {
+      plain = subst (λ (ps : List PlainLists). IfSome (slice_get ps k) (HasNone test)) (sym plain) h.plain;
+      rows = subst (λ (rows : List Row). AllByRecursion (λ row. awaits k row ≡ false) rows) (sym outs) h.rows;
+    };
+  }
 
   pub stays : (s : State) → Lessens test s s
   stays s = record { lacks = λ k h. h }
@@ -143,16 +143,20 @@ module _ (test : Message → Bool) where
 
   pub plain_lessens : (change : PlainLists → PlainLists) → ((p : PlainLists) → HasNone test p → HasNone test (change p)) → (s t : State) (i : ℕ) → t.plain ≡ with_changed change s.plain i → t.outs ≡ s.outs
       → Lessens test s t
-  plain_lessens change keeps s t i plain outs = record { lacks = λ k h. record {
-    plain = subst (λ (ps : List PlainLists). IfSome (slice_get ps k) (HasNone test)) (sym plain) (changed_if (HasNone test) change keeps s.plain i k h.plain);
-    rows = subst (λ (rows : List Row). AllByRecursion (λ row. awaits k row ≡ false) rows) (sym outs) h.rows;
-  } }
+  plain_lessens change keeps s t i plain outs = record {
+    lacks = λ k h. record {
+      plain = subst (λ (ps : List PlainLists). IfSome (slice_get ps k) (HasNone test)) (sym plain) (changed_if (HasNone test) change keeps s.plain i k h.plain);
+      rows = subst (λ (rows : List Row). AllByRecursion (λ row. awaits k row ≡ false) rows) (sym outs) h.rows;
+    };
+  }
 
   pub row_lessens : (change : Row → Row) → ((k : ℕ) (row : Row) → awaits k row ≡ false → awaits k (change row) ≡ false) → (s : State) (ordinal : ℕ) → Lessens test s (with_row change s ordinal)
-  row_lessens change keeps s ordinal = record { lacks = λ k h. record {
-    plain = h.plain;
-    rows = first_changed_all (λ row. awaits k row ≡ false) change (has_ordinal ordinal) (keeps k) s.outs h.rows;
-  } }
+  row_lessens change keeps s ordinal = record {
+    lacks = λ k h. record {
+      plain = h.plain;
+      rows = first_changed_all (λ row. awaits k row ≡ false) change (has_ordinal ordinal) (keeps k) s.outs h.rows;
+    };
+  }
 
   -- What is acknowledged of a row.
 
@@ -235,11 +239,13 @@ module _ (test : Message → Bool) where
   pub released_lessens : (e : Effect) (numbers : List ℕ) → Lessens test e.state (fold message_released e numbers).state
   released_lessens e [] = stays e.state
   released_lessens e (n ∷ numbers) = then e.state (message_released e n).state (fold message_released e (n ∷ numbers)).state
-      (record { lacks = λ k h. record {
-        plain = first_changed_if (HasNone test) (without_recoverable e.state n) (has_recoverable e.state n)
-            (λ p none. all_without (λ (o : Outgoing). test o.message ≡ false) (is_released_by e.state n) p.recoverable none) e.state.plain k h.plain;
-        rows = h.rows;
-      } })
+      (record {
+        lacks = λ k h. record {
+          plain = first_changed_if (HasNone test) (without_recoverable e.state n) (has_recoverable e.state n)
+              (λ p none. all_without (λ (o : Outgoing). test o.message ≡ false) (is_released_by e.state n) p.recoverable none) e.state.plain k h.plain;
+          rows = h.rows;
+        };
+      })
       (released_lessens (message_released e n) numbers)
 
   -- Notices.

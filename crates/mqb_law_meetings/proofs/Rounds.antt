@@ -1,49 +1,42 @@
 -- Two rounds bring everything over: behind the first only notices wait, and what is heard in the second one brings none.
-use Rattle.std.proofs.Common.{◌≡◌, ℕ, zero, suc, ◌+◌, ◌<◌, ◌≤◌, ◌⊎◌, inl, inr, ◌==◌, ◌||◌, Bool, true, false, not, ◌++◌, List, [], ◌∷◌, Option, Some, None, refl, sym, ap, subst, ◌∙◌, arith}
+use Rattle.std.proofs.Common.{◌≡◌, ℕ, zero, suc, ◌+◌, ◌<◌, ◌≤◌, ◌⊎◌, inl, inr, ◌==◌, ◌||◌, Bool, true, false, not, List, [], ◌∷◌, Option, Some, None, refl, sym, ap, subst, ◌∙◌, arith}
 use Rattle.std.proofs.lemmas.Bool.{true≢false}
 use Rattle.std.proofs.lemmas.Bool.Decides.{nat_tests}
-use Rattle.std.proofs.lemmas.List.{map-append}
-use Rattle.std.specs.List.{AllByRecursion, flat_map, list_any, range_with_len}
+use Rattle.std.specs.List.{AllByRecursion, list_any}
 use Rattle.std.specs.Option.{option_map_or}
-use Rattle.std.specs.Prelude.{All, IfSome, length, map, slice_get}
+use Rattle.std.specs.Prelude.{IfSome, length, map, slice_get}
 use Rattle.mqb_base.specs.declared.ids.Identity.{Identity}
 use Rattle.mqb_base.specs.declared.message.Message.{Message}
-use Rattle.mqb_exactly_once.specs.Words.{In}
 use Rattle.mqb_fate.specs.Asking.{is_ordinary}
-use Rattle.mqb_history.specs.Drafted.{AlwaysValid, AreInOrder}
-use Rattle.mqb_history.specs.Laws.{HistoriesAreOrderly, RunsHaveHistories}
-use Rattle.mqb_model.specs.Lists.{first_where}
-use Rattle.mqb_model.specs.managers.Manager.{Manager, is_down, unlinked}
+use Rattle.mqb_history.specs.Drafted.{AreInOrder}
+use Rattle.mqb_model.specs.managers.Manager.{Manager, unlinked}
 use Rattle.mqb_model.specs.managers.Readers.{awaits, has_plain, is_outstanding_to}
 use Rattle.mqb_model.specs.state.Resolving.{peer_known}
 use Rattle.mqb_model.specs.state.State.{State}
 use Rattle.mqb_network.specs.Courses.{Course}
 use Rattle.mqb_network.specs.Network.{manager_at}
-use Rattle.mqb_network.specs.Runs.{Move, after_run, course_after}
+use Rattle.mqb_network.specs.Runs.{course_after}
 use Rattle.mqb_network.specs.Scripts.{well}
 use Rattle.mqb_orders.specs.Rows.{Row}
 use Rattle.mqb_plain.specs.Plain.{PlainLists, count}
 use Rattle.mqb_plain.specs.declared.outgoing.Outgoing.{Outgoing}
-use Rattle.mqb_law_meetings.specs.Drained.{IsAlone, IsDrained, has_for}
+use Rattle.mqb_law_meetings.specs.Drained.{IsAlone, IsDrained}
 use Rattle.mqb_law_meetings.specs.Meetings.{meeting, meetings}
 use Rattle.mqb_law_meetings.specs.Recovery.{AreStamped}
-use Rattle.mqb_law_meetings.specs.Rounds.{AllRecover, AllStart, behind_round, pairs, round, work_of_all}
 use Rattle.mqb_law_meetings.specs.Work.{state_work}
 use Rattle.mqb_law_meetings.proofs.Bounds.{none_first}
 use Rattle.mqb_law_meetings.proofs.Knowing.{partners}
-use Rattle.mqb_law_meetings.proofs.Lacking.{BringsNone, HasNone, IsOfOrdinary, Lacks, Lessens, brings_still, of_ordinary, parted_lessens, stays, then}
+use Rattle.mqb_law_meetings.proofs.Lacking.{BringsNone, HasNone, Lacks, Lessens, brings_still, of_ordinary, parted_lessens, stays, then}
 use Rattle.mqb_law_meetings.proofs.Lists.{apart_numbers, equal_numbers}
 use Rattle.mqb_law_meetings.proofs.Meeting.{ArePartners}
-use Rattle.mqb_law_meetings.proofs.Meets.{Meets, parted_express, parted_work}
-use Rattle.mqb_law_meetings.proofs.Members.{all_parts, all_there}
+use Rattle.mqb_law_meetings.proofs.Meets.{parted_express, parted_work}
+use Rattle.mqb_law_meetings.proofs.Members.{all_there}
 use Rattle.mqb_law_meetings.proofs.Recovering as pair
 use Rattle.mqb_law_meetings.proofs.Recovering.{AreReady, knows_still}
-use Rattle.mqb_law_meetings.proofs.Running.{AlwaysAccord, Facts, InRun, after_append, facts_of, run_on}
+use Rattle.mqb_law_meetings.proofs.Running.{Facts, InRun}
 use Rattle.mqb_law_meetings.proofs.Sides.{HearsAll}
-use Rattle.mqb_law_meetings.proofs.Starting.{all_have, parted_alone, started_alone}
-use Rattle.mqb_law_meetings.proofs.Totals.{two_changed, two_within}
 use Rattle.mqb_law_meetings.proofs.Turns.{IsWithoutExpress, credit, row_credit}
-use Rattle.mqb_law_meetings.proofs.Vain.{IsVain, has_is, parted_state, vain_meeting}
+use Rattle.mqb_law_meetings.proofs.Vain.{parted_state, vain_meeting}
 
 -- What a manager has for a peer, and what it lacks.
 
@@ -208,12 +201,12 @@ module _ (known : List Identity) (order : AreInOrder known) (hears : HearsAll) (
               let of_a : (manager_at z.network a).state ≡ parted_state s = ap (λ (m : Manager). m.state) v.at_a in
               let of_b : (manager_at z.network b).state ≡ parted_state t = ap (λ (m : Manager). m.state) v.at_b in
               let two = pair.ready_again known order hears fact a b now in_a in_b differ k l c (two_ready c r w) v.meets.first v.meets.second
-                  (subst (λ (x : State). IsWithoutExpress x) (sym of_a) (parted_express s (r.express a in_a))) (subst (λ (x : State). IsWithoutExpress x) (sym of_b) (parted_express t (r.express b in_b)))
-                  (subst (λ (x : State). AreStamped x) (sym of_a) (r.stamps a in_a)) (subst (λ (x : State). AreStamped x) (sym of_b) (r.stamps b in_b)) in
+              (subst (λ (x : State). IsWithoutExpress x) (sym of_a) (parted_express s (r.express a in_a))) (subst (λ (x : State). IsWithoutExpress x) (sym of_b) (parted_express t (r.express b in_b)))
+              (subst (λ (x : State). AreStamped x) (sym of_a) (r.stamps a in_a)) (subst (λ (x : State). AreStamped x) (sym of_b) (r.stamps b in_b)) in
               let same : both z ≡ both c = ap (λ (x : State). state_work x + state_work (manager_at z.network b).state) of_a ∙ ap (λ (x : State). state_work (parted_state s) + state_work x) of_b
-                  ∙ ap (λ n. n + state_work (parted_state t)) (parted_work s) ∙ ap (λ n. state_work s + n) (parted_work t) in
+              ∙ ap (λ n. n + state_work (parted_state t)) (parted_work s) ∙ ap (λ n. state_work s + n) (parted_work t) in
               let credited : credits z ≡ credits c = ap (λ (x : State). credit x (manager_at z.network b).state k + credit (manager_at z.network b).state x l) of_a
-                  ∙ ap (λ (x : State). credit (parted_state s) x k + credit x (parted_state s) l) of_b in
+              ∙ ap (λ (x : State). credit (parted_state s) x k + credit x (parted_state s) l) of_b in
               record {
                 ready = all_ready c z r two v.others;
                 know = record { knows = two.knows; known_by = two.known_by };

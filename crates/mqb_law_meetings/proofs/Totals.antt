@@ -1,9 +1,8 @@
 -- The work of all managers, of which two change.
-use Rattle.std.proofs.Common.{◌≡◌, ℕ, zero, suc, ◌+◌, ◌<◌, ◌≤◌, ◌==◌, Bool, true, false, List, [], ◌∷◌, Option, Some, refl, sym, ap, subst, ◌∙◌, arith}
+use Rattle.std.proofs.Common.{◌≡◌, ℕ, zero, suc, ◌+◌, ◌<◌, ◌≤◌, ◌==◌, Bool, true, false, List, [], ◌∷◌, Option, refl, sym, ap, subst, ◌∙◌, arith}
 use Rattle.std.specs.Prelude.{length, map, slice_get, slice_set, sum, unwrap_or}
 use Rattle.mqb_model.specs.managers.Manager.{Manager}
-use Rattle.mqb_network.specs.Network.{Network, manager_at, nobody}
-use Rattle.mqb_law_meetings.specs.Rounds.{work_of_all}
+use Rattle.mqb_network.specs.Network.{nobody}
 use Rattle.mqb_law_meetings.specs.Work.{state_work}
 use Rattle.mqb_law_meetings.proofs.Firsts.{sum_cons}
 use Rattle.mqb_law_meetings.proofs.Lists.{apart_numbers, equal_numbers, set_apart, set_length, set_there}

@@ -170,20 +170,25 @@ module _ (c : Course) (a b now : ℕ) (s t : State) (h : ArePartners c.network a
   pub vain : is_outstanding_to s h.place_a ≡ false → is_outstanding_to t h.place_b ≡ false → (z1 z2 z3 z4 z5 z6 z7 : Course)
       → z1 ≡ (connect a b now 1 1 c).after → z2 ≡ (flow a now Well z1).after → z3 ≡ (flow b now Well z2).after → z4 ≡ (flow a now Well z3).after
       → z5 ≡ (flow b now Well z4).after → z6 ≡ (flow a now Well z5).after → z7 ≡ (disconnect a z6).after → IsVain c z7 a b s t
-  vain none_a none_b z1 z2 z3 z4 z5 z6 z7 is_1 is_2 is_3 is_4 is_5 is_6 is_7 = record { meets = record {
-    packets = meets.went c.network a b now 1 1 s t h;
-    four = refl;
-    sent = all_sent ∙ ap (λ (z : Course). z.sent) met ∙ (meets.ready_keeps c a b now 1 1 s t h).sent;
-    written = all_written ∙ ap (λ (z : Course). z.written) met ∙ (meets.ready_keeps c a b now 1 1 s t h).written ∙ append-nil c.written;
-    first = at_a ∙ ap (λ (m : Manager). unlinked m.state) (sym at_a);
-    second = at_b ∙ ap (λ (m : Manager). unlinked m.state) (sym at_b);
-    drained = record {
-      first_up = ap (λ (m : Manager). is_down m) at_a;
-      second_up = ap (λ (m : Manager). is_down m) at_b;
-      first = has_is z7.network a b h.place_a (parted_state s) (parted_state t) at_a at_b h.knows ∙ outstanding_parted s h.place_a ∙ none_a;
-      second = has_is z7.network b a h.place_b (parted_state t) (parted_state s) at_b at_a h.known ∙ outstanding_parted t h.place_b ∙ none_b;
+  vain none_a none_b z1 z2 z3 z4 z5 z6 z7 is_1 is_2 is_3 is_4 is_5 is_6 is_7 = record {
+    meets = record {
+      packets = meets.went c.network a b now 1 1 s t h;
+      four = refl;
+      sent = all_sent ∙ ap (λ (z : Course). z.sent) met ∙ (meets.ready_keeps c a b now 1 1 s t h).sent;
+      written = all_written ∙ ap (λ (z : Course). z.written) met ∙ (meets.ready_keeps c a b now 1 1 s t h).written ∙ append-nil c.written;
+      first = at_a ∙ ap (λ (m : Manager). unlinked m.state) (sym at_a);
+      second = at_b ∙ ap (λ (m : Manager). unlinked m.state) (sym at_b);
+      drained = record {
+        first_up = ap (λ (m : Manager). is_down m) at_a;
+        second_up = ap (λ (m : Manager). is_down m) at_b;
+        first = has_is z7.network a b h.place_a (parted_state s) (parted_state t) at_a at_b h.knows ∙ outstanding_parted s h.place_a ∙ none_a;
+        second = has_is z7.network b a h.place_b (parted_state t) (parted_state s) at_b at_a h.known ∙ outstanding_parted t h.place_b ∙ none_b;
+      };
     };
-  }; at_a = at_a; at_b = at_b; others = all_others }
+    at_a = at_a;
+    at_b = at_b;
+    others = all_others;
+  }
     where
       met : z1 ≡ meets.ready_on c a b now 1 1 s t h
       met = is_1 ∙ connect_is 1 1

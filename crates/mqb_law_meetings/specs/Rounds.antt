@@ -35,7 +35,7 @@ work_of_all n = sum (map (λ m. state_work m.state) n.managers)
 abbrev pub behind_round : ℕ → ℕ → Course → Course
 behind_round count now c = course_after c (map well (round (length c.network.managers) now count))
 
--- the course behind two rounds, in each of which each pair meets as often as all managers together had work
+-- the course behind two rounds, in which each pair meets as often as all managers had work before
 abbrev pub all_met : Course → ℕ → Course
 all_met c now = behind_round (work_of_all c.network) now (behind_round (work_of_all c.network) now c)
 
@@ -45,16 +45,20 @@ pub record AllStart (c : Course) (ms : List Move) : Type 0 where
   pub good : All (λ m. is_good m.choice ≡ true) ms
   pub run : IsRunFrom c ms
 
--- Behind any run of any number of managers, at any moment: all are started, and there are two rounds. Then this holds of the course and of each two of them.
+-- Behind any run of any number of managers, at any moment: all are started, and there are two rounds.
+-- Then this holds of the course and of each two of them.
 abbrev pub BehindRounds : (Course → ℕ → ℕ → Type 0) → Type 0
-BehindRounds P = (known : List Identity) (before ms : List Move) (now : ℕ) → AreInOrder known → All (λ m. IsDraftedEvent m.event) before → IsRun known before → AllStart (after_run known before) ms
+BehindRounds P = (known : List Identity) (before ms : List Move) (now : ℕ) → AreInOrder known
+    → All (λ m. IsDraftedEvent m.event) before → IsRun known before → AllStart (after_run known before) ms
     → All (λ m. AreStamped m.state) (course_after (after_run known before) ms).network.managers
-    → (a b : ℕ) → a < length known → b < length known → (a ≡ b → ⊥) → P (all_met (course_after (after_run known before) ms) now) a b
+    → (a b : ℕ) → a < length known → b < length known → (a ≡ b → ⊥)
+    → P (all_met (course_after (after_run known before) ms) now) a b
 
 -- Nothing waits between any two of them.
 abbrev pub AllRecover : Type 0
 AllRecover = BehindRounds (λ c a b. IsDrained c.network a b)
 
--- Each message that one committed to a name that leads to another one was decided where its row leads, or it expired.
+-- Each message that one committed to a name that leads to another one was decided where its row leads,
+-- or it expired.
 abbrev pub AllDeliver : Type 0
 AllDeliver = BehindRounds AreDelivered

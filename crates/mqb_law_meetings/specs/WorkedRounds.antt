@@ -1,9 +1,10 @@
 -- One round is not enough: a small run of three managers.
-use Rattle.std.specs.Prelude.{[], ◌∷◌, ◌≡◌, List, Some, codes, false, length, map, true, ℕ}
+use Rattle.std.specs.Prelude.{[], ◌∷◌, ◌≡◌, List, Some, codes, false, length, map, replicate, true}
 use Rattle.mqb_base.specs.declared.bits.TheConstants.{POSITIVE_ARRIVAL}
 use Rattle.mqb_base.specs.declared.draft.Op.TheVariants as asked
 use Rattle.mqb_base.specs.declared.draft.Parts.{Parts}
 use Rattle.mqb_base.specs.declared.ids.Identity.{Identity}
+use Rattle.mqb_base.specs.declared.queue_names.QueueName.{QueueName}
 use Rattle.mqb_base.specs.declared.times.TheConstants.{UNLIMITED}
 use Rattle.mqb_model.specs.calls.Call.{Commit, CreateQueue}
 use Rattle.mqb_model.specs.runs.Samples.{alpha, beta, parts_of, plan, queue_at}
@@ -19,16 +20,19 @@ use Rattle.mqb_law_meetings.specs.Rounds.{all_met, all_start, behind_round, work
 abbrev pub gamma : Identity
 gamma = record {
   host = codes "gamma";
-  guid = record { 0 = 0x4A ∷ 0x4B ∷ 0x4C ∷ 0x4D ∷ 0x51 ∷ 0x52 ∷ 0x53 ∷ 0x54 ∷ 0x55 ∷ 0x56 ∷ 0x57 ∷ 0x58 ∷ 0x59 ∷ 0x5A ∷ 0x5B ∷ 0x5C ∷ [] };
+  guid = record { 0 = replicate 16 0x4A };
   address = 10 ∷ 0 ∷ 0 ∷ 3 ∷ [];
 }
 
 abbrev pub trio : List Identity
 trio = alpha ∷ beta ∷ gamma ∷ []
 
+abbrev pub alphas_orders : QueueName
+alphas_orders = queue_at (codes "alpha") (codes "orders")
+
 -- a message to alpha; beta is to hear that it reached its queue
 abbrev pub told_to_another : Parts
-told_to_another = record (parts_of (queue_at (codes "alpha") (codes "orders")) UNLIMITED 0 (codes "one")) {
+told_to_another = record (parts_of alphas_orders UNLIMITED 0 (codes "one")) {
   admin = Some (queue_at (codes "beta") (codes "notes"));
   ack = POSITIVE_ARRIVAL;
 }
@@ -42,7 +46,8 @@ one_told = well (event.Asks 0 (CreateQueue (plan (codes "orders") true 100 false
 abbrev pub all_started : Course
 all_started = course_after (after_run trio one_told) (map well (all_start 3))
 
--- Alpha hears from gamma when it has met beta: behind one round it has the notice still, and behind two beta has it in its queue.
+-- Alpha hears from gamma when it has met beta. So behind one round it has the notice still, and behind
+-- two beta has it in its queue.
 pub record OneRoundIsNotEnough : Type 0 where
   pub run : IsRun trio one_told
   pub counted : work_of_all all_started.network ≡ 3
