@@ -1,4 +1,4 @@
-//! What two managers come to that meet once faults are over: both are started anew, and connect, flow in turn and part.
+//! What managers come to that meet once faults are over: they are started anew, and each two connect, flow in turn and part.
 //!
 //! Each function stands for a law of runs: its contract is the law, and its body is empty, or cites laws of the crates below by calling them.
 #![tactic(auto)]
