@@ -1,29 +1,25 @@
 -- What a manager lacks for a peer it lacks behind whatever it sends and hears, but for notices about what it hears.
-use Rattle.std.proofs.Common.{◌≡◌, ℕ, zero, suc, ◌≤◌, ◌⊎◌, inl, inr, ◌==◌, ◌&&◌, ◌||◌, Bool, true, false, cond, max, not, nat_lt, List, [], ◌∷◌, Option, Some, None, refl, sym, ap, subst, ◌∙◌, arith}
-use Rattle.std.proofs.lemmas.Bool.{and_parts, true≢false}
+use Rattle.std.proofs.Common.{◌≡◌, ℕ, zero, suc, ◌≤◌, ◌⊎◌, inl, inr, ◌==◌, ◌&&◌, ◌||◌, Bool, true, false, cond, max, nat_lt, List, [], ◌∷◌, Option, Some, None, refl, sym, ap, subst, ◌∙◌, arith}
+use Rattle.std.proofs.lemmas.Bool.{true≢false}
 use Rattle.std.proofs.lemmas.Bool.Decides.{nat_tests}
 use Rattle.std.specs.List.{AllByRecursion, list_any}
 use Rattle.std.specs.Option.{option_map_or}
-use Rattle.std.specs.Prelude.{IfSome, filter, fold, map, option_and_then, option_map, position, remove, slice_get}
+use Rattle.std.specs.Prelude.{IfSome, filter, fold, map, option_and_then, position, remove, slice_get}
 use Rattle.mqb_base.specs.Bits.{keeps_dead}
 use Rattle.mqb_base.specs.Classes.{is_negative}
 use Rattle.mqb_base.specs.Lanes.{lane_of}
-use Rattle.mqb_base.specs.Same.{same_guid}
 use Rattle.mqb_base.specs.declared.class.Class.{Class}
 use Rattle.mqb_base.specs.declared.class.TheConstants.Class.{NORMAL, REACHED_QUEUE}
 use Rattle.mqb_base.specs.declared.heads.TxHead.{TxHead}
-use Rattle.mqb_base.specs.declared.ids.Identity.{Identity}
 use Rattle.mqb_base.specs.declared.ids.MessageId.{MessageId}
 use Rattle.mqb_base.specs.declared.message.Delivery.{Delivery}
 use Rattle.mqb_base.specs.declared.message.Delivery.TheVariants as delivery
 use Rattle.mqb_base.specs.declared.message.Lane.TheVariants as lane
 use Rattle.mqb_base.specs.declared.message.Message.{Message}
 use Rattle.mqb_base.specs.declared.queue_names.QueueName.{QueueName}
-use Rattle.mqb_base.specs.declared.queues.EntryPlace.{EntryPlace}
 use Rattle.mqb_base.specs.declared.queues.EntryPlace.TheVariants as place
-use Rattle.mqb_fate.specs.Asking.{asks_for, final_is_due, is_ordinary, is_transactional}
-use Rattle.mqb_fate.specs.Notices.{admin_delivery, notice_about}
-use Rattle.mqb_fate.specs.Orders.{order_layer}
+use Rattle.mqb_fate.specs.Asking.{is_ordinary}
+use Rattle.mqb_fate.specs.Notices.{notice_about}
 use Rattle.mqb_model.specs.Lists.{with_changed, with_first_changed, without_first}
 use Rattle.mqb_model.specs.declared.target.Target.{Target}
 use Rattle.mqb_model.specs.declared.target.Target.TheVariants.{AtPeer, Here, Nowhere}
@@ -36,8 +32,8 @@ use Rattle.mqb_model.specs.records.Record.{Decided, Final, Nothing, OrderAcknowl
 use Rattle.mqb_model.specs.records.Releases.{has_recoverable, is_released_by, message_released, without_recoverable}
 use Rattle.mqb_model.specs.rules.Arrivals.{refusal_of, storing_refusal}
 use Rattle.mqb_model.specs.rules.Effects.{Effect, joined}
-use Rattle.mqb_model.specs.rules.Notices.{admin_told, arrived, buried, dead_place, final_told, final_told_at, may_go, meets, told}
-use Rattle.mqb_model.specs.rules.Numbers.{number_left, number_taken}
+use Rattle.mqb_model.specs.rules.Notices.{arrived, may_go, meets, told}
+use Rattle.mqb_model.specs.rules.Numbers.{number_taken}
 use Rattle.mqb_model.specs.state.Places.{is_express, placed, put_at, with_plain}
 use Rattle.mqb_model.specs.state.Resolving.{peer_known, resolved}
 use Rattle.mqb_model.specs.state.Rows.{has_ordinal, with_row}
@@ -51,7 +47,7 @@ use Rattle.mqb_plain.specs.Lists.{unmarked, unsent}
 use Rattle.mqb_plain.specs.Plain.{PlainLists, pushed}
 use Rattle.mqb_plain.specs.declared.outgoing.Outgoing.{Outgoing}
 use Rattle.mqb_law_meetings.proofs.Firsts.{all_append, changed_all, changed_cons}
-use Rattle.mqb_law_meetings.proofs.Noticing.{IsOfNotice, lands, refuses, refuses_stored, stored_unrefused}
+use Rattle.mqb_law_meetings.proofs.Noticing.{IsOfNotice, lands, meets_by, refuses, refuses_stored, stored_unrefused}
 
 -- no message among these passes a test
 abbrev pub NoneOf : (Message → Bool) → List Outgoing → Type 0
@@ -282,66 +278,9 @@ module _ (test : Message → Bool) where
         by (inl other_class) = absurd (true≢false (sym is ∙ other_class))
         by (inr silent) = silent (notice_about m class d to id now) other
 
-    admin_lessens : (s : State) → Lessens test s (admin_told s m class now)
-    admin_lessens s = numbered (number_left s (admin_delivery m.delivery))
-      where
-        tell : Option Message → State
-        tell o = option_map_or (λ notice. told s (resolved s notice.destination) notice) o s
-
-        about : (number : ℕ) → QueueName → Message
-        about number to = notice_about m class (admin_delivery m.delivery) to (record { qm = s.identity.guid; number = number }) now
-
-        made : (number : ℕ) (o a : Bool) → is_ordinary m ≡ o → (admin : Option QueueName) → Lessens test s (tell (cond (o && a) (option_map (about number) admin) None))
-        made number true true is (Some to) = told_lessens s (resolved s to) (about number to) (unseen is (admin_delivery m.delivery) to (record { qm = s.identity.guid; number = number }))
-        made number true true is None = stays s
-        made number true false is admin = stays s
-        made number false a is admin = stays s
-
-        numbered : (o : Option ℕ) → Lessens test s (tell (option_and_then (λ number. cond (is_ordinary m && asks_for m class) (option_map (about number) m.admin) None) o))
-        numbered None = stays s
-        numbered (Some number) = made number (is_ordinary m) (asks_for m class) refl m.admin
-
-    final_told_lessens : (s : State) → Lessens test s (final_told s m class now)
-    final_told_lessens s = known (peer_known s m.id.qm)
-      where
-        about : ℕ → Identity → Message
-        about number peer = notice_about m class delivery.Recoverable (order_layer peer.host) (record { qm = s.identity.guid; number = number }) now
-
-        due : final_is_due m class s.identity.guid ≡ true → is_ordinary m ≡ true
-        due e = let own = not (same_guid m.id.qm s.identity.guid) in
-            let whole = and_parts ((is_ordinary m && is_transactional m.delivery && own) && keeps_dead m) (not (class.0 == REACHED_QUEUE.0)) e in
-            let parts = and_parts (is_ordinary m && is_transactional m.delivery && own) (keeps_dead m) whole.0 in
-            let both = and_parts (is_ordinary m && is_transactional m.delivery) own parts.0 in
-            (and_parts (is_ordinary m) (is_transactional m.delivery) both.0).0
-
-        made : (k number : ℕ) (peer : Identity) (b : Bool) → final_is_due m class s.identity.guid ≡ b → Lessens test s (option_map_or (told s (AtPeer k)) (cond b (Some (about number peer)) None) s)
-        made k number peer true e = told_lessens s (AtPeer k) (about number peer) (unseen (due e) delivery.Recoverable (order_layer peer.host) (record { qm = s.identity.guid; number = number }))
-        made k number peer false e = stays s
-
-        left : (k : ℕ) (peer : Identity) (o : Option ℕ)
-            → Lessens test s (option_map_or (told s (AtPeer k)) (option_and_then (λ number. cond (final_is_due m class s.identity.guid) (Some (about number peer)) None) o) s)
-        left k peer None = stays s
-        left k peer (Some number) = made k number peer (final_is_due m class s.identity.guid) refl
-
-        there : (k : ℕ) (o : Option Identity) → Lessens test s (option_map_or (λ peer. final_told_at s k peer m class now) o s)
-        there k None = stays s
-        there k (Some peer) = left k peer (number_left s delivery.Recoverable)
-
-        known : (o : Option ℕ) → Lessens test s (option_map_or (λ k. option_map_or (λ peer. final_told_at s k peer m class now) (slice_get s.peers k) s) o s)
-        known None = stays s
-        known (Some k) = there k (slice_get s.peers k)
-
-    buried_lessens : (s : State) → Lessens test s (buried s m class)
-    buried_lessens s = at (dead_place s m class)
-      where
-        at : (o : Option EntryPlace) → Lessens test s (option_map_or (λ at. put_at s at m) o s)
-        at None = stays s
-        at (Some place) = lessens_same s _ refl refl
-
     pub meets_lessens : (s : State) → Lessens test s (meets s m class now)
-    meets_lessens s = then s (final_told (admin_told s m class now) m class now) (meets s m class now)
-        (then s (admin_told s m class now) (final_told (admin_told s m class now) m class now) (admin_lessens s) (final_told_lessens (admin_told s m class now)))
-        (buried_lessens (final_told (admin_told s m class now) m class now))
+    meets_lessens = meets_by (λ s t count. Lessens test s t) (λ s count. stays s) (λ s t u i j count within. then s t u) m class now (λ s at. lessens_same s _ refl refl)
+        (λ is s target d which to id. told_lessens s target (notice_about m class d to id now) (unseen is d to id))
 
   -- Arrivals.
 

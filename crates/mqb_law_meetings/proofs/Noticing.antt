@@ -1,5 +1,5 @@
 -- What an arrival brings: notices, each unsent behind the others for its peer, and nothing else that waits.
-use Rattle.std.proofs.Common.{◌≡◌, ℕ, suc, ◌+◌, ◌≤◌, ◌==◌, ◌&&◌, Bool, true, false, cond, not, nat_le, List, [], ◌∷◌, ◌++◌, Option, Some, None, refl, sym, ap, subst, ◌∙◌, arith}
+use Rattle.std.proofs.Common.{◌≡◌, ℕ, suc, ◌+◌, ◌≤◌, ◌⊎◌, inl, inr, ◌==◌, ◌&&◌, Bool, true, false, cond, not, nat_le, List, [], ◌∷◌, ◌++◌, Option, Some, None, refl, sym, ap, subst, ◌∙◌, arith}
 use Rattle.std.proofs.lemmas.Bool.{and_parts}
 use Rattle.std.specs.List.{AllByRecursion}
 use Rattle.std.specs.Option.{option_map_or}
@@ -10,6 +10,7 @@ use Rattle.mqb_base.specs.Same.{same_guid}
 use Rattle.mqb_base.specs.declared.class.Class.{Class}
 use Rattle.mqb_base.specs.declared.class.TheConstants.Class.{BAD_DESTINATION, MESSAGE_NOT_TRANSACTIONAL, NORMAL, QUEUE_NOT_TRANSACTIONAL, QUOTA_EXCEEDED, REACHED_QUEUE, REACH_TIMEOUT}
 use Rattle.mqb_base.specs.declared.ids.Identity.{Identity}
+use Rattle.mqb_base.specs.declared.ids.MessageId.{MessageId}
 use Rattle.mqb_base.specs.declared.message.Delivery.{Delivery}
 use Rattle.mqb_base.specs.declared.message.Delivery.TheVariants as delivery
 use Rattle.mqb_base.specs.declared.message.Lane.TheVariants as lane
@@ -20,7 +21,6 @@ use Rattle.mqb_fate.specs.Asking.{asks_for, final_is_due, is_ordinary, is_transa
 use Rattle.mqb_fate.specs.Notices.{admin_delivery, notice_about}
 use Rattle.mqb_fate.specs.Orders.{order_layer}
 use Rattle.mqb_model.specs.Lists.{with_changed}
-use Rattle.mqb_model.specs.declared.limits.TheConstants.{MAX_NUMBER}
 use Rattle.mqb_model.specs.declared.target.Target.{Target}
 use Rattle.mqb_model.specs.declared.target.Target.TheVariants.{AtPeer, Here, Nowhere}
 use Rattle.mqb_model.specs.rules.Arrivals.{is_recorded, refusal_by, refusal_of, storing_refusal, target_refusal}
@@ -135,92 +135,104 @@ told_leaves s target notice kind other = at (may_go s target notice.delivery)
     at true = go target
     at false = same s 1
 
--- The notices that follow.
+-- What follows a message.
 
-admin_leaves : (s : State) (m : Message) (class : Class) (now : ℕ) → is_express m.delivery ≡ false → (class.0 == NORMAL.0) ≡ false
-    → Leaves s (admin_told s m class now) (cond (is_ordinary m) 1 0)
-admin_leaves s m class now durable other = by m.delivery durable
-  where
-    about : Delivery → ℕ → Option Message
-    about x number = cond (is_ordinary m && asks_for m class)
-        (option_map (λ a. notice_about m class (admin_delivery x) a (record { qm = s.identity.guid; number = number }) now) m.admin) None
-
-    tell : Option Message → State
-    tell o = option_map_or (λ notice. told s (resolved s notice.destination) notice) o s
-
-    made : (o a : Bool) (admin : Option QueueName)
-        → Leaves s (tell (cond (o && a) (option_map (λ q. notice_about m class delivery.Recoverable q (record { qm = s.identity.guid; number = s.next_number }) now) admin) None)) (cond o 1 0)
-    made true true (Some q) = told_leaves s (resolved s q) (notice_about m class delivery.Recoverable q (record { qm = s.identity.guid; number = s.next_number }) now) refl other
-    made true true None = same s 1
-    made true false admin = same s 1
-    made false a admin = same s 0
-
-    numbered : (b : Bool) → Leaves s (tell (option_and_then (about delivery.Recoverable) (cond b (Some s.next_number) None))) (cond (is_ordinary m) 1 0)
-    numbered true = made (is_ordinary m) (asks_for m class) m.admin
-    numbered false = same s (cond (is_ordinary m) 1 0)
-
-    by : (x : Delivery) → is_express x ≡ false → Leaves s (tell (option_and_then (about x) (number_left s (admin_delivery x)))) (cond (is_ordinary m) 1 0)
-    by delivery.Express e = absurd (let none : ⊥ = cc in none)
-    by delivery.Recoverable e = numbered (nat_le s.next_number MAX_NUMBER)
-    by delivery.Transactional e = numbered (nat_le s.next_number MAX_NUMBER)
-
-final_leaves : (s : State) (m : Message) (class : Class) (now : ℕ) → (class.0 == NORMAL.0) ≡ false
-    → Leaves s (final_told s m class now) (cond (is_ordinary m && is_transactional m.delivery) 1 0)
-final_leaves s m class now other = known (peer_known s m.id.qm)
-  where
-    count : ℕ
-    count = cond (is_ordinary m && is_transactional m.delivery) 1 0
-
-    due : final_is_due m class s.identity.guid ≡ true → count ≡ 1
-    due e = let own = not (same_guid m.id.qm s.identity.guid) in
-        let whole = and_parts ((is_ordinary m && is_transactional m.delivery && own) && keeps_dead m) (not (class.0 == REACHED_QUEUE.0)) e in
-        let parts = and_parts (is_ordinary m && is_transactional m.delivery && own) (keeps_dead m) whole.0 in
-        ap (λ b. cond b 1 0) (and_parts (is_ordinary m && is_transactional m.delivery) own parts.0).0
-
-    made : (k number : ℕ) (peer : Identity) (b : Bool) → final_is_due m class s.identity.guid ≡ b
-        → Leaves s (option_map_or (told s (AtPeer k)) (cond b (Some (notice_about m class delivery.Recoverable (order_layer peer.host) (record { qm = s.identity.guid; number = number }) now)) None) s) count
-    made k number peer true e = subst (λ n. Leaves s (told s (AtPeer k) (notice_about m class delivery.Recoverable (order_layer peer.host) (record { qm = s.identity.guid; number = number }) now)) n) (sym (due e)) (told_leaves s (AtPeer k)
-        (notice_about m class delivery.Recoverable (order_layer peer.host) (record { qm = s.identity.guid; number = number }) now) refl other)
-    made k number peer false e = same s count
-
-    left : (k : ℕ) (peer : Identity) (b : Bool) → nat_le s.next_number MAX_NUMBER ≡ b → Leaves s (final_told_at s k peer m class now) count
-    left k peer true e = rw e (made k s.next_number peer (final_is_due m class s.identity.guid) refl)
-    left k peer false e = rw e (same s count)
-
-    there : (k : ℕ) (o : Option Identity) → Leaves s (option_map_or (λ peer. final_told_at s k peer m class now) o s) count
-    there k None = same s count
-    there k (Some peer) = left k peer (nat_le s.next_number MAX_NUMBER) refl
-
-    known : (o : Option ℕ) → Leaves s (option_map_or (λ k. option_map_or (λ peer. final_told_at s k peer m class now) (slice_get s.peers k) s) o s) count
-    known None = same s count
-    known (Some k) = there k (slice_get s.peers k)
-
-buried_leaves : (s : State) (m : Message) (class : Class) → Leaves s (buried s m class) 0
-buried_leaves s m class = at (dead_place s m class)
-  where
-    at : (o : Option EntryPlace) → Leaves s (option_map_or (λ at. put_at s at m) o s) 0
-    at None = same s 0
-    at (Some place) = kept s _ 0 refl refl refl refl refl
-
--- how many follow at most
+-- how many notices follow at most
 abbrev pub notices_of : Message → ℕ
 notices_of m = cond (is_ordinary m) (cond (is_transactional m.delivery) 2 1) 0
 
+-- It is told in notices, and put: so whatever holds behind each of these holds behind all of it, with so many notices.
+module _ (R : State → State → ℕ → Type 0) (stays : (s : State) (count : ℕ) → R s s count) (goes_on : (s t u : State) (i j count : ℕ) → i + j ≤ count → R s t i → R t u j → R s u count)
+    (m : Message) (class : Class) (now : ℕ) (puts_at : (s : State) (at : EntryPlace) → R s (put_at s at m) 0)
+    (tells : is_ordinary m ≡ true → (s : State) (target : Target) (d : Delivery) → (d ≡ admin_delivery m.delivery) ⊎ (d ≡ delivery.Recoverable) → (to : QueueName) (id : MessageId)
+    → R s (told s target (notice_about m class d to id now)) 1) where
+  admin_by : (s : State) → R s (admin_told s m class now) (cond (is_ordinary m) 1 0)
+  admin_by s = numbered (number_left s (admin_delivery m.delivery))
+    where
+      about : ℕ → QueueName → Message
+      about number to = notice_about m class (admin_delivery m.delivery) to (record { qm = s.identity.guid; number = number }) now
+
+      tell : Option Message → State
+      tell o = option_map_or (λ notice. told s (resolved s notice.destination) notice) o s
+
+      made : (number : ℕ) (o a : Bool) → is_ordinary m ≡ o → (admin : Option QueueName) → R s (tell (cond (o && a) (option_map (about number) admin) None)) (cond o 1 0)
+      made number true true is (Some to) = tells is s (resolved s to) (admin_delivery m.delivery) (inl refl) to (record { qm = s.identity.guid; number = number })
+      made number true true is None = stays s 1
+      made number true false is admin = stays s 1
+      made number false a is admin = stays s 0
+
+      numbered : (o : Option ℕ) → R s (tell (option_and_then (λ number. cond (is_ordinary m && asks_for m class) (option_map (about number) m.admin) None) o)) (cond (is_ordinary m) 1 0)
+      numbered None = stays s (cond (is_ordinary m) 1 0)
+      numbered (Some number) = made number (is_ordinary m) (asks_for m class) refl m.admin
+
+  final_by : (s : State) → R s (final_told s m class now) (cond (is_ordinary m && is_transactional m.delivery) 1 0)
+  final_by s = known (peer_known s m.id.qm)
+    where
+      count : ℕ
+      count = cond (is_ordinary m && is_transactional m.delivery) 1 0
+
+      about : ℕ → Identity → Message
+      about number peer = notice_about m class delivery.Recoverable (order_layer peer.host) (record { qm = s.identity.guid; number = number }) now
+
+      due : final_is_due m class s.identity.guid ≡ true → (is_ordinary m && is_transactional m.delivery) ≡ true
+      due e = let own = not (same_guid m.id.qm s.identity.guid) in
+          let whole = and_parts ((is_ordinary m && is_transactional m.delivery && own) && keeps_dead m) (not (class.0 == REACHED_QUEUE.0)) e in
+          let parts = and_parts (is_ordinary m && is_transactional m.delivery && own) (keeps_dead m) whole.0 in
+          (and_parts (is_ordinary m && is_transactional m.delivery) own parts.0).0
+
+      made : (k number : ℕ) (peer : Identity) (b : Bool) → final_is_due m class s.identity.guid ≡ b → R s (option_map_or (told s (AtPeer k)) (cond b (Some (about number peer)) None) s) count
+      made k number peer true e = subst (λ n. R s (told s (AtPeer k) (about number peer)) n) (sym (ap (λ b. cond b 1 0) (due e)))
+          (tells (and_parts (is_ordinary m) (is_transactional m.delivery) (due e)).0 s (AtPeer k) delivery.Recoverable (inr refl) (order_layer peer.host) (record { qm = s.identity.guid; number = number }))
+      made k number peer false e = stays s count
+
+      left : (k : ℕ) (peer : Identity) (o : Option ℕ)
+          → R s (option_map_or (told s (AtPeer k)) (option_and_then (λ number. cond (final_is_due m class s.identity.guid) (Some (about number peer)) None) o) s) count
+      left k peer None = stays s count
+      left k peer (Some number) = made k number peer (final_is_due m class s.identity.guid) refl
+
+      there : (k : ℕ) (o : Option Identity) → R s (option_map_or (λ peer. final_told_at s k peer m class now) o s) count
+      there k None = stays s count
+      there k (Some peer) = left k peer (number_left s delivery.Recoverable)
+
+      known : (o : Option ℕ) → R s (option_map_or (λ k. option_map_or (λ peer. final_told_at s k peer m class now) (slice_get s.peers k) s) o s) count
+      known None = stays s count
+      known (Some k) = there k (slice_get s.peers k)
+
+  buried_by : (s : State) → R s (buried s m class) 0
+  buried_by s = at (dead_place s m class)
+    where
+      at : (o : Option EntryPlace) → R s (option_map_or (λ at. put_at s at m) o s) 0
+      at None = stays s 0
+      at (Some place) = puts_at s place
+
+  pub meets_by : (s : State) → R s (meets s m class now) (notices_of m)
+  meets_by s = goes_on s told_final (meets s m class now) (notices_of m) 0 (notices_of m) (omega arith)
+      (goes_on s told_admin told_final (cond (is_ordinary m) 1 0) (cond (is_ordinary m && is_transactional m.delivery) 1 0) (notices_of m) (within (is_ordinary m) (is_transactional m.delivery))
+      (admin_by s) (final_by told_admin)) (buried_by told_final)
+    where
+      told_admin : State
+      told_admin = admin_told s m class now
+
+      told_final : State
+      told_final = final_told told_admin m class now
+
+      within : (o t : Bool) → cond o 1 0 + cond (o && t) 1 0 ≤ cond o (cond t 2 1) 0
+      within true true = omega arith
+      within true false = omega arith
+      within false t = omega arith
+
 pub meets_leaves : (s : State) (m : Message) (class : Class) (now : ℕ) → is_express m.delivery ≡ false → (class.0 == NORMAL.0) ≡ false → Leaves s (meets s m class now) (notices_of m)
-meets_leaves s m class now durable other = then s told_final (meets s m class now) (notices_of m) 0 (notices_of m) (omega arith)
-    (then s told_admin told_final (cond (is_ordinary m) 1 0) (cond (is_ordinary m && is_transactional m.delivery) 1 0) (notices_of m) (within (is_ordinary m) (is_transactional m.delivery))
-    (admin_leaves s m class now durable other) (final_leaves told_admin m class now other)) (buried_leaves told_final m class)
+meets_leaves s m class now durable other = meets_by Leaves same then m class now (λ t at. kept t _ 0 refl refl refl refl refl)
+    (λ is t target d which to id. told_leaves t target (notice_about m class d to id now) (recoverable d which) other) s
   where
-    told_admin : State
-    told_admin = admin_told s m class now
+    admin : (d : Delivery) → is_express d ≡ false → admin_delivery d ≡ delivery.Recoverable
+    admin delivery.Express e = absurd (let none : ⊥ = cc in none)
+    admin delivery.Recoverable e = refl
+    admin delivery.Transactional e = refl
 
-    told_final : State
-    told_final = final_told told_admin m class now
-
-    within : (o t : Bool) → cond o 1 0 + cond (o && t) 1 0 ≤ cond o (cond t 2 1) 0
-    within true true = omega arith
-    within true false = omega arith
-    within false t = omega arith
+    recoverable : (d : Delivery) → (d ≡ admin_delivery m.delivery) ⊎ (d ≡ delivery.Recoverable) → d ≡ delivery.Recoverable
+    recoverable d (inl e) = e ∙ admin m.delivery durable
+    recoverable d (inr e) = e
 
 -- Why a message is refused, and where it goes otherwise.
 
