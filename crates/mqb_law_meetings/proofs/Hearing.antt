@@ -37,7 +37,7 @@ use Rattle.mqb_session.specs.State as one_end
 use Rattle.mqb_session.specs.declared.heads.HeadHeard.{HeadHeard}
 use Rattle.mqb_session.specs.declared.heads.HeadHeard.TheVariants as head
 use Rattle.mqb_law_meetings.specs.Work.{state_work, work_for}
-use Rattle.mqb_law_meetings.proofs.Firsts.{all_got, changed_same, sum_cons}
+use Rattle.mqb_law_meetings.proofs.Firsts.{all_got, all_weaker, changed_same, sum_cons}
 use Rattle.mqb_law_meetings.proofs.Members.{grown_same}
 use Rattle.mqb_law_meetings.proofs.Noticing.{IsFresh, ordinary_in}
 use Rattle.mqb_law_meetings.proofs.Releasing.{Clears, all_unmarked, clears_none, clears_one, none_released, one_released}
@@ -52,10 +52,6 @@ unsent_of p f = record {
     each : (items : List Outgoing) → AllByRecursion (λ o. o.mark ≡ None) items → AllByRecursion (λ o. IsNone o.mark) items
     each [] h = tt
     each (o ∷ items) h = (subst IsNone (sym h.0) refl, each items h.1)
-
-all_weaker : {X : Type 0} (P Q : X → Type 0) → ((x : X) → P x → Q x) → (xs : List X) → AllByRecursion P xs → AllByRecursion Q xs
-all_weaker P Q f [] h = tt
-all_weaker P Q f (x ∷ xs) h = (f x h.0, all_weaker P Q f xs h.1)
 
 none_acked : (number : ℕ) (p : PlainLists) → IsFresh p → without_acked number p ≡ p
 none_acked number p f = ap (λ xs. without_acked number (record p { express = xs })) f.express ∙ ap (λ xs. record p { express = xs }) (sym f.express)

@@ -1,5 +1,5 @@
 -- What a manager lacks for a peer it lacks behind whatever it sends and hears, but for notices about what it hears.
-use Rattle.std.proofs.Common.{◌≡◌, ℕ, zero, suc, ◌≤◌, ◌⊎◌, inl, inr, ◌==◌, ◌&&◌, ◌||◌, Bool, true, false, cond, max, nat_lt, List, [], ◌∷◌, Option, Some, None, refl, sym, ap, subst, ◌∙◌, arith}
+use Rattle.std.proofs.Common.{◌≡◌, ℕ, zero, suc, ◌⊎◌, inl, inr, ◌==◌, ◌&&◌, ◌||◌, Bool, true, false, cond, max, nat_lt, List, [], ◌∷◌, Option, Some, None, refl, sym, ap, subst, ◌∙◌, arith}
 use Rattle.std.proofs.lemmas.Bool.{true≢false}
 use Rattle.std.proofs.lemmas.Bool.Decides.{nat_tests}
 use Rattle.std.specs.List.{AllByRecursion, list_any}
@@ -46,7 +46,7 @@ use Rattle.mqb_packet.specs.declared.packet.UserPacket.{UserPacket}
 use Rattle.mqb_plain.specs.Lists.{unmarked, unsent}
 use Rattle.mqb_plain.specs.Plain.{PlainLists, pushed}
 use Rattle.mqb_plain.specs.declared.outgoing.Outgoing.{Outgoing}
-use Rattle.mqb_law_meetings.proofs.Firsts.{all_append, changed_all, changed_cons}
+use Rattle.mqb_law_meetings.proofs.Firsts.{all_append, all_weaker, changed_all, changed_cons}
 use Rattle.mqb_law_meetings.proofs.Noticing.{IsOfNotice, lands, meets_by, refuses, refuses_stored, stored_unrefused}
 
 -- no message among these passes a test
@@ -69,7 +69,7 @@ pub record Lessens (test : Message → Bool) (s t : State) : Type 0 where
 abbrev pub IsOfOrdinary : (Message → Bool) → Type 0
 IsOfOrdinary test = (m : Message) → is_ordinary m ≡ false → test m ≡ false
 
--- no notice about a message comes that passes it: there is none, or it passes not
+-- no notice about a message passes: there is none, or none does
 abbrev pub TellsNone : (Message → Bool) → Message → Type 0
 TellsNone test m = (is_ordinary m ≡ false) ⊎ IsOfOrdinary test
 
@@ -78,7 +78,7 @@ abbrev pub SaysNoOrdinary : Packet → Type 0
 SaysNoOrdinary (packet.User u) = is_ordinary u.message ≡ false
 SaysNoOrdinary _ = Unit {0}
 
--- no notice comes about what a manager has for the peer at an index
+-- no notice that passes comes of what a manager has for the peer at an index
 abbrev pub BringsNone : (Message → Bool) → State → ℕ → Type 0
 BringsNone test s k = Lacks is_ordinary s k ⊎ IsOfOrdinary test
 
@@ -120,6 +120,54 @@ all_without P passes xs h = at (position passes xs)
     at None = h
     at (Some i) = all_removed P xs i h
 
+all_filtered : {X : Type 0} (P : X → Type 0) (f : X → Bool) (xs : List X) → AllByRecursion P xs → AllByRecursion P (filter f xs)
+all_filtered P f [] h = tt
+all_filtered P f (x ∷ xs) h = at (f x) h.0 (all_filtered P f xs h.1)
+  where
+    at : (b : Bool) → P x → AllByRecursion P (filter f xs) → AllByRecursion P (cond b (x ∷ filter f xs) (filter f xs))
+    at true head rest = (head, rest)
+    at false head rest = rest
+
+-- none passes where each fails
+pub each_fails : {X : Type 0} (f : X → Bool) (xs : List X) → list_any f xs ≡ false → AllByRecursion (λ x. f x ≡ false) xs
+each_fails f [] none = tt
+each_fails f (x ∷ xs) none = at (f x) refl none (each_fails f xs)
+  where
+    at : (b : Bool) → f x ≡ b → (b || list_any f xs) ≡ false → (list_any f xs ≡ false → AllByRecursion (λ y. f y ≡ false) xs) → AllByRecursion (λ y. f y ≡ false) (x ∷ xs)
+    at true e none rest = absurd (true≢false none)
+    at false e none rest = (e, rest none)
+
+pub none_passes : {X : Type 0} (f : X → Bool) (xs : List X) → AllByRecursion (λ x. f x ≡ false) xs → list_any f xs ≡ false
+none_passes f [] h = refl
+none_passes f (x ∷ xs) h = ap (λ b. b || list_any f xs) h.0 ∙ none_passes f xs h.1
+
+-- A row of which no number waits, once more of it is acknowledged, or a number is finished.
+
+acknowledged_awaits : (number k : ℕ) (row : Row) → awaits k row ≡ false → awaits k (acknowledged number row) ≡ false
+acknowledged_awaits number k row none = at (row.peer == k) none
+  where
+    high : ℕ
+    high = max row.acked number
+
+    over : (n : Kept) → nat_lt row.acked n.number ≡ false → nat_lt high n.number ≡ false
+    over n e = grind (arith, nat_tests, e)
+
+    at : (b : Bool) → (b && list_any (λ n. nat_lt row.acked n.number) row.kept) ≡ false → (b && list_any (λ n. nat_lt high n.number) (acknowledged number row).kept) ≡ false
+    at true h = none_passes (λ (n : Kept). nat_lt high n.number) (acknowledged number row).kept
+        (all_filtered (λ n. nat_lt high n.number ≡ false) (λ n. nat_lt high n.number || keeps_dead n.message) row.kept
+        (all_weaker (λ n. nat_lt row.acked n.number ≡ false) (λ n. nat_lt high n.number ≡ false) over row.kept (each_fails (λ (n : Kept). nat_lt row.acked n.number) row.kept h)))
+    at false h = refl
+
+finished_awaits : (id : MessageId) (number k : ℕ) (row : Row) → awaits k row ≡ false → awaits k (finished_row id number row) ≡ false
+finished_awaits id number k row none = acknowledged_awaits number k (record row { kept = without_first (is_offered_as id row) row.kept }) (at (row.peer == k) none)
+  where
+    waits : Kept → Bool
+    waits n = nat_lt row.acked n.number
+
+    at : (b : Bool) → (b && list_any waits row.kept) ≡ false → (b && list_any waits (without_first (is_offered_as id row) row.kept)) ≡ false
+    at true h = none_passes waits (without_first (is_offered_as id row) row.kept) (all_without (λ n. waits n ≡ false) (is_offered_as id row) row.kept (each_fails waits row.kept h))
+    at false h = refl
+
 module _ (test : Message → Bool) where
   -- States of which the one lacks what the other one lacks.
 
@@ -154,60 +202,7 @@ module _ (test : Message → Bool) where
     };
   }
 
-  -- What is acknowledged of a row.
-
-  none_above : (low high : ℕ) → low ≤ high → (f : Kept → Bool) (kept : List Kept) → list_any (λ n. nat_lt low n.number) kept ≡ false → list_any (λ n. nat_lt high n.number) (filter f kept) ≡ false
-  none_above low high within f [] none = refl
-  none_above low high within f (x ∷ xs) none = at (nat_lt low x.number) refl none (none_above low high within f xs)
-    where
-      over : nat_lt low x.number ≡ false → nat_lt high x.number ≡ false
-      over e = grind (arith, nat_tests, e, within)
-
-      kept : (b : Bool) → nat_lt high x.number ≡ false → list_any (λ n. nat_lt high n.number) (filter f xs) ≡ false → list_any (λ n. nat_lt high n.number) (cond b (x ∷ filter f xs) (filter f xs)) ≡ false
-      kept true e rest = ap (λ t. t || list_any (λ n. nat_lt high n.number) (filter f xs)) e ∙ rest
-      kept false e rest = rest
-
-      at : (t : Bool) → nat_lt low x.number ≡ t → (t || list_any (λ n. nat_lt low n.number) xs) ≡ false
-          → (list_any (λ n. nat_lt low n.number) xs ≡ false → list_any (λ n. nat_lt high n.number) (filter f xs) ≡ false) → list_any (λ n. nat_lt high n.number) (filter f (x ∷ xs)) ≡ false
-      at true e none rest = absurd (true≢false none)
-      at false e none rest = kept (f x) (over e) (rest none)
-
-  pub acknowledged_awaits : (number k : ℕ) (row : Row) → awaits k row ≡ false → awaits k (acknowledged number row) ≡ false
-  acknowledged_awaits number k row none = at (row.peer == k) none
-    where
-      at : (b : Bool) → (b && list_any (λ n. nat_lt row.acked n.number) row.kept) ≡ false
-          → (b && list_any (λ n. nat_lt (max row.acked number) n.number) (acknowledged number row).kept) ≡ false
-      at true h = none_above row.acked (max row.acked number) (omega arith) (λ n. nat_lt (max row.acked number) n.number || keeps_dead n.message) row.kept h
-      at false h = refl
-
-  any_removed : {X : Type 0} (f : X → Bool) (xs : List X) (i : ℕ) → list_any f xs ≡ false → list_any f (remove xs i) ≡ false
-  any_removed f [] zero none = refl
-  any_removed f [] (suc i) none = refl
-  any_removed f (x ∷ xs) zero none = at (f x) none
-    where
-      at : (b : Bool) → (b || list_any f xs) ≡ false → list_any f xs ≡ false
-      at true none = absurd (true≢false none)
-      at false none = none
-  any_removed f (x ∷ xs) (suc i) none = at (f x) none (any_removed f xs i)
-    where
-      at : (b : Bool) → (b || list_any f xs) ≡ false → (list_any f xs ≡ false → list_any f (remove xs i) ≡ false) → (b || list_any f (remove xs i)) ≡ false
-      at true none rest = absurd (true≢false none)
-      at false none rest = rest none
-
-  any_without : {X : Type 0} (f passes : X → Bool) (xs : List X) → list_any f xs ≡ false → list_any f (without_first passes xs) ≡ false
-  any_without f passes xs none = at (position passes xs)
-    where
-      at : (o : Option ℕ) → list_any f (option_map_or (remove xs) o xs) ≡ false
-      at None = none
-      at (Some i) = any_removed f xs i none
-
-  finished_awaits : (id : MessageId) (number k : ℕ) (row : Row) → awaits k row ≡ false → awaits k (finished_row id number row) ≡ false
-  finished_awaits id number k row none = acknowledged_awaits number k (record row { kept = without_first (is_offered_as id row) row.kept }) (at (row.peer == k) none)
-    where
-      at : (b : Bool) → (b && list_any (λ n. nat_lt row.acked n.number) row.kept) ≡ false
-          → (b && list_any (λ n. nat_lt row.acked n.number) (without_first (is_offered_as id row) row.kept)) ≡ false
-      at true h = any_without (λ n. nat_lt row.acked n.number) (is_offered_as id row) row.kept h
-      at false h = refl
+  -- A message that a final acknowledgement names.
 
   pub final_lessens : (s : State) (m : Message) → Lessens test s (final_stored s m).state
   final_lessens s m = known (peer_known s m.id.qm)

@@ -1,4 +1,4 @@
--- Two rounds bring everything over: behind the first only notices wait, and what is heard in the second one brings none.
+-- Meetings of two managers among many: the others stay, and all are alone again.
 use Rattle.std.proofs.Common.{◌≡◌, ℕ, zero, suc, ◌+◌, ◌<◌, ◌≤◌, ◌⊎◌, inl, inr, ◌==◌, ◌||◌, Bool, true, false, not, List, [], ◌∷◌, Option, Some, None, refl, sym, ap, subst, ◌∙◌, arith}
 use Rattle.std.proofs.lemmas.Bool.{true≢false}
 use Rattle.std.proofs.lemmas.Bool.Decides.{nat_tests}
@@ -17,7 +17,6 @@ use Rattle.mqb_network.specs.Courses.{Course}
 use Rattle.mqb_network.specs.Network.{manager_at}
 use Rattle.mqb_network.specs.Runs.{course_after}
 use Rattle.mqb_network.specs.Scripts.{well}
-use Rattle.mqb_orders.specs.Rows.{Row}
 use Rattle.mqb_plain.specs.Plain.{PlainLists, count}
 use Rattle.mqb_plain.specs.declared.outgoing.Outgoing.{Outgoing}
 use Rattle.mqb_law_meetings.specs.Drained.{IsAlone, IsDrained}
@@ -26,7 +25,7 @@ use Rattle.mqb_law_meetings.specs.Recovery.{AreStamped}
 use Rattle.mqb_law_meetings.specs.Work.{state_work}
 use Rattle.mqb_law_meetings.proofs.Bounds.{none_first}
 use Rattle.mqb_law_meetings.proofs.Knowing.{partners}
-use Rattle.mqb_law_meetings.proofs.Lacking.{BringsNone, HasNone, Lacks, Lessens, brings_still, of_ordinary, parted_lessens, stays, then}
+use Rattle.mqb_law_meetings.proofs.Lacking.{BringsNone, HasNone, Lacks, Lessens, brings_still, each_fails, none_passes, of_ordinary, parted_lessens, stays, then}
 use Rattle.mqb_law_meetings.proofs.Lists.{apart_numbers, equal_numbers}
 use Rattle.mqb_law_meetings.proofs.Meeting.{ArePartners}
 use Rattle.mqb_law_meetings.proofs.Meets.{parted_express, parted_work}
@@ -40,22 +39,9 @@ use Rattle.mqb_law_meetings.proofs.Vain.{parted_state, vain_meeting}
 
 -- What a manager has for a peer, and what it lacks.
 
-none_waits : (k : ℕ) (rows : List Row) → list_any (awaits k) rows ≡ false → AllByRecursion (λ row. awaits k row ≡ false) rows
-none_waits k [] none = tt
-none_waits k (row ∷ rows) none = at (awaits k row) refl none (none_waits k rows)
-  where
-    at : (b : Bool) → awaits k row ≡ b → (b || list_any (awaits k) rows) ≡ false → (list_any (awaits k) rows ≡ false → AllByRecursion (λ row. awaits k row ≡ false) rows)
-        → AllByRecursion (λ row. awaits k row ≡ false) (row ∷ rows)
-    at true e none rest = absurd (true≢false none)
-    at false e none rest = (e, rest none)
-
-waits_none : (k : ℕ) (rows : List Row) → AllByRecursion (λ row. awaits k row ≡ false) rows → list_any (awaits k) rows ≡ false
-waits_none k [] h = refl
-waits_none k (row ∷ rows) h = ap (λ b. b || list_any (awaits k) rows) h.0 ∙ waits_none k rows h.1
-
 -- a manager that has nothing lacks everything
 pub drained_lacks : (test : Message → Bool) (s : State) (k : ℕ) → is_outstanding_to s k ≡ false → Lacks test s k
-drained_lacks test s k none = record { plain = plain (slice_get s.plain k) none; rows = none_waits k s.outs (rows (option_map_or has_plain (slice_get s.plain k) false) none) }
+drained_lacks test s k none = record { plain = plain (slice_get s.plain k) none; rows = each_fails (awaits k) s.outs (rows (option_map_or has_plain (slice_get s.plain k) false) none) }
   where
     rows : (b : Bool) → (b || list_any (awaits k) s.outs) ≡ false → list_any (awaits k) s.outs ≡ false
     rows true e = absurd (true≢false e)
@@ -80,7 +66,7 @@ drained_lacks test s k none = record { plain = plain (slice_get s.plain k) none;
 
 -- one that has nothing express, and lacks everything, has nothing
 pub lacks_drained : (s : State) (k : ℕ) → IsWithoutExpress s → Lacks (λ m. true) s k → is_outstanding_to s k ≡ false
-lacks_drained s k express h = ap (λ b. option_map_or has_plain (slice_get s.plain k) false || b) (waits_none k s.outs h.rows) ∙ either (option_map_or has_plain (slice_get s.plain k) false) (plain (slice_get s.plain k) refl h.plain)
+lacks_drained s k express h = ap (λ b. option_map_or has_plain (slice_get s.plain k) false || b) (none_passes (awaits k) s.outs h.rows) ∙ either (option_map_or has_plain (slice_get s.plain k) false) (plain (slice_get s.plain k) refl h.plain)
   where
     either : (b : Bool) → b ≡ false → (b || false) ≡ false
     either true e = e
@@ -100,7 +86,7 @@ lacks_drained s k express h = ap (λ b. option_map_or has_plain (slice_get s.pla
 
 -- nothing is credited to it
 pub drained_credit : (s t : State) (k : ℕ) → is_outstanding_to s k ≡ false → credit s t k ≡ 0
-drained_credit s t k none = ap (λ o. option_map_or (row_credit t) o 0) (none_first s k (awaits k) s.outs (waits_none k s.outs (drained_lacks (λ m. true) s k none).rows))
+drained_credit s t k none = ap (λ o. option_map_or (row_credit t) o 0) (none_first s k (awaits k) s.outs (none_passes (awaits k) s.outs (drained_lacks (λ m. true) s k none).rows))
 
 module _ (known : List Identity) (order : AreInOrder known) (hears : HearsAll) (fact : (c : Course) → InRun known c → Facts known c) (now : ℕ) where
   -- all managers are alone, at a point of a run
