@@ -1,7 +1,7 @@
-//! Scripts and replies: an input that fails, moments that no reply shows, and replies that no script brings about.
+//! Scripts and replies: an input that fails, moments that no reply shows, scripts of rings, and replies that no script brings about.
 use mqb_base::{Cause, Class, Guid, Heard, Memory, MessageId};
 use mqb_outside::MemorySource;
-use mqb_script::{Event, Script, ScriptFault, Which, read_script};
+use mqb_script::{Event, LineKind, RingScript, Script, ScriptFault, read_ring, read_script};
 use mqb_transcript::{Listed, Reply, print_reply};
 use std::alloc::Global;
 use std::test::Fail;
@@ -55,6 +55,83 @@ fn moments_are_read(rt: HostRuntime) -> Result<(), Fail> {
     let moments = moments(&script);
     drop(script);
     assert!(rt; moments == Some([1000, 1001]));
+    Ok(())
+}
+
+/// The script of a ring that a text is.
+fn ring(alloc: Global, text: &[u8]) -> Result<Option<RingScript>, ScriptFault> {
+    match MemorySource::new(alloc, text, &[]) {
+        Ok(mut source) => {
+            let ring = read_ring(alloc, &mut source);
+            drop(source);
+            ring
+        }
+        Err(_) => Err(ScriptFault::Memory),
+    }
+}
+
+/// The line that says how many managers there are, how many, the ends of a connection, and whose it is that ends.
+fn ends(ring: &Option<RingScript>) -> Option<[u32; 5]> {
+    let Some(RingScript {
+        line,
+        count,
+        script,
+    }) = ring
+    else {
+        return None;
+    };
+    match script.events() {
+        [
+            (
+                _,
+                Event::Connect {
+                    initiator,
+                    acceptor,
+                    ..
+                },
+            ),
+            (_, Event::Disconnect { manager }),
+        ] => Some([*line, *count, *initiator, *acceptor, *manager]),
+        _ => None,
+    }
+}
+
+#[test]
+fn a_ring_is_read(rt: HostRuntime) -> Result<(), Fail> {
+    let ring = ring(
+        rt.alloc(),
+        b"# three\n\nmanagers 3\nconnect m3 m1 1000 64 1\ndisconnect m2\n",
+    )?;
+    let ends = ends(&ring);
+    drop(ring);
+    assert!(rt; ends == Some([3, 3, 2, 0, 1]));
+    Ok(())
+}
+
+/// Texts that are no scripts of rings, with the line and what is wrong with it.
+static NO_RINGS: [(&[u8], u32, LineKind); 10] = [
+    (b"managers \x00", 1, LineKind::Byte),
+    (b"connect m1 m2 1000 64 64\n", 1, LineKind::Word),
+    (b"#\nmanagers\n", 2, LineKind::Count),
+    (b"managers 2 3\n", 1, LineKind::Count),
+    (b"managers 1\n", 1, LineKind::Value),
+    (b"managers 9\n", 1, LineKind::Value),
+    (b"managers 2\nmanagers 2\n", 2, LineKind::Word),
+    (b"managers 3\nresend m9\n", 2, LineKind::Value),
+    (b"managers 2\nconnect m1 m1 1000 64 64\n", 2, LineKind::Value),
+    (b"managers 2\ndisconnect\n", 2, LineKind::Count),
+];
+
+#[test]
+fn what_is_no_ring_is_told(rt: HostRuntime) -> Result<(), Fail> {
+    for (text, number, kind) in &NO_RINGS {
+        let fault = ring(rt.alloc(), text).err();
+        let told = ScriptFault::Line {
+            number: *number,
+            kind: *kind,
+        };
+        assert!(rt; fault == Some(told));
+    }
     Ok(())
 }
 

@@ -5,7 +5,8 @@ use Rattle.mqb_outside.specs.Disk.{View}
 use Rattle.mqb_outside.specs.lemmas.Runs.{unchanged_none}
 use Rattle.mqb_outside.specs.Told.{Took}
 use Rattle.mqb_outside.specs.Faults.{Rose}
-use Rattle.mqb_script.specs.Reading.{ReadCause, ReadsScript}
+use Rattle.mqb_script.specs.Reading.{ReadsScript}
+use Rattle.mqb_script.specs.Script.{script_of}
 use Rattle.mqb_script.specs.declared.events.Event.{Event}
 use Rattle.mqb_script.specs.declared.faults.ScriptFault.{ScriptFault}
 use Rattle.mqb_script.specs.declared.faults.ScriptFault.TheVariants as script
@@ -26,7 +27,7 @@ untouched b taken = record { strings = refl; alpha = uncalled b.alpha; beta = un
     uncalled d = record { unchanged = unchanged_none d; calls = refl; faults = refl; switch = refl }
 
 -- there is no script, and nothing was done
-unread : (text : List ℕ) (held rest : Option (List ℕ)) (b : Devices) (taken : Option (List ℕ)) (f : ScriptFault) (reads : ReadsScript held rest (Err f)) → reads.text ≡ text
+unread : (text : List ℕ) (held rest : Option (List ℕ)) (b : Devices) (taken : Option (List ℕ)) (f : ScriptFault) (reads : ReadsScript script_of held rest (Err f)) → reads.text ≡ text
     → Ends reads.text rest b b taken taken (Err (script_fault f))
 unread text held rest b taken (script.Line number kind) reads is =
     (record { short = reads.answers.0; few_lines = reads.answers.1; script = reads.answers.2; ended = reads.ended }, untouched b taken)
@@ -35,7 +36,7 @@ unread text held rest b taken script.TooManyLines reads is = ((reads.answers.0, 
 unread text held rest b taken script.ReadFault reads is = (reads.answers, untouched b taken)
 unread text held rest b taken script.Memory reads is = inl (reads.answers, untouched b taken)
 
-pub not_read : (held rest : Option (List ℕ)) (b : Devices) (taken : Option (List ℕ)) (f : ScriptFault) → ReadsScript held rest (Err f)
+pub not_read : (held rest : Option (List ℕ)) (b : Devices) (taken : Option (List ℕ)) (f : ScriptFault) → ReadsScript script_of held rest (Err f)
     → EndsSo held rest b b taken taken (Err (script_fault f))
 not_read held rest b taken f reads = (reads.text, reads.gave, unread reads.text held rest b taken f reads refl)
 

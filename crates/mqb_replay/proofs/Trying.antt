@@ -3,7 +3,7 @@ use Rattle.std.proofs.Common.{◌≡◌, ◌≤◌, List, [], Option, Some, appe
 use Rattle.std.specs.Prelude.{Err, Ok, Result}
 use Rattle.mqb_script.specs.Made.{IsMade}
 use Rattle.mqb_outside.specs.Faults.{Rose}
-use Rattle.mqb_script.specs.Reading.{MOST_LINES, ReadCause, ReadsScript, line_count}
+use Rattle.mqb_script.specs.Reading.{IsCause, MOST_LINES, ReadsScript, line_count}
 use Rattle.mqb_script.specs.Script.{script_of}
 use Rattle.mqb_script.specs.declared.events.Event.{Event}
 use Rattle.mqb_script.specs.declared.faults.ScriptFault.{ScriptFault}
@@ -30,10 +30,10 @@ module _ (n : ℕ) (made : IsMade n) (held rest : Option (List ℕ)) (told : hel
   taken : (text : List ℕ) → IsTaken (generated n) text rest → IsAtEnd rest → text ≡ generated n
   taken text t ended = taken_all (generated n) text rest t ended
 
-  pub read_whole : (lines : List (ℕ × Event)) → ReadsScript held rest (Ok lines) → script_of (generated n) ≡ Ok lines
+  pub read_whole : (lines : List (ℕ × Event)) → ReadsScript script_of held rest (Ok lines) → script_of (generated n) ≡ Ok lines
   read_whole lines reads = ap script_of (sym (taken reads.text (taken_of held rest (generated n) reads.text told reads.gave) reads.ended)) ∙ reads.answers.2
 
-  pub not_read : (f : ScriptFault) (faults : ℕ) → faults ≡ 0 → ReadsScript held rest (Err f) → ReadCause faults faults (Err f) → f ≡ script.Memory
+  pub not_read : (f : ScriptFault) (faults : ℕ) → faults ≡ 0 → ReadsScript script_of held rest (Err f) → IsCause faults faults f → f ≡ script.Memory
   not_read (script.Line number kind) faults none reads cause = absurd (clash (script_of (generated n)) made.lines (number, kind) made.script
       (ap script_of (sym (taken reads.text (taken_of held rest (generated n) reads.text told reads.gave) reads.ended)) ∙ reads.answers.2))
   not_read script.TooLong faults none reads cause =

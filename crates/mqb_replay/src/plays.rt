@@ -4,6 +4,7 @@ ghost use Rattle.std.specs.Prelude.{[], ◌++◌, ◌≡◌, OnOk};
 ghost use Rattle.mqb_world.specs.Seats.{IsHeldOn, seated};
 ghost use Rattle.mqb_world.specs.mqb_runs.Texts.{end_lines, manager_lines};
 ghost use Rattle.mqb_script.specs.Formed.{IsFormed};
+ghost use Rattle.mqb_script.specs.declared.grammar.Grammar.TheVariants.{Pair};
 ghost use Rattle.mqb_world.specs.Standing.{Stands};
 ghost use Rattle.mqb_world.specs.Worlds.{network_of, seat_at};
 ghost use Rattle.mqb_replay.specs.Devices.{devices};
@@ -30,7 +31,7 @@ pub(crate) fn play_lines<K: Sink, P: Power, M: Medium>(
     second: &mut P,
     medium: &mut M,
 ) -> Result<(), ReplayFault>
-    requires formed { AllByRecursion (λ line. IsFormed line.1) script.now }
+    requires formed { AllByRecursion (λ line. IsFormed Pair line.1) script.now }
     requires stands { Stands world.old (M.strings medium.old) [] }
     requires alpha { IsHeldOn (P.view first.old) world.old.alpha }
     requires beta { IsHeldOn (P.view second.old) world.old.beta }
@@ -94,7 +95,7 @@ fn play_in<K: Sink, P: Power, M: Medium>(
     second: &mut P,
     medium: &mut M,
 ) -> Result<(), ReplayFault>
-    requires formed { AllByRecursion (λ line. IsFormed line.1) script.now }
+    requires formed { AllByRecursion (λ line. IsFormed Pair line.1) script.now }
     requires stands { Stands world.old (M.strings medium.old) [] }
     requires alpha { IsHeldOn (P.view first.old) world.old.alpha }
     requires beta { IsHeldOn (P.view second.old) world.old.beta }
@@ -118,7 +119,7 @@ pub(crate) fn play<K: Sink, P: Power, M: Medium>(
     second: &mut P,
     medium: &mut M,
 ) -> Result<(), ReplayFault>
-    requires formed { AllByRecursion (λ line. IsFormed line.1) script.now }
+    requires formed { AllByRecursion (λ line. IsFormed Pair line.1) script.now }
     requires empty { M.strings medium.old ≡ [] }
     ensures played { Begins (PlaysWhole script.now)
         (devices (M.strings medium.old) (P.view first.old) (P.view second.old))

@@ -4,6 +4,7 @@ ghost use Rattle.std.specs.Prelude.{[], ◌++◌, ◌≡◌, ◌≤◌, Err, OnO
 ghost use Rattle.mqb_world.specs.Seats.{IsHeldOn};
 ghost use Rattle.mqb_outside.specs.Faults.{Rose};
 ghost use Rattle.mqb_script.specs.Formed.{IsFormed};
+ghost use Rattle.mqb_script.specs.declared.grammar.Grammar.TheVariants.{Pair};
 ghost use Rattle.mqb_transcript.specs.Printing.{wrote};
 ghost use Rattle.mqb_world.specs.Standing.{Stands};
 ghost use Rattle.mqb_replay.specs.Completeness.{CompletesTrial};
@@ -133,7 +134,7 @@ fn try_in<K: Sink, P: Power, M: Medium>(
     second: &mut P,
     medium: &mut M,
 ) -> Result<(), ReplayFault>
-    requires formed { AllByRecursion (λ line. IsFormed line.1) script.now }
+    requires formed { AllByRecursion (λ line. IsFormed Pair line.1) script.now }
     requires stands { Stands world.old (M.strings medium.old) [] }
     requires alpha { IsHeldOn (P.view first.old) world.old.alpha }
     requires beta { IsHeldOn (P.view second.old) world.old.beta }
@@ -157,7 +158,7 @@ fn try_lines<K: Sink, P: Power, M: Medium>(
     second: &mut P,
     medium: &mut M,
 ) -> Result<(), ReplayFault>
-    requires formed { AllByRecursion (λ line. IsFormed line.1) script.now }
+    requires formed { AllByRecursion (λ line. IsFormed Pair line.1) script.now }
     requires empty { M.strings medium.old ≡ [] }
     ensures tried { Begins (TriesLines script.now)
         (devices (M.strings medium.old) (P.view first.old) (P.view second.old))

@@ -4,6 +4,7 @@ ghost use Rattle.mqb_world.specs.Seats.{IsHeldOn};
 ghost use Rattle.mqb_network.specs.Runs.{Move};
 ghost use Rattle.mqb_world.specs.mqb_runs.Hosts.{hosts};
 ghost use Rattle.mqb_script.specs.Formed.{IsFormed};
+ghost use Rattle.mqb_script.specs.declared.grammar.Grammar.TheVariants.{Pair};
 ghost use Rattle.mqb_transcript.specs.Texts.{printed};
 ghost use Rattle.mqb_world.specs.Standing.{Stands};
 ghost use Rattle.mqb_replay.specs.Devices.{devices};
@@ -48,7 +49,7 @@ pub(crate) fn turn<K: Sink, P: Power, M: Medium>(
     second: &mut P,
     medium: &mut M,
 ) -> Result<(), ReplayFault>
-    requires formed { IsFormed line.now.1 }
+    requires formed { IsFormed Pair line.now.1 }
     requires known { known.now ≡ hosts }
     requires stands { (ms : List Move) × Stands world.old (M.strings medium.old) ms }
     requires alpha { IsHeldOn (P.view first.old) world.old.alpha }

@@ -15,7 +15,9 @@ use Rattle.mqb_network.specs.Network.{Connection, Network, is_connected, is_end,
 use Rattle.mqb_network.specs.Replies as network
 use Rattle.mqb_network.specs.Sending.{numbers_behind}
 use Rattle.mqb_runs.specs.Hosts.{hosts}
+use Rattle.mqb_script.specs.Hosts.{AreEnds}
 use Rattle.mqb_script.specs.Managers.{other}
+use Rattle.mqb_script.specs.declared.grammar.Grammar.TheVariants.{Pair}
 use Rattle.mqb_script.specs.declared.managers.Which.{Which}
 use Rattle.mqb_script.specs.declared.managers.Which.TheVariants.{Alpha, Beta}
 use Rattle.mqb_session.specs.State as one_end
@@ -122,8 +124,8 @@ module _ (c : Course) (orderly : IsOrderly hosts c) where
   are_free Alpha free = neither (is_connected n 0) (is_connected n 1) free
   are_free Beta free = let p = neither (is_connected n 1) (is_connected n 0) free in (p.1, p.0)
 
-  pub connect_told : (which : Which) (now wa wb : ℕ) → IsTold (connect (index_of which) (index_of (other which)) now wa wb (course_from n)).reply
-  connect_told which now wa wb = at (any_down n a b) (any_connected n a b) refl refl
+  told_of : (which : Which) (now wa wb : ℕ) → IsTold (connect (index_of which) (index_of (other which)) now wa wb (course_from n)).reply
+  told_of which now wa wb = at (any_down n a b) (any_connected n a b) refl refl
     where
       a : ℕ
       a = index_of which
@@ -138,3 +140,11 @@ module _ (c : Course) (orderly : IsOrderly hosts c) where
       at false true down_is linked_is = (reply.Linked, refl)
       at false false down_is linked_is = let up = are_up which down_is in let free = are_free which linked_is in
           connecting_told free.0 free.1 up.0 up.1 now wa wb which
+
+  pub connect_told : (i j : ℕ) → AreEnds Pair i j → (now wa wb : ℕ) → IsTold (connect i j now wa wb (course_from n)).reply
+  connect_told zero zero ends now wa wb = absurd (ends.2 refl)
+  connect_told zero (suc zero) ends now wa wb = told_of Alpha now wa wb
+  connect_told (suc zero) zero ends now wa wb = told_of Beta now wa wb
+  connect_told (suc zero) (suc zero) ends now wa wb = absurd (ends.2 refl)
+  connect_told (suc (suc i)) j ends now wa wb = absurd (let small = ends.0 in omega (arith, small))
+  connect_told i (suc (suc j)) ends now wa wb = absurd (let small = ends.1 in omega (arith, small))

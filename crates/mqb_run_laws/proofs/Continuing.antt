@@ -8,6 +8,9 @@ use Rattle.mqb_runs.specs.Hosts.{hosts}
 use Rattle.mqb_runs.specs.lemmas.Growing.{played, run_more}
 use Rattle.mqb_runs.specs.lemmas.Orderly.{run_is_orderly}
 use Rattle.mqb_runs.specs.Runs.{IsRunOf, Played, course_of, moves_of}
+use Rattle.std.specs.List.{AllByRecursion}
+use Rattle.mqb_script.specs.Formed.{IsFormed}
+use Rattle.mqb_script.specs.declared.grammar.Grammar.TheVariants.{Pair}
 use Rattle.mqb_script.specs.declared.events.Event.{Event}
 use Rattle.mqb_run_laws.specs.Continuing.{Continues, RunsContinue}
 use Rattle.mqb_run_laws.proofs.Events.{CanBePlayed, can_be_played}
@@ -16,16 +19,16 @@ module _ (told : RequestsAreReplied) (based : CheckpointsAreReplied) (runs : Run
   orderly : (ms : List Move) → IsRun hosts ms → IsOrderly hosts (after_run hosts ms)
   orderly ms run = run_is_orderly runs histories ms run
 
-  go_on : (rest first : List (ℕ × Event)) (run : List Played) → IsRunOf first run → Continues (first ++ rest) run
-  go_on [] first run is = record {
+  go_on : (rest first : List (ℕ × Event)) (run : List Played) → AllByRecursion (λ line. IsFormed Pair line.1) rest → IsRunOf first run → Continues (first ++ rest) run
+  go_on [] first run formed is = record {
     more = [];
     whole = subst (λ (ls : List (ℕ × Event)). IsRunOf ls (run ++ [])) (sym (append-nil first)) (subst (IsRunOf first) (sym (append-nil run)) is);
   }
-  go_on (line ∷ rest) first run is =
-      let can : CanBePlayed told based (course_of run) (orderly (moves_of run) is.moves) line.1 = can_be_played told based (course_of run) (orderly (moves_of run) is.moves) line.1 in
+  go_on (line ∷ rest) first run formed is =
+      let can : CanBePlayed told based (course_of run) (orderly (moves_of run) is.moves) line.1 = can_be_played told based (course_of run) (orderly (moves_of run) is.moves) line.1 formed.0 in
       let one : Played = played line can.choice can.tells.0 in
       let so : Continues ((first ++ line ∷ []) ++ rest) (run ++ one ∷ []) =
-      go_on rest (first ++ line ∷ []) (run ++ one ∷ []) (run_more first run line can.choice can.tells.0 is can.may_be can.tells.1) in
+      go_on rest (first ++ line ∷ []) (run ++ one ∷ []) formed.1 (run_more first run line can.choice can.tells.0 is can.may_be can.tells.1) in
       record {
         more = one ∷ so.more;
         whole = subst (λ (ls : List (ℕ × Event)). IsRunOf ls (run ++ one ∷ so.more)) (append_assoc first (line ∷ []) rest)
@@ -33,4 +36,4 @@ module _ (told : RequestsAreReplied) (based : CheckpointsAreReplied) (runs : Run
       }
 
   pub continue : RunsContinue
-  continue first rest run is = go_on rest first run is
+  continue first rest run formed is = go_on rest first run formed is

@@ -22,15 +22,14 @@ use Rattle.mqb_network.specs.Replies as network
 use Rattle.mqb_network.specs.Restarting.{opened}
 use Rattle.mqb_network.specs.Runs.{answer, may}
 use Rattle.mqb_network.specs.Sending.{flow, flow_by}
-use Rattle.mqb_runs.specs.Events.{event_of, window_of}
+use Rattle.mqb_runs.specs.Events.{event_of}
 use Rattle.mqb_runs.specs.Requests.{actor, request_of}
 use Rattle.mqb_runs.specs.lemmas.Asked.{asked_so}
 use Rattle.mqb_runs.specs.Hosts.{hosts}
-use Rattle.mqb_script.specs.Managers.{other}
+use Rattle.mqb_script.specs.Formed.{IsFormed}
+use Rattle.mqb_script.specs.declared.grammar.Grammar.TheVariants.{Pair}
 use Rattle.mqb_script.specs.declared.events.Event.{Event}
 use Rattle.mqb_script.specs.declared.events.Event.TheVariants as event
-use Rattle.mqb_script.specs.declared.managers.Which.{Which}
-use Rattle.mqb_traffic.specs.Networks.{index_of}
 use Rattle.mqb_transcript.specs.declared.replies.Reply.TheVariants as reply
 use Rattle.mqb_run_laws.proofs.Calls.{answered, rewritten}
 use Rattle.mqb_run_laws.proofs.Connects.{connect_told}
@@ -96,29 +95,28 @@ module _ (law : RequestsAreReplied) (based : CheckpointsAreReplied) (c : Course)
   goes_well : (e : Event) → IsTrue (may c (event_of e) Well) → IsTold (answer c (record { event = event_of e; choice = Well })).reply → CanBePlayed e
   goes_well e may_be tells = record { choice = Well; may_be = may_be; tells = tells }
 
-  abbrev at : Which → Manager
-  at which = manager_at c.network (index_of which)
+  abbrev at : ℕ → Manager
+  at i = manager_at c.network i
 
   request_played : (e : Event) → IsSome (request_of e) → CanBePlayed e
   request_played e some =
       let so = asked_so e (request_of e) refl some in
       goes_well e (subst (λ (a : network_event.Event). IsTrue (may c a Well)) (sym so.2) refl)
-      (subst (λ (a : network_event.Event). IsTold (answer c (record { event = a; choice = Well })).reply) (sym so.2) (answered law (manager_at c.network (index_of (actor e))) so.0))
+      (subst (λ (a : network_event.Event). IsTold (answer c (record { event = a; choice = Well })).reply) (sym so.2) (answered law (manager_at c.network (actor e)) so.0))
 
-  pub can_be_played : (e : Event) → CanBePlayed e
-  can_be_played (event.Connect manager now alpha beta) = goes_well (event.Connect manager now alpha beta) refl
-      (connect_told c orderly manager now (window_of manager alpha beta) (window_of (other manager) alpha beta))
-  can_be_played event.Disconnect = goes_well event.Disconnect refl (disconnect_told 0 (course_from c.network))
-  can_be_played (event.Pump manager now) = goes_well (event.Pump manager now) refl (pump_told (at manager) now (length c.network.notes) _)
-  can_be_played (event.Deliver packet now) = goes_well (event.Deliver packet now) refl (deliver_told (numbered c.network.notes packet) (numbered c.sent packet) now (course_from c.network))
-  can_be_played (event.Drop packet) = goes_well (event.Drop packet) refl (drop_told packet (course_from c.network))
-  can_be_played (event.Flow manager now) = goes_well (event.Flow manager now) refl (flow_told (index_of manager) now (course_from c.network))
-  can_be_played (event.Resend manager) = goes_well (event.Resend manager) refl (resend_told (index_of manager) (course_from c.network))
-  can_be_played (event.Checkpoint manager) = goes_well (event.Checkpoint manager) refl (rewritten based (at manager))
-  can_be_played (event.Arm manager call mode) = goes_well (event.Arm manager call mode) refl (reply.Armed, refl)
-  can_be_played (event.Restart manager pick) = by (is_down (at manager)) refl
+  pub can_be_played : (e : Event) → IsFormed Pair e → CanBePlayed e
+  can_be_played (event.Connect i j now own other) formed = goes_well (event.Connect i j now own other) refl (connect_told c orderly i j formed.0 now own other)
+  can_be_played (event.Disconnect manager) formed = goes_well (event.Disconnect manager) refl (disconnect_told manager (course_from c.network))
+  can_be_played (event.Pump manager now) formed = goes_well (event.Pump manager now) refl (pump_told (at manager) now (length c.network.notes) _)
+  can_be_played (event.Deliver packet now) formed = goes_well (event.Deliver packet now) refl (deliver_told (numbered c.network.notes packet) (numbered c.sent packet) now (course_from c.network))
+  can_be_played (event.Drop packet) formed = goes_well (event.Drop packet) refl (drop_told packet (course_from c.network))
+  can_be_played (event.Flow manager now) formed = goes_well (event.Flow manager now) refl (flow_told manager now (course_from c.network))
+  can_be_played (event.Resend manager) formed = goes_well (event.Resend manager) refl (resend_told manager (course_from c.network))
+  can_be_played (event.Checkpoint manager) formed = goes_well (event.Checkpoint manager) refl (rewritten based (at manager))
+  can_be_played (event.Arm manager call mode) formed = goes_well (event.Arm manager call mode) refl (reply.Armed, refl)
+  can_be_played (event.Restart manager pick) formed = by (is_down (at manager)) refl
     where
       by : (down : Bool) → is_down (at manager) ≡ down → CanBePlayed (event.Restart manager pick)
-      by true is = record { choice = Lost; may_be = is; tells = opened_told (ended (index_of manager) c.network) (index_of manager) }
-      by false is = goes_well (event.Restart manager pick) (ap not is) (opened_told (ended (index_of manager) c.network) (index_of manager))
-  can_be_played e = request_played e refl
+      by true is = record { choice = Lost; may_be = is; tells = opened_told (ended manager c.network) manager }
+      by false is = goes_well (event.Restart manager pick) (ap not is) (opened_told (ended manager c.network) manager)
+  can_be_played e formed = request_played e refl

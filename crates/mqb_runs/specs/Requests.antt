@@ -1,11 +1,9 @@
 -- What the events of a script are to one manager.
-use Rattle.std.specs.Prelude.{None, Option, Some}
+use Rattle.std.specs.Prelude.{None, Option, Some, ℕ}
 use Rattle.mqb_model.specs.calls.Call.{Commit, CreateQueue, Purge, Request, Send, Set, Take, Tick}
 use Rattle.mqb_model.specs.records.Record.{Roll}
 use Rattle.mqb_script.specs.declared.events.Event.{Event}
 use Rattle.mqb_script.specs.declared.events.Event.TheVariants as event
-use Rattle.mqb_script.specs.declared.managers.Which.{Which}
-use Rattle.mqb_script.specs.declared.managers.Which.TheVariants.{Alpha}
 
 -- the request that an event is, where it is one
 abbrev pub request_of : Event → Option Request
@@ -18,8 +16,8 @@ request_of (event.Tick manager now) = Some (Tick now)
 request_of (event.Roll manager count) = Some (Set (Roll count))
 request_of _ = None
 
--- the manager that acts in an event, or alpha where none does
-abbrev pub actor : Event → Which
+-- the manager that acts in an event, or the first one where none does
+abbrev pub actor : Event → ℕ
 actor (event.Queue manager plan) = manager
 actor (event.Commit manager now ops) = manager
 actor (event.Send manager now recoverable parts) = manager
@@ -32,4 +30,5 @@ actor (event.Checkpoint manager) = manager
 actor (event.Arm manager call mode) = manager
 actor (event.Restart manager pick) = manager
 actor (event.Roll manager count) = manager
-actor _ = Alpha
+actor (event.Disconnect manager) = manager
+actor _ = 0

@@ -4,16 +4,12 @@ use Rattle.mqb_model.specs.managers.Manager.{Manager}
 use Rattle.mqb_network.specs.Changes.{parted}
 use Rattle.mqb_network.specs.Network as network
 use Rattle.mqb_script.specs.Managers.{other}
+pub use Rattle.mqb_script.specs.Managers.{index_of}
 use Rattle.mqb_script.specs.declared.managers.Which.{Which}
 use Rattle.mqb_script.specs.declared.managers.Which.TheVariants.{Alpha, Beta}
 use Rattle.mqb_traffic.specs.States.{TrafficState}
 use Rattle.mqb_traffic.specs.declared.notes.Link.{Link}
 use Rattle.mqb_traffic.specs.declared.notes.Note.{Note}
-
--- the index of a manager
-abbrev pub index_of : Which → ℕ
-index_of Alpha = 0
-index_of Beta = 1
 
 -- a connection leads from the one who asked to the other
 abbrev pub connection_of : Link → network.Connection

@@ -34,6 +34,7 @@ use Rattle.mqb_posts.specs.declared.faults.PostFault.TheVariants as post
 use Rattle.mqb_runs.specs.Events.{event_of}
 use Rattle.mqb_runs.specs.Requests.{actor, request_of}
 use Rattle.mqb_runs.specs.lemmas.Asked.{asked_so, none_some}
+use Rattle.mqb_script.specs.Managers.{which_at}
 use Rattle.mqb_script.specs.declared.events.Event.{Event}
 use Rattle.mqb_script.specs.declared.events.Event.TheVariants as event
 use Rattle.mqb_script.specs.declared.managers.Which.{Which}
@@ -68,7 +69,7 @@ asked_of : (which : Which) (asked : Event) → IsCallOf which asked → (o : Opt
     → (request : Request) × (o ≡ Some request) × (event_of asked ≡ network.Asks (index_of which) request)
 asked_of which asked is o request_is =
     let so = asked_so asked o request_is (subst (λ (q : Option Request). IsSome q) request_is is.0) in
-    (so.0, so.1, so.2 ∙ ap (λ (m : Which). network.Asks (index_of m) so.0) is.1)
+    (so.0, so.1, so.2 ∙ ap (λ (m : ℕ). network.Asks m so.0) is.1)
 
 some_same : (a b : Request) → ◌≡◌ {A = Option Request} (Some a) (Some b) → a ≡ b
 some_same a b same = cc
@@ -95,12 +96,12 @@ call_says : (which : Which) (asked : Event) → IsCallOf which asked → (stoppe
 call_says which (event.Restart m pick) is stopped how so = absurd (none_some is.0)
 call_says which asked is stopped how so = so
 
-same_self : (which : Which) → is_same which which ≡ true
+same_self : (which : Which) → is_same which (which_at (index_of which)) ≡ true
 same_self Alpha = refl
 same_self Beta = refl
 
-called_by_own : (b : Bool) (which m : Which) → b ≡ true → m ≡ which → (b && is_same which m) ≡ true
-called_by_own true which m some is = ap (is_same which) is ∙ same_self which
+called_by_own : (b : Bool) (which : Which) (m : ℕ) → b ≡ true → m ≡ index_of which → (b && is_same which (which_at m)) ≡ true
+called_by_own true which m some is = ap (λ (m : ℕ). is_same which (which_at m)) is ∙ same_self which
 called_by_own false which m some is = some
 
 calls_own : (which : Which) (asked : Event) → IsCallOf which asked → calls_disk_of which asked ≡ true
@@ -165,7 +166,7 @@ pump_none before (Err fault) ls = tt
 
 pub pump_acted : (which : Which) (x y : Side) (now : ℕ) (strings strings_now : List (List ℕ)) (given : Reply) (d e : View) (stopped : Bool) → IsHeldOn d x.own
     → IsPumpTurn which x y d e stopped strings strings_now (answers_to which x (network.Pump (index_of which) now)) given
-    → IsActed which x y d e stopped (event.Pump which now) strings strings_now given
+    → IsActed which x y d e stopped (event.Pump (index_of which) now) strings strings_now given
 pump_acted which x y now strings strings_now given d e stopped held t = record {
   step = record {
     choice = t.choice;
@@ -179,9 +180,9 @@ pump_acted which x y now strings strings_now given d e stopped held t = record {
   };
   held = t.held held;
   beside = t.beside;
-  faults = alone_so which (event.Pump which now) stopped d.faults e.faults given (same_self which)
-      (faults_told (event.Pump which now) stopped d.faults e.faults (told (answers_to which x (network.Pump (index_of which) now) t.choice).reply) given t.reply
-      (faults_so (event.Pump which now) stopped d.faults e.faults (λ how so. so) (answers_to which x (network.Pump (index_of which) now) t.choice).reply
+  faults = alone_so which (event.Pump (index_of which) now) stopped d.faults e.faults given (same_self which)
+      (faults_told (event.Pump (index_of which) now) stopped d.faults e.faults (told (answers_to which x (network.Pump (index_of which) now) t.choice).reply) given t.reply
+      (faults_so (event.Pump (index_of which) now) stopped d.faults e.faults (λ how so. so) (answers_to which x (network.Pump (index_of which) now) t.choice).reply
       (none_delivered (failure_in t.choice o) (pumped (length (network_at which x).notes) o.answer ls) (pump_none (length (network_at which x).notes) o.answer ls)) t.faults));
   records = tt;
   far = tt;
@@ -200,22 +201,22 @@ own_at Beta x = refl
 -- A restart.
 
 start_faults : (which : Which) (pick : Pick) (stopped : Bool) (before after : ℕ) (n : Network) (i : ℕ) (choice : Choice) → FailsInStart before after (step n None (network.Restart i) choice).reply
-    → FaultsGo (event.Restart which pick) stopped before after (failures_in_told (told (step n None (network.Restart i) choice).reply))
+    → FaultsGo (event.Restart (index_of which) pick) stopped before after (failures_in_told (told (step n None (network.Restart i) choice).reply))
 start_faults which pick stopped before after n i choice = at choice
   where
     opened_so : (b : Bool) → FailsInStart before after (cond b answer.OpenedLost answer.Opened)
-        → FaultsGo (event.Restart which pick) stopped before after (failures_in_told (told (cond b answer.OpenedLost answer.Opened)))
+        → FaultsGo (event.Restart (index_of which) pick) stopped before after (failures_in_told (told (cond b answer.OpenedLost answer.Opened)))
     opened_so true same = same
     opened_so false same = same
 
     at : (choice : Choice) → FailsInStart before after (step n None (network.Restart i) choice).reply
-        → FaultsGo (event.Restart which pick) stopped before after (failures_in_told (told (step n None (network.Restart i) choice).reply))
+        → FaultsGo (event.Restart (index_of which) pick) stopped before after (failures_in_told (told (step n None (network.Restart i) choice).reply))
     at Unread rose = (rose, refl)
     at Kept same = same
     at choice same = opened_so (is_down (manager_at (ended i n) i)) same
 
 pub start_acted : (which : Which) (x y : Side) (pick : Pick) (strings : List (List ℕ)) → IsWithin strings → (given : Reply) (d e : View) (stopped : Bool)
-    → IsStarted which x y d e given → IsActed which x y d e stopped (event.Restart which pick) strings strings given
+    → IsStarted which x y d e given → IsActed which x y d e stopped (event.Restart (index_of which) pick) strings strings given
 start_acted which x y pick strings within given d e stopped t = record {
   step = record {
     choice = t.choice;
@@ -229,8 +230,8 @@ start_acted which x y pick strings within given d e stopped t = record {
   };
   held = t.held;
   beside = t.beside;
-  faults = alone_so which (event.Restart which pick) stopped d.faults e.faults given (same_self which)
-      (faults_told (event.Restart which pick) stopped d.faults e.faults (told (answers_to which x (network.Restart (index_of which)) t.choice).reply) given t.reply
+  faults = alone_so which (event.Restart (index_of which) pick) stopped d.faults e.faults given (same_self which)
+      (faults_told (event.Restart (index_of which) pick) stopped d.faults e.faults (told (answers_to which x (network.Restart (index_of which)) t.choice).reply) given t.reply
       (start_faults which pick stopped d.faults e.faults (network_at which x) (index_of which) t.choice t.faults));
   records = subst (λ (b : Bool). RecordsGo (cond b (Restarts pick) LeavesIt) given (records_of x.own) (records_of y.own)) (sym (same_self which)) t.records;
   far = tt;
@@ -242,7 +243,7 @@ checkpoint_none : (n : Network) (i : ℕ) (choice : Choice) → IsNoDelivery (st
 checkpoint_none n i choice = let outcome = checkpoint (manager_at n i) (is_far choice) in none_delivered (failure_in choice outcome) (answer.Checkpointed outcome.answer) tt
 
 pub rewrite_acted : (which : Which) (x y : Side) (strings : List (List ℕ)) → IsWithin strings → (given : Reply) (d e : View) (stopped : Bool) → IsHeldOn d x.own
-    → IsRewriteTurn which x y d e stopped given → IsActed which x y d e stopped (event.Checkpoint which) strings strings given
+    → IsRewriteTurn which x y d e stopped given → IsActed which x y d e stopped (event.Checkpoint (index_of which)) strings strings given
 rewrite_acted which x y strings within given d e stopped held r = record {
   step = record {
     choice = t.choice;
@@ -256,9 +257,9 @@ rewrite_acted which x y strings within given d e stopped held r = record {
   };
   held = t.held held;
   beside = t.beside;
-  faults = alone_so which (event.Checkpoint which) stopped d.faults e.faults given (same_self which)
-      (faults_told (event.Checkpoint which) stopped d.faults e.faults (told (answers t.choice).reply) given t.reply
-      (faults_so (event.Checkpoint which) stopped d.faults e.faults (λ how so. so) (answers t.choice).reply (checkpoint_none (network_at which x) (index_of which) t.choice) t.faults));
+  faults = alone_so which (event.Checkpoint (index_of which)) stopped d.faults e.faults given (same_self which)
+      (faults_told (event.Checkpoint (index_of which)) stopped d.faults e.faults (told (answers t.choice).reply) given t.reply
+      (faults_so (event.Checkpoint (index_of which)) stopped d.faults e.faults (λ how so. so) (answers t.choice).reply (checkpoint_none (network_at which x) (index_of which) t.choice) t.faults));
   records = tt;
   far = subst (λ (b : Bool). FarGoes b x.own given) (sym (same_self which)) r.far;
 }
@@ -297,11 +298,11 @@ module _ (which : Which) (x y : Side) (strings : List (List ℕ)) (within : IsWi
     far = none_far (rewrites which asked) x.own given unwritten;
   }
 
-  pub disconnect_acted : IsQuiet which x y (step n None (network.Disconnect 0) Well) given → IsActed which x y d d stopped event.Disconnect strings strings given
-  disconnect_acted = quiet_acted event.Disconnect refl refl refl refl
+  pub disconnect_acted : IsQuiet which x y (step n None (network.Disconnect 0) Well) given → IsActed which x y d d stopped (event.Disconnect 0) strings strings given
+  disconnect_acted = quiet_acted (event.Disconnect 0) refl refl refl refl
 
-  pub resend_acted : IsQuiet which x y (step n None (network.Resend (index_of which)) Well) given → IsActed which x y d d stopped (event.Resend which) strings strings given
-  resend_acted = quiet_acted (event.Resend which) refl refl refl refl
+  pub resend_acted : IsQuiet which x y (step n None (network.Resend (index_of which)) Well) given → IsActed which x y d d stopped (event.Resend (index_of which)) strings strings given
+  resend_acted = quiet_acted (event.Resend (index_of which)) refl refl refl refl
 
   pub drop_acted : (k : ℕ) → IsQuiet which x y (step n None (network.Drop k) Well) given → IsActed which x y d d stopped (event.Drop k) strings strings given
   drop_acted k = quiet_acted (event.Drop k) refl refl refl refl
@@ -312,22 +313,25 @@ pub acted_as : (which : Which) (x y : Side) (d e : View) (stopped : Bool) (strin
     → IsActed which x y d e stopped b strings strings_now given → IsActed which x y d e stopped asked strings strings_now given
 acted_as which x y d e stopped strings strings_now given asked b is = subst (λ (a : Event). IsActed which x y d e stopped a strings strings_now given) (sym is)
 
-pub resend_is : (which m : Which) (asked : Event) → asked ≡ event.Resend m → IsOf which asked → asked ≡ event.Resend which
-resend_is which m asked is of = is ∙ ap (λ (m : Which). event.Resend m) (subst (IsOf which) is of)
+pub disconnect_is : (which : Which) (m : ℕ) (asked : Event) → asked ≡ event.Disconnect m → IsOf which asked → asked ≡ event.Disconnect 0
+disconnect_is which m asked is of = is ∙ ap (λ (m : ℕ). event.Disconnect m) (subst (IsOf which) is of)
 
-pub pump_is : (which m : Which) (now : ℕ) (asked : Event) → asked ≡ event.Pump m now → IsOf which asked → asked ≡ event.Pump which now
-pump_is which m now asked is of = is ∙ ap (λ (m : Which). event.Pump m now) (subst (IsOf which) is of)
+pub resend_is : (which : Which) (m : ℕ) (asked : Event) → asked ≡ event.Resend m → IsOf which asked → asked ≡ event.Resend (index_of which)
+resend_is which m asked is of = is ∙ ap (λ (m : ℕ). event.Resend m) (subst (IsOf which) is of)
 
-pub restart_is : (which m : Which) (pick : Pick) (asked : Event) → asked ≡ event.Restart m pick → IsOf which asked → asked ≡ event.Restart which pick
-restart_is which m pick asked is of = is ∙ ap (λ (m : Which). event.Restart m pick) (subst (IsOf which) is of)
+pub pump_is : (which : Which) (m : ℕ) (now : ℕ) (asked : Event) → asked ≡ event.Pump m now → IsOf which asked → asked ≡ event.Pump (index_of which) now
+pump_is which m now asked is of = is ∙ ap (λ (m : ℕ). event.Pump m now) (subst (IsOf which) is of)
 
-pub checkpoint_is : (which m : Which) (asked : Event) → asked ≡ event.Checkpoint m → IsOf which asked → asked ≡ event.Checkpoint which
-checkpoint_is which m asked is of = is ∙ ap (λ (m : Which). event.Checkpoint m) (subst (IsOf which) is of)
+pub restart_is : (which : Which) (m : ℕ) (pick : Pick) (asked : Event) → asked ≡ event.Restart m pick → IsOf which asked → asked ≡ event.Restart (index_of which) pick
+restart_is which m pick asked is of = is ∙ ap (λ (m : ℕ). event.Restart m pick) (subst (IsOf which) is of)
 
-pub is_call : (which : Which) (asked : Event) → (asked ≡ event.Disconnect → ⊥) → ((m : Which) → asked ≡ event.Resend m → ⊥) → ((k : ℕ) → asked ≡ event.Drop k → ⊥)
-    → ((m : Which) (now : ℕ) → asked ≡ event.Pump m now → ⊥) → ((m : Which) (call : ℕ) (mode : Mode) → asked ≡ event.Arm m call mode → ⊥)
-    → ((m : Which) (pick : Pick) → asked ≡ event.Restart m pick → ⊥) → ((m : Which) → asked ≡ event.Checkpoint m → ⊥) → IsOf which asked → IsCallOf which asked
-is_call which event.Disconnect a b c d e f g is = absurd (a refl)
+pub checkpoint_is : (which : Which) (m : ℕ) (asked : Event) → asked ≡ event.Checkpoint m → IsOf which asked → asked ≡ event.Checkpoint (index_of which)
+checkpoint_is which m asked is of = is ∙ ap (λ (m : ℕ). event.Checkpoint m) (subst (IsOf which) is of)
+
+pub is_call : (which : Which) (asked : Event) → ((m : ℕ) → asked ≡ event.Disconnect m → ⊥) → ((m : ℕ) → asked ≡ event.Resend m → ⊥) → ((k : ℕ) → asked ≡ event.Drop k → ⊥)
+    → ((m now : ℕ) → asked ≡ event.Pump m now → ⊥) → ((m call : ℕ) (mode : Mode) → asked ≡ event.Arm m call mode → ⊥)
+    → ((m : ℕ) (pick : Pick) → asked ≡ event.Restart m pick → ⊥) → ((m : ℕ) → asked ≡ event.Checkpoint m → ⊥) → IsOf which asked → IsCallOf which asked
+is_call which (event.Disconnect m) a b c d e f g is = absurd (a m refl)
 is_call which (event.Pump m now) a b c d e f g is = absurd (d m now refl)
 is_call which (event.Drop k) a b c d e f g is = absurd (c k refl)
 is_call which (event.Resend m) a b c d e f g is = absurd (b m refl)

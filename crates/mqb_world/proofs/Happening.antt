@@ -6,7 +6,7 @@ use Rattle.mqb_outside.specs.declared.power.Mode.{Mode}
 use Rattle.mqb_moves.specs.lemmas.Stored.{stored_held}
 use Rattle.mqb_moves.specs.Seats.{IsHeldOn, SeatState, records_of}
 use Rattle.mqb_network.specs.Network.{Note}
-use Rattle.mqb_script.specs.Managers.{other}
+use Rattle.mqb_script.specs.Managers.{index_of, other, which_at}
 use Rattle.mqb_script.specs.declared.events.Event.{Event}
 use Rattle.mqb_script.specs.declared.events.Event.TheVariants as event
 use Rattle.mqb_script.specs.declared.managers.Which.{Which}
@@ -22,12 +22,12 @@ use Rattle.mqb_runs.specs.Requests.{actor, request_of}
 use Rattle.mqb_world.specs.Worlds.{WorldState}
 use Rattle.mqb_world.proofs.Actions.{leaves_records, none_far}
 
-not_other : (which : Which) → is_same (other which) which ≡ false
+not_other : (which : Which) → is_same (other which) (which_at (index_of which)) ≡ false
 not_other Alpha = refl
 not_other Beta = refl
 
-not_own : (which m : Which) → m ≡ which → is_same (other which) m ≡ false
-not_own which m is = ap (is_same (other which)) is ∙ not_other which
+not_own : (which : Which) (m : ℕ) → m ≡ index_of which → is_same (other which) (which_at m) ≡ false
+not_own which m is = ap (λ (m : ℕ). is_same (other which) (which_at m)) is ∙ not_other which
 
 called_by_none : (b same : Bool) → same ≡ false → (b && same) ≡ false
 called_by_none true same is = is
@@ -40,9 +40,9 @@ other_rests which (event.Restart m pick) is = not_own which m is
 other_rests which (event.Checkpoint m) is = not_own which m is
 other_rests which (event.Resend m) is = refl
 other_rests which (event.Arm m call mode) is = refl
-other_rests which event.Disconnect is = refl
+other_rests which (event.Disconnect m) is = refl
 other_rests which (event.Drop k) is = refl
-other_rests which asked is = called_by_none (is_some (request_of asked)) (is_same (other which) (actor asked)) (not_own which (actor asked) is.1)
+other_rests which asked is = called_by_none (is_some (request_of asked)) (is_same (other which) (which_at (actor asked))) (not_own which (actor asked) is.1)
 
 -- what is told of disks is told of one
 told_alone : (notes : List Note) (who which : Which) (asked : Event) (given : Reply) → IsOf which asked → failures_told notes who asked given ≡ failures_alone who asked given

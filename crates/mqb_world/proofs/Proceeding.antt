@@ -20,6 +20,10 @@ use Rattle.mqb_posts.specs.Posting.{IsWithin}
 use Rattle.mqb_posts.specs.declared.faults.PostFault.{PostFault}
 use Rattle.mqb_queue.specs.Places.{numbered}
 use Rattle.mqb_runs.specs.Events.{event_of}
+use Rattle.mqb_script.specs.Formed.{IsFormed}
+use Rattle.mqb_script.specs.Hosts.{AreEnds}
+use Rattle.mqb_script.specs.Managers.{other, which_at}
+use Rattle.mqb_script.specs.declared.grammar.Grammar.TheVariants.{Pair}
 use Rattle.mqb_script.specs.declared.events.Event.{Event}
 use Rattle.mqb_script.specs.declared.events.Event.TheVariants as event
 use Rattle.mqb_script.specs.declared.managers.Which.{Which}
@@ -81,17 +85,17 @@ module _ (w w_now : WorldState) (strings strings_now : List (List ℕ)) (first f
   acting_short which asked is r short = λ packets writable spelled. subst (λ (q : Option Packet). FallsShort (network_of w) q (event_of asked) strings strings_now r) (sym (none_of which asked is packets)) short
 
   -- A flow.
-  pub flow_happens : (m : Which) (now : ℕ) (r : Result Reply PostFault) → IfOk r (IsStep (network_of w) (counts_of w) None (event_of (event.Flow m now)) (network_of w_now) (counts_of w_now) strings strings_now)
+  pub flow_happens : (m : Which) (now : ℕ) (r : Result Reply PostFault) → IfOk r (IsStep (network_of w) (counts_of w) None (event_of (event.Flow (index_of m) now)) (network_of w_now) (counts_of w_now) strings strings_now)
       → IsHeldOn first_now w_now.alpha → IsHeldOn second_now w_now.beta
       → IfOk r (λ given. FailsAs (failures_in (network_of w_now).notes (index_of m) 0 given) first_stopped first.faults first_now.faults)
       → IfOk r (λ given. FailsAs (failures_in (network_of w_now).notes (index_of m) 1 given) second_stopped second.faults second_now.faults)
-      → IfOk r (HappensSo (event.Flow m now) strings_now)
+      → IfOk r (HappensSo (event.Flow (index_of m) now) strings_now)
   flow_happens m now (Ok given) step alpha beta alpha_fails beta_fails = λ packets writable spelled. record {
     step = step;
     alpha = alpha;
     beta = beta;
-    alpha_faults = faults_as (event.Flow m now) first_stopped (λ how so. so) first.faults first_now.faults (failures_in (network_of w_now).notes (index_of m) 0 given) alpha_fails;
-    beta_faults = faults_as (event.Flow m now) second_stopped (λ how so. so) second.faults second_now.faults (failures_in (network_of w_now).notes (index_of m) 1 given) beta_fails;
+    alpha_faults = faults_as (event.Flow (index_of m) now) first_stopped (λ how so. so) first.faults first_now.faults (failures_in (network_of w_now).notes (index_of m) 0 given) alpha_fails;
+    beta_faults = faults_as (event.Flow (index_of m) now) second_stopped (λ how so. so) second.faults second_now.faults (failures_in (network_of w_now).notes (index_of m) 1 given) beta_fails;
     alpha_records = tt;
     beta_records = tt;
     alpha_far = tt;
@@ -100,9 +104,9 @@ module _ (w w_now : WorldState) (strings strings_now : List (List ℕ)) (first f
   flow_happens m now (Err f) step alpha beta alpha_fails beta_fails = tt
 
   -- A connection.
-  pub connect_happens : (m : Which) (now a b : ℕ) (r : Result Reply PostFault) → IfOk r (IsStep (network_of w) (counts_of w) None (event_of (event.Connect m now a b)) (network_of w_now) (counts_of w_now) strings strings_now)
+  pub connect_happens : (m : Which) (now a b : ℕ) (r : Result Reply PostFault) → IfOk r (IsStep (network_of w) (counts_of w) None (event_of (event.Connect (index_of m) (index_of (other m)) now a b)) (network_of w_now) (counts_of w_now) strings strings_now)
       → IsHeldOn first_now w_now.alpha → IsHeldOn second_now w_now.beta → OnOk r (first_now.faults ≡ first.faults) → OnOk r (second_now.faults ≡ second.faults)
-      → IfOk r (HappensSo (event.Connect m now a b) strings_now)
+      → IfOk r (HappensSo (event.Connect (index_of m) (index_of (other m)) now a b) strings_now)
   connect_happens m now a b (Ok given) step alpha beta alpha_same beta_same = λ packets writable spelled. record {
     step = step;
     alpha = alpha;
@@ -172,15 +176,67 @@ module _ (w w_now : WorldState) (strings strings_now : List (List ℕ)) (first f
         (subst (λ (r : Option Outcome). FailsAs (failures_at (network_of w).notes 1 (arrived k r)) second_stopped second.faults second_now.faults) is beta_fails))
 
   -- of an event that is this one
-  pub flow_so : (asked : Event) (m : Which) (now : ℕ) → asked ≡ event.Flow m now → (r : Result Reply PostFault) → IfOk r (HappensSo (event.Flow m now) strings_now) → IfOk r (HappensSo asked strings_now)
+  pub flow_so : (asked : Event) (m : Which) (now : ℕ) → asked ≡ event.Flow (index_of m) now → (r : Result Reply PostFault) → IfOk r (HappensSo (event.Flow (index_of m) now) strings_now) → IfOk r (HappensSo asked strings_now)
   flow_so asked m now is r = subst (λ (a : Event). IfOk r (HappensSo a strings_now)) (sym is)
 
-  pub connect_so : (asked : Event) (m : Which) (now a b : ℕ) → asked ≡ event.Connect m now a b → (r : Result Reply PostFault) → IfOk r (HappensSo (event.Connect m now a b) strings_now) → IfOk r (HappensSo asked strings_now)
+  pub connect_so : (asked : Event) (m : Which) (now a b : ℕ) → asked ≡ event.Connect (index_of m) (index_of (other m)) now a b → (r : Result Reply PostFault)
+      → IfOk r (HappensSo (event.Connect (index_of m) (index_of (other m)) now a b) strings_now) → IfOk r (HappensSo asked strings_now)
   connect_so asked m now a b is r = subst (λ (x : Event). IfOk r (HappensSo x strings_now)) (sym is)
 
-  pub connect_short : (asked : Event) (m : Which) (now a b : ℕ) → asked ≡ event.Connect m now a b → (r : Result Reply PostFault)
-      → FallsShort (network_of w) None (event_of (event.Connect m now a b)) strings strings_now r → ShortAmong w asked strings strings_now r
+  pub connect_short : (asked : Event) (m : Which) (now a b : ℕ) → asked ≡ event.Connect (index_of m) (index_of (other m)) now a b → (r : Result Reply PostFault)
+      → FallsShort (network_of w) None (event_of (event.Connect (index_of m) (index_of (other m)) now a b)) strings strings_now r → ShortAmong w asked strings strings_now r
   connect_short asked m now a b is r short = subst (λ (e : Event). ShortAmong w e strings strings_now r) (sym is) (λ packets writable spelled. short)
+
+-- The managers of an event are among the two.
+at_index : (i : ℕ) → i < 2 → i ≡ index_of (which_at i)
+at_index zero small = refl
+at_index (suc zero) small = refl
+at_index (suc (suc i)) small = absurd (omega arith)
+
+at_other : (i j : ℕ) → AreEnds Pair i j → j ≡ index_of (other (which_at i))
+at_other zero zero ends = absurd (ends.2 refl)
+at_other zero (suc zero) ends = refl
+at_other zero (suc (suc j)) ends = absurd (let small = ends.1 in omega (arith, small))
+at_other (suc zero) zero ends = refl
+at_other (suc zero) (suc zero) ends = absurd (ends.2 refl)
+at_other (suc zero) (suc (suc j)) ends = absurd (let small = ends.1 in omega (arith, small))
+at_other (suc (suc i)) j ends = absurd (let small = ends.0 in omega (arith, small))
+
+pub flow_is : (which : Which) (m now : ℕ) (asked : Event) → asked ≡ event.Flow m now → which ≡ which_at m → IsFormed Pair asked → asked ≡ event.Flow (index_of which) now
+flow_is which m now asked is at formed =
+    is ∙ ap (λ (m : ℕ). event.Flow m now) (at_index m (subst (IsFormed Pair) is formed) ∙ ap index_of (sym at))
+
+pub connect_is : (which : Which) (i j now a b : ℕ) (asked : Event) → asked ≡ event.Connect i j now a b → which ≡ which_at i → IsFormed Pair asked
+    → asked ≡ event.Connect (index_of which) (index_of (other which)) now a b
+connect_is which i j now a b asked is at formed =
+    let ends : AreEnds Pair i j = (subst (IsFormed Pair) is formed).0 in
+    is ∙ ap (λ (i : ℕ). event.Connect i j now a b) (at_index i ends.0 ∙ ap index_of (sym at))
+    ∙ ap (λ (j : ℕ). event.Connect (index_of which) j now a b) (at_other i j ends ∙ ap (λ (w : Which). index_of (other w)) (sym at))
+
+-- an event of no two managers is of the one that acts
+pub is_of : (which : Which) (asked : Event) → which ≡ which_at (actor asked) → IsFormed Pair asked → ((i j now a b : ℕ) → asked ≡ event.Connect i j now a b → ⊥)
+    → ((k now : ℕ) → asked ≡ event.Deliver k now → ⊥) → ((m now : ℕ) → asked ≡ event.Flow m now → ⊥) → IsOf which asked
+is_of which asked is formed a b c = subst (λ (w : Which). IsOf w asked) (sym is) (at asked formed a b c)
+  where
+    at : (asked : Event) → IsFormed Pair asked → ((i j now a b : ℕ) → asked ≡ event.Connect i j now a b → ⊥)
+        → ((k now : ℕ) → asked ≡ event.Deliver k now → ⊥) → ((m now : ℕ) → asked ≡ event.Flow m now → ⊥) → IsOf (which_at (actor asked)) asked
+    at (event.Queue m plan) formed a b c = (refl, at_index m formed)
+    at (event.Commit m now ops) formed a b c = (refl, at_index m formed.0)
+    at (event.Send m now recoverable parts) formed a b c = (refl, at_index m formed.0)
+    at (event.Take m now place) formed a b c = (refl, at_index m formed)
+    at (event.Purge m now place) formed a b c = (refl, at_index m formed)
+    at (event.Tick m now) formed a b c = (refl, at_index m formed)
+    at (event.Roll m count) formed a b c = (refl, at_index m formed.0)
+    at (event.Connect i j now x y) formed a b c = absurd (a i j now x y refl)
+    at (event.Disconnect m) formed a b c = formed
+    at (event.Pump m now) formed a b c = at_index m formed
+    at (event.Deliver k now) formed a b c = absurd (b k now refl)
+    at (event.Drop k) formed a b c = tt
+    at (event.Flow m now) formed a b c = absurd (c m now refl)
+    at (event.Resend m) formed a b c = at_index m formed
+    at (event.Arm m call mode) formed a b c = at_index m formed.0
+    at (event.Restart m pick) formed a b c = at_index m formed
+    at (event.Checkpoint m) formed a b c = at_index m formed
 
 -- Where no connection stands there is no session.
 pub unlinked_so : (w : WorldState) (strings : List (List ℕ)) → IsOrdered w strings → AreUnlinked w

@@ -14,7 +14,7 @@ use Rattle.mqb_script.specs.declared.events.Event.{Event}
 use Rattle.mqb_script.specs.declared.events.Event.TheVariants as event
 use Rattle.mqb_script.specs.declared.managers.Which.{Which}
 use Rattle.mqb_script.specs.declared.managers.Which.TheVariants.{Alpha, Beta}
-use Rattle.mqb_traffic.specs.Networks.{notes_of}
+use Rattle.mqb_traffic.specs.Networks.{index_of, notes_of}
 use Rattle.mqb_transcript.specs.declared.replies.Reply.{Reply}
 use Rattle.mqb_turns.specs.Counts.{counts_at}
 use Rattle.mqb_turns.specs.Sides.{Side, network_at}
@@ -24,17 +24,17 @@ use Rattle.mqb_world.specs.Worlds.{WorldState, counts_of, network_of}
 
 -- an event is a request of this manager
 abbrev pub IsCallOf : Which → Event → Type 0
-IsCallOf which e = IsSome (request_of e) × (actor e ≡ which)
+IsCallOf which e = IsSome (request_of e) × (actor e ≡ index_of which)
 
 -- it is of this manager alone, or of none
 abbrev pub IsOf : Which → Event → Type 0
-IsOf which event.Disconnect = Unit {0}
+IsOf which (event.Disconnect manager) = manager ≡ 0
 IsOf which (event.Drop packet) = Unit {0}
-IsOf which (event.Resend manager) = manager ≡ which
-IsOf which (event.Pump manager now) = manager ≡ which
-IsOf which (event.Checkpoint manager) = manager ≡ which
-IsOf which (event.Arm manager call mode) = manager ≡ which
-IsOf which (event.Restart manager pick) = manager ≡ which
+IsOf which (event.Resend manager) = manager ≡ index_of which
+IsOf which (event.Pump manager now) = manager ≡ index_of which
+IsOf which (event.Checkpoint manager) = manager ≡ index_of which
+IsOf which (event.Arm manager call mode) = manager ≡ index_of which
+IsOf which (event.Restart manager pick) = manager ≡ index_of which
 IsOf which e = IsCallOf which e
 
 -- What it makes of the two managers, the medium and the disk.

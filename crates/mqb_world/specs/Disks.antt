@@ -7,6 +7,7 @@ use Rattle.mqb_outside.specs.declared.power.Pick.{Pick}
 use Rattle.mqb_network.specs.Choices.{Failed, Failure, Stopped}
 use Rattle.mqb_network.specs.Network.{Note}
 use Rattle.mqb_outside.specs.Faults.{Rose}
+use Rattle.mqb_script.specs.Managers.{which_at}
 use Rattle.mqb_script.specs.declared.events.Event.{Event}
 use Rattle.mqb_script.specs.declared.events.Event.TheVariants as event
 use Rattle.mqb_script.specs.declared.managers.Which.{Which}
@@ -36,8 +37,8 @@ pub data Switching : Type 0 where
   LeavesIt : Switching
 
 abbrev pub switching : Which → Event → Switching
-switching which (event.Arm manager call mode) = if is_same which manager then Arms call mode else LeavesIt
-switching which (event.Restart manager pick) = if is_same which manager then Restarts pick else LeavesIt
+switching which (event.Arm manager call mode) = if is_same which (which_at manager) then Arms call mode else LeavesIt
+switching which (event.Restart manager pick) = if is_same which (which_at manager) then Restarts pick else LeavesIt
 switching which _ = LeavesIt
 
 -- An arming is counted, and is exactly this call and mode. A restart is counted, and tells its pick.
@@ -63,7 +64,7 @@ RecordsGo _ given before after = Unit {0}
 
 -- an event asks this manager to write its state anew
 abbrev pub rewrites : Which → Event → Bool
-rewrites which (event.Checkpoint manager) = is_same which manager
+rewrites which (event.Checkpoint manager) = is_same which (which_at manager)
 rewrites which _ = false
 
 -- That is told as too far on exactly where the manager is up and its journal says so, and no other event speaks of it.
@@ -81,10 +82,10 @@ failures_of _ = []
 
 -- an event is one of this manager alone that may call its disk
 abbrev pub calls_disk_of : Which → Event → Bool
-calls_disk_of which (event.Pump manager now) = is_same which manager
-calls_disk_of which (event.Checkpoint manager) = is_same which manager
-calls_disk_of which (event.Restart manager pick) = is_same which manager
-calls_disk_of which e = is_some (request_of e) && is_same which (actor e)
+calls_disk_of which (event.Pump manager now) = is_same which (which_at manager)
+calls_disk_of which (event.Checkpoint manager) = is_same which (which_at manager)
+calls_disk_of which (event.Restart manager pick) = is_same which (which_at manager)
+calls_disk_of which e = is_some (request_of e) && is_same which (which_at (actor e))
 
 -- how the disk of a manager failed in an event of one manager
 abbrev pub failures_alone : Which → Event → Reply → List Failure
@@ -92,7 +93,7 @@ failures_alone which e given = if calls_disk_of which e then failures_of given e
 
 -- How the disk of a manager failed in an event, as the reply tells. A packet is heard by the manager that it is for, as the notes of all packets tell.
 abbrev pub failures_told : List Note → Which → Event → Reply → List Failure
-failures_told notes which (event.Flow manager now) given = failures_in notes (index_of manager) (index_of which) given
+failures_told notes which (event.Flow manager now) given = failures_in notes manager (index_of which) given
 failures_told notes which (event.Deliver packet now) given = if is_for notes (index_of which) packet then failures_of given else []
 failures_told notes which e given = failures_alone which e given
 

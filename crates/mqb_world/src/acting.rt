@@ -10,6 +10,7 @@ ghost use Rattle.mqb_posts.specs.Posting.{IsWithin};
 ghost use Rattle.mqb_turns.specs.mqb_seats.mqb_replies.Requests.{seen_request};
 ghost use Rattle.mqb_runs.specs.Events.{event_of};
 ghost use Rattle.mqb_script.specs.Formed.{IsFormed};
+ghost use Rattle.mqb_script.specs.declared.grammar.Grammar.TheVariants.{Pair};
 ghost use Rattle.mqb_turns.specs.mqb_seats.Lasting.{Lasts};
 ghost use Rattle.mqb_turns.specs.Sides.{network_at, side};
 ghost use Rattle.mqb_turns.specs.Turns.{IsQuiet, IsTurn, answers_to};
@@ -25,8 +26,8 @@ use mqb_traffic::Traffic;
 use mqb_transcript::Reply;
 use mqb_turns::{Request, Seat, ask, checkpoint, disconnect, drop_packet, pump, resend, restart};
 
-/// The manager that acts in an event, or alpha where none does.
-pub(crate) fn actor(event: &Event) -> Which
+/// The manager that acts in an event, or the first one where none does.
+pub(crate) fn actor(event: &Event) -> u32
     ensures { result ≡ actor event.now }
 {
     match event {
@@ -42,7 +43,8 @@ pub(crate) fn actor(event: &Event) -> Which
         Event::Arm { manager, .. } => *manager,
         Event::Restart { manager, .. } => *manager,
         Event::Roll { manager, .. } => *manager,
-        _ => Which::Alpha,
+        Event::Disconnect { manager } => *manager,
+        _ => 0,
     }
 }
 
@@ -95,7 +97,7 @@ fn call_own<P: Power>(
     disk: &mut P,
     event: &Event,
 ) -> Result<Reply, Memory>
-    requires formed { IsFormed event.now }
+    requires formed { IsFormed Pair event.now }
     requires calls { IsCallOf which event.now }
     requires held { IsHeldOn (P.view disk.old) own.old }
     ensures turn { IfOk result (IsTurn which (side own.old other.old traffic.old)
@@ -122,7 +124,7 @@ pub(crate) fn act<P: Power, M: Medium>(
     medium: &mut M,
     event: &Event,
 ) -> Result<Reply, PostFault>
-    requires formed { IsFormed event.now }
+    requires formed { IsFormed Pair event.now }
     requires acts { IsOf which event.now }
     requires held { IsHeldOn (P.view disk.old) own.old }
     requires within { IsWithin (M.strings medium.old) }
@@ -142,7 +144,7 @@ pub(crate) fn act<P: Power, M: Medium>(
         → (P.view disk.new).faults ≡ (P.view disk.old).faults }
 {
     match event {
-        Event::Disconnect => Ok(disconnect(own, other, traffic)),
+        Event::Disconnect { manager: _ } => Ok(disconnect(own, other, traffic)),
         Event::Resend { manager: _ } => Ok(resend(own, other, traffic)),
         Event::Drop { packet } => Ok(drop_packet(own, other, traffic, *packet)),
         Event::Pump { manager: _, now } => pump(own, other, traffic, which, disk, medium, *now),

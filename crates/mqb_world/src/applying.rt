@@ -4,6 +4,7 @@ ghost use Rattle.mqb_deliveries.specs.Steps.{FallsShort};
 ghost use Rattle.mqb_moves.specs.Seats.{IsHeldOn};
 ghost use Rattle.mqb_runs.specs.Events.{event_of};
 ghost use Rattle.mqb_script.specs.Formed.{IsFormed};
+ghost use Rattle.mqb_script.specs.declared.grammar.Grammar.TheVariants.{Pair};
 ghost use Rattle.mqb_turns.specs.mqb_seats.Lasting.{Lasts};
 ghost use Rattle.mqb_script.specs.declared.events.Event.TheVariants as event;
 ghost use Rattle.mqb_world.specs.Acting.{Happens, HappensAmong, IsOf, ShortAmong};
@@ -34,7 +35,7 @@ fn act_alone<P: Power, M: Medium>(
     second: &mut P,
     medium: &mut M,
 ) -> Result<Reply, PostFault>
-    requires formed { IsFormed event.now }
+    requires formed { IsFormed Pair event.now }
     requires acts { IsOf which event.now }
     requires ordered { IsOrdered (world alpha.old beta.old traffic.old) (M.strings medium.old) }
     requires alpha { IsHeldOn (P.view first.old) alpha.old }
@@ -106,7 +107,7 @@ pub(crate) fn proceed<P: Power, M: Medium>(
     second: &mut P,
     medium: &mut M,
 ) -> Result<Reply, PostFault>
-    requires formed { IsFormed event.now }
+    requires formed { IsFormed Pair event.now }
     requires ordered { IsOrdered (world alpha.old beta.old traffic.old) (M.strings medium.old) }
     requires alpha { IsHeldOn (P.view first.old) alpha.old }
     requires beta { IsHeldOn (P.view second.old) beta.old }
@@ -132,33 +133,35 @@ pub(crate) fn proceed<P: Power, M: Medium>(
 {
     match event {
         Event::Connect {
-            manager,
+            initiator,
+            acceptor: _,
             now,
-            alpha_window,
-            beta_window,
+            initiator_window,
+            acceptor_window,
         } => connect(
             alpha,
             beta,
             traffic,
-            *manager,
+            Which::at(*initiator),
             first,
             second,
             medium,
             *now,
-            *alpha_window,
-            *beta_window,
+            *initiator_window,
+            *acceptor_window,
         ),
         Event::Deliver { packet, now } => Ok(deliver_alone(
             alpha, beta, traffic, first, second, medium, *packet, *now,
         )?),
         Event::Flow { manager, now } => {
-            flow(alpha, beta, traffic, *manager, first, second, medium, *now)
+            let which = Which::at(*manager);
+            flow(alpha, beta, traffic, which, first, second, medium, *now)
         }
         _ => act_alone(
             alpha,
             beta,
             traffic,
-            actor(event),
+            Which::at(actor(event)),
             event,
             first,
             second,

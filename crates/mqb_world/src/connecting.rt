@@ -13,7 +13,7 @@ ghost use Rattle.mqb_network.specs.Sending as sending;
 ghost use Rattle.mqb_packet.specs.Plain.{plain_spelling};
 ghost use Rattle.mqb_posts.specs.Packets.{ArePackets};
 ghost use Rattle.mqb_posts.specs.Posting.{IsWithin};
-ghost use Rattle.mqb_runs.specs.Events.{event_of, window_of};
+ghost use Rattle.mqb_runs.specs.Events.{event_of};
 ghost use Rattle.mqb_script.specs.Managers as managers;
 ghost use Rattle.mqb_script.specs.declared.events.Event.TheVariants as event;
 ghost use Rattle.mqb_turns.specs.mqb_seats.Lasting.{Lasts};
@@ -66,20 +66,19 @@ fn link_both(
     beta: &mut Seat,
     traffic: &mut Traffic,
     which: Which,
-    alpha_window: u16,
-    beta_window: u16,
+    own_window: u16,
+    other_window: u16,
 )
     requires alpha_up { is_down (seated alpha.old) ≡ false }
     requires beta_up { is_down (seated beta.old) ≡ false }
-    requires alpha_window { 1 ≤ alpha_window }
-    requires beta_window { 1 ≤ beta_window }
+    requires own_window { 1 ≤ own_window }
+    requires other_window { 1 ≤ other_window }
     requires peers { KnowEachOther (seated alpha.old).state (seated beta.old).state }
     requires none { traffic.old.link ≡ None }
     requires number { traffic.old.connected + 1 < 2 ^ 32 }
     ensures network { network_in alpha.new beta.new traffic.new
         ≡ network.both_linked (index_of which) (index_of (managers.other which))
-        (window_of which alpha_window beta_window)
-        (window_of (managers.other which) alpha_window beta_window)
+        own_window other_window
         (network_in alpha.old beta.old traffic.old) }
     ensures alpha { StaysStored alpha.old alpha.new }
     ensures beta { StaysStored beta.old beta.new }
@@ -90,10 +89,10 @@ fn link_both(
             beta,
             traffic,
             Which::Alpha,
-            alpha_window,
-            beta_window,
+            own_window,
+            other_window,
         ),
-        Which::Beta => link_pair(beta, alpha, traffic, Which::Beta, beta_window, alpha_window),
+        Which::Beta => link_pair(beta, alpha, traffic, Which::Beta, own_window, other_window),
     }
 }
 
@@ -256,21 +255,23 @@ pub(crate) fn connect<P: Power, M: Medium>(
     second: &mut P,
     medium: &mut M,
     now: u32,
-    alpha_window: u16,
-    beta_window: u16,
+    own_window: u16,
+    other_window: u16,
 ) -> Result<Reply, PostFault>
-    requires alpha_window { 1 ≤ alpha_window }
-    requires beta_window { 1 ≤ beta_window }
+    requires own_window { 1 ≤ own_window }
+    requires other_window { 1 ≤ other_window }
     requires ordered { IsOrdered (world alpha.old beta.old traffic.old) (M.strings medium.old) }
     requires alpha { IsHeldOn (P.view first.old) alpha.old }
     requires beta { IsHeldOn (P.view second.old) beta.old }
     ensures step { IfOk result (IsStep (network_in alpha.old beta.old traffic.old)
         (counts_with alpha.old beta.old) None
-        (event_of (event.Connect which now alpha_window beta_window))
+        (event_of (event.Connect (index_of which) (index_of (managers.other which)) now
+        own_window other_window))
         (network_in alpha.new beta.new traffic.new) (counts_with alpha.new beta.new)
         (M.strings medium.old) (M.strings medium.new)) }
     ensures short { FallsShort (network_in alpha.old beta.old traffic.old) None
-        (event_of (event.Connect which now alpha_window beta_window))
+        (event_of (event.Connect (index_of which) (index_of (managers.other which)) now
+        own_window other_window))
         (M.strings medium.old) (M.strings medium.new) result }
     ensures alpha { Lasts (P.view first.old) (P.view first.new) alpha.old alpha.new }
     ensures beta { Lasts (P.view second.old) (P.view second.new) beta.old beta.new }
@@ -290,7 +291,7 @@ pub(crate) fn connect<P: Power, M: Medium>(
         return Ok(Reply::Linked);
     }
     let before = traffic.count();
-    link_both(alpha, beta, traffic, which, alpha_window, beta_window);
+    link_both(alpha, beta, traffic, which, own_window, other_window);
     if let Err(fault) = set_up(alpha, beta, traffic, which, first, second, medium, now) {
         return Err(fault);
     }

@@ -7,6 +7,7 @@ ghost use Rattle.mqb_runs.specs.Events.{event_of};
 ghost use Rattle.mqb_runs.specs.Guarantees.{AlwaysKeepsGuarantees};
 ghost use Rattle.mqb_runs.specs.Streams.{AlwaysShowsStreams};
 ghost use Rattle.mqb_script.specs.Formed.{IsFormed};
+ghost use Rattle.mqb_script.specs.declared.grammar.Grammar.TheVariants.{Pair};
 ghost use Rattle.mqb_turns.specs.mqb_seats.Lasting.{Lasts};
 ghost use Rattle.mqb_traffic.specs.Networks.{notes_of};
 ghost use Rattle.mqb_world.specs.Disks.{FarGoes, FaultsGo, RecordsGo, StaysAsLeft, SwitchGoes, failures_told, rewrites, switching};
@@ -102,7 +103,7 @@ impl World {
         second: &mut P,
         medium: &mut M,
     ) -> Result<Reply, WorldFault>
-        requires formed { IsFormed event.now }
+        requires formed { IsFormed Pair event.now }
         requires stands { (ms : List Move) × Stands self.old (M.strings medium.old) ms }
         requires alpha { IsHeldOn (P.view first.old) self.old.alpha }
         requires beta { IsHeldOn (P.view second.old) self.old.beta }

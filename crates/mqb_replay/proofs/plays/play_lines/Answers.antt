@@ -3,6 +3,7 @@ use Rattle.std.proofs.lemmas.Result.{err_from_is_err_and}
 use Rattle.std.specs.List.{AllByRecursion}
 use Rattle.std.specs.Prelude.{Err}
 use Rattle.mqb_script.specs.Formed.{IsFormed}
+use Rattle.mqb_script.specs.declared.grammar.Grammar.TheVariants.{Pair}
 use Rattle.mqb_script.specs.declared.events.Event.{Event}
 use Rattle.mqb_replay.specs.Devices.{Devices, devices}
 use Rattle.mqb_replay.specs.Plays.{HasPlayed}
@@ -59,7 +60,7 @@ loop-line-preserved g c =
           (played_one c.runs_keep_guarantees.ensures lines (take i lines) (drop (i + 1) lines) line (split_at lines i line c.loop-line-test.true c.line-item.is)
           c.loop-line.world c.turn.new.world _ _ _ (g.K.Sink.taken c.args.out.now) (g.K.Sink.taken c.loop-line.out) (g.K.Sink.taken c.turn.new.out)
           c.loop-line.invariant.played.0 c.loop-line.invariant.played.1 turned.0 turned.1 turned.2);
-      formed = (subst (λ (ls : List (ℕ × Event)). AllByRecursion (λ l. IsFormed l.1) ls) (line_at lines i line c.loop-line-test.true c.line-item.is)
+      formed = (subst (λ (ls : List (ℕ × Event)). AllByRecursion (λ l. IsFormed Pair l.1) ls) (line_at lines i line c.loop-line-test.true c.line-item.is)
           c.loop-line.invariant.formed).1;
       hosts = c.loop-line.invariant.hosts;
       faults = c.in_ok-turn.ensures.cause ∙ c.loop-line.invariant.faults;

@@ -1,13 +1,13 @@
 use Rattle.mqb_moves.specs.lemmas.Stored.{same_stores}
 use Rattle.mqb_turns.specs.mqb_seats.lemmas.Keeping.{lasts_held, lasts_same, lasts_stored}
 use Rattle.mqb_turns.specs.Sides.{side}
-use Rattle.mqb_world.proofs.Actions.{acted_as, call_acted, call_left, call_switch, checkpoint_is, disconnect_acted, if_ok, is_call, ok_is_full, pump_acted, pump_is, resend_acted, resend_is, restart_is, rewrite_acted, start_acted}
+use Rattle.mqb_world.proofs.Actions.{acted_as, call_acted, call_left, call_switch, checkpoint_is, disconnect_acted, disconnect_is, if_ok, is_call, ok_is_full, pump_acted, pump_is, resend_acted, resend_is, restart_is, rewrite_acted, start_acted}
 use Rattle.mqb_world.proofs.acting.act.Goals as goal
 
 pub returns-in-Disconnect-clause-acted : goal.returns-in-Disconnect-clause-acted
 returns-in-Disconnect-clause-acted g c = let x = side c.args.own.now c.args.other.now c.args.traffic.now in
     let y = side c.disconnect.new.own c.disconnect.new.other c.disconnect.new.traffic in
-    acted_as c.args.which x y _ _ _ _ _ c.disconnect.result c.args.event.now _ c.in-Disconnect.is
+    acted_as c.args.which x y _ _ _ _ _ c.disconnect.result c.args.event.now _ (disconnect_is c.args.which _ c.args.event.now c.in-Disconnect.is c.requires.acts)
     (disconnect_acted c.args.which x y _ c.requires.within c.disconnect.result _ _ c.requires.held (c.disconnect.ensures c.args.which))
 
 pub returns-in-Resend-clause-acted : goal.returns-in-Resend-clause-acted
