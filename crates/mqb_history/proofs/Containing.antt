@@ -5,6 +5,7 @@ use Rattle.std.specs.Option.{option_map_or}
 use Rattle.std.specs.Prelude.{[], ◌&&◌, ◌+◌, ◌==◌, ◌||◌, ◌∷◌, ◌≤◌, Bool, IfSome, List, None, Option, Some, cond, false, fold, is_none, length, map, max, nat_le, nat_lt, not, option_and_then, option_map, position, slice_get, true, unwrap_or, ℕ}
 use Rattle.mqb_base.specs.Bits.{keeps_dead}
 use Rattle.mqb_base.specs.Classes.{is_negative}
+use Rattle.mqb_base.specs.declared.class.Class.{Class}
 use Rattle.mqb_base.specs.declared.class.TheConstants.Class.{BAD_DESTINATION, MESSAGE_NOT_TRANSACTIONAL, QUEUE_NOT_TRANSACTIONAL, QUOTA_EXCEEDED, REACH_TIMEOUT}
 use Rattle.mqb_base.specs.declared.heads.SessionHead.{SessionHead}
 use Rattle.mqb_base.specs.declared.heads.TxHead.{TxHead}
@@ -65,31 +66,47 @@ use Rattle.mqb_history.proofs.Orderly.{map_get}
 use Rattle.mqb_history.proofs.Staying.{IsSameManager}
 use Rattle.mqb_history.proofs.Unreleased.{changed_all, without_all}
 
--- A refusal is of another class than ordinary messages are.
+-- What is so of each class with which an arrival is refused is so of that of a refusal.
 
-queue_class : (q : Queue) (messages : ℕ) (t : Bool) → IfSome (queue_refusal q.plan messages t) IsOfNotices
-queue_class q messages t = at (t && not q.plan.transactional) (not t && q.plan.transactional) (nat_le q.plan.quota messages)
-  where
-    at : (a b c : Bool) → IfSome (cond a (Some QUEUE_NOT_TRANSACTIONAL) (cond b (Some MESSAGE_NOT_TRANSACTIONAL) (cond c (Some QUOTA_EXCEEDED) None))) IsOfNotices
-    at true b c = refl
-    at false true c = refl
-    at false false true = refl
-    at false false false = tt
+pub record OfRefusals (Q : Class → Type 0) : Type 0 where
+  pub late : Q REACH_TIMEOUT
+  pub nowhere : Q BAD_DESTINATION
+  pub of_queue : Q QUEUE_NOT_TRANSACTIONAL
+  pub of_message : Q MESSAGE_NOT_TRANSACTIONAL
+  pub full : Q QUOTA_EXCEEDED
 
-target_class : (s : State) (t : Target) (x : Delivery) → IfSome (target_refusal s t x) IsOfNotices
-target_class s (Here (Some n)) x = at (numbered s.places.queues n)
-  where
-    at : (o : Option Queue) → IfSome (option_map_or (refusal_by x) o (Some BAD_DESTINATION)) IsOfNotices
-    at None = refl
-    at (Some q) = queue_class q (length_met (is_recorded x) q.lists) (is_transactional x)
-target_class s t x = refl
+module _ (Q : Class → Type 0) (h : OfRefusals Q) where
+  queue_class : (q : Queue) (messages : ℕ) (t : Bool) → IfSome (queue_refusal q.plan messages t) Q
+  queue_class q messages t = at (t && not q.plan.transactional) (not t && q.plan.transactional) (nat_le q.plan.quota messages)
+    where
+      at : (a b c : Bool) → IfSome (cond a (Some QUEUE_NOT_TRANSACTIONAL) (cond b (Some MESSAGE_NOT_TRANSACTIONAL) (cond c (Some QUOTA_EXCEEDED) None))) Q
+      at true b c = h.of_queue
+      at false true c = h.of_message
+      at false false true = h.full
+      at false false false = tt
+
+  target_class : (s : State) (t : Target) (x : Delivery) → IfSome (target_refusal s t x) Q
+  target_class s (Here (Some n)) x = at (numbered s.places.queues n)
+    where
+      at : (o : Option Queue) → IfSome (option_map_or (refusal_by x) o (Some BAD_DESTINATION)) Q
+      at None = h.nowhere
+      at (Some q) = queue_class q (length_met (is_recorded x) q.lists) (is_transactional x)
+  target_class s t x = h.nowhere
+
+  pub class_refused : (s : State) (p : UserPacket) → IfSome (refusal_of s p) Q
+  class_refused s p = at (p.remaining == 0)
+    where
+      at : (b : Bool) → IfSome (cond b (Some REACH_TIMEOUT) (target_refusal s (resolved s p.message.destination) p.message.delivery)) Q
+      at true = h.late
+      at false = target_class s (resolved s p.message.destination) p.message.delivery
+
+-- So it is of another class than ordinary messages are.
+
+notices_refuse : OfRefusals IsOfNotices
+notices_refuse = record { late = refl; nowhere = refl; of_queue = refl; of_message = refl; full = refl }
 
 pub refusal_class : (s : State) (p : UserPacket) → IfSome (refusal_of s p) IsOfNotices
-refusal_class s p = at (p.remaining == 0)
-  where
-    at : (b : Bool) → IfSome (cond b (Some REACH_TIMEOUT) (target_refusal s (resolved s p.message.destination) p.message.delivery)) IsOfNotices
-    at true = refl
-    at false = target_class s (resolved s p.message.destination) p.message.delivery
+refusal_class s p = class_refused IsOfNotices notices_refuse s p
 
 storing_class : (s : State) (p : UserPacket) → IfSome (storing_refusal s p) IsOfNotices
 storing_class s p = at (is_for_order_layer s p.message.destination)

@@ -26,6 +26,7 @@ use Rattle.mqb_history.specs.Decided.{written_of}
 use Rattle.mqb_history.specs.Made.{IsMade}
 use Rattle.mqb_history.specs.Orderly.{IsOrderly}
 use Rattle.mqb_history.proofs.Accounted.{IsPacketOf}
+use Rattle.mqb_history.proofs.Accounts.{befores}
 use Rattle.mqb_history.proofs.Agreeing.{IsAgreed, agreeing_closed, begins_agreeing}
 use Rattle.mqb_history.proofs.Between.{in_either}
 use Rattle.mqb_history.proofs.Counting.{IsTallied, IsTalliedAt, starts_tallied, tallied_steady}
@@ -35,6 +36,7 @@ use Rattle.mqb_history.proofs.Giving.{record_gives}
 use Rattle.mqb_history.proofs.Keeping.{IsClosed}
 use Rattle.mqb_history.proofs.Leads.{AreLed, led_by_records}
 use Rattle.mqb_history.proofs.Owned.{given, given_once, given_there, in_plain}
+use Rattle.mqb_history.proofs.Packets.{WaitsHere}
 use Rattle.mqb_history.proofs.Recorded.{IsPlainPacket}
 use Rattle.mqb_history.proofs.Remaining.{arrivals, lefts, record_moves}
 use Rattle.mqb_history.proofs.Runs.{always_kept}
@@ -116,11 +118,11 @@ module _ (known : List Identity) (apart : AreApart known) (c : Course) (t : IsAc
       at None e = absurd (subst (In (packet.User p)) (none_given known apart c (known_of known c o) h i now (t.agreed.0.1 i).1 e) inside)
       at (Some self) e = subst (λ k. IsGone p.message.id (manager_at c.network k).state (written_of k c.written)) same (record {
         numbered = numbered;
-        none = let all = (t.tallied i).remains p.message.id in let once = given_once p.message.id pumper.state in let waits = g.2 in omega (arith, all, once, waits);
+        none = let all = (t.tallied i).remains p.message.id in let once = given_once p.message.id pumper.state in let waits = g.2.0 in omega (arith, all, once, waits);
       })
         where
           g : (p.message.id.qm ≡ pumper.state.identity.guid) × IsPacketOf pumper.state.identity.guid pumper.state.peers pumper.state.next_number (h.stand i self e).went (lines_written (written_of i c.written)) p
-              × (1 ≤ in_plain p.message.id pumper.state)
+              × WaitsHere (lines_written c.written) (lines_written (written_of i c.written)) (befores (written_of i c.written)) c.sent pumper (h.stand i self e) (t.agreed.0.1 i).1 p.message
           g = (goes known apart c (known_of known c o) h i now (t.agreed.0.1 i).1 self e p inside).1 plain
 
           same : i ≡ j

@@ -113,6 +113,11 @@ mod Starting
 mod Putting
 mod Puts
 mod Having
+mod Enduring
+mod Surviving
+mod Pending
+mod Awaited
+mod Ended
 mod Fates
 mod Fairly
 mod Walks

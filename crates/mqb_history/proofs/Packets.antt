@@ -1,5 +1,5 @@
 -- The packets that a manager pumps are fair, and plain ones go to the peer for which their messages wait.
-use Rattle.std.proofs.Common.{refl, sym, subst, ◌∙◌, arith, inl, inr}
+use Rattle.std.proofs.Common.{refl, ap, sym, subst, ◌∙◌, arith, inl, inr}
 use Rattle.std.specs.List.{AllByRecursion, cons_option, enumerate_from, flat_map}
 use Rattle.std.specs.Option.{option_map_or}
 use Rattle.std.specs.Prelude.{[], ◌&&◌, ◌+◌, ◌++◌, ◌<◌, ◌==◌, ◌∷◌, ◌≡◌, ◌≤◌, ◌⊎◌, Bool, Err, List, None, Ok, Option, Some, cond, false, filter_map, is_none, length, map, max, nat_lt, not, slice_get, true, zip, ℕ}
@@ -28,6 +28,7 @@ use Rattle.mqb_packet.specs.Plain.{carried_user}
 use Rattle.mqb_packet.specs.declared.packet.Packet.{Packet}
 use Rattle.mqb_packet.specs.declared.packet.Packet.TheVariants as packet
 use Rattle.mqb_packet.specs.declared.packet.UserPacket.{UserPacket}
+use Rattle.mqb_plain.specs.Lists.{messages_of}
 use Rattle.mqb_plain.specs.Plain.{PlainLists}
 use Rattle.mqb_plain.specs.declared.outgoing.Outgoing.{Outgoing}
 use Rattle.mqb_session.specs.Phases.{owed_by}
@@ -38,6 +39,8 @@ use Rattle.mqb_setup.specs.declared.internal.Internal.{Internal}
 use Rattle.mqb_setup.specs.declared.internal.Internal.TheVariants as internal
 use Rattle.mqb_model.specs.calls.Call.{Pump, outcome_of}
 use Rattle.mqb_history.proofs.Accounted.{IsApart, IsPacketOf, LeadsTo, Stands, resting}
+use Rattle.mqb_history.proofs.Between.{all_in}
+use Rattle.mqb_history.proofs.Enduring.{WaitsFor}
 use Rattle.mqb_history.proofs.Fates.{IsFair, IsFairExpress, IsWaiting, PlainFair, RowFair, WaitsFairly, above_first, acknowledged_fate}
 use Rattle.mqb_history.proofs.Leads.{GoesAs, RowLeads, RowsLead}
 use Rattle.mqb_history.proofs.Lists.{all_append, all_filter, clash, equal_numbers, none_some, split_and}
@@ -60,9 +63,9 @@ module _ (all mine : List Line) (past : List State) (sent : List Packet) (m : Ma
   abbrev pub GoesFrom : UserPacket → Type 0
   GoesFrom p = (k : ℕ) × GoesAs s.identity s.peers k p.message × LeadsTo s.peers k p.to
 
-  -- its message waits in a list
+  -- its message waits in a list, in every field but the time to reach its queue
   abbrev pub WaitsHere : Message → Type 0
-  WaitsHere x = 1 ≤ in_plain x.id s
+  WaitsHere x = (1 ≤ in_plain x.id s) × ((k : ℕ) × (m : Message) × WaitsFor s k m × (x ≡ record m { reach = x.reach }))
 
   abbrev pub IsRightPacket : UserPacket → Type 0
   IsRightPacket p = IsFair Told p.message × (IsPlainPacket p → (p.message.id.qm ≡ s.identity.guid) × IsPacketOf s.identity.guid s.peers s.next_number h.went mine p × WaitsHere p.message)
@@ -123,12 +126,24 @@ module _ (all mine : List Line) (past : List State) (sent : List Packet) (m : Ma
   rows_go k n (row ∷ rs) (cursor ∷ cursors) g lead = all_append (MayGo k) (waiting s k (n, (row, cursor))) (flat_map (waiting s k) (enumerate_from (n + 1) (zip rs cursors)))
       (waiting_go k n row cursor g.0 lead.0) (rows_go k (n + 1) rs cursors g.1 lead.1)
 
+  message_in : (os : List Outgoing) (o : Outgoing) → In o os → In o.message (messages_of os)
+  message_in [] o i = absurd i
+  message_in (x ∷ os) o (inl e) = inl (ap (λ (y : Outgoing). y.message) e)
+  message_in (x ∷ os) o (inr i) = inr (message_in os o i)
+
+  wait_here : (k : ℕ) (p : PlainLists) → slice_get s.plain k ≡ Some p → (os : List Outgoing) → ((o : Outgoing) → In o os → In o p.recoverable) → AllByRecursion (λ o. WaitsHere o.message) os
+  wait_here k p there [] sub = tt
+  wait_here k p there (o ∷ os) sub = (
+    (all_in (λ (x : Outgoing). 1 ≤ in_plain x.message.id s) p.recoverable o (waits_there s k p there) (sub o (inl refl)), (k, o.message, (p, there, message_in p.recoverable o (sub o (inl refl))), refl)),
+    wait_here k p there os (λ x i. sub x (inr i)),
+  )
+
   candidates_go : (rest : Rest) (now k : ℕ) (peer : Identity) (p : PlainLists) → slice_get s.plain k ≡ Some p → AllByRecursion (MayGo k) (candidates s rest now k peer p)
   candidates_go rest now k peer p there = all_append (MayGo k) (acks s peer now s.next_express (rows_owing s rest peer.guid) ++ plain_candidates p) (row_candidates s rest k)
       (all_append (MayGo k) (acks s peer now s.next_express (rows_owing s rest peer.guid)) (plain_candidates p)
       (acks_go k peer now s.next_express (rows_owing s rest peer.guid) h.keeps.express)
       (all_append (MayGo k) (filter_map (unsent_from OfRecoverable) p.recoverable) (filter_map (unsent_from OfExpress) p.express)
-      (recoverable_go k p.recoverable lists.recoverable (waits_there s k p there)) (express_go k p.express lists.express)))
+      (recoverable_go k p.recoverable lists.recoverable (wait_here k p there p.recoverable (λ o i. i))) (express_go k p.express lists.express)))
       (rows_go k 0 s.outs rest.cursors h.keeps.outs rows)
     where
       lists : PlainFair (resting s h.went mine) Told h.keeps.goes s.next_number k p
@@ -155,14 +170,14 @@ module _ (all mine : List Line) (past : List State) (sent : List Packet) (m : Ma
       sends : UserPacket
       sends = carried_user c.message (carriage_for peer.guid now (c, head))
 
-      of : IsWaiting (resting s h.went mine) h.keeps.goes s.next_number k c.message × WaitsHere c.message → (c.message.id.qm ≡ s.identity.guid) × IsPacketOf s.identity.guid s.peers s.next_number h.went mine sends × WaitsHere c.message
+      of : IsWaiting (resting s h.went mine) h.keeps.goes s.next_number k c.message × WaitsHere c.message → (c.message.id.qm ≡ s.identity.guid) × IsPacketOf s.identity.guid s.peers s.next_number h.went mine sends × WaitsHere sends.message
       of (w, here) = (
         w.source,
         record {
           plain = record { source = w.source; below = w.below; apart = apart w.known };
           leads = subst (λ j. LeadsTo s.peers j peer.guid) (sym w.place ∙ h.keeps.same c.message.id.number w.below) (record { peer = peer; there = there; same = refl });
         },
-        here,
+        (here.0, (here.1.0, here.1.1, here.1.2, ap (λ (y : Message). record y { reach = sends.message.reach }) here.1.3)),
       )
         where
           apart : ((c.message.id.number < s.next_number) × IsApart mine c.message.id) ⊎ (s.next_number ≤ c.message.id.number) → IsApart mine c.message.id

@@ -87,12 +87,18 @@ PartOf own x (entry.Stored p) = (x ≡ packet.User p) × (p.to ≡ own) × IsPla
 PartOf own x (entry.OrderAcknowledged ordinal number) = IsAckHeard own x ordinal number
 PartOf own x (entry.Final p) = (x ≡ packet.User p) × (p.to ≡ own) × IsPlainPacket p × (is_final_class p.message.class ≡ true)
 
+-- what is stored is no final acknowledgement
+abbrev pub StoresNoFinal : State → Part → Type 0
+StoresNoFinal s (entry.Stored p) = is_final s p.message ≡ false
+StoresNoFinal s _ = Unit {0}
+
 -- the call hears a packet, of which this is the part
 pub record IsPartOf (s : State) (call : Call) (part : Part) : Type 0 where
   pub now : ℕ
   pub heard : Packet
   pub call_is : call ≡ Hear now heard
   pub part_is : PartOf s.identity.guid heard part
+  pub no_final : StoresNoFinal s part
 
 -- The record of a call is of its kind: nothing leaves a place or expires in one that has to do with packets.
 abbrev pub RecordOf : State → Call → Record → Type 0
@@ -168,11 +174,11 @@ abbrev HearsRightly : Packet → Listening → HeardOutcome → Type 0
 HearsRightly x l outcome = IsOutcomeOf l.manager.state (Hear l.now x) outcome
 
 -- a packet that is heard has a part
-part_of : (s : State) (now : ℕ) (x : Packet) (part : Part) → PartOf s.identity.guid x part → IsPartOf s (Hear now x) part
-part_of s now x part h = record { now = now; heard = x; call_is = refl; part_is = h }
+part_of : (s : State) (now : ℕ) (x : Packet) (part : Part) → PartOf s.identity.guid x part → StoresNoFinal s part → IsPartOf s (Hear now x) part
+part_of s now x part h other = record { now = now; heard = x; call_is = refl; part_is = h; no_final = other }
 
 heard_nothing : (x : Packet) (l : Listening) (answer : Heard) → HearsRightly x l (heard_as l entry.Nothing answer)
-heard_nothing x l answer = record { entry = some_unless l.manager.state (Hear l.now x) (length (numbers_released l) == 0) (entry.Arrived l.now (numbers_released l) entry.Nothing) (part_of l.manager.state l.now x entry.Nothing tt); beside = tt }
+heard_nothing x l answer = record { entry = some_unless l.manager.state (Hear l.now x) (length (numbers_released l) == 0) (entry.Arrived l.now (numbers_released l) entry.Nothing) (part_of l.manager.state l.now x entry.Nothing tt tt); beside = tt }
 
 owing_of : (x : Packet) (l : Listening) (k : ℕ) (outcome : HeardOutcome) → HearsRightly x l outcome → HearsRightly x l (owing k outcome)
 owing_of x l k outcome h = record { entry = h.entry; beside = h.beside }
@@ -186,7 +192,7 @@ module _ (p : UserPacket) (l : Listening) (own : p.to ≡ l.manager.state.identi
   x = packet.User p
 
   judged_of : (tx : TxHead) (found : Verdict) → HearsRightly x l (judged l p tx found)
-  judged_of tx verdict.Next = record { entry = part_of l.manager.state l.now x (entry.Decided p) (refl, own); beside = tt }
+  judged_of tx verdict.Next = record { entry = part_of l.manager.state l.now x (entry.Decided p) (refl, own) tt; beside = tt }
   judged_of tx verdict.Duplicate = either_heard x l (has_sequence l.manager.state p.message tx) (owing (index_for l.manager.state p.message) (duplicate_heard l tx)) (duplicate_heard l tx)
       (owing_of x l (index_for l.manager.state p.message) (duplicate_heard l tx) (heard_nothing x l (heard.Duplicate tx.sequence tx.number)))
       (heard_nothing x l (heard.Duplicate tx.sequence tx.number))
@@ -201,7 +207,7 @@ module _ (p : UserPacket) (l : Listening) (own : p.to ≡ l.manager.state.identi
   order_ack_of none ack e = either_heard x l (list_any (raises (peer_heard l) ack) l.manager.state.outs) (order_acked l ack) (heard_as l entry.Nothing heard.OldAck)
       (record {
         entry = part_of l.manager.state l.now x (entry.OrderAcknowledged ack.sequence.ordinal ack.number)
-            (record { given = p; heard = refl; to = own; plain = none; kind = tests.0; ack = ack; read = tests.1; ordinal_is = refl; number_is = refl });
+            (record { given = p; heard = refl; to = own; plain = none; kind = tests.0; ack = ack; read = tests.1; ordinal_is = refl; number_is = refl }) tt;
         beside = tt;
       }) (heard_nothing x l heard.OldAck)
     where
@@ -216,18 +222,18 @@ module _ (p : UserPacket) (l : Listening) (own : p.to ≡ l.manager.state.identi
   in_order_of none = at (is_express p.message.delivery) refl
     where
       recoverable : is_express p.message.delivery ≡ false → (b : Bool) → is_final l.manager.state p.message ≡ b → HearsRightly x l (cond b (hear_final l p) (hear_stored l p))
-      recoverable e true f = record { entry = part_of l.manager.state l.now x (entry.Final p) (refl, own, (none, e), final_class f); beside = tt }
+      recoverable e true f = record { entry = part_of l.manager.state l.now x (entry.Final p) (refl, own, (none, e), final_class f) tt; beside = tt }
         where
           final_class : is_final l.manager.state p.message ≡ true → is_final_class p.message.class ≡ true
           final_class g = (split_and (is_recoverable p.message.delivery) (is_final_class p.message.class)
               (split_and (is_recoverable p.message.delivery && is_final_class p.message.class) (is_for_order_layer l.manager.state p.message.destination) g).0).1
-      recoverable e false f = record { entry = part_of l.manager.state l.now x (entry.Stored p) (refl, own, (none, e)); beside = tt }
+      recoverable e false f = record { entry = part_of l.manager.state l.now x (entry.Stored p) (refl, own, (none, e)) f; beside = tt }
 
       at : (b : Bool) → is_express p.message.delivery ≡ b → HearsRightly x l (cond b (hear_express l p) (hear_recoverable l p))
       at true e = either_heard x l (is_for_order_layer l.manager.state p.message.destination) (discarded l) (hear_arriving l p.message (refusal_of l.manager.state p))
           (heard_nothing x l heard.Discarded)
           (record {
-            entry = some_unless l.manager.state (Hear l.now x) (length (numbers_released l) == 0) (entry.Arrived l.now (numbers_released l) entry.Nothing) (part_of l.manager.state l.now x entry.Nothing tt);
+            entry = some_unless l.manager.state (Hear l.now x) (length (numbers_released l) == 0) (entry.Arrived l.now (numbers_released l) entry.Nothing) (part_of l.manager.state l.now x entry.Nothing tt tt);
             beside = record { now = l.now; given = p; call_is = refl; message = refl; express = e; refusal_is = refl };
           })
       at false e = recoverable e (is_final l.manager.state p.message) refl

@@ -119,12 +119,12 @@ abbrev pub IsSourced : Course → Written → Type 0
 IsSourced c w = (now : ℕ) (numbers : List ℕ) (p : UserPacket) (tx : TxHead) → w.entry ≡ entry.Arrived now numbers (entry.Decided p) → p.tx ≡ Some tx
     → ComesFromItsSource c c.written p tx
 
-record Split (ws : List Written) (w : Written) : Type 0 where
+pub record Split (ws : List Written) (w : Written) : Type 0 where
   pub before : List Written
   pub behind : List Written
   pub all : ws ≡ before ++ w ∷ behind
 
-split_at : (ws : List Written) (w : Written) → In w ws → Split ws w
+pub split_at : (ws : List Written) (w : Written) → In w ws → Split ws w
 split_at [] w i = absurd i
 split_at (x ∷ ws) w (inl e) = record { before = []; behind = ws; all = ap (λ y. y ∷ ws) e }
 split_at (x ∷ ws) w (inr i) = let s = split_at ws w i in record { before = x ∷ s.before; behind = s.behind; all = ap (λ ys. x ∷ ys) s.all }

@@ -34,6 +34,7 @@ use Rattle.mqb_history.proofs.Applying.{beside_rows}
 use Rattle.mqb_history.proofs.Beginning.{linked_same_state}
 use Rattle.mqb_history.proofs.Calling.{calls_are_modest, made_only}
 use Rattle.mqb_history.proofs.Ending.{parted_at, parted_rows}
+use Rattle.mqb_history.proofs.Enduring.{Endures, durable_endures, endures, unmarks_endure}
 use Rattle.mqb_history.proofs.Containing.{IsFineBeside, beside_holds, durable_holds, refusal_class}
 use Rattle.mqb_history.proofs.Contents.{IsCarried, IsOfNotices, Now, next_id}
 use Rattle.mqb_history.proofs.Lists.{append_nothing, apart_numbers, equal_numbers, get_within, set_apart, set_get, set_there}
@@ -43,6 +44,7 @@ use Rattle.mqb_history.proofs.Queued.{Still, stays, without_number}
 use Rattle.mqb_history.proofs.Recorded.{BesideOf, calls_are_of}
 use Rattle.mqb_history.proofs.Remaining.{IsExpressBeside, beside_still}
 use Rattle.mqb_history.proofs.Staying.{HasSameRows}
+use Rattle.mqb_history.proofs.Surviving.{beside_endures}
 use Rattle.mqb_history.proofs.Tallies.{in_queue, tally}
 use Rattle.mqb_history.proofs.Written.{absent_idle, durable_rows, noted_managers, other_more, own_more}
 
@@ -50,9 +52,9 @@ use Rattle.mqb_history.proofs.Written.{absent_idle, durable_rows, noted_managers
 abbrev pub OfExpress : (MessageId → Message → Type 0) → Type 0
 OfExpress P = (next : MessageId) (m : Message) → is_express m.delivery ≡ true → P next m
 
--- nothing durable moved, and no message came but express ones and notices
+-- nothing durable moved, no message came but express ones and notices, and what stood or waited still does
 abbrev pub Quiet : State → State → Type 1
-Quiet a b = HasSameRows a b × ((x : MessageId) → Still x a b) × ((P : MessageId → Message → Type 0) (c : IsCarried P) → OfExpress P → Now P c a → Now P c b)
+Quiet a b = HasSameRows a b × ((x : MessageId) → Still x a b) × ((P : MessageId → Message → Type 0) (c : IsCarried P) → OfExpress P → Now P c a → Now P c b) × Endures a b
 
 -- Quiet changes.
 
@@ -62,6 +64,7 @@ durable_quiet s = (
   λ x. let same = mapped x s.places.queues in let fewer = tally_mapped (λ (p : PlainLists). in_list x p.recoverable) durable_plain s.plain (λ p. unmarked_waits x p.recoverable) in
       without_number x 0 0 s (durable s) refl refl (omega (arith, same)) (omega (arith, same, fewer)),
   λ P c express. durable_holds (P (next_id s)) s,
+  durable_endures s,
 )
   where
     mapped : (x : MessageId) (qs : List Queue) → tally (in_queue x) (map durable_queue qs) ≡ tally (in_queue x) qs
@@ -69,8 +72,12 @@ durable_quiet s = (
     mapped x (q ∷ qs) = ap (λ n. in_queue x q + n) (mapped x qs)
 
 parted_quiet : (m : Manager) → Quiet m.state (parted m).state
-parted_quiet m = (parted_rows m, λ x. at x (is_down m), λ P c express. holds P c (is_down m))
+parted_quiet m = (parted_rows m, λ x. at x (is_down m), λ P c express. holds P c (is_down m), lasts (is_down m))
   where
+    lasts : (b : Bool) → Endures m.state (cond b m (succeeded m (unlink m))).state
+    lasts true = endures m.state
+    lasts false = unmarks_endure m.state
+
     holds : (P : MessageId → Message → Type 0) (c : IsCarried P) → (b : Bool) → Now P c m.state → Now P c (cond b m (succeeded m (unlink m))).state
     holds P c true h = h
     holds P c false h = beside_holds P c beside.Unmarks m.state tt h
@@ -142,6 +149,7 @@ module _ (Q : ℕ → State → List Written → Type 0) (q : IsSteady Q) where
         beside_rows outcome.beside (recorded m.state outcome.entry),
         λ x. beside_still x outcome.beside (express_of m.state call outcome.beside (calls_are_of m call).beside) (recorded m.state outcome.entry),
         λ P k express. beside_holds P k outcome.beside (recorded m.state outcome.entry) (fine_of P express (next_id (recorded m.state outcome.entry)) m.state call outcome.beside (calls_are_of m call).beside),
+        beside_endures outcome.beside (recorded m.state outcome.entry),
       )
       (absent_idle c.network i call) h
   calling_steady i call (Some how) c h = λ j. let m = manager_at c.network i in let outcome = outcome_of m call in

@@ -80,7 +80,7 @@ begins_storing known = record {
     doubts None = tt
     doubts (Some own) = tt
 
-released : (c : Course) → KeepsStorage c → (before behind : List Written) (w : Written) (now : ℕ) (numbers : List ℕ) (part : Part) (number : ℕ)
+pub released : (c : Course) → KeepsStorage c → (before behind : List Written) (w : Written) (now : ℕ) (numbers : List ℕ) (part : Part) (number : ℕ)
     → c.written ≡ before ++ w ∷ behind → w.entry ≡ entry.Arrived now numbers part → In number numbers → IsStoredIn before (own_id w.before number) × WaitsIn w.before number
 released c k before behind w now numbers part number split e inside = all_in (λ n. IsStoredIn before (own_id w.before n) × WaitsIn w.before n) numbers number
     (subst (ReleasesStored before w.before) e (release_at [] before behind w (subst (ReleaseStored []) split k.written))) inside

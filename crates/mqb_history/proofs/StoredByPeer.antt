@@ -33,7 +33,7 @@ use Rattle.mqb_history.proofs.Saying.{Says}
 use Rattle.mqb_history.proofs.Staying.{IsSameManager}
 
 -- the record of a line of storage
-storage_by : (s : State) (r : Record) (id : MessageId) (l : Line) → In l (lines_of s r) → IsStorageOf id l → StoredBy r id
+pub storage_by : (s : State) (r : Record) (id : MessageId) (l : Line) → In l (lines_of s r) → IsStorageOf id l → StoredBy r id
 storage_by s r id l i (inl e) = all_in (Says (sayings r)) (lines_of s r) (line.Stored id) (says_truly s r) (subst (λ x. In x (lines_of s r)) e i)
 storage_by s r id l i (inr (class, e)) = all_in (Says (sayings r)) (lines_of s r) (line.Bounced class id) (says_truly s r) (subst (λ x. In x (lines_of s r)) e i)
 

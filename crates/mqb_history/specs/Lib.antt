@@ -19,6 +19,7 @@ pub mod Stored
 pub mod Fates
 pub mod Shown
 pub mod Finals
+pub mod Awaited
 pub mod Invariants
 pub mod Choosing
 pub mod Links
