@@ -2,7 +2,8 @@
 -- this.
 use Rattle.std.proofs.Common.{refl, ap, sym, subst, ◌∙◌, arith, inl, inr}
 use Rattle.std.specs.List.{AllByRecursion, list_any}
-use Rattle.std.specs.Prelude.{[], ◌++◌, ◌+◌, ◌<◌, ◌==◌, ◌∷◌, ◌≡◌, ◌≤◌, ◌⊎◌, Bool, IfSome, List, None, Option, Some, cond, false, filter, is_some, length, map, not, option_map_or, position, slice_get, suc, true, unwrap_or, zero, ℕ}
+use Rattle.std.specs.Option.{option_map_or}
+use Rattle.std.specs.Prelude.{[], ◌++◌, ◌+◌, ◌<◌, ◌==◌, ◌∷◌, ◌≡◌, ◌≤◌, ◌⊎◌, Bool, IfSome, List, None, Option, Some, cond, false, filter, is_some, length, map, not, position, slice_get, suc, true, unwrap_or, zero, ℕ}
 use Rattle.mqb_base.specs.Same.{same_guid, same_id, same_ignoring_case}
 use Rattle.mqb_base.specs.declared.heads.TxHead.{TxHead}
 use Rattle.mqb_base.specs.declared.ids.Guid.{Guid}
@@ -176,7 +177,7 @@ pub record IsAwaiting (known : List Identity) (c : Course) : Type 0 where
 
 -- Numbers.
 
-message_from : (os : List Outgoing) (m : Message) → In m (messages_of os) → (o : Outgoing) × In o os × (o.message ≡ m)
+pub message_from : (os : List Outgoing) (m : Message) → In m (messages_of os) → (o : Outgoing) × In o os × (o.message ≡ m)
 message_from [] m i = absurd i
 message_from (o ∷ os) m (inl e) = (o, inl refl, e)
 message_from (o ∷ os) m (inr i) = let g = message_from os m i in (g.0, inr g.1, g.2)

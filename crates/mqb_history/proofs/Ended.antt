@@ -1,7 +1,9 @@
 -- Each change keeps what is known of messages that were decided and ask for a final acknowledgement.
 use Rattle.std.proofs.Common.{refl, ap, sym, subst, ◌∙◌, arith, inl, inr}
 use Rattle.std.specs.List.{AllByRecursion}
-use Rattle.std.specs.Prelude.{[], ◌&&◌, ◌++◌, ◌<◌, ◌==◌, ◌||◌, ◌∷◌, ◌≡◌, ◌≤◌, ◌⊎◌, Bool, IfSome, List, None, Option, Some, cond, codes, false, map, not, option_map_or, slice_get, true, ℕ}
+use Rattle.std.specs.Char.{to_ascii_lowercase}
+use Rattle.std.specs.Option.{option_map_or}
+use Rattle.std.specs.Prelude.{[], ◌&&◌, ◌++◌, ◌<◌, ◌==◌, ◌||◌, ◌∷◌, ◌≡◌, ◌≤◌, ◌⊎◌, Bool, IfSome, List, None, Option, Some, cond, codes, false, map, not, slice_get, true, ℕ}
 use Rattle.mqb_base.specs.Same.{same_bytes, same_guid, same_id, same_ignoring_case}
 use Rattle.mqb_base.specs.declared.heads.TxHead.{TxHead}
 use Rattle.mqb_base.specs.declared.ids.Identity.{Identity}
@@ -10,6 +12,7 @@ use Rattle.mqb_base.specs.declared.ledger.Line.{Line}
 use Rattle.mqb_base.specs.declared.message.Delivery.TheVariants as delivery
 use Rattle.mqb_base.specs.declared.message.Message.{Message}
 use Rattle.mqb_base.specs.declared.names.Name.{Name}
+use Rattle.mqb_base.specs.declared.queue_names.Host.TheVariants.{Os}
 use Rattle.mqb_base.specs.declared.queue_names.QueueName.{QueueName}
 use Rattle.mqb_exactly_once.specs.Words.{In}
 use Rattle.mqb_fate.specs.Orders.{is_final_class, order_layer}
@@ -74,12 +77,14 @@ use Rattle.mqb_history.proofs.Written.{of_append}
 -- A final acknowledgement for a manager is one where it is heard.
 
 for_layer : (s : State) (own : Identity) → s.identity ≡ own → is_for_order_layer s (order_layer own.host) ≡ true
-for_layer s own same = at (same_bytes own.host (codes ".")) (ap (λ (x : Identity). same_ignoring_case own.host x.host) same ∙ same_bytes_refl (map _ own.host))
+for_layer s own same = at (same_bytes own.host (codes ".")) (ap (λ (x : Identity). same_ignoring_case own.host x.host) same ∙ same_bytes_refl (map to_ascii_lowercase own.host))
   where
-    at : (a : Bool) → same_ignoring_case own.host s.identity.host ≡ true
-        → is_here (cond (a || same_ignoring_case own.host s.identity.host) (Here (queue_named s (codes "order_queue$"))) (at_peer (peer_at s _))) ≡ true
+    to : Bool → Target
+    to b = cond b (Here (queue_named s (codes "order_queue$"))) (at_peer (peer_at s (Os own.host)))
+
+    at : (a : Bool) → same_ignoring_case own.host s.identity.host ≡ true → is_here (to (a || same_ignoring_case own.host s.identity.host)) ≡ true
     at true e = refl
-    at false e = ap (λ b. is_here (cond b (Here (queue_named s (codes "order_queue$"))) (at_peer (peer_at s _)))) e
+    at false e = ap (λ b. is_here (to b)) e
 
 is_final_here : (s : State) (own : Identity) (m : Message) → s.identity ≡ own → m.destination ≡ order_layer own.host → m.delivery ≡ delivery.Recoverable → is_final_class m.class ≡ true → is_final s m ≡ true
 is_final_here s own m same to kind class = join_and (is_recoverable m.delivery && is_final_class m.class) (is_for_order_layer s m.destination)
@@ -313,60 +318,60 @@ module _ (known : List Identity) (apart : AreApart known) (c : Course) (t : IsAw
     -- What was released was heard by the source.
 
     module _ (r : HaveReleased (written_of j d.written)) where
-      abbrev w : Written
-      w = r.written
+      abbrev frees : Written
+      frees = r.written
 
-      met : In w d.written
-      met = filtered_in (λ (v : Written). v.by == j) d.written w r.there
+      met : In frees d.written
+      met = filtered_in (λ (v : Written). v.by == j) d.written frees r.there
 
-      split : Split d.written w
-      split = split_at d.written w met
+      split : Split d.written frees
+      split = split_at d.written frees met
 
       same_id_refl : (n : MessageId) → same_id n n ≡ true
       same_id_refl n = join_and (same_guid n.qm n.qm) (n.number == n.number) (same_guid_refl n.qm) (same_number n.number)
 
-      heard_of : (now : ℕ) (numbers : List ℕ) (part : Part) → w.entry ≡ entry.Arrived now numbers part → OneReleased old K fresh others_id w.before numbers → HasHeard d i g.own.guid id
-      heard_of now numbers part e one = by v.entry refl heard_v (storage_by v.before v.entry (own_id w.before n) stored.stored.told.0 stored.stored.told.1 stored.stored.told.2)
+      heard_of : (now : ℕ) (numbers : List ℕ) (part : Part) → frees.entry ≡ entry.Arrived now numbers part → OneReleased old K fresh others_id frees.before numbers → HasHeard d i g.own.guid id
+      heard_of now numbers part e one = by v.entry refl heard_v (storage_by v.before v.entry (own_id frees.before n) stored.stored.told.0 stored.stored.told.1 stored.stored.told.2)
         where
-          told : IsToBeTold old K w.before
+          told : IsToBeTold old K frees.before
           told = one.0
 
           n : ℕ
           n = told.final.id.number
 
-          own_is : told.final.id ≡ own_id w.before n
+          own_is : told.final.id ≡ own_id frees.before n
           own_is = ap (λ q. record { qm = q; number = n }) (told.is.own ∙ sym r.knows.own)
 
-          rel : IsStoredIn split.before (own_id w.before n) × WaitsIn w.before n
-          rel = released d storing_now split.before split.behind w now numbers part n split.all e one.1
+          rel : IsStoredIn split.before (own_id frees.before n) × WaitsIn frees.before n
+          rel = released d storing_now split.before split.behind frees now numbers part n split.all e one.1
 
-          stored : IsStoredByPeer d split.before w.before n
-          stored = stored_by_peer known apart d accounted_now.agreed.0.0 accounted_now.agreed.1 split.before split.behind w n split.all rel.0 rel.1
+          stored : IsStoredByPeer d split.before frees.before n
+          stored = stored_by_peer known apart d accounted_now.agreed.0.0 accounted_now.agreed.1 split.before split.behind frees n split.all rel.0 rel.1
 
           v : Written
           v = stored.stored.storage
 
           v_met : In v d.written
-          v_met = subst (In v) (sym split.all) (in_append split.before (w ∷ split.behind) v stored.stored.there)
+          v_met = subst (In v) (sym split.all) (in_append split.before (frees ∷ split.behind) v stored.stored.there)
 
           heard_v : HeardIn known c.sent v.by v.entry
           heard_v = all_in (λ (y : Written). HeardIn known c.sent y.by y.entry) d.written v heard_before.written v_met
 
-          has : has_recoverable w.before n told.waits.0 ≡ true
+          has : has_recoverable frees.before n told.waits.0 ≡ true
           has = let y = message_from told.waits.0.recoverable told.final told.waits.2 in
-              in_any (is_released_by w.before n) told.waits.0.recoverable y.0 y.1 (subst (λ (m : Message). same_id m.id (own_id w.before n) ≡ true) (sym y.2) (subst (λ q. same_id q (own_id w.before n) ≡ true) (sym own_is) (same_id_refl (own_id w.before n))))
+              in_any (is_released_by frees.before n) told.waits.0.recoverable y.0 y.1 (subst (λ (m : Message). same_id m.id (own_id frees.before n) ≡ true) (sym y.2) (subst (λ q. same_id q (own_id frees.before n) ≡ true) (sym own_is) (same_id_refl (own_id frees.before n))))
 
-          peer : IsPeerAt d w.before g.index v.by
+          peer : IsPeerAt d frees.before g.index v.by
           peer = stored.peer g.index told.waits.0 told.waits.1 has
 
           at_source : v.by ≡ i
           at_source = one_guid known v.by i heard_v.0 g.source apart heard_v.1 g.source_there
               (sym (guid_of known apart d accounted_now.agreed.0.0 accounted_now.agreed.1 v.by heard_v.0 heard_v.1) ∙ sym peer.2 ∙ ap (λ (p : Identity). p.guid) (some_is peer.0 g.source (sym peer.1 ∙ r.knows.there)))
 
-          is_final_of : (p : UserPacket) → In (packet.User p) c.sent → IsPlainPacket p → p.message.id ≡ own_id w.before n → IsFinalOf old p.message
+          is_final_of : (p : UserPacket) → In (packet.User p) c.sent → IsPlainPacket p → p.message.id ≡ own_id frees.before n → IsFinalOf old p.message
           is_final_of p inside plain same = told.known.sent p inside plain (same ∙ ap (λ q. record { qm = q; number = n }) r.knows.own)
 
-          by : (y : Record) → v.entry ≡ y → HeardIn known c.sent v.by y → StoredBy y (own_id w.before n) → HasHeard d i g.own.guid id
+          by : (y : Record) → v.entry ≡ y → HeardIn known c.sent v.by y → StoredBy y (own_id frees.before n) → HasHeard d i g.own.guid id
           by (entry.Arrived at ns (entry.Stored p)) f heard same = let is = is_final_of p heard.2.0 heard.2.2 same in
               absurd (subst (StoredApart known v.by) f (all_in (λ (y : Written). StoredApart known y.by y.entry) d.written v stored_now.written v_met) g.source (ap (slice_get known) at_source ∙ g.source_there) is.to is.recoverable is.class)
           by (entry.Arrived at ns (entry.Final p)) f heard same = let is = is_final_of p heard.2.0 heard.2.2 same in record {
@@ -382,9 +387,9 @@ module _ (known : List Identity) (apart : AreApart known) (c : Course) (t : IsAw
           by y f heard same = absurd same
 
       heard : HasHeard d i g.own.guid id
-      heard = at w.entry refl r.releases
+      heard = at frees.entry refl r.releases
         where
-          at : (y : Record) → w.entry ≡ y → Releases old K fresh others_id w.before y → HasHeard d i g.own.guid id
+          at : (y : Record) → frees.entry ≡ y → Releases old K fresh others_id frees.before y → HasHeard d i g.own.guid id
           at (entry.Arrived now numbers part) e one = heard_of now numbers part e one
           at y e none = absurd none
 

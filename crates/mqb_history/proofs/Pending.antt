@@ -141,7 +141,7 @@ waits_or C change s j k m keeps h = changed_get (λ o. ((p : PlainLists) × (o �
     at p (inr c) = inr c
 
 module _ (x : Subject) (K : ℕ → Type 0) (fresh : (n : ℕ) → x.base ≤ n → K n) (apart : same_guid x.id.qm x.own ≡ false) where
-  open_on : (a b : State) → Endures a b → IsOpen x K a → IsOpen x K b
+  pub open_on : (a b : State) → Endures a b → IsOpen x K a → IsOpen x K b
   open_on a b e (inl none) = inl (let up = e.numbers in omega (arith, up, none))
   open_on a b e (inr (inl h)) = inr (inl (h.0, e.stands h.0 h.1, h.2))
   open_on a b e (inr (inr h)) = inr (inr (record { final = h.final; waits = e.waits x.index h.final h.waits; is = h.is; unlimited = h.unlimited; known = h.known }))
@@ -302,15 +302,16 @@ module _ (x : Subject) (K : ℕ → Type 0) (fresh : (n : ℕ) → x.base ≤ n 
 
   waits_through : (e : Effect) (ns : List ℕ) (f : Message) → WaitsFor e.state x.index f → WaitsFor (fold message_released e ns).state x.index f ⊎ In f.id.number ns
   waits_through e [] f h = inl h
-  waits_through e (n ∷ ns) f h = at (released_or e.state n x.index f h)
+  waits_through e (n ∷ ns) f h = at (waits_through (message_released e n) ns f) (released_or e.state n x.index f h)
     where
       later : WaitsFor (fold message_released (message_released e n) ns).state x.index f ⊎ In f.id.number ns → WaitsFor (fold message_released (message_released e n) ns).state x.index f ⊎ In f.id.number (n ∷ ns)
       later (inl w) = inl w
       later (inr i) = inr (inr i)
 
-      at : WaitsFor (without_released e.state n) x.index f ⊎ (f.id ≡ own_id e.state n) → WaitsFor (fold message_released (message_released e n) ns).state x.index f ⊎ In f.id.number (n ∷ ns)
-      at (inl w) = later (waits_through (message_released e n) ns f w)
-      at (inr same) = inr (inl (ap (λ (i : MessageId). i.number) (sym same)))
+      at : (WaitsFor (without_released e.state n) x.index f → WaitsFor (fold message_released (message_released e n) ns).state x.index f ⊎ In f.id.number ns)
+          → WaitsFor (without_released e.state n) x.index f ⊎ (f.id ≡ own_id e.state n) → WaitsFor (fold message_released (message_released e n) ns).state x.index f ⊎ In f.id.number (n ∷ ns)
+      at rest (inl w) = later (rest w)
+      at rest (inr same) = inr (inl (ap (λ (i : MessageId). i.number) (sym same)))
 
   -- the acknowledgement waits in a state, under a number of these
   abbrev pub OneReleased : State → List ℕ → Type 0

@@ -8,6 +8,7 @@ ghost use Rattle.mqb_history.specs.Asked.{CommittedIsAsked};
 ghost use Rattle.mqb_history.specs.Put.{PutIsTheCommittedMessage};
 ghost use Rattle.mqb_history.specs.Finals.{FinalsTellFates};
 ghost use Rattle.mqb_history.specs.Finished.{FinalsHaveReasons};
+ghost use Rattle.mqb_history.specs.Awaited.{FatesAreAwaited};
 ghost use Rattle.mqb_history.specs.Stored.{StorageIsAlwaysKept};
 ghost use Rattle.mqb_history.specs.Truths.{AlwaysTruthful};
 ghost use Rattle.mqb_history.specs.Received.{AlwaysReceivedTruly, AlwaysReceivedTrulyOfPlain};
@@ -101,6 +102,12 @@ pub fn finals_have_reasons()
 /// and has a line that says how it left its queue.
 pub fn finals_tell_fates()
     ensures { FinalsTellFates }
+{}
+
+/// Each message with the dead-letter bit that a row keeps, and that was decided where the row leads, stands in a queue there, or a final acknowledgement of it waits
+/// there for its source, or no number was left for that.
+pub fn fates_are_awaited()
+    ensures { FatesAreAwaited }
 {}
 
 /// Whatever expires at a manager was committed there, and its time to reach its queue was over.
