@@ -16,10 +16,10 @@ use mqb_plain::Outgoing;
 use std::alloc::Global;
 use std::marker::Model;
 
-/// A state in which changes are tried, and the lines of what was done so far.
+/// A state in which changes are tried, and the lines of what was done so far. What a manager keeps is large, and is not moved.
 #[derive(Debug, Drop)]
 pub struct Draft {
-    pub(crate) contents: Contents,
+    pub(crate) contents: Box<Contents>,
     pub(crate) log: Log,
     pub(crate) turned: Log,
     pub(crate) lines: Roomed<Line>,
@@ -33,29 +33,29 @@ impl Model for Draft {
     ghost Value = { Drafted };
 
     ghost view = { λ d. record {
-      effect = record { state = d.contents.lists; lines = d.lines.items };
-      start = redone d.contents.lists d.log.items;
-      rooms = rooms_redone d.contents.rooms d.log.items;
+      effect = record { state = d.contents.value.lists; lines = d.lines.items };
+      start = redone d.contents.value.lists d.log.items;
+      rooms = rooms_redone d.contents.value.rooms d.log.items;
       held = messages_back d.log.items;
     } };
 
-    ghost invariant = { λ d. IsUndoable d.contents d.log d.turned };
+    ghost invariant = { λ d. IsUndoable d.contents.value d.log d.turned };
 }
 
 /// Makes room for a change, and for the change back.
 fn make_room(
-    contents: &mut Contents,
+    contents: &mut Box<Contents>,
     log: &mut Log,
     turned: &mut Log,
     change: &Change,
 ) -> Result<(), Memory>
-    requires { Can contents.old.lists change.now }
-    ensures lists { contents.new.lists ≡ contents.old.lists }
-    ensures grown { IsGrown contents.old.rooms contents.new.rooms }
+    requires { Can contents.old.value.lists change.now }
+    ensures lists { contents.new.value.lists ≡ contents.old.value.lists }
+    ensures grown { IsGrown contents.old.value.rooms contents.new.value.rooms }
     ensures log { log.new.items ≡ log.old.items }
     ensures turned { turned.new.items ≡ turned.old.items }
     ensures turned_grows { turned.old.room ≤ turned.new.room }
-    ensures room { OnOk result (HasRoom contents.new change.now) }
+    ensures room { OnOk result (HasRoom contents.new.value change.now) }
     ensures logged { OnOk result (length log.old.items + 1 ≤ log.new.room) }
     ensures back { OnOk result (length log.old.items + 1 ≤ turned.new.room) }
 {
@@ -65,14 +65,14 @@ fn make_room(
 }
 
 /// Makes a change, and notes the change back.
-fn make(contents: &mut Contents, log: &mut Log, change: Change)
-    requires can { Can contents.old.lists change }
-    requires room { HasRoom contents.old change }
+fn make(contents: &mut Box<Contents>, log: &mut Log, change: Change)
+    requires can { Can contents.old.value.lists change }
+    requires room { HasRoom contents.old.value change }
     requires logged { length log.old.items < log.old.room }
-    ensures made { contents.new ≡ changed contents.old change }
-    ensures log { log.new.items ≡ inverse contents.old change ∷ log.old.items }
-    ensures can_back { Can contents.new.lists (inverse contents.old change) }
-    ensures room_back { HasRoom contents.new (inverse contents.old change) }
+    ensures made { contents.new.value ≡ changed contents.old.value change }
+    ensures log { log.new.items ≡ inverse contents.old.value change ∷ log.old.items }
+    ensures can_back { Can contents.new.value.lists (inverse contents.old.value change) }
+    ensures room_back { HasRoom contents.new.value (inverse contents.old.value change) }
 {
     let back = contents.change(change);
     log.push(back);
@@ -80,11 +80,11 @@ fn make(contents: &mut Contents, log: &mut Log, change: Change)
 
 impl Draft {
     /// Nothing was done yet.
-    pub fn new(alloc: Global, contents: Contents) -> Draft
+    pub fn new(alloc: Global, contents: Box<Contents>) -> Draft
         ensures { result ≡ record {
-          effect = begun contents.lists;
-          start = contents.lists;
-          rooms = contents.rooms;
+          effect = begun contents.value.lists;
+          start = contents.value.lists;
+          rooms = contents.value.rooms;
           held = 0;
         } }
     {
@@ -110,11 +110,11 @@ impl Draft {
     }
 
     /// The state as it was, the changes that make it what it became, and the lines.
-    pub fn finish(mut self) -> (Contents, Log, Roomed<Line>)
-        ensures start { result.0.lists ≡ self.start }
-        ensures rooms { result.0.rooms ≡ self.rooms }
-        ensures redone { redone result.0.lists result.1.items ≡ self.effect.state }
-        ensures ready { AllReady result.0 result.1.items }
+    pub fn finish(mut self) -> (Box<Contents>, Log, Roomed<Line>)
+        ensures start { result.0.value.lists ≡ self.start }
+        ensures rooms { result.0.value.rooms ≡ self.rooms }
+        ensures redone { redone result.0.value.lists result.1.items ≡ self.effect.state }
+        ensures ready { AllReady result.0.value result.1.items }
         ensures messages { messages result.1.items ≡ self.held }
         ensures lines { result.2.items ≡ self.effect.lines }
     {
@@ -131,8 +131,8 @@ impl Draft {
     }
 
     /// The state as it became, and the lines.
-    pub fn keep(self) -> (Contents, Roomed<Line>)
-        ensures state { result.0.lists ≡ self.effect.state }
+    pub fn keep(self) -> (Box<Contents>, Roomed<Line>)
+        ensures state { result.0.value.lists ≡ self.effect.state }
         ensures lines { result.1.items ≡ self.effect.lines }
     {
         let Draft {

@@ -1,5 +1,5 @@
 -- Bytes that spell a state are read as what a store of it stands for.
-use Rattle.std.proofs.Common.{◌≡◌, ℕ, List, Result, Err, Ok, ap, subst, ◌∙◌}
+use Rattle.std.proofs.Common.{◌≡◌, ℕ, List, Result, Err, Ok, ap, subst, sym, ◌∙◌}
 use Rattle.std.specs.Prelude.{OnOk}
 use Rattle.mqb_base.specs.Rooms.{WithRooms}
 use Rattle.mqb_contents.specs.Rooms.{StateRooms}
@@ -23,3 +23,7 @@ pub spelled_again : SnapshotsAreReadBack → {T E : Type 0} (result : Result T E
     → OnOk result (state_of (snapshot s) ≡ Ok (durable s))
 spelled_again law (Ok x) s valid is = law s valid is
 spelled_again law (Err e) s valid is = tt
+
+-- of contents that were kept as they were read
+pub read_as : (given : Result State EntryFault) (read kept : WithRooms State StateRooms) → kept ≡ read → IsReadBack given (Ok read) → IsReadBack given (Ok kept)
+read_as given read kept same exact = subst (λ (w : WithRooms State StateRooms). IsReadBack given (Ok w)) (sym same) exact

@@ -18,16 +18,17 @@ use std::alloc::Global;
 
 /// What an entry does is done, or taken back where it cannot be done whole.
 fn apply_in(
-    contents: Contents,
+    contents: Box<Contents>,
     applied: (Global, &Entry<'_>),
-) -> (Contents, Result<Roomed<Line>, RecordFault>)
-    requires { IsValidState contents.lists }
+) -> (Box<Contents>, Result<Roomed<Line>, RecordFault>)
+    requires { IsValidState contents.value.lists }
     ensures ok { IfOk result.1 (λ lines. IsSomeAnd (record_in applied.entry.1.now)
-        (λ r. (fits contents.lists r ≡ true) × (effect_of contents.lists r ≡
-        record { state = result.0.lists; lines = lines.items }))) }
-    ensures refused { OnErr result.1 (result.0.lists ≡ contents.lists) }
-    ensures valid { IsValidState result.0.lists }
-    ensures unfit { result.1 ≡ Err fault.Unfit → IsUnfit contents.lists applied.entry.1.now }
+        (λ r. (fits contents.value.lists r ≡ true) × (effect_of contents.value.lists r ≡
+        record { state = result.0.value.lists; lines = lines.items }))) }
+    ensures refused { OnErr result.1 (result.0.value.lists ≡ contents.value.lists) }
+    ensures valid { IsValidState result.0.value.lists }
+    ensures unfit { result.1 ≡ Err fault.Unfit →
+        IsUnfit contents.value.lists applied.entry.1.now }
 {
     let (alloc, entry) = applied;
     let mut draft = Draft::new(alloc, contents);

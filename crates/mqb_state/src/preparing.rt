@@ -72,19 +72,21 @@ fn try_both(
 
 /// Both are tried, and taken back.
 fn try_in(
-    contents: Contents,
+    contents: Box<Contents>,
     trial: (Global, Option<&Entry<'_>>, ExpressWork),
-) -> (Contents, Result<Prepared, RecordFault>)
-    requires valid { IsValidState contents.lists }
-    requires leaves { LeavesValid contents.lists (option_copied trial.1) (beside_of trial.2) }
-    ensures lists { result.0.lists ≡ contents.lists }
-    ensures grown { IsGrown contents.rooms result.0.rooms }
-    ensures ok { IfOk result.1 (λ p. IsTried contents.lists (option_copied trial.entry.1)
-        (λ r. IsPrepared result.0 p (effect_with contents.lists r (beside_of trial.entry.2)))) }
-    ensures few { IfOk result.1 (λ p. IsTried contents.lists (option_copied trial.entry.1)
-        (λ r. messages p.changes ≤ 3 * count_with contents.lists r trial.entry.2)) }
+) -> (Box<Contents>, Result<Prepared, RecordFault>)
+    requires valid { IsValidState contents.value.lists }
+    requires leaves { LeavesValid contents.value.lists (option_copied trial.1)
+        (beside_of trial.2) }
+    ensures lists { result.0.value.lists ≡ contents.value.lists }
+    ensures grown { IsGrown contents.value.rooms result.0.value.rooms }
+    ensures ok { IfOk result.1 (λ p. IsTried contents.value.lists (option_copied trial.entry.1)
+        (λ r. IsPrepared result.0.value p
+        (effect_with contents.value.lists r (beside_of trial.entry.2)))) }
+    ensures few { IfOk result.1 (λ p. IsTried contents.value.lists (option_copied trial.entry.1)
+        (λ r. messages p.changes ≤ 3 * count_with contents.value.lists r trial.entry.2)) }
     ensures unfit { result.1 ≡ Err fault.Unfit →
-        IsSomeAnd (option_copied trial.entry.1) (IsUnfit contents.lists) }
+        IsSomeAnd (option_copied trial.entry.1) (IsUnfit contents.value.lists) }
 {
     let (alloc, entry, work) = trial;
     let mut draft = Draft::new(alloc, contents);

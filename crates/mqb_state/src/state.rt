@@ -22,7 +22,7 @@ use std::marker::Model;
 /// lists, and beside them how many members each can have without memory. Each state is valid.
 #[derive(Debug, Drop)]
 pub struct State {
-    pub(crate) contents: Contents,
+    pub(crate) contents: Box<Contents>,
     pub(crate) alloc: Global,
 }
 
@@ -35,9 +35,18 @@ impl Model for State {
 
     ghost use Rattle.mqb_model.specs.state.Valid.{IsValidState};
 
-    ghost view = { λ s. s.contents };
+    ghost view = { λ s. s.contents.value };
 
-    ghost invariant = { λ s. IsValidState s.contents.lists };
+    ghost invariant = { λ s. IsValidState s.contents.value.lists };
+}
+
+/// The state that keeps these contents.
+fn keeping(alloc: Global, contents: Contents) -> Result<State, Memory>
+    requires { IsValidState contents.lists }
+    ensures { IfOk result (λ s. s ≡ contents) }
+{
+    let contents = Box::new(alloc, contents)?;
+    Ok(State { contents, alloc })
 }
 
 impl State {
@@ -47,10 +56,7 @@ impl State {
     {
         new_is_valid();
         let identity = identity.clone()?;
-        Ok(State {
-            contents: Contents::empty(alloc, identity),
-            alloc,
-        })
+        keeping(alloc, Contents::empty(alloc, identity))
     }
 
     /// What a store stands for that was spelled as these bytes, all of them, or the first field that stands in no such bytes.
@@ -64,11 +70,14 @@ impl State {
         snapshots_are_read_back();
         read_back_is_valid(bytes);
         let contents = read_back(alloc, bytes)?;
-        Ok(State { contents, alloc })
+        match keeping(alloc, contents) {
+            Ok(state) => Ok(state),
+            Err(Memory) => Err(BackFault::Memory),
+        }
     }
 
     /// Lets the state go. Where a state ends by this call, how it ends is not proved again.
     pub fn close(self) {
-        self.contents.close();
+        Box::into_inner(self.contents).close();
     }
 }

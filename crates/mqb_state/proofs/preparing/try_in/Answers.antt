@@ -9,13 +9,13 @@ use Rattle.mqb_state.proofs.Tried.{few_as, prepared_as}
 use Rattle.mqb_state.proofs.preparing.try_in.Goals as goal
 
 pub returns-in-Ok-clause-ok : goal.returns-in-Ok-clause-ok
-returns-in-Ok-clause-ok c = prepared_as c.args.contents.lists (option_copied c.args.trial.1) (beside_of c.args.trial.2) c.finish-contents.result.0 _ c.try_both-tried.new.draft.effect
+returns-in-Ok-clause-ok c = prepared_as c.args.contents.value.lists (option_copied c.args.trial.1) (beside_of c.args.trial.2) c.finish-contents.result.0.value _ c.try_both-tried.new.draft.effect
     c.finish-contents.ensures.ready c.finish-contents.ensures.redone c.finish-contents.ensures.lines c.requires.leaves
     (subst (λ (s : State). IsTried s (option_copied c.args.trial.1) (λ r. c.try_both-tried.new.draft.effect ≡ effect_with s r (beside_of c.args.trial.2)))
     (ap (λ (d : Drafted). d.effect.state) c.new-draft.ensures) c.in-Ok.ensures.ok)
 
 pub returns-in-Ok-clause-few : goal.returns-in-Ok-clause-few
-returns-in-Ok-clause-few c = few_as c.args.contents.lists (option_copied c.args.trial.1) c.args.trial.2 _ c.new-draft.result.held c.try_both-tried.new.draft.held
+returns-in-Ok-clause-few c = few_as c.args.contents.value.lists (option_copied c.args.trial.1) c.args.trial.2 _ c.new-draft.result.held c.try_both-tried.new.draft.held
     c.finish-contents.ensures.messages (ap (λ (d : Drafted). d.held) c.new-draft.ensures)
     (subst (λ (s : State). IsTried s (option_copied c.args.trial.1) (λ r. c.try_both-tried.new.draft.held ≤ c.new-draft.result.held + 3 * count_with s r c.args.trial.2))
     (ap (λ (d : Drafted). d.effect.state) c.new-draft.ensures) c.in-Ok.ensures.few)

@@ -10,8 +10,8 @@ use Rattle.mqb_drafts.proofs.drafts.Draft.change.Goals.{After-make}
 
 pub invariant_of-self-in-Err : goal.invariant_of-self-in-Err
 invariant_of-self-in-Err c = record {
-  ready = ready_as (ap (λ (s : State). record { lists = s; rooms = c.make_room.new.contents.rooms }) c.make_room.ensures.lists) c.make_room.ensures.log
-      (ready_grown c.self.inside.contents.lists c.self.inside.log.items c.make_room.ensures.grown c.self.invariant.ready);
+  ready = ready_as (ap (λ (s : State). record { lists = s; rooms = c.make_room.new.contents.value.rooms }) c.make_room.ensures.lists) c.make_room.ensures.log
+      (ready_grown c.self.inside.contents.value.lists c.self.inside.log.items c.make_room.ensures.grown c.self.invariant.ready);
   room = let n : length c.make_room.new.log.items ≡ length c.self.inside.log.items = ap length c.make_room.ensures.log in
       omega (arith, n, c.self.invariant.room, c.make_room.ensures.turned_grows);
   empty = c.make_room.ensures.turned ∙ c.self.invariant.empty;
@@ -19,11 +19,11 @@ invariant_of-self-in-Err c = record {
 
 pub returns-in-Err-clause-grown : goal.returns-in-Err-clause-grown
 returns-in-Err-clause-grown c =
-    subst (λ (d : Drafted). IsGrown d.rooms (rooms_redone c.make_room.new.contents.rooms c.make_room.new.log.items)) c.self.view_is
-    (same_grown c.self.inside.contents.rooms c.make_room.new.contents.rooms c.make_room.ensures.grown c.make_room.ensures.log)
+    subst (λ (d : Drafted). IsGrown d.rooms (rooms_redone c.make_room.new.contents.value.rooms c.make_room.new.log.items)) c.self.view_is
+    (same_grown c.self.inside.contents.value.rooms c.make_room.new.contents.value.rooms c.make_room.ensures.grown c.make_room.ensures.log)
 
-is_changed : (c : After-make) → IsChanged c.self.inside.contents c.make_room.new.contents c.make.new.contents c.args.change
-    (inverse c.make_room.new.contents c.args.change) c.self.inside.log.items c.make.new.log.items
+is_changed : (c : After-make) → IsChanged c.self.inside.contents.value c.make_room.new.contents.value c.make.new.contents.value c.args.change
+    (inverse c.make_room.new.contents.value c.args.change) c.self.inside.log.items c.make.new.log.items
 is_changed c = record {
   grows = c.make_room.ensures.grown;
   same = c.make_room.ensures.lists;
@@ -31,13 +31,13 @@ is_changed c = record {
   room = c.in-Ok.ensures.room;
   made = c.make.ensures.made;
   back = refl;
-  logged = c.make.ensures.log ∙ ap (λ (l : List Change). inverse c.make_room.new.contents c.args.change ∷ l) c.make_room.ensures.log;
+  logged = c.make.ensures.log ∙ ap (λ (l : List Change). inverse c.make_room.new.contents.value c.args.change ∷ l) c.make_room.ensures.log;
 }
 
 pub invariant_of-self : goal.invariant_of-self
 invariant_of-self c = record {
   ready = still_ready (is_changed c) c.self.invariant.ready c.make.ensures.can_back c.make.ensures.room_back;
-  room = let n : length c.make.new.log.items ≡ length (inverse c.make_room.new.contents c.args.change ∷ c.make_room.new.log.items) = ap length c.make.ensures.log in
+  room = let n : length c.make.new.log.items ≡ length (inverse c.make_room.new.contents.value c.args.change ∷ c.make_room.new.log.items) = ap length c.make.ensures.log in
       let m : length c.make_room.new.log.items ≡ length c.self.inside.log.items = ap length c.make_room.ensures.log in
       omega (arith, n, m, c.in-Ok.ensures.back);
   empty = c.make_room.ensures.turned ∙ c.self.invariant.empty;
@@ -48,7 +48,7 @@ returns-in-Ok-clause-start c = start_stays (is_changed c) ∙ ap (λ (d : Drafte
 
 pub returns-in-Ok-clause-grown : goal.returns-in-Ok-clause-grown
 returns-in-Ok-clause-grown c =
-    subst (λ (d : Drafted). IsGrown d.rooms (rooms_redone c.make.new.contents.rooms c.make.new.log.items)) c.self.view_is (start_grown (is_changed c))
+    subst (λ (d : Drafted). IsGrown d.rooms (rooms_redone c.make.new.contents.value.rooms c.make.new.log.items)) c.self.view_is (start_grown (is_changed c))
 
 pub returns-in-Ok-clause-held : goal.returns-in-Ok-clause-held
 returns-in-Ok-clause-held c =

@@ -7,4 +7,4 @@ use Rattle.mqb_state.proofs.state.State.note_sent.Goals as goal
 pub invariant_of-self : goal.invariant_of-self
 invariant_of-self c =
     subst IsValidState (sym c.note_sent.ensures.lists)
-    (noted_valid c.args.peer c.args.head.now c.self.inside.contents.lists (origin_of c.args.origin) c.self.invariant)
+    (noted_valid c.args.peer c.args.head.now c.self.inside.contents.value.lists (origin_of c.args.origin) c.self.invariant)

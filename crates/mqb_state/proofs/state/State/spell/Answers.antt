@@ -19,4 +19,4 @@ returns-clause-spelled c = subst (λ (w : WithRooms State StateRooms). OnOk c.sp
 
 pub returns-clause-again : goal.returns-clause-again
 returns-clause-again c = subst (λ (w : WithRooms State StateRooms). OnOk c.spell.result (state_of (snapshot w.lists) ≡ Ok (durable w.lists)))
-    c.self.view_is (spelled_again c.snapshots_are_read_back.ensures c.spell.result c.self.inside.contents.lists c.self.invariant c.spell.ensures.typed)
+    c.self.view_is (spelled_again c.snapshots_are_read_back.ensures c.spell.result c.self.inside.contents.value.lists c.self.invariant c.spell.ensures.typed)
