@@ -36,7 +36,7 @@ impl Manager {
             return Err(SendFault::Down);
         }
         let contents = self.store.state().contents();
-        let sending = plan_send(self.alloc, contents, draft, recoverable, now)?;
+        let sending = plan_send(contents, draft, recoverable, now)?;
         let Sending { id, sent, work } = sending;
         let entry = sent.entry();
         let written = self.write(disk, entry.as_ref(), work);

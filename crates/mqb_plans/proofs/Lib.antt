@@ -1,5 +1,5 @@
 pub mod Comes
 pub mod Counts
 pub mod Planned
-pub mod Spelled
 pub mod Taken
+pub mod Telling

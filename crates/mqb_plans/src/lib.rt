@@ -7,15 +7,15 @@
 mod due;
 mod messages;
 mod purging;
+mod recording;
 mod refusals;
 mod sending;
-mod spelling;
 mod taking;
 mod ticking;
 mod values;
 
 pub use purging::{Purging, plan_purge};
+pub use recording::SentRecord;
 pub use sending::{Sending, plan_send};
-pub use spelling::SentRecord;
 pub use taking::{Taking, plan_take};
 pub use ticking::{Ticking, plan_tick};

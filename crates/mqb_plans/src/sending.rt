@@ -10,15 +10,14 @@ ghost use Rattle.mqb_plans.specs.Calls.{sending};
 ghost use Rattle.mqb_plans.specs.Plans.{CanWrite, ComesTo, KeepsStore, KeepsValid, RefusesSend};
 
 use crate::messages::plain_message;
+use crate::recording::SentRecord;
 use crate::refusals::{message_fault, target_fault};
-use crate::spelling::SentRecord;
 use crate::values::draft_fits;
-use mqb_base::{Draft, Memory, Message, MessageId};
+use mqb_base::{Draft, Message, MessageId};
 use mqb_contents::Contents;
 use mqb_model::{SendFault, calls_keep_valid, calls_leave_store, records_are_read, records_fit};
 use mqb_rules::{guid_at, resolved};
 use mqb_timeouts::ExpressWork;
-use std::alloc::Global;
 
 /// A message that is to be sent: a recoverable one by its record, and an express one without.
 #[derive(Debug, Drop)]
@@ -31,25 +30,20 @@ pub struct Sending {
     pub work: ExpressWork,
 }
 
-fn send_recoverable(
-    alloc: Global,
-    contents: &Contents,
-    message: &Message,
-    now: u32,
-) -> Result<Sending, Memory>
-    requires well_formed { IsWellFormed message.now }
-    requires recoverable { message.now.delivery ≡ Recoverable }
-    requires size { is_too_large headers.Session message.now ≡ false }
-    ensures plan { IfOk result (λ t.
-        send_plan t ≡ sending contents.now.lists true now message.now) }
-    ensures id { IfOk result (λ t. t.id ≡ message.now.id) }
+#[tactic(auto, using(crate::proofs::Telling::can_tell))]
+fn send_recoverable(contents: &Contents, message: Message, now: u32) -> Sending
+    requires well_formed { IsWellFormed message }
+    requires recoverable { message.delivery ≡ Recoverable }
+    requires size { is_too_large headers.Session message ≡ false }
+    ensures plan { send_plan result ≡ sending contents.now.lists true now message }
+    ensures id { result.id ≡ message.id }
 {
     let to = guid_at(contents, resolved(contents, &message.destination));
-    Ok(Sending {
+    Sending {
         id: message.id,
-        sent: SentRecord::new(alloc, message, to, now)?,
+        sent: SentRecord::new(message, to, now),
         work: ExpressWork::Nothing,
-    })
+    }
 }
 
 fn send_express(contents: &Contents, message: Message, now: u32) -> Sending
@@ -64,29 +58,21 @@ fn send_express(contents: &Contents, message: Message, now: u32) -> Sending
 }
 
 /// A message that no reason is against is to be sent.
-fn send_message(
-    alloc: Global,
-    contents: &Contents,
-    message: Message,
-    recoverable: bool,
-    now: u32,
-) -> Result<Sending, Memory>
+fn send_message(contents: &Contents, message: Message, recoverable: bool, now: u32) -> Sending
     requires well_formed { IsWellFormed message }
     requires recoverable { recoverable ≡ true → message.delivery ≡ Recoverable }
     requires size { is_too_large headers.Session message ≡ false }
-    ensures plan { IfOk result (λ t.
-        send_plan t ≡ sending contents.now.lists recoverable now message) }
-    ensures id { IfOk result (λ t. t.id ≡ message.id) }
+    ensures plan { send_plan result ≡ sending contents.now.lists recoverable now message }
+    ensures id { result.id ≡ message.id }
 {
     if recoverable {
-        send_recoverable(alloc, contents, &message, now)
+        send_recoverable(contents, message, now)
     } else {
-        Ok(send_express(contents, message, now))
+        send_express(contents, message, now)
     }
 }
 
 fn send(
-    alloc: Global,
     contents: &Contents,
     draft: &Draft,
     recoverable: bool,
@@ -105,13 +91,12 @@ fn send(
     if let Some(fault) = message_fault(contents, recoverable, &message) {
         return Err(fault);
     }
-    Ok(send_message(alloc, contents, message, recoverable, now)?)
+    Ok(send_message(contents, message, recoverable, now))
 }
 
-/// A message of what its sender chose is to be sent, outside of transactions. It is made once, and a recoverable one is spelled once. A refusal is the
+/// A message of what its sender chose is to be sent, outside of transactions. It is made once, and spelled where its entry is put. A refusal is the
 /// first reason against it in the order of `SendFault`, or want of memory.
 pub fn plan_send(
-    alloc: Global,
     contents: &Contents,
     draft: &Draft,
     recoverable: bool,
@@ -133,5 +118,5 @@ pub fn plan_send(
     records_are_read();
     calls_keep_valid();
     calls_leave_store();
-    send(alloc, contents, draft, recoverable, now)
+    send(contents, draft, recoverable, now)
 }

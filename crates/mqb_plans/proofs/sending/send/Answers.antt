@@ -30,7 +30,7 @@ returns-clause-planned c = λ m up_to up.
     let p = c.args.draft.now in
     let r = c.args.recoverable in
     let same = c.parts-parts.ensures.parts in
-    let t = c.in_ok-send_message.field-0 in
+    let t = c.send_message.result in
     let found : sends.target_fault s (resolved s p.destination) ≡ None =
     ap (λ (q : Parts). sends.target_fault s (resolved s q.destination)) (sym same) ∙ (ap (sends.target_fault s) (sym c.resolved.ensures) ∙ (sym c.target_fault.ensures ∙ c.in_default.is)) in
     let made : c.in_ok-message.message ≡ plain_message s r c.args.now p = c.in_ok-message.ensures.message ∙ ap (λ (q : Parts). plain_message s r c.args.now q) same in
@@ -38,5 +38,5 @@ returns-clause-planned c = λ m up_to up.
     ap (sends.message_fault s r) (sym made) ∙ (sym c.message_fault.ensures ∙ c.in_default-message_fault.is) in
     send_comes s p r c.args.now found fine m up_to up
     ∙ ap (λ (x : Message). outcome_of m (sending s r c.args.now x) (Ok x.id)) (sym made)
-    ∙ ap (λ (x : Plan). outcome_of m x (Ok c.in_ok-message.message.id)) (sym c.in_ok-send_message.ensures.plan)
-    ∙ ap (λ (i : MessageId). outcome_of m (send_plan t) (Ok i)) (sym c.in_ok-send_message.ensures.id)
+    ∙ ap (λ (x : Plan). outcome_of m x (Ok c.in_ok-message.message.id)) (sym c.send_message.ensures.plan)
+    ∙ ap (λ (i : MessageId). outcome_of m (send_plan t) (Ok i)) (sym c.send_message.ensures.id)
