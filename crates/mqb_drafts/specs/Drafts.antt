@@ -1,12 +1,9 @@
 -- What contracts see of a state in which changes are tried.
-use Rattle.std.specs.Prelude.{[], ◌++◌, ◌+◌, ◌<◌, ◌^◌, ◌∷◌, ◌≡◌, ◌≤◌, AllPairs, length, ℕ}
-use Rattle.mqb_base.specs.Rooms.{Room, WithRooms}
+use Rattle.std.specs.Prelude.{[], ◌++◌, ◌+◌, ◌<◌, ◌^◌, ◌∷◌, AllPairs, ℕ}
 use Rattle.mqb_base.specs.declared.ledger.Line.{Line}
 use Rattle.mqb_contents.specs.mqb_model.rules.Effects.{Effect}
 use Rattle.mqb_contents.specs.mqb_model.state.State.{State}
-use Rattle.mqb_contents.specs.Changes.{AllReady}
 use Rattle.mqb_contents.specs.Rooms.{StateRooms}
-use Rattle.mqb_contents.specs.declared.change.Change.{Change}
 
 -- what was done so far, the state before it, the rooms that this has by now, and how many messages came in since
 pub record Drafted : Type 0 where
@@ -26,9 +23,3 @@ HasNext number = number + 1 < 2 ^ 32
 -- ordinals rise from row to row
 abbrev pub OrdinalsRise : State → Type 0
 OrdinalsRise s = AllPairs (λ a b. a.sequence.ordinal < b.sequence.ordinal) s.outs
-
--- The changes of a log can be made, and there is room for as many changes back.
-pub record IsUndoable (contents : WithRooms State StateRooms) (log turned : Room Change) : Type 0 where
-  pub ready : AllReady contents log.items
-  pub room : length log.items ≤ turned.room
-  pub empty : turned.items ≡ []

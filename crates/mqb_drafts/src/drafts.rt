@@ -1,5 +1,5 @@
 ghost use Rattle.std.specs.Prelude.{◌≡◌, ◌+◌, ◌<◌, ◌≤◌, [], ◌∷◌, IsSome, IsSomeAnd, OnOk, length, slice_get};
-ghost use Rattle.mqb_contents.specs.Changes.{AllReady, Can, HasRoom, changed, held, inverse, lists_after, messages, redone};
+ghost use Rattle.mqb_contents.specs.Changes.{AllReady, Can, HasRoom, changed, held, inverse, lists_after, messages_back, redone, rooms_redone};
 ghost use Rattle.mqb_contents.specs.Rooms.{IsGrown};
 ghost use Rattle.mqb_contents.specs.mqb_model.rules.Effects.{begun, without_line};
 ghost use Rattle.mqb_contents.specs.mqb_model.state.Places.{put_at, with_plain, without_at};
@@ -9,7 +9,7 @@ ghost use Rattle.mqb_queue.specs.Lists.{messages_in};
 ghost use Rattle.mqb_queue.specs.Places.{lists_at};
 
 use crate::logs::Log;
-use crate::turns::turn;
+use crate::turns::redo;
 use mqb_base::{EntryPlace, Lane, Line, Memory, Message, Roomed};
 use mqb_contents::{Change, Contents};
 use mqb_plain::Outgoing;
@@ -21,14 +21,13 @@ use std::marker::Model;
 pub struct Draft {
     pub(crate) contents: Box<Contents>,
     pub(crate) log: Log,
-    pub(crate) turned: Log,
     pub(crate) lines: Roomed<Line>,
     pub(crate) alloc: Global,
 }
 
 impl Model for Draft {
-    ghost use Rattle.mqb_contents.specs.Changes.{messages_back, redone, rooms_redone};
-    ghost use Rattle.mqb_drafts.specs.Drafts.{Drafted, IsUndoable};
+    ghost use Rattle.mqb_contents.specs.Changes.{AllReady, messages_back, redone, rooms_redone};
+    ghost use Rattle.mqb_drafts.specs.Drafts.{Drafted};
 
     ghost Value = { Drafted };
 
@@ -39,28 +38,19 @@ impl Model for Draft {
       held = messages_back d.log.items;
     } };
 
-    ghost invariant = { λ d. IsUndoable d.contents.value d.log d.turned };
+    ghost invariant = { λ d. AllReady d.contents.value d.log.items };
 }
 
 /// Makes room for a change, and for the change back.
-fn make_room(
-    contents: &mut Box<Contents>,
-    log: &mut Log,
-    turned: &mut Log,
-    change: &Change,
-) -> Result<(), Memory>
+fn make_room(contents: &mut Box<Contents>, log: &mut Log, change: &Change) -> Result<(), Memory>
     requires { Can contents.old.value.lists change.now }
     ensures lists { contents.new.value.lists ≡ contents.old.value.lists }
     ensures grown { IsGrown contents.old.value.rooms contents.new.value.rooms }
     ensures log { log.new.items ≡ log.old.items }
-    ensures turned { turned.new.items ≡ turned.old.items }
-    ensures turned_grows { turned.old.room ≤ turned.new.room }
     ensures room { OnOk result (HasRoom contents.new.value change.now) }
     ensures logged { OnOk result (length log.old.items + 1 ≤ log.new.room) }
-    ensures back { OnOk result (length log.old.items + 1 ≤ turned.new.room) }
 {
     log.make_room(1)?;
-    turned.make_room(log.room())?;
     contents.make_room(change)
 }
 
@@ -91,7 +81,6 @@ impl Draft {
         Draft {
             contents,
             log: Log::new(alloc),
-            turned: Log::new(alloc),
             lines: Roomed::new(alloc),
             alloc,
         }
@@ -109,50 +98,44 @@ impl Draft {
         &self.contents
     }
 
-    /// The state as it was, the changes that make it what it became, and the lines.
-    pub fn finish(mut self) -> (Box<Contents>, Log, Roomed<Line>)
-        ensures start { result.0.value.lists ≡ self.start }
-        ensures rooms { result.0.value.rooms ≡ self.rooms }
-        ensures redone { redone result.0.value.lists result.1.items ≡ self.effect.state }
+    /// The state as it became, the changes that lead back to the state as it was, and the lines.
+    pub fn keep(self) -> (Box<Contents>, Log, Roomed<Line>)
+        ensures state { result.0.value.lists ≡ self.effect.state }
         ensures ready { AllReady result.0.value result.1.items }
-        ensures messages { messages result.1.items ≡ self.held }
+        ensures back { redone result.0.value.lists result.1.items ≡ self.start }
+        ensures rooms { rooms_redone result.0.value.rooms result.1.items ≡ self.rooms }
+        ensures messages { messages_back result.1.items ≡ self.held }
         ensures lines { result.2.items ≡ self.effect.lines }
     {
-        turn(&mut self.contents, &mut self.log, &mut self.turned);
         let Draft {
             contents,
             log,
-            turned,
             lines,
             alloc: _,
         } = self;
-        log.discard();
-        (contents, turned, lines)
+        (contents, log, lines)
     }
 
-    /// The state as it became, and the lines.
-    pub fn keep(self) -> (Box<Contents>, Roomed<Line>)
-        ensures state { result.0.value.lists ≡ self.effect.state }
-        ensures lines { result.1.items ≡ self.effect.lines }
+    /// The state as it was. It takes no memory.
+    pub fn take_back(self) -> Box<Contents>
+        ensures start { result.value.lists ≡ self.start }
+        ensures rooms { result.value.rooms ≡ self.rooms }
     {
         let Draft {
-            contents,
+            mut contents,
             log,
-            turned,
-            lines,
+            lines: _,
             alloc: _,
         } = self;
-        log.discard();
-        turned.discard();
-        (contents, lines)
+        redo(&mut contents, log);
+        contents
     }
 
     /// Makes room for so many changes at once. Contracts see nothing of it: a change makes room for itself.
     pub(crate) fn make_room(&mut self, changes: usize) -> Result<(), Memory>
         ensures { self.new ≡ self.old }
     {
-        self.log.make_room(changes)?;
-        self.turned.make_room(self.log.room())
+        self.log.make_room(changes)
     }
 
     /// Makes a change.
@@ -164,7 +147,7 @@ impl Draft {
         ensures grown { IsGrown self.old.rooms self.new.rooms }
         ensures held { OnOk result (self.new.held ≡ self.old.held + held change) }
     {
-        match make_room(&mut self.contents, &mut self.log, &mut self.turned, &change) {
+        match make_room(&mut self.contents, &mut self.log, &change) {
             Ok(()) => {
                 make(&mut self.contents, &mut self.log, change);
                 Ok(())

@@ -31,11 +31,10 @@ impl Log {
         }
     }
 
-    /// How many changes there can be without memory.
-    pub(crate) fn room(&self) -> usize
-        ensures { result ≡ self.now.room }
+    pub(crate) fn len(&self) -> usize
+        ensures { result ≡ length self.now.items }
     {
-        self.changes.room()
+        self.changes.len()
     }
 
     /// Makes room for so many more.

@@ -1,11 +1,13 @@
-ghost use Rattle.std.specs.Prelude.{◌≡◌, ◌≤◌, [], length};
+ghost use Rattle.std.specs.Prelude.{◌≡◌, ◌≤◌, [], IfOk, length};
 ghost use Rattle.mqb_contents.specs.Changes.{AllReady, messages, messages_back, redone, rooms_redone};
 
 use crate::logs::Log;
+use mqb_base::Memory;
 use mqb_contents::Contents;
+use std::alloc::Global;
 
 /// Makes the changes of a log, and puts the changes back onto another. It takes no memory.
-pub(crate) fn turn(contents: &mut Contents, from: &mut Log, onto: &mut Log)
+fn turn(contents: &mut Contents, from: &mut Log, onto: &mut Log)
     requires ready { AllReady contents.old from.old.items }
     requires room { length from.old.items ≤ onto.old.room }
     requires empty { onto.old.items ≡ [] }
@@ -31,4 +33,28 @@ pub fn redo(contents: &mut Contents, mut log: Log)
         contents.change(change).discard();
     }
     log.discard();
+}
+
+/// Makes the changes of a log, and answers the changes back. They are made also where there is no memory for those.
+pub fn turned(contents: &mut Contents, mut log: Log, alloc: Global) -> Result<Log, Memory>
+    requires { AllReady contents.old log.items }
+    ensures lists { contents.new.lists ≡ redone contents.old.lists log.items }
+    ensures rooms { contents.new.rooms ≡ rooms_redone contents.old.rooms log.items }
+    ensures back { IfOk result (λ r. redone contents.new.lists r.items ≡ contents.old.lists) }
+    ensures ready { IfOk result (λ r. AllReady contents.new r.items) }
+    ensures messages { IfOk result (λ r. messages r.items ≡ messages_back log.items) }
+{
+    let mut back = Log::new(alloc);
+    match back.make_room(log.len()) {
+        Ok(()) => {
+            turn(contents, &mut log, &mut back);
+            log.discard();
+            Ok(back)
+        }
+        Err(Memory) => {
+            redo(contents, log);
+            back.discard();
+            Err(Memory)
+        }
+    }
 }

@@ -123,8 +123,8 @@ fn make(state: &mut State, entry: &Entry<'_>) -> Result<(), PrepareFault> {
     let prepared = state.prepare(entry)?;
     state.install(prepared);
     state.is_valid();
-    let prepared = state.prepare_beside(None, ExpressWork::Nothing)?;
-    state.install(prepared);
+    let attempt = state.attempt(None, ExpressWork::Nothing)?;
+    state.take_back(attempt);
     Ok(())
 }
 

@@ -1,6 +1,6 @@
 //! Each kind of record, tried in a draft.
 //!
-//! A draft that answers a fault is half changed: `Draft::finish` takes all of it back.
+//! A draft that answers a fault is half changed: `Draft::take_back` takes all of it back.
 #![tactic(auto)]
 
 mod applying;

@@ -1,3 +1,4 @@
+pub mod Attempts
 pub mod Prepared
 pub mod Together
 pub use Rattle.mqb_records.specs.Unfit

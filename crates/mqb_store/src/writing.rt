@@ -1,39 +1,26 @@
 ghost use Rattle.std.specs.Option.{option_map_or};
-ghost use Rattle.std.specs.Prelude.{◌+◌, ◌≡◌, ◌≢◌, Err, IfSome, IsSomeAnd, None, OnOk, Some, option_copied, true};
-ghost use Rattle.mqb_snapshot.specs.mqb_contents.Changes.{redone};
+ghost use Rattle.std.specs.Prelude.{◌+◌, ◌≡◌, ◌≢◌, Err, IfSome, IsSomeAnd, None, OnOk, Some};
+ghost use Rattle.std.specs.Prelude.{option_copied, true};
 ghost use Rattle.mqb_outside.specs.Disk.{Counted, IsSettled, LeavesOnly};
 ghost use Rattle.mqb_state.specs.Work.{beside_of};
 ghost use Rattle.mqb_journal.specs.Causes.{FaultsAsSaid};
 ghost use Rattle.mqb_model.specs.records.Reading.{record_in, record_of};
-ghost use Rattle.mqb_state.specs.Prepared.{IsPreparedFrom};
 ghost use Rattle.mqb_state.specs.Together.{LeavesValid};
 ghost use Rattle.mqb_store.specs.States.{IsSameStore, IsStoredOn, IsUp};
-ghost use Rattle.mqb_store.specs.Writing.{CanWrite, LeavesStore, change_in, lines_then, write_failed, written};
+ghost use Rattle.mqb_store.specs.Writing.{CanWrite, LeavesStore, change_in, lines_then};
+ghost use Rattle.mqb_store.specs.Writing.{write_failed, written};
 ghost use Rattle.mqb_entries.specs.SpelledEntries.{spelled};
 ghost use Rattle.mqb_store_laws.specs.Images.{Opens};
 ghost use Rattle.mqb_store_laws.specs.Writing.{WritesOne};
 
+use crate::attempting::attempt;
 use crate::faults::WriteFault;
-use crate::preparing::prepare;
 use crate::spelling::spell;
 use crate::store::Store;
-use mqb_base::{Line, Roomed};
 use mqb_entries::Entry;
 use mqb_outside::Disk;
-use mqb_state::{ExpressWork, Prepared, State};
+use mqb_state::ExpressWork;
 use mqb_store_laws::records_join;
-use std::alloc::Global;
-
-/// Makes what was prepared, and answers its lines.
-fn install(state: &mut State, mut prepared: Prepared, alloc: Global) -> Roomed<Line>
-    requires { IsPreparedFrom state.old prepared }
-    ensures state { state.new.lists ≡ redone state.old.lists prepared.changes }
-    ensures lines { result.items ≡ prepared.lines }
-{
-    let lines = prepared.take_lines(alloc);
-    state.install(prepared);
-    lines
-}
 
 impl Store {
     // Without a record: what is done beside it, and the disk is not called.
@@ -46,12 +33,13 @@ impl Store {
         ensures refused { result ≡ Err WriteFault.Memory → IsSameStore self.old self.new }
         ensures never { result ≢ Err WriteFault.DiskFault }
     {
-        let prepared = prepare(&mut self.state, None, work)?;
-        self.state.install(prepared);
+        let tried = attempt(&mut self.state, None, work)?;
+        drop(tried.into_lines());
         Ok(())
     }
 
-    // With a record, which is on the disk before anything is installed.
+    // With a record. What it does is done before the disk is called, and taken
+    // back where that fails.
     fn write_entry<D: Disk>(
         &mut self,
         disk: &mut D,
@@ -94,23 +82,25 @@ impl Store {
         records_join();
         self.state.is_valid();
         spell(entry, &mut self.block)?;
-        let prepared = prepare(&mut self.state, Some(entry), work)?;
+        let tried = attempt(&mut self.state, Some(entry), work)?;
         match self.journal.append_block(disk, &self.block) {
             Ok(()) => {
-                self.lines = install(&mut self.state, prepared, self.alloc);
+                self.lines = tried.into_lines();
                 Ok(())
             }
             Err(_) => {
-                prepared.discard();
+                self.state.take_back(tried);
                 Err(WriteFault::DiskFault)
             }
         }
     }
 
-    /// Writes a record, where there is one, and does what is done beside it. All memory is taken before the first call of the disk.
+    /// Writes a record, where there is one, and does what is done beside it. All memory is taken
+    /// before the first call of the disk.
     ///
     /// # Errors
-    /// `Memory`: nothing has changed. `DiskFault`: the state stays, the store is down, and a crash may leave the record or not.
+    /// `Memory`: nothing has changed. `DiskFault`: the state stays, the store is down, and a crash
+    /// may leave the record or not.
     pub fn write<D: Disk>(
         &mut self,
         disk: &mut D,
@@ -140,7 +130,8 @@ impl Store {
         ensures spelled { OnOk result (IfSome (option_copied entry.entry)
             (λ e. self.new.entry ≡ spelled e)) }
 
-        // A crash at any moment of the call leaves the state from before it, or the one that the record leaves.
+        // A crash at any moment of the call leaves the state from before it, or the one
+        // that the record leaves.
         ensures moments { IsSettled (D.view disk.old)
             → LeavesOnly (D.view disk.old) (D.view disk.new)
             (Opens self.old.journal self.old.state (change_in (option_copied entry.entry))) }

@@ -4,7 +4,7 @@
 //! is searched on from where the last message was found: nothing before it is due, since notices have no limit of time and join at the end.
 //!
 //! Express messages are sent, taken, purged, heard and dropped, and leave once their time is over. A store knows of none of it, so none of it has a line in
-//! the ledger. What fails for want of memory leaves the draft half changed: `Draft::finish` takes all of it back.
+//! the ledger. What fails for want of memory leaves the draft half changed: `Draft::take_back` takes all of it back.
 #![tactic(auto)]
 
 mod acked;

@@ -1,4 +1,4 @@
-use Rattle.std.proofs.Common.{◌≡◌, ◌∷◌, List, length, ap, sym, ◌∙◌, subst, refl, arith}
+use Rattle.std.proofs.Common.{◌∷◌, List, ap, sym, ◌∙◌, subst, refl, arith}
 use Rattle.mqb_contents.specs.mqb_model.state.State.{State}
 use Rattle.mqb_contents.specs.Changes.{Can, inverse, rooms_redone}
 use Rattle.mqb_contents.specs.Rooms.{IsGrown}
@@ -9,13 +9,9 @@ use Rattle.mqb_drafts.proofs.drafts.Draft.change.Goals as goal
 use Rattle.mqb_drafts.proofs.drafts.Draft.change.Goals.{After-make}
 
 pub invariant_of-self-in-Err : goal.invariant_of-self-in-Err
-invariant_of-self-in-Err c = record {
-  ready = ready_as (ap (λ (s : State). record { lists = s; rooms = c.make_room.new.contents.value.rooms }) c.make_room.ensures.lists) c.make_room.ensures.log
-      (ready_grown c.self.inside.contents.value.lists c.self.inside.log.items c.make_room.ensures.grown c.self.invariant.ready);
-  room = let n : length c.make_room.new.log.items ≡ length c.self.inside.log.items = ap length c.make_room.ensures.log in
-      omega (arith, n, c.self.invariant.room, c.make_room.ensures.turned_grows);
-  empty = c.make_room.ensures.turned ∙ c.self.invariant.empty;
-}
+invariant_of-self-in-Err c =
+    ready_as (ap (λ (s : State). record { lists = s; rooms = c.make_room.new.contents.value.rooms }) c.make_room.ensures.lists) c.make_room.ensures.log
+    (ready_grown c.self.inside.contents.value.lists c.self.inside.log.items c.make_room.ensures.grown c.self.invariant)
 
 pub returns-in-Err-clause-grown : goal.returns-in-Err-clause-grown
 returns-in-Err-clause-grown c =
@@ -35,13 +31,7 @@ is_changed c = record {
 }
 
 pub invariant_of-self : goal.invariant_of-self
-invariant_of-self c = record {
-  ready = still_ready (is_changed c) c.self.invariant.ready c.make.ensures.can_back c.make.ensures.room_back;
-  room = let n : length c.make.new.log.items ≡ length (inverse c.make_room.new.contents.value c.args.change ∷ c.make_room.new.log.items) = ap length c.make.ensures.log in
-      let m : length c.make_room.new.log.items ≡ length c.self.inside.log.items = ap length c.make_room.ensures.log in
-      omega (arith, n, m, c.in-Ok.ensures.back);
-  empty = c.make_room.ensures.turned ∙ c.self.invariant.empty;
-}
+invariant_of-self c = still_ready (is_changed c) c.self.invariant c.make.ensures.can_back c.make.ensures.room_back
 
 pub returns-in-Ok-clause-start : goal.returns-in-Ok-clause-start
 returns-in-Ok-clause-start c = start_stays (is_changed c) ∙ ap (λ (d : Drafted). d.start) c.self.view_is

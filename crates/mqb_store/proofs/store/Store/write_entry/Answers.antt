@@ -7,6 +7,7 @@ use Rattle.mqb_journal.specs.Blocks.{record_of_block}
 use Rattle.mqb_journal.specs.States.{JournalState}
 use Rattle.mqb_model.specs.records.Applying.{fits}
 use Rattle.mqb_model.specs.records.Reading.{record_in, record_of}
+use Rattle.mqb_model.specs.rules.Effects.{Effect}
 use Rattle.mqb_store.proofs.Kept.{CanJoin, written_moments, written_on}
 use Rattle.mqb_store.proofs.store.Store.write_entry.Goals as goal
 use Rattle.mqb_store.specs.States.{IsStoredOn, StoreState}
@@ -27,8 +28,8 @@ returns-in_err-spell-clause-moments g c settled =
     quiet_opens (g.D.Disk.view c.args.disk.now) c.args.self.now.journal c.args.self.now.state (record_in c.args.entry.now)
     (g.met.D.Disk.lawful c.args.disk.now) c.requires.on settled
 
-pub returns-in_err-prepared-clause-moments : goal.returns-in_err-prepared-clause-moments
-returns-in_err-prepared-clause-moments g c settled =
+pub returns-in_err-tried-clause-moments : goal.returns-in_err-tried-clause-moments
+returns-in_err-tried-clause-moments g c settled =
     quiet_opens (g.D.Disk.view c.args.disk.now) c.args.self.now.journal c.args.self.now.state (record_in c.args.entry.now)
     (g.met.D.Disk.lawful c.args.disk.now) c.requires.on settled
 
@@ -73,18 +74,18 @@ returns-in-Ok-clause-on g c =
       reads = ap (λ (b : List ℕ). record_of (record_of_block b)) c.deref.ensures.value ∙ c.in_ok-spell.ensures.record;
       fit = subst (λ (w : StoreState). IsSomeAnd o (λ r. fits w.state r ≡ true)) (sym c.self.view_is) c.requires.can.fits;
     } in
-    written_on c.records_join.ensures d e c.self.inside.journal c.append_block.new.journal s c.install.new.state.lists (record_of_block c.deref.result.now) o b at new
+    written_on c.records_join.ensures d e c.self.inside.journal c.append_block.new.self s c.attempt.new.state.lists (record_of_block c.deref.result.now) o b at new
     c.in-Ok.ensures.done (ap (λ (j : JournalState). j.guid) c.in-Ok.ensures.appended)
     (subst (λ (w : StoreState). LeavesStore w.state (Some c.args.entry.now) b) (sym c.self.view_is) c.requires.stored)
-    (c.install.ensures.state ∙ c.in_ok-prepared.ensures.ok.gives)
+    (sym (ap (λ (e : Effect). e.state) c.in_ok-tried.ensures.ok))
 
 pub returns-in_err-spell-clause-wrote : goal.returns-in_err-spell-clause-wrote
 returns-in_err-spell-clause-wrote g c =
     writes_nothing (g.D.Disk.view c.args.disk.now) c.args.self.now.journal _ _ (record_in c.args.entry.now)
     (g.met.D.Disk.lawful c.args.disk.now) (ap (λ (w : StoreState). w.journal.count) c.self.view_is)
 
-pub returns-in_err-prepared-clause-wrote : goal.returns-in_err-prepared-clause-wrote
-returns-in_err-prepared-clause-wrote g c =
+pub returns-in_err-tried-clause-wrote : goal.returns-in_err-tried-clause-wrote
+returns-in_err-tried-clause-wrote g c =
     writes_nothing (g.D.Disk.view c.args.disk.now) c.args.self.now.journal _ _ (record_in c.args.entry.now)
     (g.met.D.Disk.lawful c.args.disk.now) (ap (λ (w : StoreState). w.journal.count) c.self.view_is)
 
@@ -93,7 +94,7 @@ returns-in-Err-clause-wrote g c =
     let d = g.D.Disk.view c.args.disk.now in
     let e = g.D.Disk.view c.append_block.new.disk in
     let o = record_in c.args.entry.now in
-    let k = c.append_block.new.journal in
+    let k = c.append_block.new.self in
     subst (λ (w : StoreState). WritesOne d e w.journal k (record_of_block c.spell.new.block.items) o) c.self.view_is
     (subst (λ (b : List ℕ). WritesOne d e c.self.inside.journal k (record_of_block b) o) c.deref.ensures.value
     (writes_none d e c.self.inside.journal k (record_of_block c.deref.result.now) o (ap (λ (j : JournalState). j.count) c.in-Err.ensures.failed)
@@ -104,7 +105,7 @@ returns-in-Ok-clause-wrote g c =
     let d = g.D.Disk.view c.args.disk.now in
     let e = g.D.Disk.view c.append_block.new.disk in
     let o = record_in c.args.entry.now in
-    let k = c.append_block.new.journal in
+    let k = c.append_block.new.self in
     subst (λ (w : StoreState). WritesOne d e w.journal k (record_of_block c.spell.new.block.items) o) c.self.view_is
     (subst (λ (b : List ℕ). WritesOne d e c.self.inside.journal k (record_of_block b) o) c.deref.ensures.value
     (writes_entry d e c.self.inside.journal k (record_of_block c.deref.result.now) o
