@@ -27,7 +27,7 @@ returns-in-Ok-append_block-clause-only_reads g c content told long =
 pub returns-in-Ok-append_block-clause-on : goal.returns-in-Ok-append_block-clause-on
 returns-in-Ok-append_block-clause-on g c =
     let e = g.D.Disk.view c.append_block.new.disk in
-    let j = c.append_block.new.journal in
+    let j = c.append_block.new.self in
     subst (λ (w : WithRooms State StateRooms). IsOn e j w.lists) (sym c.in_ok-state.ensures)
     (first_on c.entries_begin.ensures e j (record_of_block c.deref.result.now) c.args.identity.now (c.in-Ok-append_block.ensures.done Nothing [] c.in-Ok.ensures.formatted)
     (ap (λ (b : List ℕ). record_of (record_of_block b)) c.deref.ensures.value ∙ c.in_ok-block.ensures.record)
