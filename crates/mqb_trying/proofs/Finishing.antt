@@ -1,11 +1,12 @@
 -- The entry of a transaction whose ops passed.
 use Rattle.std.proofs.Common.{refl, ap, sym, subst, ◌∙◌, arith, length, length-append}
+use Rattle.std.proofs.lemmas.Bool.Decides.{nat_tests}
 use Rattle.std.proofs.lemmas.List.{length-map}
 use Rattle.std.proofs.lemmas.List.Concat.{flat_map-cons}
+use Rattle.std.proofs.lemmas.List.Elements.{All-from_recursion, recursion_from_All}
 use Rattle.std.proofs.lemmas.List.Sums.{sum_by-cons}
 use Rattle.std.specs.List.{AllByRecursion, flat_map}
-use Rattle.std.specs.Prelude.{[], ◌++◌, ◌<◌, ◌^◌, ◌∷◌, ◌≡◌, ◌≤◌, List, None, Ok, Option, Some, map, option_and_then, option_map, sum_by, true, ℕ}
-use Rattle.std.specs.Result.{result_ok}
+use Rattle.std.specs.Prelude.{[], ◌++◌, ◌∷◌, ◌≡◌, ◌≤◌, All, List, None, Ok, Option, Some, map, option_and_then, option_map, false, sum_by, true, ℕ}
 use Rattle.mqb_base.specs.declared.draft.Op.{Op}
 use Rattle.mqb_entries.specs.Spelled.{spelled_op}
 use Rattle.mqb_entries.specs.SpelledEntries.{Fits, spelled}
@@ -14,14 +15,12 @@ use Rattle.mqb_entries.specs.declared.members.OpView.{OpView}
 use Rattle.mqb_fields.specs.Reading.{◌>>=◌}
 use Rattle.mqb_fields.specs.Writing.{bytes_of}
 use Rattle.mqb_heads.specs.declared.base.TheConstants.{MAX_PACKET}
-use Rattle.mqb_base.specs.declared.ids.Guid.{Guid}
 use Rattle.mqb_base.specs.declared.message.Message.{Message}
 use Rattle.mqb_packet.specs.Plain.{message_size, packet_size, plain_spelling}
-use Rattle.mqb_packet.specs.declared.packet.Headers.TheVariants.{Bare}
-use Rattle.mqb_packet.specs.Spelled.{Spells, packet_in}
+use Rattle.mqb_packet.specs.declared.packet.Headers.TheVariants.{Bare, TxAndSession}
+use Rattle.mqb_entries.specs.Packets.{packet_of}
 use Rattle.mqb_packet.specs.declared.packet.Packet.{Packet}
 use Rattle.mqb_packet.specs.declared.packet.Packet.TheVariants as packet
-use Rattle.mqb_packet.specs.declared.packet.UserPacket.{UserPacket}
 use Rattle.mqb_model.specs.calls.Call.{Commit}
 use Rattle.mqb_model.specs.calls.Commit.{Trial, commit, commit_tried, trial_of, try_ops, whole_refusal}
 use Rattle.mqb_model.specs.declared.faults.CommitFault.{CommitFault}
@@ -30,15 +29,16 @@ use Rattle.mqb_model.specs.managers.Manager.{Manager, unlinked}
 use Rattle.mqb_model.specs.managers.Outcomes.{recording, unless}
 use Rattle.mqb_model.specs.records.Applying.{fits}
 use Rattle.mqb_model.specs.records.Counting.{IsSpellable, commit_size, op_size}
-use Rattle.mqb_model.specs.records.Reading.{all_some, as_user, op_of, record_in, user_packet_of}
+use Rattle.mqb_model.specs.records.Packets.{is_too_large}
+use Rattle.mqb_model.specs.records.Reading.{all_some, op_of}
 use Rattle.mqb_model.specs.records.Record.{RecordOp}
 use Rattle.mqb_model.specs.records.Record as entry
 use Rattle.mqb_model.specs.state.State.{State}
 use Rattle.mqb_trying.specs.declared.notes.PlannedOp.{PlannedOp}
 use Rattle.mqb_trying.specs.declared.notes.PlannedOp.TheVariants.{Send, Take}
-use Rattle.mqb_trying.specs.Notes.{packet_of, record_op}
-use Rattle.mqb_trying.specs.Trials.{op_view}
-use Rattle.mqb_trying.specs.Trying.{count_refusal, tried}
+use Rattle.mqb_trying.specs.Notes.{IsWritable, record_op}
+use Rattle.mqb_trying.specs.Trials.{CanTellOp, op_view}
+use Rattle.mqb_trying.specs.Trying.{count_refusal, is_large, tried}
 use Rattle.mqb_trying.specs.Trying as trying
 
 -- What the definitions say of it.
@@ -90,9 +90,9 @@ module _ (sized : (p : Packet) → length (plain_spelling p) ≡ packet_size p) 
 
 -- What it is read as.
 
--- bytes that spell a user packet are read as it
-pub packet_read : (p : UserPacket) (bytes : List ℕ) → Spells (packet.User p) bytes → user_packet_of bytes ≡ Some p
-packet_read p bytes spells = ap (λ r. option_and_then as_user (option_and_then packet_in (result_ok r))) spells.read ∙ ap (option_and_then as_user) spells.said
+-- where the headers of a transaction have room, none do
+bare_fits : (m : Message) → is_too_large TxAndSession m ≡ false → message_size Bare m ≤ MAX_PACKET
+bare_fits m small = grind (arith, nat_tests)
 
 -- ops that are read each are read together
 pub all_read : (ops : List PlannedOp) → AllByRecursion (λ op. op_of (op_view (record_op op)) ≡ Some (record_op op)) ops
@@ -104,7 +104,14 @@ all_read (op ∷ ops) h = ap (λ o. option_and_then (λ x. option_map (λ xs. x 
 pub few_ops : (now : ℕ) (ops : List RecordOp) → (1 ≤ length ops) × (length ops ≤ 64) → Fits (form.Commit now (map op_view ops))
 few_ops now ops h = subst (λ n. (1 ≤ n) × (n ≤ 64)) (sym (length-map ops op_view)) h
 
--- a packet is short
-pub short : ((p : Packet) → length (plain_spelling p) ≡ packet_size p) → (m : Message) (to : Guid) (bytes : List ℕ) → bytes ≡ plain_spelling (packet.User (packet_of m to))
-    → message_size Bare m ≤ MAX_PACKET → length bytes < 2 ^ 32
-short sized m to bytes is most = let long = ap length is in let size = sized (packet.User (packet_of m to)) in omega (arith, long, size, most)
+can_tell : (ops : List PlannedOp) → AllByRecursion IsWritable ops → AllByRecursion (λ op. is_large op ≡ false) ops → AllByRecursion CanTellOp ops
+can_tell [] writable small = tt
+can_tell (Send m to ∷ ops) writable small =
+    let size : is_too_large TxAndSession m ≡ false = small.0 in
+    (record { well_formed = writable.0.0; recoverable = writable.0.1; small = bare_fits m size }, can_tell ops writable.1 small.1)
+can_tell (Take queue id ∷ ops) writable small = (tt, can_tell ops writable.1 small.1)
+
+-- a record can tell of the ops that may be written and are not too large
+pub all_can_tell : (ops : List PlannedOp) → All IsWritable ops → All (λ op. is_large op ≡ false) ops → All CanTellOp ops
+all_can_tell ops writable small =
+    All-from_recursion CanTellOp ops (can_tell ops (recursion_from_All IsWritable ops writable) (recursion_from_All (λ (op : PlannedOp). is_large op ≡ false) ops small))

@@ -47,7 +47,8 @@ use Rattle.mqb_trying.specs.declared.notes.PlannedOp.TheVariants as planned
 use Rattle.mqb_trying.specs.declared.notes.Route.{Route}
 use Rattle.mqb_trying.specs.declared.notes.Route.TheVariants.{Begin, Join, Put}
 use Rattle.mqb_trying.specs.declared.notes.SequenceEnd.{SequenceEnd}
-use Rattle.mqb_trying.specs.Notes.{Noted, packet_of, record_op}
+use Rattle.mqb_entries.specs.Packets.{packet_of}
+use Rattle.mqb_trying.specs.Notes.{Noted, record_op}
 use Rattle.mqb_trying.specs.Sends.{count_in, end_of, last_end, next_message, peer_route, put_route, route_to, sent_by, try_send, unless_full, with_end, with_send}
 use Rattle.mqb_trying.proofs.Ends.{IsLast, Rise, changed_there, ends_changed, ends_pushed, last_splits, of, ordinal_of, ordinals_stay, rise_more}
 use Rattle.mqb_trying.proofs.Following.{Agrees, Follows, InOrder, changed_lists, queue_at}

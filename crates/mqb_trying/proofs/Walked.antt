@@ -1,6 +1,6 @@
--- Loops that try ops and spell them.
+-- Loops that try ops and show them.
 use Rattle.std.proofs.Common.{ap, sym, subst, ◌∙◌, append_assoc, drop, get_or, length, take}
-use Rattle.std.proofs.lemmas.List.{append-nil, drop_all, map-append, take_more}
+use Rattle.std.proofs.lemmas.List.{take_more}
 use Rattle.std.proofs.lemmas.List.Elements.{All-push}
 use Rattle.std.specs.Prelude.{[], ◌+◌, ◌++◌, ◌<◌, ◌∷◌, ◌≡◌, ◌≤◌, All, Err, List, Ok, Result, map, ℕ}
 use Rattle.mqb_base.specs.declared.draft.Op.{Op}
@@ -11,9 +11,8 @@ use Rattle.mqb_model.specs.declared.faults.CommitFault.TheVariants as fault
 use Rattle.mqb_model.specs.declared.faults.OpFault.{OpFault}
 use Rattle.mqb_model.specs.state.State.{State}
 use Rattle.mqb_trying.specs.declared.notes.PlannedOp.{PlannedOp}
-use Rattle.mqb_trying.specs.declared.trial.SpelledOp.{SpelledOp}
 use Rattle.mqb_trying.specs.Notes.{Noted, record_op}
-use Rattle.mqb_trying.specs.Trials.{op_view, shown}
+use Rattle.mqb_trying.specs.Trials.{op_view, shown_ops}
 use Rattle.mqb_trying.specs.Trying.{IsRefusedBy, at_op, try_all, try_op}
 
 -- One op more is tried.
@@ -23,31 +22,15 @@ pub all_more : (s : State) (now i : ℕ) (n next : Noted) (total : Result Noted 
 all_more s now i n next total ops op front tried left =
     sym (ap (λ (r : Result Noted OpFault). at_op i r >>= λ n. try_all s now (i + 1) n (drop (i + 1) ops)) tried) ∙ sym (ap (try_all s now i n) front) ∙ left
 
--- One op more is spelled.
-
-pub spelled_more : (i : ℕ) (now next : List SpelledOp) (x : SpelledOp) (op : PlannedOp) (ops : List PlannedOp) (total : List OpView) → drop i ops ≡ op ∷ drop (i + 1) ops
-    → shown x ≡ op_view (record_op op) → next ≡ now ++ x ∷ []
-    → map shown now ++ map op_view (map record_op (drop i ops)) ≡ total → map shown next ++ map op_view (map record_op (drop (i + 1) ops)) ≡ total
-spelled_more i now next x op ops total front is pushed left =
-    ap (λ (xs : List SpelledOp). map shown xs ++ rest) pushed
-    ∙ ap (λ (vs : List OpView). vs ++ rest) (map-append shown now (x ∷ []))
-    ∙ append_assoc (map shown now) (shown x ∷ []) rest
-    ∙ ap (λ (v : OpView). map shown now ++ (v ∷ rest)) is
-    ∙ sym (ap (λ (os : List PlannedOp). map shown now ++ map op_view (map record_op os)) front)
-    ∙ left
-  where
-    rest : List OpView
-    rest = map op_view (map record_op (drop (i + 1) ops))
-
 -- One op more is shown.
 
-pub views_more : (i : ℕ) (now next : List OpView) (v : OpView) (op : SpelledOp) (ops : List SpelledOp) (total : List OpView) → drop i ops ≡ op ∷ drop (i + 1) ops
-    → v ≡ shown op → next ≡ now ++ v ∷ [] → now ++ map shown (drop i ops) ≡ total → next ++ map shown (drop (i + 1) ops) ≡ total
+pub views_more : (i : ℕ) (now next : List OpView) (v : OpView) (op : PlannedOp) (ops : List PlannedOp) (total : List OpView) → drop i ops ≡ op ∷ drop (i + 1) ops
+    → v ≡ op_view (record_op op) → next ≡ now ++ v ∷ [] → now ++ shown_ops (drop i ops) ≡ total → next ++ shown_ops (drop (i + 1) ops) ≡ total
 views_more i now next v op ops total front is pushed left =
-    ap (λ (vs : List OpView). vs ++ map shown (drop (i + 1) ops)) pushed
-    ∙ append_assoc now (v ∷ []) (map shown (drop (i + 1) ops))
-    ∙ ap (λ (v : OpView). now ++ (v ∷ map shown (drop (i + 1) ops))) is
-    ∙ sym (ap (λ (os : List SpelledOp). now ++ map shown os) front)
+    ap (λ (vs : List OpView). vs ++ shown_ops (drop (i + 1) ops)) pushed
+    ∙ append_assoc now (v ∷ []) (shown_ops (drop (i + 1) ops))
+    ∙ ap (λ (v : OpView). now ++ (v ∷ shown_ops (drop (i + 1) ops))) is
+    ∙ sym (ap (λ (os : List PlannedOp). now ++ shown_ops os) front)
     ∙ left
 
 -- What holds of the members so far.

@@ -1,14 +1,13 @@
 -- What is noted of the ops that were tried, in the place of a changed state.
-use Rattle.std.specs.Prelude.{[], ◌≡◌, List, None, ℕ}
+use Rattle.std.specs.Prelude.{[], ◌≡◌, List, ℕ}
 use Rattle.mqb_base.specs.Messages.{IsWellFormed}
-use Rattle.mqb_base.specs.declared.ids.Guid.{Guid}
 use Rattle.mqb_base.specs.declared.message.Delivery.TheVariants as delivery
 use Rattle.mqb_base.specs.declared.message.Message.{Message}
+use Rattle.mqb_entries.specs.Packets.{packet_of}
 use Rattle.mqb_model.specs.declared.answers.Done.{Done}
 use Rattle.mqb_model.specs.records.Record.{RecordOp}
 use Rattle.mqb_model.specs.records.Record as entry
 use Rattle.mqb_model.specs.state.State.{State}
-use Rattle.mqb_packet.specs.declared.packet.UserPacket.{UserPacket}
 use Rattle.mqb_trying.specs.declared.notes.PlannedOp.{PlannedOp}
 use Rattle.mqb_trying.specs.declared.notes.PlannedOp.TheVariants.{Send, Take}
 use Rattle.mqb_trying.specs.declared.notes.SequenceEnd.{SequenceEnd}
@@ -36,10 +35,6 @@ nothing_noted s = record {
   ops = [];
   done = [];
 }
-
--- the packet by which the record tells of a message
-abbrev pub packet_of : Message → Guid → UserPacket
-packet_of m to = record { message = m; to = to; remaining = m.reach; tx = None; session = None }
 
 -- an op as the record has it
 abbrev pub record_op : PlannedOp → RecordOp

@@ -1,5 +1,6 @@
 -- A trial as contracts see it: the ops of its record as an entry shows them, and what becomes of each.
-use Rattle.std.specs.Prelude.{◌<◌, ◌^◌, List, length, map}
+use Rattle.std.specs.Prelude.{List, map}
+use Rattle.mqb_entries.specs.Packets.{CanTell}
 use Rattle.mqb_entries.specs.declared.members.OpView.{OpView}
 use Rattle.mqb_entries.specs.declared.members.OpView.TheVariants as view
 use Rattle.mqb_model.specs.calls.Commit.{Trial}
@@ -8,8 +9,9 @@ use Rattle.mqb_model.specs.records.Record.{RecordOp}
 use Rattle.mqb_model.specs.records.Record as entry
 use Rattle.mqb_packet.specs.Plain.{plain_spelling}
 use Rattle.mqb_packet.specs.declared.packet.Packet.TheVariants as packet
-use Rattle.mqb_trying.specs.declared.trial.SpelledOp.{SpelledOp}
-use Rattle.mqb_trying.specs.declared.trial.SpelledOp.TheVariants.{Send, Take}
+use Rattle.mqb_trying.specs.declared.notes.PlannedOp.{PlannedOp}
+use Rattle.mqb_trying.specs.declared.notes.PlannedOp.TheVariants.{Send, Take}
+use Rattle.mqb_trying.specs.Notes.{record_op}
 
 pub record Planned : Type 0 where
   pub ops : List OpView
@@ -24,12 +26,11 @@ op_view (entry.Take queue id) = view.Take queue id
 abbrev pub planned : Trial → Planned
 planned t = record { ops = map op_view t.ops; done = t.done }
 
--- an op whose packet is spelled, as an entry shows it
-abbrev pub shown : SpelledOp → OpView
-shown (Send bytes) = view.Send bytes.items
-shown (Take queue id) = view.Take queue id
+-- ops as an entry shows them
+abbrev pub shown_ops : List PlannedOp → List OpView
+shown_ops ops = map op_view (map record_op ops)
 
--- a packet has fewer than 2^32 bytes
-abbrev pub IsShort : SpelledOp → Type 0
-IsShort (Send bytes) = length bytes.items < 2 ^ 32
-IsShort (Take queue id) = Unit {0}
+-- a record can tell of a message that is sent
+abbrev pub CanTellOp : PlannedOp → Type 0
+CanTellOp (Send m to) = CanTell m
+CanTellOp (Take queue id) = Unit {0}

@@ -13,8 +13,7 @@ ghost use Rattle.mqb_trying.specs.Trying.{IsRefusedBy, at_op, count_refusal, tri
 
 use crate::counting::whole_fault;
 use crate::notes::Notes;
-use crate::spelling::trial_of;
-use crate::trial::Trial;
+use crate::trial::{Trial, trial_of};
 use mqb_base::Op;
 use mqb_contents::Contents;
 use mqb_model::{CommitFault, MAX_OPS, records_are_spelled, records_fit};
@@ -104,5 +103,5 @@ pub fn try_ops(
     records_fit();
     records_are_spelled();
     plain_size();
-    Ok(trial_of(alloc, notes)?)
+    Ok(trial_of(notes))
 }

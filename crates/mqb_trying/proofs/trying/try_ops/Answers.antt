@@ -25,19 +25,19 @@ returns-in-Some-whole_fault-clause-refused c =
 
 pub returns-clause-planned : goal.returns-clause-planned
 returns-clause-planned c = planned_is c.args.contents.now.lists c.args.now c.args.ops.now c.in_ok-notes.notes c.requires (sym c.count_refusal.ensures ∙ c.in_default.is)
-    c.in_ok-notes.ensures.ok (sym c.whole_fault.ensures ∙ c.in_default-whole_fault.is) c.in_ok-trial_of.field-0 c.in_ok-trial_of.ensures.ops c.in_ok-trial_of.ensures.done
+    c.in_ok-notes.ensures.ok (sym c.whole_fault.ensures ∙ c.in_default-whole_fault.is) c.trial_of.result c.trial_of.ensures.ops c.trial_of.ensures.done
 
 pub returns-clause-size : goal.returns-clause-size
 returns-clause-size c = size_too c.args.contents.now.lists c.args.now c.args.ops.now c.in_ok-notes.notes c.requires (sym c.count_refusal.ensures ∙ c.in_default.is)
-    c.in_ok-notes.ensures.ok (sym c.whole_fault.ensures ∙ c.in_default-whole_fault.is) c.in_ok-trial_of.field-0 c.in_ok-trial_of.ensures.ops c.in_ok-trial_of.ensures.done
+    c.in_ok-notes.ensures.ok (sym c.whole_fault.ensures ∙ c.in_default-whole_fault.is) c.trial_of.result c.trial_of.ensures.ops c.trial_of.ensures.done
     c.records_are_spelled.ensures c.plain_size.ensures
 
 pub returns-clause-read : goal.returns-clause-read
 returns-clause-read c = read_too c.args.contents.now.lists c.args.now c.args.ops.now c.in_ok-notes.notes c.requires (sym c.count_refusal.ensures ∙ c.in_default.is)
-    c.in_ok-notes.ensures.ok (sym c.whole_fault.ensures ∙ c.in_default-whole_fault.is) c.in_ok-trial_of.field-0 c.in_ok-trial_of.ensures.ops c.in_ok-trial_of.ensures.done
-    c.in_ok-trial_of.ensures.read
+    c.in_ok-notes.ensures.ok (sym c.whole_fault.ensures ∙ c.in_default-whole_fault.is) c.trial_of.result c.trial_of.ensures.ops c.trial_of.ensures.done
+    c.trial_of.ensures.read
 
 pub returns-clause-fits : goal.returns-clause-fits
 returns-clause-fits c = fits_too c.args.contents.now.lists c.args.now c.args.ops.now c.in_ok-notes.notes c.requires (sym c.count_refusal.ensures ∙ c.in_default.is)
-    c.in_ok-notes.ensures.ok (sym c.whole_fault.ensures ∙ c.in_default-whole_fault.is) c.in_ok-trial_of.field-0 c.in_ok-trial_of.ensures.ops c.in_ok-trial_of.ensures.done
+    c.in_ok-notes.ensures.ok (sym c.whole_fault.ensures ∙ c.in_default-whole_fault.is) c.trial_of.result c.trial_of.ensures.ops c.trial_of.ensures.done
     c.records_fit.ensures

@@ -2,7 +2,7 @@ use Rattle.std.proofs.Common.{◌≡◌, All, Some, take}
 use Rattle.mqb_model.specs.records.Reading.{op_of}
 use Rattle.mqb_trying.specs.Notes.{record_op}
 use Rattle.mqb_trying.specs.Trials.{op_view}
-use Rattle.mqb_trying.proofs.spelling.ops_are_read.Given as goal
+use Rattle.mqb_trying.proofs.trial.ops_are_read.Given as goal
 
 abbrev pub invariant-loop-op : goal.invariant-loop-op
 invariant-loop-op l = record {

@@ -5,7 +5,7 @@ use Rattle.mqb_trying.specs.declared.notes.PlannedOp.{PlannedOp}
 use Rattle.mqb_trying.specs.Notes.{record_op}
 use Rattle.mqb_trying.specs.Trials.{op_view}
 use Rattle.mqb_trying.proofs.Walked.{all_taken}
-use Rattle.mqb_trying.proofs.spelling.ops_are_read.Goals as goal
+use Rattle.mqb_trying.proofs.trial.ops_are_read.Goals as goal
 
 pub loop-op-preserved : goal.loop-op-preserved
 loop-op-preserved c = record {
