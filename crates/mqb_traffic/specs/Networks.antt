@@ -1,12 +1,10 @@
 -- The network of two managers and the traffic between them.
-use Rattle.std.specs.Prelude.{[], ◌∷◌, Bool, List, None, Option, Some, if◌then◌else◌, map, true, ℕ}
+use Rattle.std.specs.Prelude.{[], ◌∷◌, Bool, List, None, Option, Some, if◌then◌else◌, map, true}
 use Rattle.mqb_model.specs.managers.Manager.{Manager}
 use Rattle.mqb_network.specs.Changes.{parted}
 use Rattle.mqb_network.specs.Network as network
 use Rattle.mqb_script.specs.Managers.{other}
 pub use Rattle.mqb_script.specs.Managers.{index_of}
-use Rattle.mqb_script.specs.declared.managers.Which.{Which}
-use Rattle.mqb_script.specs.declared.managers.Which.TheVariants.{Alpha, Beta}
 use Rattle.mqb_traffic.specs.States.{TrafficState}
 use Rattle.mqb_traffic.specs.declared.notes.Link.{Link}
 use Rattle.mqb_traffic.specs.declared.notes.Note.{Note}
