@@ -23,7 +23,7 @@ fn decide_bytes(draft: &mut Draft, now: u32, bytes: &PacketSlice<'_>) -> Result<
     ensures unfit { result ≡ Err fault.Unfit →
         is_part_fit draft.old.effect.state (part_of (part.Decided bytes.now)) ≡ false }
 {
-    match user_packet_of(draft.alloc(), bytes.as_slice())? {
+    match user_packet_of(draft.alloc(), bytes)? {
         Some(packet) => decide_packet(draft, now, packet),
         None => Err(RecordFault::Unfit),
     }
@@ -39,7 +39,7 @@ fn store_bytes(draft: &mut Draft, now: u32, bytes: &PacketSlice<'_>) -> Result<(
     ensures unfit { result ≡ Err fault.Unfit →
         is_part_fit draft.old.effect.state (part_of (part.Stored bytes.now)) ≡ false }
 {
-    match user_packet_of(draft.alloc(), bytes.as_slice())? {
+    match user_packet_of(draft.alloc(), bytes)? {
         Some(packet) => store_packet(draft, now, packet),
         None => Err(RecordFault::Unfit),
     }
@@ -59,7 +59,7 @@ fn store_final_bytes(
     ensures unfit { result ≡ Err fault.Unfit →
         is_part_fit draft.old.effect.state (part_of (part.Final bytes.now)) ≡ false }
 {
-    match user_packet_of(draft.alloc(), bytes.as_slice())? {
+    match user_packet_of(draft.alloc(), bytes)? {
         Some(packet) => store_final_packet(draft, now, &packet),
         None => Err(RecordFault::Unfit),
     }

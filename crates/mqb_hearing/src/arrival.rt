@@ -4,7 +4,7 @@ ghost use Rattle.mqb_model.specs.declared.limits.TheConstants.{MAX_RECORD};
 ghost use Rattle.mqb_model.specs.records.Reading.{record_in};
 ghost use Rattle.mqb_hearing.specs.Arrivals.{IsArrival, arrived_as, bytes_of_packet};
 
-use mqb_entries::{ArrivedPart, Entry, Numbers, PacketSlice};
+use mqb_entries::{ArrivedPart, Entry, Numbers};
 use std::alloc::Global;
 use std::marker::Model;
 
@@ -32,13 +32,13 @@ fn again<'a>(part: &ArrivedPart<'a>) -> ArrivedPart<'a>
 {
     match part {
         ArrivedPart::Nothing => ArrivedPart::Nothing,
-        ArrivedPart::Decided(packet) => ArrivedPart::Decided(PacketSlice::new(packet.as_slice())),
-        ArrivedPart::Stored(packet) => ArrivedPart::Stored(PacketSlice::new(packet.as_slice())),
+        ArrivedPart::Decided(packet) => ArrivedPart::Decided(packet.again()),
+        ArrivedPart::Stored(packet) => ArrivedPart::Stored(packet.again()),
         ArrivedPart::OrderAcknowledged { ordinal, number } => ArrivedPart::OrderAcknowledged {
             ordinal: *ordinal,
             number: *number,
         },
-        ArrivedPart::Final(packet) => ArrivedPart::Final(PacketSlice::new(packet.as_slice())),
+        ArrivedPart::Final(packet) => ArrivedPart::Final(packet.again()),
     }
 }
 

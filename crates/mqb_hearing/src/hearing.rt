@@ -158,7 +158,7 @@ fn hear_user_packet<'a>(
     alloc: Global,
     contents: &Contents,
     session: Session,
-    view: &UserView<'a>,
+    view: &'a UserView<'a>,
     now: u32,
 ) -> Result<Hearing<'a>, Memory>
     requires valid { IsValidState contents.now.lists }
@@ -210,7 +210,7 @@ fn plan<'a>(
     alloc: Global,
     contents: &Contents,
     session: Session,
-    packet: &PacketView<'a>,
+    packet: &'a PacketView<'a>,
     now: u32,
 ) -> Result<Hearing<'a>, Memory>
     requires valid { IsValidState contents.now.lists }
@@ -242,7 +242,7 @@ pub fn hear<'a>(
     alloc: Global,
     contents: &Contents,
     session: Session,
-    packet: &PacketView<'a>,
+    packet: &'a PacketView<'a>,
     now: u32,
 ) -> Result<Hearing<'a>, Memory>
     requires valid { IsValidState contents.now.lists }

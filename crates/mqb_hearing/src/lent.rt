@@ -21,7 +21,7 @@ use std::marker::Model;
 /// and its bytes.
 #[derive(Debug, Drop)]
 pub(crate) struct LentPacket<'a> {
-    view: UserView<'a>,
+    view: &'a UserView<'a>,
     destination: QueueName,
 }
 
@@ -31,11 +31,11 @@ impl<'a> Model for LentPacket<'a> {
     ghost Value = { PacketHeard };
 
     ghost view = { λ p. record {
-      said = packet_shown p.view p.destination;
-      whole = p.view.whole.now;
+      said = packet_shown p.view.now p.destination;
+      whole = p.view.now.whole.now;
     } };
 
-    ghost invariant = { λ p. IsShown p.view p.destination };
+    ghost invariant = { λ p. IsShown p.view.now p.destination };
 }
 
 fn are_bytes(bytes: &[u8])
@@ -44,7 +44,7 @@ fn are_bytes(bytes: &[u8])
 
 impl<'a> LentPacket<'a> {
     /// The packet that a view shows.
-    pub(crate) fn new(alloc: Global, view: &UserView<'a>) -> Result<LentPacket<'a>, Memory>
+    pub(crate) fn new(alloc: Global, view: &'a UserView<'a>) -> Result<LentPacket<'a>, Memory>
         requires { IsLent (lent.User view.now) }
         ensures shown { IfOk result (λ p. packet_in (seen_packet (lent.User view.now)) ≡
             Some (packet.User p.said)) }
@@ -55,10 +55,7 @@ impl<'a> LentPacket<'a> {
         read_is_written();
         are_bytes(view.whole);
         let destination = view.user.destination.to_owned(alloc)?;
-        Ok(LentPacket {
-            view: *view,
-            destination,
-        })
+        Ok(LentPacket { view, destination })
     }
 
     /// The manager from which it comes.
@@ -152,20 +149,20 @@ impl<'a> LentPacket<'a> {
         self.view.props.body
     }
 
-    /// All of its bytes.
+    /// All of its bytes, with what was read of them.
     pub(crate) fn whole(&self) -> PacketSlice<'a>
         ensures spells { user_packet_of result ≡ Some self.now.said }
         ensures bytes { result ≡ self.now.whole }
         ensures size { length result ≤ MAX_PACKET }
     {
-        PacketSlice::new(self.view.whole)
+        PacketSlice::of_heard(self.view)
     }
 
     /// Its message, with its parts copied.
     pub(crate) fn to_message(&self, alloc: Global) -> Result<Message, Memory>
         ensures { IfOk result (λ m. m ≡ self.now.said.message) }
     {
-        match to_owned(alloc, &PacketView::User(self.view))? {
+        match to_owned(alloc, &PacketView::User(*self.view))? {
             Packet::User(owned) => Ok(owned.message),
             Packet::Establish(_) | Packet::Parameters(_) | Packet::Ack(_) => unreachable!(),
         }

@@ -47,7 +47,7 @@ fn sendable_packet(
     ensures unfit { result ≡ Err fault.Unfit →
         bytes_fit draft.now.effect.state number bytes.now ≡ false }
 {
-    let Some(packet) = user_packet_of(draft.alloc(), bytes.as_slice())? else {
+    let Some(packet) = user_packet_of(draft.alloc(), bytes)? else {
         return Err(RecordFault::Unfit);
     };
     if !is_sendable(draft.contents(), Headers::TxAndSession, number, &packet) {

@@ -98,7 +98,7 @@ pub(crate) fn send_plain(
     ensures unfit { result ≡ Err fault.Unfit → is_fit draft.old.effect.state
         (option_map (λ p. entry.Plain now p) (user_packet_of packet.now)) ≡ false }
 {
-    let Some(packet) = user_packet_of(draft.alloc(), packet.as_slice())? else {
+    let Some(packet) = user_packet_of(draft.alloc(), packet)? else {
         return Err(RecordFault::Unfit);
     };
     let number = draft.contents().next_number();

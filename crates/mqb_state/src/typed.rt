@@ -1,32 +1,37 @@
-//! What an entry has by its types. But for the last, each function only says it.
+//! What an entry has. But for the last, each function only says it.
 ghost use Rattle.std.specs.Prelude.{◌≡◌, All, IfSome, Ok};
 ghost use Rattle.mqb_entries.specs.Formats.{IsBytes};
 ghost use Rattle.mqb_model.specs.records.Carrying.{IsRead};
 ghost use Rattle.mqb_model.specs.records.Reading.{record_in};
 ghost use Rattle.mqb_model.specs.state.State.{State};
 ghost use Rattle.mqb_model.specs.state.Valid.{IsValidState};
-ghost use Rattle.mqb_model.specs.Typed.{IsTyped, IsTypedOp, IsTypedPart};
+ghost use Rattle.mqb_model.specs.Typed.{IsTyped, IsTypedOp, IsTypedPart, TellsOfCarried};
 ghost use Rattle.mqb_snapshot.specs.Reading.{state_of};
 
-use mqb_entries::{ArrivedPart, Entry, OpView, Ops, PacketSlice};
-use mqb_model::entries_are_read;
+use mqb_entries::{ArrivedPart, Entry, OpView, Ops, PacketForm, PacketSlice};
+use mqb_model::{entries_are_read, packets_are_read, told_is_read};
 use mqb_snapshot::read_states_are_valid;
 
 fn bytes_are_bytes(bytes: &[u8])
     ensures { IsBytes bytes.now }
 {}
 
-fn packet_is_bytes(packet: &PacketSlice<'_>)
-    ensures { IsBytes packet.now }
+fn packet_tells(packet: &PacketSlice<'_>)
+    ensures { TellsOfCarried packet.now }
 {
-    bytes_are_bytes(packet.as_slice());
+    packets_are_read();
+    match packet.form() {
+        PacketForm::Spelled(bytes) => bytes_are_bytes(bytes),
+        PacketForm::Heard(view) => bytes_are_bytes(view.whole),
+        PacketForm::Message { message, to, .. } => told_is_read(message, to),
+    }
 }
 
 fn op_is_typed(op: &OpView<'_>)
     ensures { IsTypedOp op.now }
 {
     if let OpView::Send(packet) = op {
-        packet_is_bytes(packet);
+        packet_tells(packet);
     }
 }
 
@@ -42,7 +47,7 @@ fn part_is_typed(part: &ArrivedPart<'_>)
     ensures { IsTypedPart part.now }
 {
     if let ArrivedPart::Decided(packet) | ArrivedPart::Stored(packet) = part {
-        packet_is_bytes(packet);
+        packet_tells(packet);
     }
 }
 
@@ -54,7 +59,7 @@ fn entry_is_typed(entry: &Entry<'_>)
             let _host = view.host.as_slice();
         }
         Entry::Commit { ops, .. } => ops_are_typed(ops),
-        Entry::Plain { packet, .. } => packet_is_bytes(packet),
+        Entry::Plain { packet, .. } => packet_tells(packet),
         Entry::Arrived { part, .. } => part_is_typed(part),
         _ => {}
     }
