@@ -1,5 +1,5 @@
 -- What was tried in a draft, and taken back or kept.
-use Rattle.std.proofs.Common.{◌∙◌, ap, arith, refl, subst, sym}
+use Rattle.std.proofs.Common.{◌∙◌, ap, arith, subst, sym}
 use Rattle.std.specs.Prelude.{◌*◌, ◌+◌, ◌≡◌, ◌≤◌, IfSome, IsSomeAnd, List, None, Option, Some, true, ℕ}
 use Rattle.mqb_base.specs.Rooms.{WithRooms}
 use Rattle.mqb_base.specs.declared.ledger.Line.{Line}

@@ -1,11 +1,11 @@
-use Rattle.std.proofs.Common.{◌≡◌, ◌*◌, ◌+◌, ◌≤◌, ◌∙◌, ap, subst}
+use Rattle.std.proofs.Common.{◌≡◌, ◌*◌, ◌+◌, ◌≤◌, ap, subst}
 use Rattle.std.specs.Prelude.{IsSomeAnd, option_copied}
 use Rattle.mqb_drafts.specs.Drafts.{Drafted}
 use Rattle.mqb_timeouts.specs.Work.{beside_of}
 use Rattle.mqb_model.specs.state.State.{State}
 use Rattle.mqb_records.specs.Unfit.{IsUnfit}
 use Rattle.mqb_state.specs.Together.{IsTried, count_with, effect_with}
-use Rattle.mqb_state.proofs.Tried.{Kept, few_as, kept_as}
+use Rattle.mqb_state.proofs.Tried.{few_as, kept_as}
 use Rattle.mqb_state.proofs.attempting.attempt_in.Goals as goal
 
 pub returns-in-Ok-clause-ok : goal.returns-in-Ok-clause-ok

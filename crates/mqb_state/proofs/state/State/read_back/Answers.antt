@@ -13,8 +13,8 @@ pub keeping-requires : goal.keeping-requires
 keeping-requires c = c.read_back_is_valid.ensures c.in_ok-contents.contents.lists c.in_ok-contents.ensures
 
 pub returns-in-Ok-clause-exact : goal.returns-in-Ok-clause-exact
-returns-in-Ok-clause-exact c = read_as (state_of c.args.bytes.now) c.in_ok-contents.contents c.in-Ok.field-0 c.in-Ok.ensures c.in_ok-contents.ensures
+returns-in-Ok-clause-exact c = read_as (state_of c.args.bytes.now) c.in_ok-contents.contents c.in-Ok.state c.in-Ok.ensures c.in_ok-contents.ensures
 
 pub returns-in-Ok-clause-again : goal.returns-in-Ok-clause-again
-returns-in-Ok-clause-again c = again c.snapshots_are_read_back.ensures c.args.bytes.now (Ok c.in-Ok.field-0)
-    (read_as (state_of c.args.bytes.now) c.in_ok-contents.contents c.in-Ok.field-0 c.in-Ok.ensures c.in_ok-contents.ensures)
+returns-in-Ok-clause-again c = again c.snapshots_are_read_back.ensures c.args.bytes.now (Ok c.in-Ok.state)
+    (read_as (state_of c.args.bytes.now) c.in_ok-contents.contents c.in-Ok.state c.in-Ok.ensures c.in_ok-contents.ensures)

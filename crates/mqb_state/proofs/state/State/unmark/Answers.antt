@@ -8,4 +8,5 @@ use Rattle.mqb_state.proofs.state.State.unmark.Goals as goal
 
 pub invariant_of-self : goal.invariant_of-self
 invariant_of-self c =
-    subst (λ (w : WithRooms State StateRooms). IsValidState w.lists) (sym c.unmark.ensures) (unmarked_valid c.self.inside.contents.value.lists c.self.invariant)
+    subst (λ (w : WithRooms State StateRooms). IsValidState w.lists) (sym c.unmark.ensures)
+    (unmarked_valid c.deref_mut.result.now.lists (subst (λ (w : WithRooms State StateRooms). IsValidState w.lists) (sym c.deref_mut.ensures.value) c.self.invariant))
