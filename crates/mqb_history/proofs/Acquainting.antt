@@ -62,7 +62,7 @@ pub came_more : (ls more : List Line) (x : Decision) (fate : MessageFate) → ((
 came_more ls more x (Was_refused reason) grows h = h
 came_more ls more x (Was_put departure) grows h = (h.0, grows (departure_line departure x.message.id) h.1)
 
-same_id_refl : (id : MessageId) → same_id id id ≡ true
+pub same_id_refl : (id : MessageId) → same_id id id ≡ true
 same_id_refl id = join_and (same_guid id.qm id.qm) (id.number == id.number) (same_guid_refl id.qm) (same_number id.number)
 
 module _ (i j : ℕ) (cs : List Commitment) where

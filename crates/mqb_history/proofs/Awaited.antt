@@ -97,10 +97,18 @@ pub record IsPair (known : List Identity) (i j : ℕ) : Type 0 where
   pub place : position (λ (p : Identity). same_guid p.guid source.guid) (others known own) ≡ Some index
   pub there : slice_get (others known own) index ≡ Some source
 
-in_get : {X : Type 0} (xs : List X) (x : X) → In x xs → (k : ℕ) × (slice_get xs k ≡ Some x)
+pub in_get : {X : Type 0} (xs : List X) (x : X) → In x xs → (k : ℕ) × (slice_get xs k ≡ Some x)
 in_get [] x i = absurd i
 in_get (y ∷ xs) x (inl e) = (zero, ap (λ z. Some z) e)
 in_get (y ∷ xs) x (inr i) = let g = in_get xs x i in (suc g.0, g.1)
+
+-- a first that passes is there where one passes
+pub none_found : {X : Type 0} (test : X → Bool) (xs : List X) → list_any test xs ≡ true → position test xs ≡ None → ⊥
+none_found {X} test xs any e = at (slice_get xs (length xs)) refl (subst (λ o. is_some (slice_get xs (unwrap_or o (length xs))) ≡ true) e (found_place test xs ∙ any))
+  where
+    at : (o : Option X) → slice_get xs (length xs) ≡ o → is_some o ≡ true → ⊥
+    at None g h = clash (sym h)
+    at (Some x) g h = let lt = get_within xs (length xs) x g in omega (arith, lt)
 
 pub pair_of : (known : List Identity) → AreApart known → (i j : ℕ) (source own : Identity) → slice_get known i ≡ Some source → slice_get known j ≡ Some own → (i ≡ j → ⊥) → IsPair known i j
 pair_of known apart i j source own e f differ = at (position is_it peers) refl
@@ -111,15 +119,8 @@ pair_of known apart i j source own e f differ = at (position is_it peers) refl
     is_it : Identity → Bool
     is_it p = same_guid p.guid source.guid
 
-    found : is_some (slice_get peers (unwrap_or (position is_it peers) (length peers))) ≡ true
-    found = found_place is_it peers ∙ other_is_peer own.guid known i source e (apart_guids known j i own source apart f e (λ same. differ (sym same)))
-
-    none : (o : Option Identity) → slice_get peers (length peers) ≡ o → is_some o ≡ true → ⊥
-    none None g h = clash (sym h)
-    none (Some p) g h = let lt = get_within peers (length peers) p g in omega (arith, lt)
-
     at : (o : Option ℕ) → position is_it peers ≡ o → IsPair known i j
-    at None g = absurd (none (slice_get peers (length peers)) refl (subst (λ o. is_some (slice_get peers (unwrap_or o (length peers))) ≡ true) g found))
+    at None g = absurd (none_found is_it peers (other_is_peer own.guid known i source e (apart_guids known j i own source apart f e (λ same. differ (sym same)))) g)
     at (Some k) g = record { source = source; own = own; source_there = e; own_there = f; differ = differ; index = k; place = g; there = q.1 ∙ ap (λ p. Some p) same }
       where
         q : (p : Identity) × (slice_get peers k ≡ Some p) × (is_it p ≡ true)
@@ -133,10 +134,10 @@ pair_of known apart i j source own e f differ = at (position is_it peers) refl
 
 -- What is known of a course.
 
--- a final acknowledgement of a manager was heard that names a message
-pub record HasHeard (c : Course) (i : ℕ) (sender : Guid) (id : MessageId) : Type 0 where
+-- records stored a final acknowledgement of a manager that names a message
+pub record HasHeard (ws : List Written) (sender : Guid) (id : MessageId) : Type 0 where
   pub written : Written
-  pub there : In written (written_of i c.written)
+  pub there : In written ws
   pub now : ℕ
   pub numbers : List ℕ
   pub packet : UserPacket
@@ -166,7 +167,7 @@ subject known c i j g id = record { own = g.own.guid; id = id; index = g.index; 
 pub record IsEnded (known : List Identity) (c : Course) (i j : ℕ) (g : IsPair known i j) (id : MessageId) : Type 0 where
   pub knows : Knows (subject known c i j g id) (manager_at c.network j).state
   pub ends : AllAsk (written_of j c.written) (subject known c i j g id) → DecideIt (written_of j c.written) id
-      → IsOpen (subject known c i j g id) (IsItsNumber c j (subject known c i j g id)) (manager_at c.network j).state ⊎ HasHeard c i g.own.guid id
+      → IsOpen (subject known c i j g id) (IsItsNumber c j (subject known c i j g id)) (manager_at c.network j).state ⊎ HasHeard (written_of i c.written) g.own.guid id
 
 pub record IsAwaiting (known : List Identity) (c : Course) : Type 0 where
   pub accounted : IsAccounted known c
@@ -260,7 +261,7 @@ module _ (known : List Identity) (apart : AreApart known) (c : Course) (accounte
 
   -- What arrived is not its own.
 
-  not_its_peer : (peer : Identity) (k : ℕ) → slice_get now.peers k ≡ Some peer → peer.guid ≡ own.guid → ⊥
+  pub not_its_peer : (peer : Identity) (k : ℕ) → slice_get now.peers k ≡ Some peer → peer.guid ≡ own.guid → ⊥
   not_its_peer peer k e same = true_not_false (list_any (λ (p : Identity). same_guid p.guid own.guid) now.peers)
       (in_any (λ (p : Identity). same_guid p.guid own.guid) now.peers peer (get_in now.peers k peer e) (subst (λ g. same_guid g own.guid ≡ true) (sym same) (same_guid_refl own.guid)))
       (subst (λ (ps : List Identity). list_any (λ (p : Identity). same_guid p.guid own.guid) ps ≡ false) (sym itself.peers) (not_own_peer own.guid known))

@@ -49,6 +49,7 @@ use Rattle.mqb_history.specs.Made.{IsMade}
 use Rattle.mqb_history.specs.Orderly.{IsOrderly}
 use Rattle.mqb_history.specs.Stored.{IsPeerAt, IsStoredByPeer, IsStoredIn, WaitsIn}
 use Rattle.mqb_history.proofs.Accounts.{CallSent, HeardBy, befores}
+use Rattle.mqb_history.proofs.Acquainting.{same_id_refl}
 use Rattle.mqb_history.proofs.Acting.{DecidesPacket}
 use Rattle.mqb_history.proofs.Answering.{IsCredible, credible_closed}
 use Rattle.mqb_history.proofs.Awaited.{AllAsk, HasHeard, IsAwaiting, IsEnded, IsItsNumber, IsPair, StoredApart, fresh_number, message_from, one_waits, own_guid, safe, subject}
@@ -134,7 +135,7 @@ module _ (known : List Identity) (apart : AreApart known) (c : Course) (t : IsAw
   sends_none : (i : ℕ) (call : Call) (failure : Option Failure) → may_change c (Calls i call failure) ≡ true → CallSent c.sent call
   sends_none i call failure m = none_heard c.sent call (not_true (is_of_packets call) (split_and (not (is_of_packets call)) _ m).0)
 
-  heard_before : EachRecord (HeardIn known c.sent) d
+  pub heard_before : EachRecord (HeardIn known c.sent) d
   heard_before = each_change (HeardIn known c.sent) c x (by x may) agrees.heard
     where
       by : (y : Change) → may_change c y ≡ true → OfChange (HeardIn known c.sent) c y
@@ -209,7 +210,7 @@ module _ (known : List Identity) (apart : AreApart known) (c : Course) (t : IsAw
     others_id = ap (λ q. same_guid q g.own.guid) of ∙ apart_guids known j i g.own g.source apart g.own_there g.source_there (λ same. g.differ (sym same))
 
     abbrev Told : Type 0
-    Told = HasHeard c i g.own.guid id
+    Told = HasHeard (written_of i c.written) g.own.guid id
 
     -- one of these records released the acknowledgement
     record HaveReleased (ws : List Written) : Type 0 where
@@ -308,7 +309,7 @@ module _ (known : List Identity) (apart : AreApart known) (c : Course) (t : IsAw
             f : IsFinalOf old y.message
             f = told.known.waits y.index y.message (subst (λ k. WaitsFor (manager_at c.network k).state y.index y.message) at_own y.waits) (ap (λ (m : Message). m.id) (sym y.same) ∙ e)
 
-    told_now : Told → HasHeard d i g.own.guid id
+    told_now : Told → HasHeard (written_of i d.written) g.own.guid id
     told_now h = record {
       written = h.written;
       there = subst (λ ws. In h.written (written_of i ws)) (sym later.written) (subst (In h.written) (sym (of_append i c.written later.more)) (in_append (written_of i c.written) (written_of i later.more) h.written h.there));
@@ -327,10 +328,7 @@ module _ (known : List Identity) (apart : AreApart known) (c : Course) (t : IsAw
       split : Split d.written frees
       split = split_at d.written frees met
 
-      same_id_refl : (n : MessageId) → same_id n n ≡ true
-      same_id_refl n = join_and (same_guid n.qm n.qm) (n.number == n.number) (same_guid_refl n.qm) (same_number n.number)
-
-      heard_of : (now : ℕ) (numbers : List ℕ) (part : Part) → frees.entry ≡ entry.Arrived now numbers part → OneReleased old K fresh others_id frees.before numbers → HasHeard d i g.own.guid id
+      heard_of : (now : ℕ) (numbers : List ℕ) (part : Part) → frees.entry ≡ entry.Arrived now numbers part → OneReleased old K fresh others_id frees.before numbers → HasHeard (written_of i d.written) g.own.guid id
       heard_of now numbers part e one = by v.entry refl heard_v (storage_by v.before v.entry (own_id frees.before n) stored.stored.told.0 stored.stored.told.1 stored.stored.told.2)
         where
           told : IsToBeTold old K frees.before
@@ -371,7 +369,7 @@ module _ (known : List Identity) (apart : AreApart known) (c : Course) (t : IsAw
           is_final_of : (p : UserPacket) → In (packet.User p) c.sent → IsPlainPacket p → p.message.id ≡ own_id frees.before n → IsFinalOf old p.message
           is_final_of p inside plain same = told.known.sent p inside plain (same ∙ ap (λ q. record { qm = q; number = n }) r.knows.own)
 
-          by : (y : Record) → v.entry ≡ y → HeardIn known c.sent v.by y → StoredBy y (own_id frees.before n) → HasHeard d i g.own.guid id
+          by : (y : Record) → v.entry ≡ y → HeardIn known c.sent v.by y → StoredBy y (own_id frees.before n) → HasHeard (written_of i d.written) g.own.guid id
           by (entry.Arrived at ns (entry.Stored p)) f heard same = let is = is_final_of p heard.2.0 heard.2.2 same in
               absurd (subst (StoredApart known v.by) f (all_in (λ (y : Written). StoredApart known y.by y.entry) d.written v stored_now.written v_met) g.source (ap (slice_get known) at_source ∙ g.source_there) is.to is.recoverable is.class)
           by (entry.Arrived at ns (entry.Final p)) f heard same = let is = is_final_of p heard.2.0 heard.2.2 same in record {
@@ -386,10 +384,10 @@ module _ (known : List Identity) (apart : AreApart known) (c : Course) (t : IsAw
           }
           by y f heard same = absurd same
 
-      heard : HasHeard d i g.own.guid id
+      heard : HasHeard (written_of i d.written) g.own.guid id
       heard = at frees.entry refl r.releases
         where
-          at : (y : Record) → frees.entry ≡ y → Releases old K fresh others_id frees.before y → HasHeard d i g.own.guid id
+          at : (y : Record) → frees.entry ≡ y → Releases old K fresh others_id frees.before y → HasHeard (written_of i d.written) g.own.guid id
           at (entry.Arrived now numbers part) e one = heard_of now numbers part e one
           at y e none = absurd none
 
@@ -410,12 +408,12 @@ module _ (known : List Identity) (apart : AreApart known) (c : Course) (t : IsAw
           known = number_now told;
         }))
 
-        at : IsOpen old K (manager_at d.network j).state ⊎ (HaveReleased (written_of j d.written) ⊎ Told) → IsOpen new (IsItsNumber d j new) (manager_at d.network j).state ⊎ HasHeard d i g.own.guid id
+        at : IsOpen old K (manager_at d.network j).state ⊎ (HaveReleased (written_of j d.written) ⊎ Told) → IsOpen new (IsItsNumber d j new) (manager_at d.network j).state ⊎ HasHeard (written_of i d.written) g.own.guid id
         at (inl open_) = inl (open_now open_)
         at (inr (inl r)) = inr (heard r)
         at (inr (inr told)) = inr (told_now told)
 
-  awaiting_now : IsAwaiting known d
+  pub awaiting_now : IsAwaiting known d
   awaiting_now = record {
     accounted = accounted_now;
     credible = credible_now;

@@ -109,7 +109,7 @@ kept_clean ls m row low new h = record {
     at x e (inr (inl f)) = new (subst (λ (y : Kept). HasExpired ls row.sequence y.number) (sym f) e)
     at x e (inr (inr none)) = none
 
-counted_low : (cs : List Commitment) (row : Row) → ((q : SequenceId) → numbers_in q cs ≡ range_with_len 1 (length (numbers_in q cs))) → IsCounted cs row → (n : ℕ) → In n (numbers_in row.sequence cs) → n ≤ row.committed
+pub counted_low : (cs : List Commitment) (row : Row) → ((q : SequenceId) → numbers_in q cs ≡ range_with_len 1 (length (numbers_in q cs))) → IsCounted cs row → (n : ℕ) → In n (numbers_in row.sequence cs) → n ≤ row.committed
 counted_low cs row numbered counted n i = let less = in_range 1 (length (numbers_in row.sequence cs)) n (subst (In n) (numbered row.sequence) i) in let count = counted.count in omega (arith, less, count)
 
 joined_clean : (ls : List Line) (cs : List Commitment) (m : Message) (rows : List Row) (row : Row) → ((q : SequenceId) → numbers_in q cs ≡ range_with_len 1 (length (numbers_in q cs))) → AreOf ls cs

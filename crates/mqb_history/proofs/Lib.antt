@@ -118,6 +118,9 @@ mod Surviving
 mod Pending
 mod Awaited
 mod Ended
+mod Dismissed
+mod Dismissing
+mod Expecting
 mod Fates
 mod Fairly
 mod Walks
