@@ -1,4 +1,7 @@
 use Rattle.std.proofs.Common.{◌≡◌, List, length, sym, ap, ◌∙◌}
+use Rattle.mqb_base.specs.Rooms.{WithRooms}
+use Rattle.mqb_contents.specs.Rooms.{StateRooms}
+use Rattle.mqb_contents.specs.mqb_model.state.State.{State}
 use Rattle.std.proofs.lemmas.List.{length-map}
 use Rattle.mqb_contents.specs.Rows.{with_out}
 use Rattle.mqb_contents.proofs.Grown.{grown_trans}
@@ -15,7 +18,7 @@ returns-clause-ok c =
     let row = new_sequence s c.args.peer c.args.message.destination c.args.now in
     let last : length c.outs.result.now ≡ length s.outs =
     sym (length-map c.outs.result.now row_of)
-    ∙ (ap (λ (l : List Row). length l) c.outs.ensures.rows ∙ ap (λ (d : Drafted). length d.effect.state.outs) c.self.view_is) in
+    ∙ (ap (λ (l : List Row). length l) c.outs.ensures.rows ∙ (ap (λ (w : WithRooms State StateRooms). length w.lists.outs) c.deref.ensures ∙ ap (λ (d : Drafted). length d.effect.state.outs) c.self.view_is)) in
     on_ok c.continue_sequence.result c.continue_sequence.ensures.ok (two_steps c.args.self.now.effect c.add_sequence.new.self.effect c.continue_sequence.new.self.effect
     (with_sequence s row) (with_sequence s (with_kept c.args.message row)) (λ t. with_out (with_kept c.args.message) t (length c.outs.result.now))
     c.in_ok-add_sequence.ensures.ok (ap (λ k. with_out (with_kept c.args.message) (with_sequence s row) k) last ∙ first_joined s row c.args.message))

@@ -1,4 +1,7 @@
 use Rattle.std.proofs.Common.{◌-◌, ◌<◌, Option, length, sym, ap, ◌∙◌, subst}
+use Rattle.mqb_base.specs.Rooms.{WithRooms}
+use Rattle.mqb_contents.specs.Rooms.{StateRooms}
+use Rattle.mqb_contents.specs.mqb_model.state.State.{State}
 use Rattle.std.specs.Option.{IsSomeAnd}
 use Rattle.std.specs.Prelude.{slice_get}
 use Rattle.std.proofs.lemmas.Option.{slice_get_within}
@@ -13,7 +16,8 @@ use Rattle.mqb_drafts.proofs.drafts.Draft.release_at.Goals as goal
 pub returns-then-keeps_dead-clause-stays : goal.returns-then-keeps_dead-clause-stays
 returns-then-keeps_dead-clause-stays c =
     let at : IsAt c.args.self.now.effect.state c.args.row c.args.index (row_of c.out.result.now) c.get.result.now = record {
-      row_is = ap (λ (d : Drafted). slice_get d.effect.state.outs c.args.row) (sym c.self.view_is) ∙ c.out.ensures.row;
+      row_is = ap (λ (d : Drafted). slice_get d.effect.state.outs c.args.row) (sym c.self.view_is)
+      ∙ (ap (λ (w : WithRooms State StateRooms). slice_get w.lists.outs c.args.row) (sym c.deref.ensures) ∙ c.out.ensures.row);
       kept_is = c.get.ensures.kept;
     } in
     stays_on c.args.self.now.effect.state c.args.row c.args.index (row_of c.out.result.now) c.get.result.now at (sym c.keeps_dead.ensures ∙ c.if-keeps_dead.true) c.requires.stays
@@ -21,7 +25,8 @@ returns-then-keeps_dead-clause-stays c =
 pub returns-then-keeps_dead-clause-nearer : goal.returns-then-keeps_dead-clause-nearer
 returns-then-keeps_dead-clause-nearer c =
     let at : IsAt c.args.self.now.effect.state c.args.row c.args.index (row_of c.out.result.now) c.get.result.now = record {
-      row_is = ap (λ (d : Drafted). slice_get d.effect.state.outs c.args.row) (sym c.self.view_is) ∙ c.out.ensures.row;
+      row_is = ap (λ (d : Drafted). slice_get d.effect.state.outs c.args.row) (sym c.self.view_is)
+      ∙ (ap (λ (w : WithRooms State StateRooms). slice_get w.lists.outs c.args.row) (sym c.deref.ensures) ∙ c.out.ensures.row);
       kept_is = c.get.ensures.kept;
     } in
     passed c.args.self.now.effect.state c.args.row c.args.index (row_of c.out.result.now) c.get.result.now at
@@ -29,7 +34,8 @@ returns-then-keeps_dead-clause-nearer c =
 pub take_out_kept-requires : goal.take_out_kept-requires
 take_out_kept-requires c =
     let at : IsAt c.args.self.now.effect.state c.args.row c.args.index (row_of c.out.result.now) c.get.result.now = record {
-      row_is = ap (λ (d : Drafted). slice_get d.effect.state.outs c.args.row) (sym c.self.view_is) ∙ c.out.ensures.row;
+      row_is = ap (λ (d : Drafted). slice_get d.effect.state.outs c.args.row) (sym c.self.view_is)
+      ∙ (ap (λ (w : WithRooms State StateRooms). slice_get w.lists.outs c.args.row) (sym c.deref.ensures) ∙ c.out.ensures.row);
       kept_is = c.get.ensures.kept;
     } in
     subst (λ (o : Option Row). IsSomeAnd o (λ r. c.args.index < length r.kept)) (sym at.row_is)
@@ -38,7 +44,8 @@ take_out_kept-requires c =
 pub returns-clause-same : goal.returns-clause-same
 returns-clause-same c =
     let at : IsAt c.args.self.now.effect.state c.args.row c.args.index (row_of c.out.result.now) c.get.result.now = record {
-      row_is = ap (λ (d : Drafted). slice_get d.effect.state.outs c.args.row) (sym c.self.view_is) ∙ c.out.ensures.row;
+      row_is = ap (λ (d : Drafted). slice_get d.effect.state.outs c.args.row) (sym c.self.view_is)
+      ∙ (ap (λ (w : WithRooms State StateRooms). slice_get w.lists.outs c.args.row) (sym c.deref.ensures) ∙ c.out.ensures.row);
       kept_is = c.get.ensures.kept;
     } in
     ap (λ (e : Effect). with_out (releasing c.args.number) e.state c.args.row) c.in_ok-take_out_kept.ensures.ok
@@ -48,7 +55,8 @@ returns-clause-same c =
 pub returns-clause-stays : goal.returns-clause-stays
 returns-clause-stays c =
     let at : IsAt c.args.self.now.effect.state c.args.row c.args.index (row_of c.out.result.now) c.get.result.now = record {
-      row_is = ap (λ (d : Drafted). slice_get d.effect.state.outs c.args.row) (sym c.self.view_is) ∙ c.out.ensures.row;
+      row_is = ap (λ (d : Drafted). slice_get d.effect.state.outs c.args.row) (sym c.self.view_is)
+      ∙ (ap (λ (w : WithRooms State StateRooms). slice_get w.lists.outs c.args.row) (sym c.deref.ensures) ∙ c.out.ensures.row);
       kept_is = c.get.ensures.kept;
     } in
     subst (λ (e : Effect). StaysBefore e.state c.args.row c.args.index) (sym c.in_ok-take_out_kept.ensures.ok)
@@ -57,7 +65,8 @@ returns-clause-stays c =
 pub returns-clause-nearer : goal.returns-clause-nearer
 returns-clause-nearer c =
     let at : IsAt c.args.self.now.effect.state c.args.row c.args.index (row_of c.out.result.now) c.get.result.now = record {
-      row_is = ap (λ (d : Drafted). slice_get d.effect.state.outs c.args.row) (sym c.self.view_is) ∙ c.out.ensures.row;
+      row_is = ap (λ (d : Drafted). slice_get d.effect.state.outs c.args.row) (sym c.self.view_is)
+      ∙ (ap (λ (w : WithRooms State StateRooms). slice_get w.lists.outs c.args.row) (sym c.deref.ensures) ∙ c.out.ensures.row);
       kept_is = c.get.ensures.kept;
     } in
     subst (λ (e : Effect). kept_count e.state.outs c.args.row - c.args.index < kept_count c.args.self.now.effect.state.outs c.args.row - c.args.index)
