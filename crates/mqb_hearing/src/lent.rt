@@ -146,7 +146,8 @@ impl<'a> LentPacket<'a> {
     pub(crate) fn body(&self) -> &'a [u8]
         ensures { result.now ≡ self.now.said.message.body }
     {
-        self.view.props.body
+        let view = self.view;
+        view.props.body
     }
 
     /// All of its bytes, with what was read of them.
