@@ -14,7 +14,7 @@ use Rattle.mqb_base.specs.declared.ledger.Line.TheVariants as line
 use Rattle.mqb_base.specs.declared.ledger.Stream.{Stream}
 use Rattle.mqb_base.specs.declared.message.Delivery.TheVariants as delivery
 use Rattle.mqb_base.specs.declared.message.Message.{Message}
-use Rattle.mqb_exactly_once.specs.Words.{In}
+use Rattle.mqb_exactly_once.specs.Words.{In, carried, position_of}
 use Rattle.mqb_exactly_once.specs.World.{Commitment}
 use Rattle.mqb_fate.specs.Orders.{is_final_class, order_layer}
 use Rattle.mqb_model.specs.managers.Manager.{Manager}
@@ -42,7 +42,7 @@ use Rattle.mqb_plain.specs.Plain.{PlainLists}
 use Rattle.mqb_plain.specs.declared.outgoing.Outgoing.{Outgoing}
 use Rattle.mqb_queue.specs.Places.{numbered}
 use Rattle.mqb_model.specs.calls.Call.{Answer, Call, Hear, Pump, outcome_of}
-use Rattle.mqb_history.specs.Carried.{AreDecidedTruly}
+use Rattle.mqb_history.specs.Carried.{ComesFromItsSource}
 use Rattle.mqb_history.specs.Changes.{Calls, Change, Hears, Pumps, changed, given_out, is_of_packets, may_change}
 use Rattle.mqb_history.specs.Committed.{commitments}
 use Rattle.mqb_history.specs.Decided.{written_of}
@@ -76,12 +76,13 @@ use Rattle.mqb_history.proofs.Pending.{Asks, IsFinalOf, IsOpen, IsToBeTold, Know
 use Rattle.mqb_history.proofs.Recorded.{IsPlainPacket, RecordOf, calls_are_of}
 use Rattle.mqb_history.proofs.Remaining.{arrivals}
 use Rattle.mqb_history.proofs.Saying.{Says}
-use Rattle.mqb_history.proofs.Skipping.{Split, split_at}
+use Rattle.mqb_history.proofs.Skipping.{sourced}
 use Rattle.mqb_history.proofs.Sources.{IsDecidedAt, of_source, put_at}
 use Rattle.mqb_history.proofs.Steady.{IsSteady, Quiet, change_steady}
 use Rattle.mqb_history.proofs.Storage.{IsStoring as KeepsAll, released, storing_closed}
 use Rattle.mqb_history.proofs.StoredByPeer.{storage_by, stored_by_peer}
 use Rattle.mqb_history.proofs.Storing.{KeepsStorage}
+use Rattle.mqb_history.proofs.Undecided.{IsKnown, committed_one}
 use Rattle.mqb_history.proofs.Tallies.{arrives, tally, tally_from, tally_there, weight, weight_is, weight_own}
 
 -- Pairs of managers.
@@ -236,7 +237,7 @@ module _ (known : List Identity) (apart : AreApart known) (c : Course) (accounte
   pub own_guid : now.identity.guid ≡ own.guid
   own_guid = guid_of known apart c o h j own there
 
-  itself : IsItself known own now
+  pub itself : IsItself known own now
   itself = subst (λ (x : Option Identity). IfSome x (λ y. IsItself known y now)) there (o.themselves j)
 
   -- a message that waits is the manager's own, and of no transaction
@@ -314,3 +315,23 @@ module _ (known : List Identity) (apart : AreApart known) (c : Course) (accounte
 
       few : in_plain f.id now ≤ 1
       few = let all = (accounted.tallied j).remains f.id in let once = given_once f.id now in let zero = none (arrivals f.id mine) refl in omega (arith, all, once, zero)
+
+  -- What it decides of this manager's streams this manager committed.
+  pub from_here : (w : Written) (moment : ℕ) (numbers : List ℕ) (p : UserPacket) (head : TxHead) → In w c.written → w.entry ≡ entry.Arrived moment numbers (entry.Decided p) → p.tx ≡ Some head
+      → p.message.id.qm ≡ own.guid → (x : Commitment) × In x (commitments (written_of j c.written)) × (x.position ≡ position_of head) × (at : ℕ) × (p.message ≡ carried x.message at)
+  from_here w moment numbers p head there_it e tx same = (
+    y.committed.commitment,
+    subst (λ n. In y.committed.commitment (commitments (written_of n c.written))) at_own y.committed.there,
+    y.committed.position,
+    y.moment,
+    y.committed.message,
+  )
+    where
+      y : ComesFromItsSource c c.written p head
+      y = sourced c (carrying_decided known c credible.carrying) w there_it moment numbers p head e tx
+
+      who : IsKnown known c y.source
+      who = committed_one known c y.source y.committed.commitment o (credible.carrying.0.1 y.source).0.0.0 y.committed.there
+
+      at_own : y.source ≡ j
+      at_own = one_guid known y.source j who.own own apart who.there there (sym who.guid ∙ y.own ∙ same)

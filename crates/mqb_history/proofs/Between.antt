@@ -106,7 +106,7 @@ found_in test (z ∷ zs) d e = at (test z) refl e (λ f. found_in test zs d f)
 pub connection_in : (n : Network) (i : ℕ) (d : Connection) → connection_of n i ≡ Some d → In d n.connections × (is_end i d ≡ true)
 connection_in n i d e = found_in (is_end i) n.connections d e
 
-filtered_passes : (test : Connection → Bool) (ds : List Connection) (d : Connection) → In d (filter test ds) → test d ≡ true
+pub filtered_passes : {X : Type 0} (test : X → Bool) (ds : List X) (d : X) → In d (filter test ds) → test d ≡ true
 filtered_passes test [] d i = absurd i
 filtered_passes test (z ∷ zs) d i = at (test z) refl i (λ j. filtered_passes test zs d j)
   where

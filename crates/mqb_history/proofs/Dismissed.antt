@@ -51,7 +51,7 @@ abbrev NoTwice : List ℕ → Type 0
 NoTwice [] = Unit {0}
 NoTwice (n ∷ ns) = (In n ns → ⊥) × NoTwice ns
 
-range_low : (a len n : ℕ) → In n (range_with_len a len) → a ≤ n
+pub range_low : (a len n : ℕ) → In n (range_with_len a len) → a ≤ n
 range_low a zero n i = absurd i
 range_low a (suc len) n (inl e) = omega (arith, e)
 range_low a (suc len) n (inr i) = let low = range_low (a + 1) len n i in omega (arith, low)
@@ -84,7 +84,7 @@ one_position cs numbered x y i j e = let q = x.position.sequence in one_numbered
 
 -- Kept messages that leave.
 
-without_in : (test : Kept → Bool) (ks : List Kept) (k : Kept) → In k (without_first test ks) → In k ks
+pub without_in : (test : Kept → Bool) (ks : List Kept) (k : Kept) → In k (without_first test ks) → In k ks
 without_in test ks k i = all_in (λ x. In x ks) (without_first test ks) k (without_all (λ x. In x ks) test ks (all_of (λ x. In x ks) ks (λ x j. j))) i
 
 removed_number : (ks : List Kept) (b : ℕ) (k x : Kept) → KeptRise ks → slice_get ks b ≡ Some k → In x (remove ks b) → x.number ≡ k.number → ⊥

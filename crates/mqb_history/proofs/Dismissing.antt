@@ -55,6 +55,7 @@ use Rattle.mqb_history.proofs.Numbering.{AreCounted, commitments_more}
 use Rattle.mqb_history.proofs.Offering.{AllStand, AreOffered, StandsIn, marks_in, offered_by_records}
 use Rattle.mqb_history.proofs.Outside.{filtered_in}
 use Rattle.mqb_history.proofs.Recorded.{IsPlainPacket}
+use Rattle.mqb_history.proofs.Retaining.{IsRetained, retained_now}
 use Rattle.mqb_history.proofs.Rowwise.{applied_each}
 use Rattle.mqb_history.proofs.Skipping.{sourced}
 use Rattle.mqb_history.proofs.Staying.{HasSameRows}
@@ -137,6 +138,7 @@ module _ (s : State) (ws : List Written) (index : ℕ) (x : Commitment) (marked 
 pub record IsTelling (known : List Identity) (c : Course) : Type 0 where
   pub awaiting : IsAwaiting known c
   pub offered : (i : ℕ) → AreOffered (manager_at c.network i).state (written_of i c.written)
+  pub retained : (i : ℕ) → AllByRecursion IsRetained (manager_at c.network i).state.outs
   pub dismissed : (i j : ℕ) (g : IsPair known j i) (id : MessageId) → id.qm ≡ g.own.guid → HasHeard (written_of i c.written) g.source.guid id → NoneKept (manager_at c.network i).state g.index id
 
 module _ (known : List Identity) (apart : AreApart known) (c : Course) (t : IsTelling known c) (x : Change) (may : may_change c x ≡ true) where
@@ -343,6 +345,7 @@ module _ (known : List Identity) (apart : AreApart known) (c : Course) (t : IsTe
   telling_now = record {
     awaiting = awaiting_now known apart c t.awaiting x may;
     offered = change_keeps known AreOffered offered_by_records c x may o t.offered;
+    retained = retained_now known apart c t.awaiting t.retained x may;
     dismissed = dismissed_now;
   }
 

@@ -1,6 +1,7 @@
 -- What a row keeps and was decided there, with the dead-letter bit, stands in a queue there, or its final acknowledgement waits, or no number was left for that.
 use Rattle.std.proofs.Common.{refl, ap, sym, subst, ◌∙◌, arith, inl, inr}
-use Rattle.std.specs.Prelude.{[], ◌+◌, ◌<◌, ◌==◌, ◌∷◌, ◌≡◌, ◌⊎◌, Bool, IfSome, List, None, Option, Some, cond, false, filter, fold, length, map, not, option_map, position, slice_get, suc, true, unwrap_or, zero, ℕ}
+use Rattle.std.specs.List.{AllByRecursion}
+use Rattle.std.specs.Prelude.{[], ◌+◌, ◌<◌, ◌==◌, ◌∷◌, ◌≡◌, ◌≤◌, ◌⊎◌, Bool, IfSome, List, None, Option, Some, cond, false, filter, fold, length, map, not, option_map, position, slice_get, suc, true, unwrap_or, zero, ℕ}
 use Rattle.mqb_base.specs.Bits.{keeps_dead}
 use Rattle.mqb_base.specs.Same.{same_guid, same_name}
 use Rattle.mqb_base.specs.declared.class.Class.{Class}
@@ -22,47 +23,52 @@ use Rattle.mqb_model.specs.state.Resolving.{peer_known}
 use Rattle.mqb_model.specs.state.State.{State, empty}
 use Rattle.mqb_network.specs.Courses.{Course, Written}
 use Rattle.mqb_network.specs.Doubts.{settled}
-use Rattle.mqb_network.specs.Laws.{AreApart}
+use Rattle.mqb_network.specs.Laws.{AreApart, lines_written}
 use Rattle.mqb_network.specs.Network.{formatted, manager_at, nobody, others}
 use Rattle.mqb_network.specs.Runs.{after_run, beginning}
 use Rattle.mqb_orders.specs.Rows.{Row}
 use Rattle.mqb_orders.specs.declared.kept.Kept.{Kept}
 use Rattle.mqb_packet.specs.declared.packet.UserPacket.{UserPacket}
 use Rattle.mqb_plain.specs.Plain.{no_plain}
-use Rattle.mqb_history.specs.Acked.{IsDecidedThere, LeadsTo}
-use Rattle.mqb_history.specs.Awaited.{FatesAreAwaited, IsAwaited}
+use Rattle.mqb_history.specs.Acked.{AreAcknowledgedTruly, IsDecidedThere}
+use Rattle.mqb_history.specs.Awaited.{AreKeptForFates, FatesAreAwaited, IsAwaited}
 use Rattle.mqb_history.specs.Carried.{ComesFromItsSource}
-use Rattle.mqb_history.specs.Committed.{commitments}
+use Rattle.mqb_history.specs.Committed.{commitments, numbers_in}
 use Rattle.mqb_history.specs.Decided.{is_in_channel, written_of}
-use Rattle.mqb_history.specs.Invariants.{AreTransactional}
+use Rattle.mqb_history.specs.Expired.{expiries_told}
+use Rattle.mqb_history.specs.Invariants.{AreTransactional, MachineInvariant}
 use Rattle.mqb_history.specs.Orderly.{IsItself, IsOrderly}
 use Rattle.mqb_history.proofs.Accounts.{HeardBy}
 use Rattle.mqb_history.proofs.Acting.{DecidesPacket}
 use Rattle.mqb_history.proofs.Answering.{IsCredible, credible_begins, sound_of}
 use Rattle.mqb_history.proofs.Arriving.{own_by}
-use Rattle.mqb_history.proofs.Awaited.{AllAsk, HasHeard, IsAwaiting, IsEnded, IsItsNumber, IsPair, StoredApart, in_get, not_its_peer, pair_of, subject}
-use Rattle.mqb_history.proofs.Believing.{same_committed}
+use Rattle.mqb_history.proofs.Awaited.{AllAsk, HasHeard, IsAwaiting, IsEnded, IsItsNumber, IsPair, StoredApart, from_here, in_get, not_its_peer, pair_of, subject}
+use Rattle.mqb_history.proofs.Believing.{position_there, same_committed}
 use Rattle.mqb_history.proofs.Between.{all_in}
 use Rattle.mqb_history.proofs.Carrying.{carrying_decided}
 use Rattle.mqb_history.proofs.Committing.{IsCounted, IsOwnBelow, kept_at}
 use Rattle.mqb_history.proofs.Courses.{Agrees, HeardIn, one_guid}
 use Rattle.mqb_history.proofs.Crediting.{row_known}
-use Rattle.mqb_history.proofs.Dismissed.{one_position}
+use Rattle.mqb_history.proofs.Dismissed.{one_position, range_low}
 use Rattle.mqb_history.proofs.Dismissing.{IsTelling, telling_closed}
 use Rattle.mqb_history.proofs.Each.{each_begins}
 use Rattle.mqb_history.proofs.Gone.{accounted_begins}
 use Rattle.mqb_history.proofs.Later.{DecideIt}
-use Rattle.mqb_history.proofs.Lists.{append_length, get_in, get_within, some_is, split_and}
+use Rattle.mqb_history.proofs.Lists.{append_length, get_in, get_within, some_is, split_and, within_get}
 use Rattle.mqb_history.proofs.Machine.{always_machine_invariant}
+use Rattle.mqb_history.proofs.Marked.{AreMarked}
 use Rattle.mqb_history.proofs.Names.{same_guid_is}
 use Rattle.mqb_history.proofs.Noticed.{guid_of, heard_in}
-use Rattle.mqb_history.proofs.Numbering.{AreCounted}
+use Rattle.mqb_history.proofs.Numbering.{AreCounted, joined_outs}
 use Rattle.mqb_history.proofs.Offering.{AreOffered, offered_by_records}
 use Rattle.mqb_history.proofs.Orderly.{begins_orderly, map_get}
 use Rattle.mqb_history.proofs.Outside.{filtered_in}
 use Rattle.mqb_history.proofs.Pending.{Asks, IsOpen, Knows, Subject}
+use Rattle.mqb_history.proofs.Previous.{in_numbers}
+use Rattle.mqb_history.proofs.Retaining.{IsRetained}
 use Rattle.mqb_history.proofs.Runs.{always_kept}
 use Rattle.mqb_history.proofs.Skipping.{Decides, sourced}
+use Rattle.mqb_history.proofs.Sparing.{IsTidy}
 use Rattle.mqb_history.proofs.Storage.{begins_storing}
 use Rattle.mqb_history.proofs.Undecided.{IsKnown, committed_one, in_decisions}
 use Rattle.mqb_history.proofs.Written.{begins_with}
@@ -112,9 +118,17 @@ begins_telling known = record {
     ended = λ i j g id of. record { knows = knows i j g id of; ends = λ ask decide. absurd decide.there };
   };
   offered = (begins_with known AreOffered offered_by_records).1;
+  retained = λ i. begin_retained i;
   dismissed = λ i j g id of heard. absurd heard.there;
 }
   where
+    begin_retained : (i : ℕ) → AllByRecursion IsRetained (manager_at (beginning known).network i).state.outs
+    begin_retained i = subst (λ o. AllByRecursion IsRetained (unwrap_or o nobody).state.outs) (sym (map_get (λ own. formatted own (others known own)) known i)) (at (slice_get known i))
+      where
+        at : (o : Option Identity) → AllByRecursion IsRetained (unwrap_or (option_map (λ own. formatted own (others known own)) o) nobody).state.outs
+        at None = tt
+        at (Some own) = subst (AllByRecursion IsRetained) (sym (joined_outs (empty own) (others known own))) tt
+
     knows : (i j : ℕ) (g : IsPair known i j) (id : MessageId) → id.qm ≡ g.source.guid → Knows (subject known (beginning known) i j g id) (manager_at (beginning known).network j).state
     knows i j g id of = record {
       own = ap (λ (x : Identity). x.guid) self.identity;
@@ -207,24 +221,10 @@ module _ (known : List Identity) (apart : AreApart known) (c : Course) (t : IsTe
 
   -- What was decided.
 
-  from_here : (w : Written) (moment : ℕ) (numbers : List ℕ) (p : UserPacket) (head : TxHead) → In w (written_of j c.written) → w.entry ≡ entry.Arrived moment numbers (entry.Decided p) → p.tx ≡ Some head
+  decided_here : (w : Written) (moment : ℕ) (numbers : List ℕ) (p : UserPacket) (head : TxHead) → In w (written_of j c.written) → w.entry ≡ entry.Arrived moment numbers (entry.Decided p) → p.tx ≡ Some head
       → p.message.id.qm ≡ here.identity.guid → (x : Commitment) × In x cs × (x.position ≡ position_of head) × (at : ℕ) × (p.message ≡ carried x.message at)
-  from_here w moment numbers p head there e tx same = (
-    y.committed.commitment,
-    subst (λ n. In y.committed.commitment (commitments (written_of n c.written))) at_own y.committed.there,
-    y.committed.position,
-    y.moment,
-    y.committed.message,
-  )
-    where
-      y : ComesFromItsSource c c.written p head
-      y = sourced c (carrying_decided known c t.awaiting.credible.carrying) w (filtered_in (λ (v : Written). v.by == j) c.written w there) moment numbers p head e tx
-
-      who : IsKnown known c y.source
-      who = committed_one known c y.source y.committed.commitment o (t.awaiting.credible.carrying.0.1 y.source).0.0.0 y.committed.there
-
-      at_own : y.source ≡ i
-      at_own = one_guid known y.source i who.own source.own apart who.there source.there (sym who.guid ∙ y.own ∙ same ∙ source.guid)
+  decided_here w moment numbers p head there e tx same = from_here known apart c t.awaiting.accounted t.awaiting.credible i source.own source.there w moment numbers p head
+      (filtered_in (λ (v : Written). v.by == j) c.written w there) e tx (same ∙ source.guid)
 
   asks : AllAsk (written_of j c.written) (subject known c i j g id)
   asks w there p head e tx same = subst (Asks (subject known c i j g id)) (sym (z.4 ∙ ap (λ (x : Commitment). carried x.message z.3) one)) (record {
@@ -238,13 +238,13 @@ module _ (known : List Identity) (apart : AreApart known) (c : Course) (t : IsTe
       r = decides_is w.entry p e
 
       z : (x : Commitment) × In x cs × (x.position ≡ position_of head) × (at : ℕ) × (p.message ≡ carried x.message at)
-      z = from_here w r.0 r.1 p head there r.2 tx (ap (λ (n : MessageId). n.qm) same ∙ qm)
+      z = decided_here w r.0 r.1 p head there r.2 tx (ap (λ (n : MessageId). n.qm) same ∙ qm)
 
       one : z.0 ≡ kept_at row k
       one = same_committed cs z.0 (kept_at row k) counted.differ z.1 committed (ap (λ (m : Message). m.id) (sym z.4) ∙ same)
 
   decides : DecideIt (written_of j c.written) id
-  decides = let f = found.2 in let z = from_here found.0 f.now f.numbers f.packet f.head found.1 f.entry f.there (same_guid_is f.packet.message.id.qm here.identity.guid
+  decides = let f = found.2 in let z = decided_here found.0 f.now f.numbers f.packet f.head found.1 f.entry f.there (same_guid_is f.packet.message.id.qm here.identity.guid
       (split_and (same_guid f.packet.message.id.qm here.identity.guid) (same_name f.packet.message.destination row.destination) f.inside).0) in record {
     written = found.0;
     there = found.1;
@@ -293,6 +293,57 @@ module _ (known : List Identity) (apart : AreApart known) (c : Course) (t : IsTe
       }))
       at (inr h) = absurd (not_heard h)
 
+  -- The manager to which the row leads is that one.
+  decider_is : (n : ℕ) → n < length c.network.managers → peer_known here (manager_at c.network n).state.identity.guid ≡ Some row.peer → j ≡ n
+  decider_is n low e = one_guid known j n decider.0 own.0 apart decider.1 own.1
+      (sym (guid_of known apart c o agrees j decider.0 decider.1) ∙ d.leads.is ∙ ap (λ (p : Identity). p.guid) (some_is d.leads.peer q.0 (sym d.leads.there ∙ q.1))
+      ∙ same_guid_is q.0.guid (manager_at c.network n).state.identity.guid q.2 ∙ guid_of known apart c o agrees n own.0 own.1)
+    where
+      own : (own : Identity) × (slice_get known n ≡ Some own)
+      own = within_get known n (subst (λ m. n < m) o.count low)
+
+      q : (p : Identity) × (slice_get here.peers row.peer ≡ Some p) × (same_guid p.guid (manager_at c.network n).state.identity.guid ≡ true)
+      q = position_there (λ (p : Identity). same_guid p.guid (manager_at c.network n).state.identity.guid) here.peers row.peer e
+
+-- What is kept at or below the acknowledged number did not expire.
+kept_for_fates : (known : List Identity) (c : Course) → IsTelling known c → AreAcknowledgedTruly c → AreKeptForFates c
+kept_for_fates known c t truly i row k inside kept low = (all_in IsRetained s.outs row (t.retained i) inside k kept low, at (truly i row k.number inside above low))
+  where
+    s : State
+    s = (manager_at c.network i).state
+
+    ws : List Written
+    ws = written_of i c.written
+
+    marked : AreMarked s ws
+    marked = t.awaiting.credible.carrying.0.1 i
+
+    counted : AreCounted s ws
+    counted = marked.0.0.0.0.0
+
+    above : 0 < k.number
+    above = let le = range_low 1 (length (numbers_in row.sequence (commitments ws))) k.number (subst (In k.number) (counted.numbered row.sequence)
+        (in_numbers (commitments ws) (kept_at row k) ((all_in (IsCounted (commitments ws)) s.outs row counted.rows inside).kept k kept))) in omega (arith, le)
+
+    tidy : IsTidy (lines_written ws) row
+    tidy = all_in (IsTidy (lines_written ws)) s.outs row marked.0.1 inside
+
+    at : IsDecidedThere c i row k.number ⊎ In (record { sequence = row.sequence; number = k.number }) (expiries_told (lines_written ws)) → IsDecidedThere c i row k.number
+    at (inl d) = d
+    at (inr e) = absurd (tidy.spared k kept e)
+
 pub fates_are_awaited : FatesAreAwaited
-fates_are_awaited known ms apart run kept i row k inside there dead d = is_awaited known apart (settled kept (after_run known ms))
-    (always_kept known (IsTelling known) (telling_closed known apart) ms run kept (begins_telling known)) (always_machine_invariant known ms apart run kept).transactional i row k inside there dead d
+fates_are_awaited known ms apart run kept = (
+  λ i j row k low inside leads there dead d. subst (λ n. IsAwaited c.network i n k.message.id) (decider_is known apart c t all.transactional i row k inside there dead d j low leads)
+      (is_awaited known apart c t all.transactional i row k inside there dead d),
+  kept_for_fates known c t all.acknowledged_truly,
+)
+  where
+    c : Course
+    c = settled kept (after_run known ms)
+
+    t : IsTelling known c
+    t = always_kept known (IsTelling known) (telling_closed known apart) ms run kept (begins_telling known)
+
+    all : MachineInvariant known c
+    all = always_machine_invariant known ms apart run kept

@@ -1,6 +1,6 @@
 -- What is known of messages that were decided, and of identifiers that no transaction has, stays known in later courses.
 use Rattle.std.proofs.Common.{refl, ap, sym, subst, ◌∙◌, arith, inl, inr}
-use Rattle.std.specs.Prelude.{[], ◌++◌, ◌<◌, ◌∷◌, ◌≡◌, ◌⊎◌, List, None, Option, Some, false, length, slice_get, true, ℕ}
+use Rattle.std.specs.Prelude.{[], ◌++◌, ◌<◌, ◌∷◌, ◌≡◌, ◌≤◌, ◌⊎◌, List, None, Option, Some, false, length, slice_get, true, ℕ}
 use Rattle.mqb_base.specs.declared.heads.TxHead.{TxHead}
 use Rattle.mqb_base.specs.declared.ids.Guid.{Guid}
 use Rattle.mqb_base.specs.declared.ids.Identity.{Identity}
@@ -8,7 +8,7 @@ use Rattle.mqb_base.specs.declared.ids.MessageId.{MessageId}
 use Rattle.mqb_exactly_once.specs.Words.{In}
 use Rattle.mqb_exactly_once.specs.World.{Channel, Commitment, Position}
 use Rattle.mqb_fate.specs.Asking.{is_ordinary}
-use Rattle.mqb_model.specs.managers.Manager.{doubt_of}
+use Rattle.mqb_model.specs.managers.Manager.{Manager, doubt_of}
 use Rattle.mqb_model.specs.records.Applying.{apply}
 use Rattle.mqb_model.specs.records.Record.{Record}
 use Rattle.mqb_model.specs.records.Record as entry
@@ -82,21 +82,32 @@ pub record Later (known : List Identity) (c d : Course) : Type 0 where
   pub written : d.written ≡ c.written ++ more
   pub unused : (id : MessageId) → Unused known c id → Unused known d id
 
-calling_written : (i : ℕ) (call : Call) (failure : Option Failure) (c : Course) → (more : List Written) × ((calling i call failure c).written ≡ c.written ++ more)
-calling_written i call None c = (written_by i (manager_at c.network i) (outcome_of (manager_at c.network i) call).entry, refl)
-calling_written i call (Some how) c = ([], sym (append_nothing c.written))
+-- at most one record is written
+abbrev WrittenOn : Course → Course → Type 0
+WrittenOn c d = (more : List Written) × (d.written ≡ c.written ++ more) × (length more ≤ 1)
 
-hearing_written : (note : Option Note) (p : Option Packet) (now : ℕ) (failure : Option Failure) (c : Course) → (more : List Written) × ((hearing note p now failure c).written ≡ c.written ++ more)
-hearing_written None p now failure c = ([], sym (append_nothing c.written))
-hearing_written (Some note) None now failure c = ([], sym (append_nothing c.written))
+nothing_written : (c : Course) → WrittenOn c c
+nothing_written c = ([], sym (append_nothing c.written), omega arith)
+
+by_one : (i : ℕ) (m : Manager) (o : Option Record) → length (written_by i m o) ≤ 1
+by_one i m None = omega arith
+by_one i m (Some r) = omega arith
+
+calling_written : (i : ℕ) (call : Call) (failure : Option Failure) (c : Course) → WrittenOn c (calling i call failure c)
+calling_written i call None c = let m = manager_at c.network i in (written_by i m (outcome_of m call).entry, refl, by_one i m (outcome_of m call).entry)
+calling_written i call (Some how) c = nothing_written c
+
+hearing_written : (note : Option Note) (p : Option Packet) (now : ℕ) (failure : Option Failure) (c : Course) → WrittenOn c (hearing note p now failure c)
+hearing_written None p now failure c = nothing_written c
+hearing_written (Some note) None now failure c = nothing_written c
 hearing_written (Some note) (Some p) now failure c = calling_written note.receiver (Hear now p) failure c
 
-pub change_written : (c : Course) (x : Change) → (more : List Written) × ((changed x c).written ≡ c.written ++ more)
+pub change_written : (c : Course) (x : Change) → WrittenOn c (changed x c)
 change_written c (Calls i call failure) = calling_written i call failure c
 change_written c (Pumps i now failure) = calling_written i (Pump now) failure c
 change_written c (Hears k now failure) = hearing_written (numbered c.network.notes k) (numbered c.sent k) now failure c
-change_written c (Finds i) = (written_by i (manager_at c.network i) (doubt_of (manager_at c.network i).condition), refl)
-change_written c x = ([], sym (append_nothing c.written))
+change_written c (Finds i) = let m = manager_at c.network i in (written_by i m (doubt_of m.condition), refl, by_one i m (doubt_of m.condition))
+change_written c x = nothing_written c
 
 -- what is unused stays so
 pub unused_grows : (i : ℕ) (s : State) (r : Record) (ws : List Written) (n : ℕ) → IsMade s r → IsUnused s ws n → IsUnused (apply s r) (ws ++ record { by = i; before = s; entry = r } ∷ []) n

@@ -119,6 +119,7 @@ mod Pending
 mod Awaited
 mod Ended
 mod Dismissed
+mod Retaining
 mod Dismissing
 mod Expecting
 mod Fates

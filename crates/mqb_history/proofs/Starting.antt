@@ -112,7 +112,7 @@ apart_from_others (p ∷ ps) (suc i) own e h = (
   apart_from_others ps i own e h.1,
 )
 
-filter_most : {X : Type 0} (test : X → Bool) (xs : List X) → length (filter test xs) ≤ length xs
+pub filter_most : {X : Type 0} (test : X → Bool) (xs : List X) → length (filter test xs) ≤ length xs
 filter_most test [] = omega arith
 filter_most test (x ∷ xs) = at (test x) (filter_most test xs)
   where

@@ -1,10 +1,12 @@
 -- What was committed is decided, or expired, behind the meetings that bring all over.
-use Rattle.std.proofs.Common.{◌≡◌, ℕ, zero, suc, ◌==◌, ◌||◌, ◌⊎◌, inl, inr, Bool, true, false, nat_lt, List, [], ◌∷◌, Some, refl, sym, ap, subst, ◌∙◌}
+use Rattle.std.proofs.Common.{◌≡◌, ℕ, zero, suc, ◌+◌, ◌≤◌, ◌==◌, ◌||◌, ◌⊎◌, arith, inl, inr, Bool, true, false, nat_lt, List, [], ◌∷◌, Some, refl, sym, ap, subst, ◌∙◌}
+use Rattle.std.proofs.lemmas.Bool.Decides.{nat_tests}
 use Rattle.std.proofs.lemmas.Bool.{and_from, lt-ltb, true≢false}
-use Rattle.std.specs.List.{flat_map, range_with_len}
+use Rattle.std.specs.List.{flat_map, list_any, range_with_len}
 use Rattle.std.specs.Option.{option_map_or}
-use Rattle.std.specs.Prelude.{length, map, slice_get}
+use Rattle.std.specs.Prelude.{length, map, not, slice_get}
 use Rattle.mqb_base.specs.declared.ids.Identity.{Identity}
+use Rattle.mqb_base.specs.declared.message.Message.{Message}
 use Rattle.mqb_exactly_once.proofs.Members.{any_from_In}
 use Rattle.mqb_exactly_once.specs.Words.{In}
 use Rattle.mqb_exactly_once.specs.World.{Commitment}
@@ -22,8 +24,11 @@ use Rattle.mqb_network.specs.Laws.{Always, AreApart, lines_written}
 use Rattle.mqb_network.specs.Network.{manager_at}
 use Rattle.mqb_network.specs.Runs.{after_run, course_after}
 use Rattle.mqb_network.specs.Scripts.{well}
-use Rattle.mqb_orders.specs.Rows.{has_unacknowledged}
+use Rattle.mqb_orders.specs.Rows.{Row, has_unacknowledged}
 use Rattle.mqb_orders.specs.declared.kept.Kept.{Kept}
+use Rattle.mqb_plain.specs.Lists.{messages_of}
+use Rattle.mqb_plain.specs.Plain.{PlainLists}
+use Rattle.mqb_plain.specs.declared.outgoing.Outgoing.{Outgoing}
 use Rattle.mqb_law_meetings.specs.Drained.{IsDrained, has_for}
 use Rattle.mqb_law_meetings.specs.Meetings.{meeting, meetings}
 use Rattle.mqb_law_meetings.specs.Recovery.{AreDelivered, Delivers, Recovers}
@@ -36,16 +41,48 @@ use Rattle.mqb_law_meetings.proofs.Recovering.{meeting_drafted, meeting_runs, re
 use Rattle.mqb_law_meetings.proofs.Running.{InRun, run_on}
 
 -- The meetings go on a run.
-meetings_run : (known : List Identity) (a b moment count : ℕ) (c : Course) → InRun known c → InRun known (course_after c (map well (meetings a b moment count)))
+pub meetings_run : (known : List Identity) (a b moment count : ℕ) (c : Course) → InRun known c → InRun known (course_after c (map well (meetings a b moment count)))
 meetings_run known a b moment zero c r = r
 meetings_run known a b moment (suc n) c r = meetings_run known a b moment n (course_after c (map well (meeting a b moment)))
     (run_on known c (map well (meeting a b moment)) r (meeting_runs c a b moment) (meeting_drafted a b moment))
 
 -- a law of all runs, in a course of one
-of_run : (P : Course → Type 0) → Always P → (known : List Identity) → AreApart known → (c : Course) → InRun known c → P c
+pub of_run : (P : Course → Type 0) → Always P → (known : List Identity) → AreApart known → (c : Course) → InRun known c → P c
 of_run P always known apart c r = subst P (sym r.is) (now P (after_run known r.moves) (always known r.moves apart r.run (λ j. false)))
 
--- A row that waits would be outstanding.
+-- A row to a peer that keeps a number above the acknowledged one is outstanding.
+pub outstanding : (c : Course) (a b k : ℕ) → peer_known (manager_at c.network a).state (manager_at c.network b).state.identity.guid ≡ Some k → (row : Row) → In row (manager_at c.network a).state.outs → row.peer ≡ k
+    → (x : Kept) → In x row.kept → nat_lt row.acked x.number ≡ true → has_for c.network a b ≡ true
+outstanding c a b k knows row there peer x kept above = ap (λ o. option_map_or (is_outstanding_to s) o false) knows
+    ∙ ap (λ t. option_map_or has_plain (slice_get s.plain k) false || t) (any_from_In (awaits k) row s.outs there waits) ∙ or_true (option_map_or has_plain (slice_get s.plain k) false)
+  where
+    s : State
+    s = (manager_at c.network a).state
+
+    waits : awaits k row ≡ true
+    waits = and_from (row.peer == k) (has_unacknowledged row) (ap (λ n. n == k) peer ∙ same_number k) (any_from_In (λ (y : Kept). nat_lt row.acked y.number) x row.kept kept above)
+
+    or_true : (t : Bool) → (t || true) ≡ true
+    or_true true = refl
+    or_true false = refl
+
+-- So are plain messages for it.
+pub plain_outstanding : (c : Course) (a b k : ℕ) → peer_known (manager_at c.network a).state (manager_at c.network b).state.identity.guid ≡ Some k → (lists : PlainLists) → slice_get (manager_at c.network a).state.plain k ≡ Some lists
+    → (m : Message) → In m (messages_of lists.recoverable) → has_for c.network a b ≡ true
+plain_outstanding c a b k knows lists there m inside = ap (λ o. option_map_or (is_outstanding_to s) o false) knows
+    ∙ ap (λ o. option_map_or has_plain o false || list_any (awaits k) s.outs) there ∙ ap (λ t. not t || list_any (awaits k) s.outs) (some_wait lists.recoverable inside)
+  where
+    s : State
+    s = (manager_at c.network a).state
+
+    more : (n : ℕ) → 1 ≤ n → (n == 0) ≡ false
+    more n le = grind (arith, nat_tests)
+
+    some_wait : (os : List Outgoing) → In m (messages_of os) → (length os + length lists.express == 0) ≡ false
+    some_wait [] i = absurd i
+    some_wait (o ∷ os) i = more (length (o ∷ os) + length lists.express) (omega arith)
+
+-- And a message of a row that waits.
 module _ (c : Course) (a b k : ℕ) (m : Commitment) (rows : AreRowsLed c) (leads : resolved (manager_at c.network a).state m.message.destination ≡ AtPeer k)
     (knows : peer_known (manager_at c.network a).state (manager_at c.network b).state.identity.guid ≡ Some k) (w : WaitsAbove (manager_at c.network a).state m) where
   abbrev s : State
@@ -54,17 +91,8 @@ module _ (c : Course) (a b k : ℕ) (m : Commitment) (rows : AreRowsLed c) (lead
   peer_is : w.row.peer ≡ k
   peer_is = let same : AtPeer w.row.peer ≡ AtPeer k = sym (rows a w.row w.there) ∙ ap (resolved s) w.destination ∙ leads in cc
 
-  waits : awaits k w.row ≡ true
-  waits = and_from (w.row.peer == k) (has_unacknowledged w.row) (ap (λ n. n == k) peer_is ∙ same_number k)
-      (any_from_In (λ (x : Kept). nat_lt w.row.acked x.number) (record { number = m.position.number; message = m.message }) w.row.kept w.kept (lt-ltb w.row.acked m.position.number w.above))
-
   has : has_for c.network a b ≡ true
-  has = ap (λ o. option_map_or (is_outstanding_to s) o false) knows
-      ∙ ap (λ t. option_map_or has_plain (slice_get s.plain k) false || t) (any_from_In (awaits k) w.row s.outs w.there waits) ∙ or_true (option_map_or has_plain (slice_get s.plain k) false)
-    where
-      or_true : (t : Bool) → (t || true) ≡ true
-      or_true true = refl
-      or_true false = refl
+  has = outstanding c a b k knows w.row w.there peer_is (record { number = m.position.number; message = m.message }) w.kept (lt-ltb w.row.acked m.position.number w.above)
 
 -- Two that are drained have delivered what the one committed for the other.
 delivered : AlwaysWaitingUntilDecided → RowsAreLed → (known : List Identity) → AreApart known → (z : Course) → InRun known z → (a b : ℕ) → IsDrained z.network a b → AreDelivered z a b

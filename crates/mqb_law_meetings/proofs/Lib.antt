@@ -43,3 +43,4 @@ pub mod Totals
 pub mod Pairs
 pub mod Rounds
 pub mod AllRecovering
+pub mod Forgetting

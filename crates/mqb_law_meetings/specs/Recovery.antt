@@ -1,21 +1,25 @@
 -- The law of recovery.
-use Rattle.std.specs.Prelude.{◌<◌, ◌≡◌, ◌⊎◌, All, List, Some, length, map, true, ℕ}
+use Rattle.std.specs.Prelude.{◌<◌, ◌≡◌, ◌≤◌, ◌⊎◌, All, List, Some, length, map, true, ℕ}
 use Rattle.mqb_base.specs.declared.ids.Identity.{Identity}
 use Rattle.mqb_base.specs.declared.ids.SequenceId.{SequenceId}
 use Rattle.mqb_exactly_once.specs.Words.{In}
 use Rattle.mqb_exactly_once.specs.World.{Commitment}
 use Rattle.mqb_history.specs.Acked.{WasDecidedThere}
+use Rattle.mqb_history.specs.Awaited.{IsHeld}
 use Rattle.mqb_history.specs.Committed.{commitments}
 use Rattle.mqb_history.specs.Decided.{written_of}
 use Rattle.mqb_history.specs.Drafted.{AreInOrder, IsDraftedEvent}
 use Rattle.mqb_history.specs.Expired.{expiries_told}
+use Rattle.mqb_model.specs.declared.limits.TheConstants.{MAX_NUMBER}
 use Rattle.mqb_model.specs.declared.target.Target.TheVariants.{AtPeer}
 use Rattle.mqb_model.specs.state.Resolving.{peer_known, resolved}
 use Rattle.mqb_model.specs.state.State.{State}
 use Rattle.mqb_network.specs.Courses.{Course}
 use Rattle.mqb_network.specs.Laws.{lines_written}
-use Rattle.mqb_network.specs.Network.{manager_at}
+use Rattle.mqb_network.specs.Network.{Network, manager_at}
 use Rattle.mqb_network.specs.Runs.{IsRun, IsRunFrom, Move, after_run, course_after}
+use Rattle.mqb_orders.specs.Rows.{Row}
+use Rattle.mqb_orders.specs.declared.kept.Kept.{Kept}
 use Rattle.mqb_law_meetings.specs.Drained.{IsDrained}
 use Rattle.mqb_law_meetings.specs.Meetings.{is_good, starts}
 use Rattle.mqb_law_meetings.specs.Work.{met}
@@ -54,3 +58,12 @@ AreDelivered c a b = (m : Commitment) (k : ℕ) → In m (commitments (written_o
 -- So it is.
 abbrev pub Delivers : Type 0
 Delivers = BehindMeetings AreDelivered
+
+-- What the first still keeps for the second stands in a queue there: its fate is still to come.
+abbrev pub IsForgotten : Network → ℕ → ℕ → Type 0
+IsForgotten n a b = (row : Row) (k : Kept) → In row (manager_at n a).state.outs → peer_known (manager_at n a).state (manager_at n b).state.identity.guid ≡ Some row.peer → In k row.kept
+    → IsHeld n b k.message.id
+
+-- So it is, where the second has a number left for a final acknowledgement: nothing else is kept for ever.
+abbrev pub Forgets : Type 0
+Forgets = BehindMeetings (λ c a b. (manager_at c.network b).state.next_number ≤ MAX_NUMBER → IsForgotten c.network a b)
