@@ -2,9 +2,8 @@
 -- this.
 use Rattle.std.proofs.Common.{refl, ap, sym, subst, ◌∙◌, arith, inl, inr}
 use Rattle.std.specs.List.{AllByRecursion, list_any}
-use Rattle.std.specs.Option.{option_map_or}
-use Rattle.std.specs.Prelude.{[], ◌++◌, ◌+◌, ◌<◌, ◌==◌, ◌∷◌, ◌≡◌, ◌≤◌, ◌⊎◌, Bool, IfSome, List, None, Option, Some, cond, false, filter, is_some, length, map, not, position, slice_get, suc, true, unwrap_or, zero, ℕ}
-use Rattle.mqb_base.specs.Same.{same_guid, same_id, same_ignoring_case}
+use Rattle.std.specs.Prelude.{[], ◌<◌, ◌==◌, ◌∷◌, ◌≡◌, ◌≤◌, ◌⊎◌, Bool, IfSome, List, None, Option, Some, false, is_some, length, not, position, slice_get, suc, true, unwrap_or, zero, ℕ}
+use Rattle.mqb_base.specs.Same.{same_guid}
 use Rattle.mqb_base.specs.declared.heads.TxHead.{TxHead}
 use Rattle.mqb_base.specs.declared.ids.Guid.{Guid}
 use Rattle.mqb_base.specs.declared.ids.Identity.{Identity}
@@ -17,70 +16,48 @@ use Rattle.mqb_base.specs.declared.message.Message.{Message}
 use Rattle.mqb_exactly_once.specs.Words.{In, carried, position_of}
 use Rattle.mqb_exactly_once.specs.World.{Commitment}
 use Rattle.mqb_fate.specs.Orders.{is_final_class, order_layer}
-use Rattle.mqb_model.specs.managers.Manager.{Manager}
-use Rattle.mqb_model.specs.managers.Outcomes.{Outcome}
-use Rattle.mqb_model.specs.records.Applying.{apply, lines_of}
-use Rattle.mqb_model.specs.records.Arrived.{part_made}
-use Rattle.mqb_model.specs.records.Decisions.{message_decided}
-use Rattle.mqb_model.specs.records.Finals.{is_final}
+use Rattle.mqb_model.specs.records.Applying.{lines_of}
 use Rattle.mqb_model.specs.records.Record.{Part, Record}
 use Rattle.mqb_model.specs.records.Record as entry
-use Rattle.mqb_model.specs.records.Releases.{has_recoverable, is_released_by, releases_made}
-use Rattle.mqb_model.specs.rules.Effects.{Effect, begun, joined}
-use Rattle.mqb_model.specs.rules.Numbers.{own_id}
-use Rattle.mqb_model.specs.state.Resolving.{is_for_order_layer}
 use Rattle.mqb_model.specs.state.State.{State}
-use Rattle.mqb_network.specs.Choices.{Failure}
 use Rattle.mqb_network.specs.Courses.{Course, Written}
 use Rattle.mqb_network.specs.Laws.{AreApart, lines_written}
-use Rattle.mqb_network.specs.Network.{Note, manager_at, others}
-use Rattle.mqb_packet.specs.declared.packet.Packet.{Packet}
+use Rattle.mqb_network.specs.Network.{manager_at, others}
 use Rattle.mqb_packet.specs.declared.packet.Packet.TheVariants as packet
 use Rattle.mqb_packet.specs.declared.packet.UserPacket.{UserPacket}
 use Rattle.mqb_plain.specs.Lists.{messages_of}
 use Rattle.mqb_plain.specs.Plain.{PlainLists}
 use Rattle.mqb_plain.specs.declared.outgoing.Outgoing.{Outgoing}
-use Rattle.mqb_queue.specs.Places.{numbered}
-use Rattle.mqb_model.specs.calls.Call.{Answer, Call, Hear, Pump, outcome_of}
 use Rattle.mqb_history.specs.Carried.{ComesFromItsSource}
-use Rattle.mqb_history.specs.Changes.{Calls, Change, Hears, Pumps, changed, given_out, is_of_packets, may_change}
 use Rattle.mqb_history.specs.Committed.{commitments}
 use Rattle.mqb_history.specs.Decided.{written_of}
-use Rattle.mqb_history.specs.Made.{IsMade}
 use Rattle.mqb_history.specs.Orderly.{IsItself, IsOrderly}
-use Rattle.mqb_history.specs.Stored.{IsPeerAt, IsStoredByPeer, IsStoredIn, WaitsIn}
-use Rattle.mqb_history.proofs.Accounted.{IsPacketOf, LeadsTo, Stands}
+use Rattle.mqb_history.proofs.Accounted.{LeadsTo, Stands}
 use Rattle.mqb_history.proofs.Accounts.{befores}
 use Rattle.mqb_history.proofs.Acting.{DecidesPacket}
-use Rattle.mqb_history.proofs.Answering.{IsCredible, credible_closed}
+use Rattle.mqb_history.proofs.Answering.{IsCredible}
 use Rattle.mqb_history.proofs.Arriving.{own_by}
 use Rattle.mqb_history.proofs.Believing.{position_there}
-use Rattle.mqb_history.proofs.Between.{all_in, in_any, in_either}
+use Rattle.mqb_history.proofs.Between.{all_in, in_any}
 use Rattle.mqb_history.proofs.Carrying.{carrying_decided}
-use Rattle.mqb_history.proofs.Committing.{in_append, in_end, in_split}
-use Rattle.mqb_history.proofs.Courses.{Agrees, HeardIn, call_heard, goes, known_of, none_given, none_heard, one_guid, who_is}
-use Rattle.mqb_history.proofs.Each.{EachRecord, OfChange, each_change}
+use Rattle.mqb_history.proofs.Courses.{Agrees, HeardIn, one_guid}
+use Rattle.mqb_history.proofs.Each.{EachRecord}
 use Rattle.mqb_history.proofs.Enduring.{WaitsFor}
-use Rattle.mqb_history.proofs.Finality.{numbered_in}
-use Rattle.mqb_history.proofs.Gone.{IsAccounted, accounted_closed, calling_sent, hearing_sent}
+use Rattle.mqb_history.proofs.Gone.{IsAccounted}
 use Rattle.mqb_history.proofs.Knowing.{apart_guids, found_place, not_own_peer, other_is_peer}
 use Rattle.mqb_history.proofs.Later.{DecideIt, Known, Vacant}
-use Rattle.mqb_history.proofs.Lists.{clash, get_in, get_within, if_some, join_and, none_some, not_true, same_number, some_is, split_and, true_not_false}
+use Rattle.mqb_history.proofs.Lists.{clash, get_in, get_within, some_is, true_not_false}
 use Rattle.mqb_history.proofs.Names.{same_guid_is, same_guid_refl}
 use Rattle.mqb_history.proofs.Naming.{ArePlain, IsSafe}
-use Rattle.mqb_history.proofs.Noticed.{IsStoring, StoredBy, guid_of, heard_in, in_flat, own_written, says_truly, sayings, stored_packet}
+use Rattle.mqb_history.proofs.Noticed.{IsStoring, StoredBy, guid_of, heard_in, in_flat, says_truly, sayings, stored_packet}
 use Rattle.mqb_history.proofs.Outside.{filtered_in}
-use Rattle.mqb_history.proofs.Owned.{given, given_once, in_list, in_plain}
-use Rattle.mqb_history.proofs.Packets.{WaitsHere}
-use Rattle.mqb_history.proofs.Pending.{Asks, IsFinalOf, IsOpen, IsToBeTold, Knows, OneReleased, Pends, Releases, Subject, decided_pends, knows_on, open_on, record_knows, record_pends, releases_know}
-use Rattle.mqb_history.proofs.Recorded.{IsPlainPacket, RecordOf, calls_are_of}
+use Rattle.mqb_history.proofs.Owned.{given_once, in_list, in_plain}
+use Rattle.mqb_history.proofs.Pending.{Asks, IsFinalOf, IsOpen, Knows, Subject}
+use Rattle.mqb_history.proofs.Recorded.{IsPlainPacket}
 use Rattle.mqb_history.proofs.Remaining.{arrivals}
 use Rattle.mqb_history.proofs.Saying.{Says}
 use Rattle.mqb_history.proofs.Skipping.{sourced}
 use Rattle.mqb_history.proofs.Sources.{IsDecidedAt, of_source, put_at}
-use Rattle.mqb_history.proofs.Steady.{IsSteady, Quiet, change_steady}
-use Rattle.mqb_history.proofs.Storage.{IsStoring as KeepsAll, released, storing_closed}
-use Rattle.mqb_history.proofs.StoredByPeer.{storage_by, stored_by_peer}
 use Rattle.mqb_history.proofs.Storing.{KeepsStorage}
 use Rattle.mqb_history.proofs.Undecided.{IsKnown, committed_one}
 use Rattle.mqb_history.proofs.Tallies.{arrives, tally, tally_from, tally_there, weight, weight_is, weight_own}

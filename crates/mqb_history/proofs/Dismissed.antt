@@ -3,26 +3,24 @@ use Rattle.std.proofs.Common.{refl, ap, sym, subst, ◌∙◌, arith, inl, inr}
 use Rattle.std.proofs.lemmas.Bool.Decides.{nat_tests}
 use Rattle.std.specs.List.{AllByRecursion, cons_option, list_any, range_with_len}
 use Rattle.std.specs.Option.{option_map_or}
-use Rattle.std.specs.Prelude.{[], ◌&&◌, ◌+◌, ◌++◌, ◌<◌, ◌==◌, ◌||◌, ◌∷◌, ◌≡◌, ◌≤◌, ◌⊎◌, Bool, List, None, Option, Some, cond, false, length, max, nat_le, nat_lt, option_and_then, position, remove, slice_get, slice_set, suc, true, zero, ℕ}
+use Rattle.std.specs.Prelude.{[], ◌+◌, ◌<◌, ◌==◌, ◌||◌, ◌∷◌, ◌≡◌, ◌≤◌, ◌⊎◌, Bool, List, None, Option, Some, cond, length, max, nat_le, nat_lt, option_and_then, position, remove, slice_get, slice_set, suc, true, zero, ℕ}
 use Rattle.mqb_base.specs.Bits.{keeps_dead}
 use Rattle.mqb_base.specs.Same.{same_id}
 use Rattle.mqb_base.specs.Sequences.{same_sequence}
-use Rattle.mqb_base.specs.declared.ids.MessageId.{MessageId}
 use Rattle.mqb_base.specs.declared.ids.SequenceId.{SequenceId}
 use Rattle.mqb_base.specs.declared.message.Message.{Message}
 use Rattle.mqb_entries.specs.declared.members.Mark.{Mark}
 use Rattle.mqb_exactly_once.specs.Words.{In}
 use Rattle.mqb_exactly_once.specs.World.{Commitment, Position}
-use Rattle.mqb_model.specs.Lists.{with_changed, without_first}
+use Rattle.mqb_model.specs.Lists.{without_first}
 use Rattle.mqb_model.specs.records.Finals.{dead_for, final_stored, finished_at, finished_by, finished_row, has_named, is_offered_as, kept_named, names_kept, with_finished}
 use Rattle.mqb_model.specs.records.Record.{Record}
-use Rattle.mqb_model.specs.rules.Sequences.{new_sequence, with_kept}
-use Rattle.mqb_model.specs.rules.Timeouts.{expires, without_expired}
+use Rattle.mqb_model.specs.rules.Timeouts.{expires}
 use Rattle.mqb_model.specs.state.Resolving.{peer_known}
 use Rattle.mqb_model.specs.state.State.{State}
 use Rattle.mqb_network.specs.Courses.{Written}
 use Rattle.mqb_network.specs.Laws.{lines_written}
-use Rattle.mqb_orders.specs.Rows.{Row, acknowledged}
+use Rattle.mqb_orders.specs.Rows.{Row}
 use Rattle.mqb_orders.specs.declared.kept.Kept.{Kept}
 use Rattle.mqb_history.specs.Committed.{commitments, number_in, numbers_in}
 use Rattle.mqb_history.proofs.Acquainting.{same_id_refl}
@@ -33,9 +31,8 @@ use Rattle.mqb_history.proofs.Between.{all_in, any_in, in_any, in_either}
 use Rattle.mqb_history.proofs.Committing.{IsCounted, OrdinalsRise, itself, kept_at}
 use Rattle.mqb_history.proofs.Due.{one_row}
 use Rattle.mqb_history.proofs.Kept.{counted_low}
-use Rattle.mqb_history.proofs.Lists.{all_weaker, equal_numbers, get_in, join_and, none_some, same_number, some_is, split_and}
+use Rattle.mqb_history.proofs.Lists.{all_weaker, get_in, join_and, none_some, same_number, some_is, split_and}
 use Rattle.mqb_history.proofs.Marked.{AreMarked}
-use Rattle.mqb_history.proofs.Names.{same_guid_refl}
 use Rattle.mqb_history.proofs.Numbering.{AreCounted}
 use Rattle.mqb_history.proofs.Offering.{WasOffered}
 use Rattle.mqb_history.proofs.Outside.{KeptRise, filtered_in}
@@ -104,8 +101,11 @@ module _ (index : ℕ) (q : SequenceId) (n : ℕ) where
     joins = λ commit m row g p o. let h = g p o in let low = h.0 in (omega (arith, low), λ k i e. joined m row low h.1 k e (in_either row.kept (record { number = row.committed + 1; message = m } ∷ []) k i));
     offers = λ mark row r o g. g;
     acknowledges = λ ordinal number row a o g p e. let h = g p e in (h.0, λ k i. h.1 k (filtered_in (λ (x : Kept). nat_lt (max row.acked number) x.number || keeps_dead x.message) row.kept k i));
-    finishes = λ m k row f e named g p o. let h = g p o in (h.0, λ x i. h.1 x (without_in (is_offered_as m.correlation row) row.kept x
-        (filtered_in (λ (y : Kept). nat_lt (max row.acked k.number) y.number || keeps_dead y.message) (without_first (is_offered_as m.correlation row) row.kept) x i)));
+    finishes = λ m k row f e named g p o. let h = g p o in (
+      h.0,
+      λ x i. h.1 x (without_in (is_offered_as m.correlation row) row.kept x
+          (filtered_in (λ (y : Kept). nat_lt (max row.acked k.number) y.number || keeps_dead y.message) (without_first (is_offered_as m.correlation row) row.kept) x i)),
+    );
     expires = λ now row g p o. let h = g p o in (h.0, λ x i. h.1 x (without_in (expires now row) row.kept x i));
   }
     where
@@ -117,8 +117,11 @@ module _ (index : ℕ) (q : SequenceId) (n : ℕ) where
   -- the row of the sequence is another one
   set_gone : (rows : List Row) (a : ℕ) (row new : Row) → OrdinalsRise rows → slice_get rows a ≡ Some row → row.sequence.ordinal ≡ q.ordinal → Gone new → AllByRecursion Gone (slice_set rows a new)
   set_gone [] a row new rise e same g = tt
-  set_gone (x ∷ rows) zero row new rise e same g = (g, all_weaker (λ (b : Row). x.sequence.ordinal < b.sequence.ordinal) Gone
-      (λ b lt p o. let is = ap (λ (y : Row). y.sequence.ordinal) (some_is x row e) in absurd (omega (arith, lt, is, same, o))) rows rise.0)
+  set_gone (x ∷ rows) zero row new rise e same g = (
+    g,
+    all_weaker (λ (b : Row). x.sequence.ordinal < b.sequence.ordinal) Gone
+        (λ b lt p o. let is = ap (λ (y : Row). y.sequence.ordinal) (some_is x row e) in absurd (omega (arith, lt, is, same, o))) rows rise.0,
+  )
   set_gone (x ∷ rows) (suc a) row new rise e same g = (
     λ p o. let lt = all_in (λ (b : Row). x.sequence.ordinal < b.sequence.ordinal) rows row rise.0 (get_in rows a row e) in absurd (omega (arith, lt, same, o)),
     set_gone rows a row new rise.1 e same g,
@@ -225,9 +228,13 @@ module _ (index : ℕ) (s : State) (ws : List Written) (m : Message) (x : Commit
   final_gone = subst (λ o. AllGone (option_map_or (λ peer. finished_by s peer m) o s)) (sym known) (by (position (has_named index m.correlation) s.outs) refl)
     where
       gone : position (has_named index m.correlation) s.outs ≡ None → (row : Row) → In row s.outs → Gone index q n row
-      gone e row i p o = (row_low s ws x marked inside row i o, λ k j number. none_found (has_named index m.correlation) s.outs (in_any (has_named index m.correlation) s.outs row i
-          (join_and (row.peer == index) (list_any (names_kept m.correlation) row.kept) (subst (λ z. (row.peer == z) ≡ true) p (same_number row.peer))
-          (in_any (names_kept m.correlation) row.kept k j (named k (ap (λ (y : Commitment). y.message.id) (row_number s ws x marked inside row i k j o number) ∙ names))))) e)
+      gone e row i p o = (
+        row_low s ws x marked inside row i o,
+        λ k j number. none_found (has_named index m.correlation) s.outs (in_any (has_named index m.correlation) s.outs row i
+            (join_and (row.peer == index) (list_any (names_kept m.correlation) row.kept) (subst (λ z. (row.peer == z) ≡ true) p (same_number row.peer))
+            (in_any (names_kept m.correlation) row.kept k j (named k (ap (λ (y : Commitment). y.message.id) (row_number s ws x marked inside row i k j o number) ∙ names))))) e,
+      )
+
       each : (rows : List Row) → ((row : Row) → In row rows → Gone index q n row) → AllByRecursion (Gone index q n) rows
       each [] h = tt
       each (row ∷ rows) h = (h row (inl refl), each rows (λ y i. h y (inr i)))

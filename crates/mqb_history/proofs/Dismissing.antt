@@ -1,9 +1,8 @@
 -- Each change keeps that what a stored final acknowledgement names no row to its sender keeps any more.
 use Rattle.std.proofs.Common.{refl, ap, sym, subst, ◌∙◌, arith, inl, inr}
 use Rattle.std.specs.List.{AllByRecursion}
-use Rattle.std.specs.Prelude.{[], ◌++◌, ◌<◌, ◌==◌, ◌∷◌, ◌≡◌, ◌≤◌, ◌⊎◌, IfSome, List, None, Option, Some, length, position, slice_get, suc, true, ℕ}
+use Rattle.std.specs.Prelude.{[], ◌++◌, ◌<◌, ◌==◌, ◌∷◌, ◌≡◌, ◌≤◌, ◌⊎◌, IfSome, List, Option, Some, position, slice_get, suc, true, ℕ}
 use Rattle.mqb_base.specs.Same.{same_guid}
-use Rattle.mqb_base.specs.declared.class.Class.{Class}
 use Rattle.mqb_base.specs.declared.class.TheConstants.Class.{NORMAL}
 use Rattle.mqb_base.specs.declared.ids.Guid.{Guid}
 use Rattle.mqb_base.specs.declared.ids.Identity.{Identity}
@@ -18,8 +17,7 @@ use Rattle.mqb_model.specs.records.Applying.{apply}
 use Rattle.mqb_model.specs.records.Record.{Record}
 use Rattle.mqb_model.specs.records.Record as entry
 use Rattle.mqb_model.specs.records.Releases.{releases_made}
-use Rattle.mqb_model.specs.rules.Effects.{Effect, begun}
-use Rattle.mqb_model.specs.state.Resolving.{peer_known}
+use Rattle.mqb_model.specs.rules.Effects.{begun}
 use Rattle.mqb_model.specs.state.State.{State}
 use Rattle.mqb_network.specs.Courses.{Course, Written}
 use Rattle.mqb_network.specs.Laws.{AreApart}
@@ -28,7 +26,6 @@ use Rattle.mqb_orders.specs.Rows.{Row}
 use Rattle.mqb_orders.specs.declared.kept.Kept.{Kept}
 use Rattle.mqb_packet.specs.declared.packet.Packet.TheVariants as packet
 use Rattle.mqb_packet.specs.declared.packet.UserPacket.{UserPacket}
-use Rattle.mqb_queue.specs.Places.{numbered}
 use Rattle.mqb_history.specs.Carried.{ComesFromItsSource}
 use Rattle.mqb_history.specs.Changes.{Change, changed, may_change}
 use Rattle.mqb_history.specs.Committed.{commitments, commitments_in}
@@ -41,13 +38,12 @@ use Rattle.mqb_history.proofs.Awaited.{HasHeard, IsAwaiting, IsPair, in_get}
 use Rattle.mqb_history.proofs.Believing.{same_committed}
 use Rattle.mqb_history.proofs.Between.{all_in}
 use Rattle.mqb_history.proofs.Carrying.{carrying_decided, numbered_suc}
-use Rattle.mqb_history.proofs.Committing.{IsCounted, in_append, in_end, in_split, kept_at}
+use Rattle.mqb_history.proofs.Committing.{IsCounted, in_append, in_split, kept_at}
 use Rattle.mqb_history.proofs.Courses.{HeardIn, one_guid}
 use Rattle.mqb_history.proofs.Dismissed.{Gone, final_gone, gone_allows, row_low, row_number}
-use Rattle.mqb_history.proofs.Each.{EachRecord}
 use Rattle.mqb_history.proofs.Ended.{awaiting_now, heard_before}
 use Rattle.mqb_history.proofs.Keeping.{IsClosed}
-use Rattle.mqb_history.proofs.Later.{DecideIt, IsNote, IsUnused, Known, Unused, unused_grows}
+use Rattle.mqb_history.proofs.Later.{DecideIt, IsNote, IsUnused, Known, unused_grows}
 use Rattle.mqb_history.proofs.Lists.{clash, equal_numbers, get_within, within_get}
 use Rattle.mqb_history.proofs.Marked.{AreMarked, marked_by_records}
 use Rattle.mqb_history.proofs.Noticed.{guid_of}
@@ -113,7 +109,12 @@ offered_more ws w id h = record {
   names = h.names;
   offering = h.offering;
   there = in_append ws (w ∷ []) h.offering h.there;
-  marks = h.marks; offers = h.offers; mark = h.mark; is = h.is; ordinal = h.ordinal; enough = h.enough;
+  marks = h.marks;
+  offers = h.offers;
+  mark = h.mark;
+  is = h.is;
+  ordinal = h.ordinal;
+  enough = h.enough;
 }
 
 -- no row keeps a message of no transaction

@@ -1,46 +1,36 @@
 -- Each change keeps what is known of messages that were decided and ask for a final acknowledgement.
 use Rattle.std.proofs.Common.{refl, ap, sym, subst, ◌∙◌, arith, inl, inr}
-use Rattle.std.specs.List.{AllByRecursion}
 use Rattle.std.specs.Char.{to_ascii_lowercase}
 use Rattle.std.specs.Option.{option_map_or}
-use Rattle.std.specs.Prelude.{[], ◌&&◌, ◌++◌, ◌<◌, ◌==◌, ◌||◌, ◌∷◌, ◌≡◌, ◌≤◌, ◌⊎◌, Bool, IfSome, List, None, Option, Some, cond, codes, false, map, not, slice_get, true, ℕ}
+use Rattle.std.specs.Prelude.{[], ◌&&◌, ◌++◌, ◌==◌, ◌||◌, ◌∷◌, ◌≡◌, ◌≤◌, ◌⊎◌, Bool, IfSome, List, None, Option, Some, cond, codes, false, map, not, slice_get, true, ℕ}
 use Rattle.mqb_base.specs.Same.{same_bytes, same_guid, same_id, same_ignoring_case}
 use Rattle.mqb_base.specs.declared.heads.TxHead.{TxHead}
 use Rattle.mqb_base.specs.declared.ids.Identity.{Identity}
 use Rattle.mqb_base.specs.declared.ids.MessageId.{MessageId}
-use Rattle.mqb_base.specs.declared.ledger.Line.{Line}
 use Rattle.mqb_base.specs.declared.message.Delivery.TheVariants as delivery
 use Rattle.mqb_base.specs.declared.message.Message.{Message}
-use Rattle.mqb_base.specs.declared.names.Name.{Name}
 use Rattle.mqb_base.specs.declared.queue_names.Host.TheVariants.{Os}
-use Rattle.mqb_base.specs.declared.queue_names.QueueName.{QueueName}
 use Rattle.mqb_exactly_once.specs.Words.{In}
 use Rattle.mqb_fate.specs.Orders.{is_final_class, order_layer}
-use Rattle.mqb_model.specs.declared.limits.TheConstants.{MAX_NUMBER}
 use Rattle.mqb_model.specs.declared.target.Target.{Target}
-use Rattle.mqb_model.specs.managers.Manager.{Manager}
-use Rattle.mqb_model.specs.records.Applying.{apply, lines_of}
+use Rattle.mqb_model.specs.records.Applying.{apply}
 use Rattle.mqb_model.specs.records.Decisions.{message_decided}
 use Rattle.mqb_model.specs.records.Finals.{is_final}
 use Rattle.mqb_model.specs.records.Packets.{is_recoverable}
 use Rattle.mqb_model.specs.records.Record.{Part, Record}
 use Rattle.mqb_model.specs.records.Record as entry
 use Rattle.mqb_model.specs.records.Releases.{has_recoverable, is_released_by, releases_made}
-use Rattle.mqb_model.specs.rules.Effects.{Effect, begun, joined}
+use Rattle.mqb_model.specs.rules.Effects.{begun, joined}
 use Rattle.mqb_model.specs.rules.Numbers.{own_id}
-use Rattle.mqb_model.specs.state.Resolving.{at_peer, is_for_order_layer, is_here, peer_at, queue_named, resolved}
+use Rattle.mqb_model.specs.state.Resolving.{at_peer, is_for_order_layer, is_here, peer_at, queue_named}
 use Rattle.mqb_model.specs.declared.target.Target.TheVariants.{Here}
 use Rattle.mqb_model.specs.state.State.{State}
 use Rattle.mqb_network.specs.Choices.{Failure}
 use Rattle.mqb_network.specs.Courses.{Course, Written}
-use Rattle.mqb_network.specs.Laws.{AreApart, lines_written}
-use Rattle.mqb_network.specs.Network.{Note, manager_at, others}
-use Rattle.mqb_packet.specs.declared.packet.Packet.{Packet}
+use Rattle.mqb_network.specs.Laws.{AreApart}
+use Rattle.mqb_network.specs.Network.{manager_at}
 use Rattle.mqb_packet.specs.declared.packet.Packet.TheVariants as packet
 use Rattle.mqb_packet.specs.declared.packet.UserPacket.{UserPacket}
-use Rattle.mqb_plain.specs.Lists.{messages_of}
-use Rattle.mqb_plain.specs.Plain.{PlainLists}
-use Rattle.mqb_plain.specs.declared.outgoing.Outgoing.{Outgoing}
 use Rattle.mqb_queue.specs.Places.{numbered}
 use Rattle.mqb_model.specs.calls.Call.{Call, Hear, Pump, outcome_of}
 use Rattle.mqb_history.specs.Changes.{Calls, Change, Hears, Pumps, changed, given_out, is_of_packets, may_change}
@@ -48,11 +38,11 @@ use Rattle.mqb_history.specs.Decided.{written_of}
 use Rattle.mqb_history.specs.Made.{IsMade}
 use Rattle.mqb_history.specs.Orderly.{IsOrderly}
 use Rattle.mqb_history.specs.Stored.{IsPeerAt, IsStoredByPeer, IsStoredIn, WaitsIn}
-use Rattle.mqb_history.proofs.Accounts.{CallSent, HeardBy, befores}
+use Rattle.mqb_history.proofs.Accounts.{CallSent}
 use Rattle.mqb_history.proofs.Acquainting.{same_id_refl}
 use Rattle.mqb_history.proofs.Acting.{DecidesPacket}
 use Rattle.mqb_history.proofs.Answering.{IsCredible, credible_closed}
-use Rattle.mqb_history.proofs.Awaited.{AllAsk, HasHeard, IsAwaiting, IsEnded, IsItsNumber, IsPair, StoredApart, fresh_number, message_from, one_waits, own_guid, safe, subject}
+use Rattle.mqb_history.proofs.Awaited.{AllAsk, HasHeard, IsAwaiting, IsEnded, IsItsNumber, IsPair, StoredApart, fresh_number, message_from, one_waits, subject}
 use Rattle.mqb_history.proofs.Between.{all_in, in_any, in_either}
 use Rattle.mqb_history.proofs.Committing.{in_append, in_end, in_split}
 use Rattle.mqb_history.proofs.Courses.{Agrees, HeardIn, call_heard, goes, known_of, none_given, none_heard, one_guid, who_is}
@@ -62,8 +52,8 @@ use Rattle.mqb_history.proofs.Finality.{numbered_in}
 use Rattle.mqb_history.proofs.Gone.{IsAccounted, accounted_closed, calling_sent, hearing_sent}
 use Rattle.mqb_history.proofs.Knowing.{apart_guids}
 use Rattle.mqb_history.proofs.Later.{DecideIt, Later, change_later}
-use Rattle.mqb_history.proofs.Lists.{clash, join_and, none_some, not_true, same_number, some_is, split_and, true_not_false}
-use Rattle.mqb_history.proofs.Names.{same_bytes_refl, same_guid_refl}
+use Rattle.mqb_history.proofs.Lists.{clash, join_and, not_true, some_is, split_and}
+use Rattle.mqb_history.proofs.Names.{same_bytes_refl}
 use Rattle.mqb_history.proofs.Noticed.{StoredBy, guid_of, own_written}
 use Rattle.mqb_history.proofs.Outside.{filtered_in}
 use Rattle.mqb_history.proofs.Pending.{Asks, IsFinalOf, IsOpen, IsToBeTold, Knows, OneReleased, Releases, Subject, decided_pends, knows_on, open_on, record_knows, record_pends, releases_know}
@@ -71,7 +61,7 @@ use Rattle.mqb_history.proofs.Recorded.{IsPlainPacket, RecordOf, calls_are_of}
 use Rattle.mqb_history.proofs.Skipping.{Split, split_at}
 use Rattle.mqb_history.proofs.Steady.{IsSteady, change_steady}
 use Rattle.mqb_history.proofs.Storage.{released, storing_closed}
-use Rattle.mqb_history.proofs.StoredByPeer.{middle_in, storage_by, stored_by_peer}
+use Rattle.mqb_history.proofs.StoredByPeer.{storage_by, stored_by_peer}
 use Rattle.mqb_history.proofs.Storing.{KeepsStorage}
 use Rattle.mqb_history.proofs.Written.{of_append}
 
@@ -255,7 +245,15 @@ module _ (known : List Identity) (apart : AreApart known) (c : Course) (t : IsAw
 
           at : AllAsk after old → (decide : DecideIt after id) → In decide.written ws ⊎ In decide.written (w ∷ []) → IsOpen old K (apply s r) ⊎ (HaveReleased after ⊎ Told)
           at ask decide (inl i) = applied (h.1 (λ v inside. ask v (in_append ws (w ∷ []) v inside)) (record {
-            written = decide.written; there = i; now = decide.now; numbers = decide.numbers; packet = decide.packet; head = decide.head; entry = decide.entry; tx = decide.tx; names = decide.names;
+            written = decide.written;
+            there = i;
+            now = decide.now;
+            numbers = decide.numbers;
+            packet = decide.packet;
+            head = decide.head;
+            entry = decide.entry;
+            tx = decide.tx;
+            names = decide.names;
           }))
           at ask decide (inr (inr none)) = absurd none
           at ask decide (inr (inl same)) = let e = ap (λ (v : Written). v.entry) same ∙ decide.entry in inl (decided decide.now decide.numbers decide.packet decide.head e decide.tx
@@ -313,7 +311,12 @@ module _ (known : List Identity) (apart : AreApart known) (c : Course) (t : IsAw
     told_now h = record {
       written = h.written;
       there = subst (λ ws. In h.written (written_of i ws)) (sym later.written) (subst (In h.written) (sym (of_append i c.written later.more)) (in_append (written_of i c.written) (written_of i later.more) h.written h.there));
-      now = h.now; numbers = h.numbers; packet = h.packet; entry = h.entry; from = h.from; names = h.names;
+      now = h.now;
+      numbers = h.numbers;
+      packet = h.packet;
+      entry = h.entry;
+      from = h.from;
+      names = h.names;
     }
 
     -- What was released was heard by the source.

@@ -1,7 +1,7 @@
 -- What stands in queues, and what waits for peers, is still there behind whatever lets none of it leave.
 use Rattle.std.proofs.Common.{refl, ap, sym, subst, ◌∙◌, arith, inl, inr}
 use Rattle.std.specs.Option.{option_map_or}
-use Rattle.std.specs.Prelude.{[], ◌++◌, ◌-◌, ◌∷◌, ◌≡◌, ◌≤◌, ◌⊎◌, Bool, List, None, Option, Some, cond, false, filter, fold, is_none, length, map, not, option_and_then, option_map, remove, slice_get, slice_set, suc, true, zero, ◌+◌, ℕ}
+use Rattle.std.specs.Prelude.{[], ◌++◌, ◌-◌, ◌∷◌, ◌≡◌, ◌≤◌, ◌⊎◌, Bool, List, None, Option, Some, cond, false, fold, is_none, length, map, option_and_then, option_map, remove, slice_get, slice_set, suc, true, zero, ℕ}
 use Rattle.mqb_base.specs.Bits.{keeps_copy}
 use Rattle.mqb_base.specs.Lanes.{lane_of}
 use Rattle.mqb_base.specs.declared.class.Class.{Class}
@@ -27,7 +27,7 @@ use Rattle.mqb_model.specs.state.Durable.{durable, durable_plain, durable_queue}
 use Rattle.mqb_model.specs.state.Places.{placed, put_at, with_plain, without_at}
 use Rattle.mqb_model.specs.state.Resolving.{peer_known, resolved}
 use Rattle.mqb_model.specs.state.State.{State}
-use Rattle.mqb_plain.specs.Lists.{is_sent_by, marked_next, messages_of, unmarked, unsent}
+use Rattle.mqb_plain.specs.Lists.{marked_next, messages_of, unmarked, unsent}
 use Rattle.mqb_plain.specs.Plain.{PlainLists, pushed, without}
 use Rattle.mqb_plain.specs.declared.outgoing.Outgoing.{Outgoing}
 use Rattle.mqb_queue.specs.First.{is_queue}
@@ -35,7 +35,7 @@ use Rattle.mqb_queue.specs.Lists.{Lists, put}
 use Rattle.mqb_queue.specs.Lists as held
 use Rattle.mqb_queue.specs.Places.{Places, Queue, changed_at, lists_at, numbered}
 use Rattle.mqb_history.proofs.Carrying.{place_there}
-use Rattle.mqb_history.proofs.Committing.{in_append, in_end}
+use Rattle.mqb_history.proofs.Committing.{in_append}
 use Rattle.mqb_history.proofs.Lists.{changed_get, changed_length, clash, none_some, some_is}
 use Rattle.mqb_history.proofs.Orderly.{map_get}
 use Rattle.mqb_history.proofs.Staying.{IsSameManager, manager_then, same_manager}

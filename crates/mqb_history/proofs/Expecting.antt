@@ -1,7 +1,7 @@
 -- What a row keeps and was decided there, with the dead-letter bit, stands in a queue there, or its final acknowledgement waits, or no number was left for that.
 use Rattle.std.proofs.Common.{refl, ap, sym, subst, ◌∙◌, arith, inl, inr}
 use Rattle.std.specs.List.{AllByRecursion}
-use Rattle.std.specs.Prelude.{[], ◌+◌, ◌<◌, ◌==◌, ◌∷◌, ◌≡◌, ◌≤◌, ◌⊎◌, Bool, IfSome, List, None, Option, Some, cond, false, filter, fold, length, map, not, option_map, position, slice_get, suc, true, unwrap_or, zero, ℕ}
+use Rattle.std.specs.Prelude.{[], ◌+◌, ◌<◌, ◌==◌, ◌∷◌, ◌≡◌, ◌⊎◌, Bool, IfSome, List, None, Option, Some, cond, false, filter, fold, length, map, not, option_map, position, slice_get, suc, true, unwrap_or, zero, ℕ}
 use Rattle.mqb_base.specs.Bits.{keeps_dead}
 use Rattle.mqb_base.specs.Same.{same_guid, same_name}
 use Rattle.mqb_base.specs.declared.class.Class.{Class}
@@ -9,12 +9,10 @@ use Rattle.mqb_base.specs.declared.class.TheConstants.Class.{NORMAL}
 use Rattle.mqb_base.specs.declared.heads.TxHead.{TxHead}
 use Rattle.mqb_base.specs.declared.ids.Identity.{Identity}
 use Rattle.mqb_base.specs.declared.ids.MessageId.{MessageId}
-use Rattle.mqb_base.specs.declared.message.Delivery.{Delivery}
 use Rattle.mqb_base.specs.declared.message.Message.{Message}
 use Rattle.mqb_exactly_once.specs.Words.{In, carried, position_of}
 use Rattle.mqb_exactly_once.specs.World.{Channel, Commitment, Position}
-use Rattle.mqb_fate.specs.Asking.{is_ordinary, is_transactional}
-use Rattle.mqb_model.specs.declared.limits.TheConstants.{MAX_NUMBER}
+use Rattle.mqb_fate.specs.Asking.{is_transactional}
 use Rattle.mqb_model.specs.managers.Manager.{Manager}
 use Rattle.mqb_model.specs.records.Applying.{apply}
 use Rattle.mqb_model.specs.records.Record.{Record}
@@ -32,20 +30,17 @@ use Rattle.mqb_packet.specs.declared.packet.UserPacket.{UserPacket}
 use Rattle.mqb_plain.specs.Plain.{no_plain}
 use Rattle.mqb_history.specs.Acked.{AreAcknowledgedTruly, IsDecidedThere}
 use Rattle.mqb_history.specs.Awaited.{AreKeptForFates, FatesAreAwaited, IsAwaited}
-use Rattle.mqb_history.specs.Carried.{ComesFromItsSource}
 use Rattle.mqb_history.specs.Committed.{commitments, numbers_in}
-use Rattle.mqb_history.specs.Decided.{is_in_channel, written_of}
+use Rattle.mqb_history.specs.Decided.{written_of}
 use Rattle.mqb_history.specs.Expired.{expiries_told}
 use Rattle.mqb_history.specs.Invariants.{AreTransactional, MachineInvariant}
 use Rattle.mqb_history.specs.Orderly.{IsItself, IsOrderly}
-use Rattle.mqb_history.proofs.Accounts.{HeardBy}
 use Rattle.mqb_history.proofs.Acting.{DecidesPacket}
-use Rattle.mqb_history.proofs.Answering.{IsCredible, credible_begins, sound_of}
+use Rattle.mqb_history.proofs.Answering.{credible_begins, sound_of}
 use Rattle.mqb_history.proofs.Arriving.{own_by}
-use Rattle.mqb_history.proofs.Awaited.{AllAsk, HasHeard, IsAwaiting, IsEnded, IsItsNumber, IsPair, StoredApart, from_here, in_get, not_its_peer, pair_of, subject}
+use Rattle.mqb_history.proofs.Awaited.{AllAsk, HasHeard, IsEnded, IsItsNumber, IsPair, StoredApart, from_here, in_get, not_its_peer, pair_of, subject}
 use Rattle.mqb_history.proofs.Believing.{position_there, same_committed}
 use Rattle.mqb_history.proofs.Between.{all_in}
-use Rattle.mqb_history.proofs.Carrying.{carrying_decided}
 use Rattle.mqb_history.proofs.Committing.{IsCounted, IsOwnBelow, kept_at}
 use Rattle.mqb_history.proofs.Courses.{Agrees, HeardIn, one_guid}
 use Rattle.mqb_history.proofs.Crediting.{row_known}
@@ -63,14 +58,14 @@ use Rattle.mqb_history.proofs.Numbering.{AreCounted, joined_outs}
 use Rattle.mqb_history.proofs.Offering.{AreOffered, offered_by_records}
 use Rattle.mqb_history.proofs.Orderly.{begins_orderly, map_get}
 use Rattle.mqb_history.proofs.Outside.{filtered_in}
-use Rattle.mqb_history.proofs.Pending.{Asks, IsOpen, Knows, Subject}
+use Rattle.mqb_history.proofs.Pending.{Asks, IsOpen, Knows}
 use Rattle.mqb_history.proofs.Previous.{in_numbers}
 use Rattle.mqb_history.proofs.Retaining.{IsRetained}
 use Rattle.mqb_history.proofs.Runs.{always_kept}
-use Rattle.mqb_history.proofs.Skipping.{Decides, sourced}
+use Rattle.mqb_history.proofs.Skipping.{Decides}
 use Rattle.mqb_history.proofs.Sparing.{IsTidy}
 use Rattle.mqb_history.proofs.Storage.{begins_storing}
-use Rattle.mqb_history.proofs.Undecided.{IsKnown, committed_one, in_decisions}
+use Rattle.mqb_history.proofs.Undecided.{IsKnown, in_decisions}
 use Rattle.mqb_history.proofs.Written.{begins_with}
 
 -- No peer stands twice.
@@ -246,16 +241,16 @@ module _ (known : List Identity) (apart : AreApart known) (c : Course) (t : IsTe
   decides : DecideIt (written_of j c.written) id
   decides = let f = found.2 in let z = decided_here found.0 f.now f.numbers f.packet f.head found.1 f.entry f.there (same_guid_is f.packet.message.id.qm here.identity.guid
       (split_and (same_guid f.packet.message.id.qm here.identity.guid) (same_name f.packet.message.destination row.destination) f.inside).0) in record {
-    written = found.0;
-    there = found.1;
-    now = f.now;
-    numbers = f.numbers;
-    packet = f.packet;
-    head = f.head;
-    entry = f.entry;
-    tx = f.there;
-    names = ap (λ (m : Message). m.id) z.4 ∙ ap (λ (x : Commitment). x.message.id) (one_position cs counted.numbered z.0 (kept_at row k) z.1 committed (z.2 ∙ f.position));
-  }
+        written = found.0;
+        there = found.1;
+        now = f.now;
+        numbers = f.numbers;
+        packet = f.packet;
+        head = f.head;
+        entry = f.entry;
+        tx = f.there;
+        names = ap (λ (m : Message). m.id) z.4 ∙ ap (λ (x : Commitment). x.message.id) (one_position cs counted.numbered z.0 (kept_at row k) z.1 committed (z.2 ∙ f.position));
+      }
 
   ended : IsEnded known c i j g id
   ended = t.awaiting.ended i j g id (qm ∙ source.guid ∙ ap (λ (x : Identity). x.guid) (sym source_is))

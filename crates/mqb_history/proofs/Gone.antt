@@ -35,7 +35,7 @@ use Rattle.mqb_history.proofs.Fated.{numbered_for}
 use Rattle.mqb_history.proofs.Giving.{record_gives}
 use Rattle.mqb_history.proofs.Keeping.{IsClosed}
 use Rattle.mqb_history.proofs.Leads.{AreLed, led_by_records}
-use Rattle.mqb_history.proofs.Owned.{given, given_once, given_there, in_plain}
+use Rattle.mqb_history.proofs.Owned.{given, given_once, given_there}
 use Rattle.mqb_history.proofs.Packets.{WaitsHere}
 use Rattle.mqb_history.proofs.Recorded.{IsPlainPacket}
 use Rattle.mqb_history.proofs.Remaining.{arrivals, lefts, record_moves}

@@ -3,21 +3,19 @@
 use Rattle.std.proofs.Common.{refl, ap, sym, subst, ◌∙◌, arith, inl, inr}
 use Rattle.std.proofs.lemmas.Bool.Decides.{nat_tests}
 use Rattle.std.specs.Option.{option_map_or}
-use Rattle.std.specs.Prelude.{[], ◌&&◌, ◌+◌, ◌++◌, ◌-◌, ◌<◌, ◌==◌, ◌∷◌, ◌≡◌, ◌≤◌, ◌⊎◌, Bool, IfSome, List, None, Option, Some, cond, false, fold, length, map, nat_le, not, option_and_then, option_map, position, remove, slice_get, slice_set, suc, true, zero, ℕ}
+use Rattle.std.specs.Prelude.{[], ◌&&◌, ◌+◌, ◌++◌, ◌-◌, ◌<◌, ◌==◌, ◌∷◌, ◌≡◌, ◌≤◌, ◌⊎◌, Bool, IfSome, List, None, Option, Some, cond, false, fold, length, nat_le, not, option_and_then, option_map, position, remove, slice_get, slice_set, suc, true, zero, ℕ}
 use Rattle.mqb_base.specs.Bits.{keeps_dead}
 use Rattle.mqb_base.specs.Same.{same_guid}
 use Rattle.mqb_base.specs.declared.class.Class.{Class}
-use Rattle.mqb_base.specs.declared.class.TheConstants.Class.{BAD_DESTINATION, REACHED_QUEUE}
+use Rattle.mqb_base.specs.declared.class.TheConstants.Class.{REACHED_QUEUE}
 use Rattle.mqb_base.specs.declared.heads.TxHead.{TxHead}
 use Rattle.mqb_base.specs.declared.ids.Guid.{Guid}
 use Rattle.mqb_base.specs.declared.ids.Identity.{Identity}
 use Rattle.mqb_base.specs.declared.ids.MessageId.{MessageId}
 use Rattle.mqb_base.specs.declared.message.Delivery.{Delivery}
 use Rattle.mqb_base.specs.declared.message.Delivery.TheVariants as delivery
-use Rattle.mqb_base.specs.declared.message.Lane.{Lane}
 use Rattle.mqb_base.specs.declared.message.Lane.TheVariants as lane
 use Rattle.mqb_base.specs.declared.message.Message.{Message}
-use Rattle.mqb_base.specs.declared.queue_names.QueueName.{QueueName}
 use Rattle.mqb_base.specs.declared.queues.EntryPlace.TheVariants as place
 use Rattle.mqb_base.specs.declared.times.TheConstants.{UNLIMITED}
 use Rattle.mqb_exactly_once.specs.Words.{In}
@@ -25,21 +23,20 @@ use Rattle.mqb_fate.specs.Asking.{final_is_due, is_ordinary, is_transactional}
 use Rattle.mqb_fate.specs.Notices.{notice_about}
 use Rattle.mqb_fate.specs.Orders.{is_final_class, order_layer}
 use Rattle.mqb_model.specs.declared.limits.TheConstants.{MAX_NUMBER}
-use Rattle.mqb_model.specs.declared.target.Target.{Target}
-use Rattle.mqb_model.specs.declared.target.Target.TheVariants.{AtPeer, Here}
+use Rattle.mqb_model.specs.declared.target.Target.TheVariants.{AtPeer}
 use Rattle.mqb_model.specs.records.Applying.{apply}
 use Rattle.mqb_model.specs.records.Decisions.{message_decided, with_decided}
 use Rattle.mqb_model.specs.records.Record.{Part, Record}
 use Rattle.mqb_model.specs.records.Record as entry
 use Rattle.mqb_model.specs.records.Releases.{has_recoverable, is_released_by, message_released, releases_made, without_recoverable, without_released}
-use Rattle.mqb_model.specs.rules.Arrivals.{is_recorded, refusal_by, refusal_of, target_refusal}
+use Rattle.mqb_model.specs.rules.Arrivals.{refusal_of}
 use Rattle.mqb_model.specs.rules.Effects.{Effect, begun}
-use Rattle.mqb_model.specs.rules.Notices.{admin_told, arrived, buried, final_about, final_told, final_told_at, meets, told}
+use Rattle.mqb_model.specs.rules.Notices.{admin_told, arrived, buried, final_told, final_told_at, meets, told}
 use Rattle.mqb_model.specs.rules.Numbers.{number_taken, own_id}
 use Rattle.mqb_model.specs.rules.Takes.{message_at}
 use Rattle.mqb_model.specs.rules.Timeouts.{cannot_reach, lapses, lapsing}
-use Rattle.mqb_model.specs.state.Places.{placed, put_at, with_plain, without_at}
-use Rattle.mqb_model.specs.state.Resolving.{is_own_host, peer_known, resolved}
+use Rattle.mqb_model.specs.state.Places.{with_plain, without_at}
+use Rattle.mqb_model.specs.state.Resolving.{peer_known}
 use Rattle.mqb_model.specs.state.State.{State}
 use Rattle.mqb_packet.specs.declared.packet.UserPacket.{UserPacket}
 use Rattle.mqb_plain.specs.Lists.{messages_of, unsent}
@@ -54,9 +51,9 @@ use Rattle.mqb_history.proofs.Believing.{position_there, same_id_is}
 use Rattle.mqb_history.proofs.Carrying.{place_there}
 use Rattle.mqb_history.proofs.Committing.{in_end}
 use Rattle.mqb_history.proofs.Containing.{OfRefusals, class_refused}
-use Rattle.mqb_history.proofs.Enduring.{Endures, StandsAt, StandsIn, WaitsFor, admin_endures, arrived_endures, buried_endures, endures_then, left_stands, meets_endures, same_endures, told_endures}
+use Rattle.mqb_history.proofs.Enduring.{Endures, StandsAt, StandsIn, WaitsFor, admin_endures, arrived_endures, buried_endures, left_stands, meets_endures, told_endures}
 use Rattle.mqb_history.proofs.Lists.{changed_get, changed_length, changed_there, clash, get_in, join_and, none_some, same_number, some_is, true_not_false, within_get}
-use Rattle.mqb_history.proofs.Surviving.{IsOfEnds, Outlasts, Survives, part_endures, record_survives}
+use Rattle.mqb_history.proofs.Surviving.{IsOfEnds, Survives, record_survives}
 use Rattle.mqb_history.proofs.Putting.{decided_joins, released_places}
 
 -- A message, who decided it, where its source stands among the peers of that, and a number from which on numbers are new.
@@ -182,13 +179,16 @@ module _ (x : Subject) (K : ℕ → Type 0) (fresh : (n : ℕ) → x.base ≤ n 
       list = within_get s.plain x.index k.list
 
       goes : Pends x K (told s (AtPeer x.index) notice)
-      goes = (knows_on x s (told s (AtPeer x.index) notice) (told_endures s (AtPeer x.index) notice) k, inr (inr (record {
-        final = notice;
-        waits = (pushed lane.Durable notice list.0, changed_there (pushed lane.Durable notice) s.plain x.index ∙ ap (option_map (pushed lane.Durable notice)) list.1, messages_end list.0.recoverable notice);
-        is = record { names = asks.names; class = ends.0; to = refl; recoverable = refl; own = k.own };
-        unlimited = refl;
-        known = fresh s.next_number k.late;
-      })))
+      goes = (
+        knows_on x s (told s (AtPeer x.index) notice) (told_endures s (AtPeer x.index) notice) k,
+        inr (inr (record {
+          final = notice;
+          waits = (pushed lane.Durable notice list.0, changed_there (pushed lane.Durable notice) s.plain x.index ∙ ap (option_map (pushed lane.Durable notice)) list.1, messages_end list.0.recoverable notice);
+          is = record { names = asks.names; class = ends.0; to = refl; recoverable = refl; own = k.own };
+          unlimited = refl;
+          known = fresh s.next_number k.late;
+        })),
+      )
 
       made : (b : Bool) → final_is_due m class s.identity.guid ≡ b → Pends x K (option_map_or (told s (AtPeer x.index)) (cond b (Some notice) None) s)
       made true due = goes

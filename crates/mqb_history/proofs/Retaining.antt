@@ -2,13 +2,13 @@
 use Rattle.std.proofs.Common.{refl, ap, sym, subst, ◌∙◌, arith, inl, inr}
 use Rattle.std.proofs.lemmas.Bool.Decides.{nat_tests}
 use Rattle.std.specs.List.{AllByRecursion}
-use Rattle.std.specs.Prelude.{[], ◌+◌, ◌++◌, ◌==◌, ◌||◌, ◌∷◌, ◌≡◌, ◌≤◌, ◌⊎◌, Bool, List, None, Option, Some, cond, false, filter, length, max, nat_lt, true, ℕ}
+use Rattle.std.specs.Prelude.{[], ◌+◌, ◌++◌, ◌==◌, ◌||◌, ◌∷◌, ◌≡◌, ◌≤◌, ◌⊎◌, Bool, List, false, length, max, nat_lt, true, ℕ}
 use Rattle.mqb_base.specs.Bits.{keeps_dead}
 use Rattle.mqb_base.specs.Same.{same_guid, same_name}
 use Rattle.mqb_base.specs.declared.ids.Identity.{Identity}
 use Rattle.mqb_base.specs.declared.message.Message.{Message}
 use Rattle.mqb_exactly_once.specs.Words.{In, carried, position_of}
-use Rattle.mqb_exactly_once.specs.World.{Channel, Commitment, Position}
+use Rattle.mqb_exactly_once.specs.World.{Commitment, Position}
 use Rattle.mqb_model.specs.Lists.{without_first}
 use Rattle.mqb_model.specs.records.Applying.{apply}
 use Rattle.mqb_model.specs.records.Finals.{is_offered_as}
@@ -25,7 +25,6 @@ use Rattle.mqb_history.specs.Acked.{IsDecidedThere}
 use Rattle.mqb_history.specs.Changes.{Change, changed, may_change}
 use Rattle.mqb_history.specs.Committed.{commitments, numbers_in}
 use Rattle.mqb_history.specs.Decided.{written_of}
-use Rattle.mqb_history.specs.Made.{IsMade}
 use Rattle.mqb_history.specs.Orderly.{IsOrderly}
 use Rattle.mqb_history.proofs.Awaited.{IsAwaiting, from_here}
 use Rattle.mqb_history.proofs.Between.{all_in, filtered_passes, in_either}
@@ -44,7 +43,6 @@ use Rattle.mqb_history.proofs.Rowwise.{Acknowledges, Allows, Finishes, IsCommit,
 use Rattle.mqb_history.proofs.Skipping.{Decides}
 use Rattle.mqb_history.proofs.Sparing.{all_of}
 use Rattle.mqb_history.proofs.Starting.{filter_most}
-use Rattle.mqb_history.proofs.Staying.{HasSameRows, rows_then, same_rows}
 use Rattle.mqb_history.proofs.Undecided.{IsKnown, in_decisions}
 use Rattle.mqb_history.proofs.Written.{IsLasting, change_lasts, of_append}
 
@@ -77,10 +75,16 @@ module _ (s : State) (r : Record) where
     begins = λ commit t peer destination now le same leads. (λ k i. absurd i, λ h. omega arith);
     joins = λ commit m row g. let low = g.1 commit in (λ k i le. joined m row low g.0 k le (in_either row.kept (record { number = row.committed + 1; message = m } ∷ []) k i), λ h. omega (arith, low));
     offers = λ mark row e o g. g;
-    acknowledges = λ ordinal number row a o g. (λ k i le. dead_below (max row.acked number) k.number (keeps_dead k.message)
-        (filtered_passes (λ (x : Kept). nat_lt (max row.acked number) x.number || keeps_dead x.message) row.kept k i) le, λ h. absurd (not_commit r ordinal number a h));
-    finishes = λ m k row f e named g. (λ x i le. dead_below (max row.acked k.number) x.number (keeps_dead x.message)
-        (filtered_passes (λ (y : Kept). nat_lt (max row.acked k.number) y.number || keeps_dead y.message) (without_first (is_offered_as m.correlation row) row.kept) x i) le, λ h. absurd (no_finish r m f h));
+    acknowledges = λ ordinal number row a o g. (
+      λ k i le. dead_below (max row.acked number) k.number (keeps_dead k.message)
+          (filtered_passes (λ (x : Kept). nat_lt (max row.acked number) x.number || keeps_dead x.message) row.kept k i) le,
+      λ h. absurd (not_commit r ordinal number a h),
+    );
+    finishes = λ m k row f e named g. (
+      λ x i le. dead_below (max row.acked k.number) x.number (keeps_dead x.message)
+          (filtered_passes (λ (y : Kept). nat_lt (max row.acked k.number) y.number || keeps_dead y.message) (without_first (is_offered_as m.correlation row) row.kept) x i) le,
+      λ h. absurd (no_finish r m f h),
+    );
     expires = λ now row g. (λ k i le. g.0 k (without_in (expires now row) row.kept k i) le, g.1);
   }
     where
@@ -150,8 +154,10 @@ module _ (known : List Identity) (apart : AreApart known) (c : Course) (t : IsAw
       grows : (k : ℕ) (s : State) (r : Record) (ws : List Written) → ((s.outs ≡ now.outs) × (ws ≡ mine)) ⊎ (((length ws ≡ length mine + 1) × AllByRecursion IsRetained s.outs) ⊎ (length mine + 2 ≤ length ws))
           → (((apply s r).outs ≡ now.outs) × (ws ++ record { by = k; before = s; entry = r } ∷ [] ≡ mine))
           ⊎ (((length (ws ++ record { by = k; before = s; entry = r } ∷ []) ≡ length mine + 1) × AllByRecursion IsRetained (apply s r).outs) ⊎ (length mine + 2 ≤ length (ws ++ record { by = k; before = s; entry = r } ∷ [])))
-      grows k s r ws (inl h) = inr (inl (append_length ws (record { by = k; before = s; entry = r } ∷ []) ∙ ap (λ (vs : List Written). length vs + 1) h.1,
-          record_retains s r (subst (AllByRecursion IsRetained) (sym h.0) (retained i)) (subst (AllByRecursion (λ row. row.acked ≤ row.committed)) (sym h.0) (all_of (λ row. row.acked ≤ row.committed) now.outs acked_low))))
+      grows k s r ws (inl h) = inr (inl (
+        append_length ws (record { by = k; before = s; entry = r } ∷ []) ∙ ap (λ (vs : List Written). length vs + 1) h.1,
+        record_retains s r (subst (AllByRecursion IsRetained) (sym h.0) (retained i)) (subst (AllByRecursion (λ row. row.acked ≤ row.committed)) (sym h.0) (all_of (λ row. row.acked ≤ row.committed) now.outs acked_low)),
+      ))
       grows k s r ws (inr (inl h)) = let more = append_length ws (record { by = k; before = s; entry = r } ∷ []) in let one = h.0 in inr (inr (omega (arith, more, one)))
       grows k s r ws (inr (inr h)) = let more = append_length ws (record { by = k; before = s; entry = r } ∷ []) in inr (inr (omega (arith, more, h)))
 

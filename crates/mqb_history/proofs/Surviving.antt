@@ -1,7 +1,7 @@
 -- What stays where nothing leaves, and where a message leaves its queue and meets a class, is there behind each record, and beside it.
 use Rattle.std.proofs.Common.{refl, ap, ◌∙◌, arith}
 use Rattle.std.specs.Option.{option_map_or}
-use Rattle.std.specs.Prelude.{[], ◌++◌, ◌+◌, ◌==◌, ◌∷◌, ◌≡◌, ◌≤◌, Bool, List, None, Option, Some, cond, false, fold, length, map, option_and_then, option_map, slice_get, suc, true, ℕ}
+use Rattle.std.specs.Prelude.{[], ◌+◌, ◌==◌, ◌∷◌, ◌≡◌, ◌≤◌, Bool, List, None, Option, Some, cond, false, fold, length, option_and_then, option_map, slice_get, suc, true, ℕ}
 use Rattle.mqb_base.specs.Classes.{is_negative}
 use Rattle.mqb_base.specs.declared.class.Class.{Class}
 use Rattle.mqb_base.specs.declared.class.TheConstants.Class.{QUEUE_PURGED, REACHED_QUEUE, REACH_TIMEOUT, RECEIVED, RECEIVE_TIMEOUT}
@@ -14,7 +14,6 @@ use Rattle.mqb_base.specs.declared.message.Message.{Message}
 use Rattle.mqb_base.specs.declared.queues.EntryPlace.{EntryPlace}
 use Rattle.mqb_base.specs.declared.queues.EntryPlace.TheVariants as place
 use Rattle.mqb_entries.specs.declared.members.Mark.{Mark}
-use Rattle.mqb_exactly_once.specs.Words.{In}
 use Rattle.mqb_fate.specs.Orders.{is_final_class}
 use Rattle.mqb_model.specs.Loops.{for_each_below}
 use Rattle.mqb_model.specs.declared.target.Target.{Target}
@@ -45,17 +44,15 @@ use Rattle.mqb_model.specs.state.Rows.{with_row}
 use Rattle.mqb_model.specs.state.State.{State}
 use Rattle.mqb_orders.specs.Rows.{Row}
 use Rattle.mqb_orders.specs.declared.kept.Kept.{Kept}
-use Rattle.mqb_packet.specs.declared.packet.UserPacket.{UserPacket}
 use Rattle.mqb_plain.specs.Plain.{PlainLists, outgoing_in, without}
 use Rattle.mqb_plain.specs.declared.outgoing.Outgoing.{Outgoing}
 use Rattle.mqb_queue.specs.First.{index_named}
 use Rattle.mqb_queue.specs.Lists.{Lists, messages_in}
-use Rattle.mqb_queue.specs.Places.{Queue, lists_at, new_queue, numbered}
+use Rattle.mqb_queue.specs.Places.{Queue, new_queue, numbered}
 use Rattle.mqb_history.specs.Made.{IsMade}
 use Rattle.mqb_history.proofs.Carrying.{numbered_suc}
 use Rattle.mqb_history.proofs.Committing.{in_append}
-use Rattle.mqb_history.proofs.Enduring.{Endures, StandsIn, acked_endures, all_noted_endures, arrived_endures, aside_endures, copied_endures, delivered_endures, endures, endures_or, endures_then, express_endures, express_plain_endures, journalled_endures, meets_endures, number_endures, plain_sent_endures, put_endures, same_endures, unmarks_endure}
-use Rattle.mqb_history.proofs.Staying.{IsSameManager}
+use Rattle.mqb_history.proofs.Enduring.{Endures, acked_endures, all_noted_endures, arrived_endures, aside_endures, copied_endures, delivered_endures, endures, endures_or, endures_then, express_endures, express_plain_endures, journalled_endures, meets_endures, number_endures, plain_sent_endures, put_endures, same_endures, unmarks_endure}
 use Rattle.mqb_history.proofs.Walks.{each_walks, repeated_walks}
 
 -- a class that a message meets where it leaves its queue, or where it is refused
