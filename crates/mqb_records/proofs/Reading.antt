@@ -9,6 +9,7 @@ use Rattle.std.specs.Prelude.{◌&&◌, ◌+◌, ◌∷◌, ◌≡◌, [], Bool,
 use Rattle.mqb_base.specs.declared.queues.EntryPlace.TheVariants as place
 use Rattle.mqb_entries.specs.declared.members.OpView.{OpView}
 use Rattle.mqb_entries.specs.declared.members.OpView.TheVariants as view
+use Rattle.mqb_packet.specs.declared.packet.Headers.{Headers}
 use Rattle.mqb_packet.specs.declared.packet.Headers.TheVariants as headers
 use Rattle.mqb_packet.specs.declared.packet.UserPacket.{UserPacket}
 use Rattle.mqb_model.specs.records.Commit.{sends_fit, sends_of, take_fits}
@@ -98,17 +99,21 @@ ops_count (op ∷ ops) shows h = at (op_of op) (shown ops) (λ rest is. ops_coun
     at (Some p) None others h = absurd (let none : ⊥ = cc in none)
     at (Some p) (Some rest) others h = ap suc (others rest refl) ∙ ap (λ o. option_map_or length o 0) h
 
+-- The number of a packet that can be sent is left.
+pub sendable_left : (s : State) (beside : Headers) (n : ℕ) (p : UserPacket) → is_sendable s beside n p ≡ true → n ≤ MAX_NUMBER
+sendable_left s beside n p h =
+    let own = (and_parts _ _ h).0 in
+    let found = (and_parts _ _ own).0 in
+    let session = (and_parts _ _ found).0 in
+    let tx = (and_parts _ _ session).0 in
+    let delivery = (and_parts _ _ tx).0 in
+    let left : nat_le n MAX_NUMBER ≡ true = (and_parts _ _ ((and_parts _ _ delivery).0)).1 in
+    grind (arith, nat_tests)
+
 -- Numbers of packets that fit are left.
 pub number_left : (s : State) (n : ℕ) (bytes : List ℕ) → bytes_fit s n bytes ≡ true → n ≤ MAX_NUMBER
 number_left s n bytes h = at (user_packet_of bytes) h
   where
     at : (p : Option UserPacket) → option_map_or (is_sendable s headers.TxAndSession n) p false ≡ true → n ≤ MAX_NUMBER
     at None h = absurd (let none : ⊥ = cc in none)
-    at (Some p) h =
-        let own = (and_parts _ _ h).0 in
-        let found = (and_parts _ _ own).0 in
-        let session = (and_parts _ _ found).0 in
-        let tx = (and_parts _ _ session).0 in
-        let delivery = (and_parts _ _ tx).0 in
-        let left : nat_le n MAX_NUMBER ≡ true = (and_parts _ _ ((and_parts _ _ delivery).0)).1 in
-        grind (arith, nat_tests)
+    at (Some p) h = sendable_left s headers.TxAndSession n p h
