@@ -8,6 +8,9 @@ byte for byte.
 
 Told are how many rings had work, and how much, in which of the two rounds something went, and the seed of each ring that was not drained; where there is one, the status is 1.
 
+Seen, by the released program whose sum begins with 13181677, seeds 1 to 501, in three runs side by side: each was drained. In 469 rings messages of streams waited behind the calls, 2,841 in all;
+something went in the first round of 500, and in the second one of 152.
+
 It stands outside the gate. Its port must be free: 1801, or MQB_PORT. MQB names another program than `./mqb --where` does, FOLDER another place for the stores.
 """
 import collections, itertools, pathlib, random, re, sys, time
