@@ -8,4 +8,5 @@ pub mod WireAgain
 pub mod TextWords
 pub mod TextGuids
 pub mod TextRead
+pub mod TextAddresses
 pub mod TextWritten
