@@ -1,4 +1,4 @@
-//! How a packet is heard: a plan is made, what arrived is written, and then the connection is as planned.
+//! How a packet is heard: a plan is made, what arrived is written, the connection is as planned.
 ghost use Rattle.std.specs.Prelude.{◌≡◌, ◌≢◌, ◌<◌, All, Err, IfSome, None, OnOk, Some, false, true};
 ghost use Rattle.mqb_outside.specs.Disk.{Counted};
 ghost use Rattle.mqb_hearing.specs.Plans.{IsAsHeard, ShowsReadable, outcome_of, whole_of};

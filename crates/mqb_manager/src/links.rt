@@ -1,4 +1,4 @@
-//! How a connection begins and ends, and how it starts sending anew. None of it writes a record or takes memory.
+//! How a connection begins, ends and sends anew. None of it writes a record or takes memory.
 ghost use Rattle.std.specs.Prelude.{◌≡◌, ◌≤◌};
 ghost use Rattle.mqb_manager.specs.Calls.{SaysDown, Succeeds};
 ghost use Rattle.mqb_manager.specs.States.{manager_of};
@@ -51,7 +51,7 @@ impl Manager {
         Ok(())
     }
 
-    /// The connection ended, and is forgotten: what is not acknowledged is sent again in the next one.
+    /// The connection ended, and is forgotten: what is not acknowledged is sent in the next one.
     pub fn unlink(&mut self)
         ensures left { Succeeds self.old self.new (unlink (manager_of self.old)) }
         ensures journal { self.new.store.journal ≡ self.old.store.journal }

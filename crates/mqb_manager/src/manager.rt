@@ -19,7 +19,7 @@ use mqb_store::{OpenFault, Store};
 use std::alloc::Global;
 use std::marker::Model;
 
-/// One manager. It is used with the disk on which it was formatted or started, and nobody else writes that.
+/// One manager. It is used with the disk on which it was formatted or started, and writes it alone.
 #[derive(Debug, Drop)]
 pub struct Manager {
     pub(crate) store: Store,
@@ -64,7 +64,7 @@ impl Manager {
     /// Makes an empty disk the store of a manager with this identity, and nothing else.
     ///
     /// # Errors
-    /// `NotEmpty`: the disk was only read. `Memory`: it was not called. `DiskFault`: a call of it failed.
+    /// `NotEmpty`: the disk was only read. `Memory`: it was not called. `DiskFault`: a call failed.
     pub fn format<D: Disk>(
         alloc: Global,
         disk: &mut D,
@@ -102,7 +102,7 @@ impl Manager {
     /// The manager on a disk, which is read and synced, and not written. It is up and not linked.
     ///
     /// # Errors
-    /// `BadStore` with the first place where the disk is no store of a manager; `Memory`; `DiskFault`.
+    /// `BadStore` with the first place where the disk is no manager's store; `Memory`; `DiskFault`.
     pub fn start<D: Disk>(alloc: Global, disk: &mut D) -> Result<Manager, OpenFault>
         ensures manager { IfOk result (λ n. manager_of n ≡ unlinked n.store.state) }
         ensures durable { IfOk result (λ n. durable n.store.state ≡ n.store.state) }

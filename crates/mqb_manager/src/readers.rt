@@ -39,7 +39,7 @@ impl Manager {
         self.store.is_down()
     }
 
-    /// The entry that may have been written, where the disk failed. Behind a checkpoint that failed there is none.
+    /// The entry that may have been written where the disk failed: none behind a checkpoint.
     #[tactic(auto, using(crate::proofs::Conditions::doubt_is))]
     pub fn doubt(&self) -> Option<&[u8]>
         ensures entry { option_copied result ≡ if self.now.store.journal.down

@@ -8,7 +8,7 @@ use std::test::Fail;
 /// As many bytes as a store may have.
 const ROOM: usize = 16_384;
 
-/// Alpha, which knows beta and has an order for its queue `orders`, committed at 1000. Its body is `one`.
+/// Alpha, which knows beta and has the order `one` for its queue `orders`, committed at 1000.
 pub(crate) static ALPHA: [u8; 276] = *b"MQBJ\x01\0\0\0\
 \x0D\x0C\x0B\x0A\x12\x11\x14\x13\x15\x16\x17\x18\x19\x1A\x1B\x1C\
 \x01\x1B\0\0\0\x01\x05alpha\x0D\x0C\x0B\x0A\x12\x11\x14\x13\x15\x16\x17\x18\x19\x1A\x1B\x1C\x0A\0\0\x01\

@@ -1,4 +1,4 @@
-//! Connections over a net in memory, whose calls fail or which gives none, and the lines that are said of them.
+//! Connections over a net in memory, whose calls fail or which gives none, and what is said then.
 use crate::asking::{attends, serves};
 use crate::orders::{ALPHA, BETA, IS_ACKNOWLEDGED, IS_OFFERED, WAITS, asking, disk_of, order};
 use crate::pieces::Coming;

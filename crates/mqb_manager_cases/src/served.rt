@@ -83,10 +83,10 @@ fn what_is_served_is_cut(rt: HostRuntime) -> Result<(), Fail> {
     Ok(())
 }
 
-/// As many bytes come at once. So the third of five pieces has the end of the set-up, and the last is empty.
+/// As many bytes come at once. So the third of five pieces ends the set-up, and the last is empty.
 const PIECE: usize = 208;
 
-/// The reads and the writes that fail, how it ends, how many bytes were sent before, and what the store holds.
+/// The reads and writes that fail, how it ends, the bytes sent before, and what the store holds.
 type Row = (&'static [u32], &'static [u32], Status, usize, &'static str);
 
 static FAILING: [Row; 8] = [

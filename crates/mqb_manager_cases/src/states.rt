@@ -95,7 +95,7 @@ fn of_a_thousand_messages_few_are_prepared(rt: HostRuntime) -> Result<(), Fail> 
     Ok(())
 }
 
-/// An order goes to beta and is acknowledged, and one comes from beta. None of these records fits twice.
+/// An order goes to beta and is acknowledged, and one comes from it. No record of these fits twice.
 static RECORDS: [&[u8]; 6] = [
     b"\x02\x04betaBBBBBBBBBBBBBBBB\x0A\0\0\x02",
     b"\x03\x06orders\x01\0\0\0\0\x01\x09\0\0\0\0",

@@ -85,7 +85,7 @@ fn is_beta_doubted<D: Disk>(alloc: Global, disk: &mut D) -> Result<bool, Fail> {
     Ok(is_doubted?)
 }
 
-/// Whether nothing is in doubt behind a start and a checkpoint is written, and how many records there are.
+/// Whether nothing is in doubt behind a start and a checkpoint is written; the number of records.
 fn started<D: Disk>(alloc: Global, disk: &mut D) -> Result<(bool, u64), OpenFault> {
     let mut manager = Manager::start(alloc, disk)?;
     let count = manager.lsn();

@@ -1,4 +1,4 @@
-//! The texts of the faults of an entry, a state, a store, and the calls of a manager, which no program prints.
+//! Texts of faults of an entry, a state, a store and a manager's calls, which no program prints.
 use mqb_base::Memory;
 use mqb_entries::EntryFault;
 use mqb_model::{

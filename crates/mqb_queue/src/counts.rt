@@ -31,7 +31,7 @@ pub(crate) fn count_less(counts: &mut [usize; LEVELS], priority: u8)
     counts[level(priority)] -= 1;
 }
 
-/// None of the messages that are counted has a greater priority, where none has a greater one than `top`.
+/// None of the counted messages has a greater priority, where none has a greater one than `top`.
 pub(crate) fn bound_of(counts: &[usize; LEVELS], top: u8) -> u8
     ensures { (p : ℕ) → p ≤ top → 0 < slice_index counts.now (level p) → p ≤ result }
 {

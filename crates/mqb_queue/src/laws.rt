@@ -1,4 +1,4 @@
-//! What follows from the definitions. Each function stands for a law: its contract is the law, and its body is empty.
+//! What follows from the definitions. The contract of each function is a law; its body is empty.
 ghost use Rattle.mqb_queue.specs.Laws.{AtMostOneFirst, OldestIsFirst, OnePlaceChanges, OneNamedPlaceChanges, PlansStay, FoundByItsName};
 
 /// The first message of a place is determined.

@@ -1,4 +1,4 @@
-//! The queues of a manager, and the messages in them, in their journals and in the lists that every manager has.
+//! The queues of a manager: messages in them, in their journals and in the lists of every manager.
 //!
 //! A place has a durable list, which survives a restart, and an express list, which does not. Contracts see `Queues` as the record `Places` of plain
 //! lists, and beside it the room of each list; each change is one place changed. A place is named by its queue's name, or by its queue's number as

@@ -48,7 +48,7 @@ impl Queues {
         }
     }
 
-    /// The message of a place that is taken first, where the place is there and has one that is not due.
+    /// The message of a place that is taken first, if the place is there and has one not yet due.
     pub fn first(&self, place: &Place, now: u32) -> Option<&Message>
         ensures { option_copied result ≡ first_named self.now.lists place.now now }
     {
@@ -152,7 +152,7 @@ impl Queues {
         self.remove_at(at, Lane::Express, k)
     }
 
-    /// Makes room in a place for so many more messages of each kind, and for no more than that where there was less.
+    /// Makes room in a place for so many more messages of each kind, and no more where it had less.
     pub fn reserve(&mut self, place: &Place, durable: u32, express: u32) -> Result<(), Memory>
         requires there { IsSome (lists_named self.old.lists place.now) }
         ensures ok { OnOk result (self.new ≡ record self.old {

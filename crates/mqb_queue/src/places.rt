@@ -29,7 +29,7 @@ impl Queues {
         Some(self.lists(at)?.messages(lane))
     }
 
-    /// Where the first message of a place stands, where the place is there and has one that can be taken.
+    /// Where the first message of a place stands, if the place is there and one can be taken.
     pub fn first_position(&self, at: EntryPlace, now: u32) -> Option<Position>
         ensures first { result ≡ option_and_then (first_position (is_wanted at now None))
             (lists_at self.now.lists at) }
@@ -57,7 +57,7 @@ impl Queues {
         })
     }
 
-    /// Where the durable message of a place stands that an identifier names: of several the one that is first.
+    /// Where the durable message of a place stands that an identifier names: the first of several.
     pub fn index_named(&self, at: EntryPlace, id: MessageId, now: u32) -> Option<u32>
         ensures index { result ≡ index_named self.now.lists at id now }
         ensures within { IfSome result (λ k. IsSomeAnd (lists_at self.now.lists at)
@@ -70,7 +70,7 @@ impl Queues {
         })
     }
 
-    /// Makes room in a place for so many more messages of each kind, and for no more than that where there was less.
+    /// Makes room in a place for so many more messages of each kind, and no more where it had less.
     pub fn reserve_at(&mut self, at: EntryPlace, durable: u32, express: u32) -> Result<(), Memory>
         requires there { IsSome (lists_at self.old.lists at) }
         ensures ok { OnOk result (self.new ≡ record self.old {
@@ -106,7 +106,7 @@ impl Queues {
         self.lists_mut(at).put(lane, message)
     }
 
-    /// Puts a message of a lane of a place before the k-th, or at the end: what `remove_at` took out goes back.
+    /// Puts a message of a lane before the k-th or at the end: what `remove_at` took out goes back.
     pub fn insert_at(&mut self, at: EntryPlace, lane: Lane, k: u32, message: Message)
         requires place { IsSomeAnd (lists_at self.old.lists at)
             (λ l. k ≤ length (messages_in lane l)) }

@@ -4,7 +4,7 @@ ghost use Rattle.mqb_queue.specs.Places.{numbered};
 use crate::lists::Lists;
 use mqb_base::QueuePlan;
 
-/// A queue: what it is to be, its messages, and those of its journal, which has none where the queue keeps no journal.
+/// A queue: what it is to be, its messages, and its journal's, which are none where it keeps none.
 #[derive(Debug, Drop)]
 pub(crate) struct Queue {
     pub(crate) plan: QueuePlan,

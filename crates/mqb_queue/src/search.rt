@@ -9,7 +9,7 @@ use crate::passes::Pass;
 use mqb_base::Message;
 use mqb_deque::SplitSlice;
 
-/// The oldest message that is wanted and has at least this priority, where none of the first ones is.
+/// The oldest message that is wanted and has at least this priority, if none of the first ones is.
 fn index_at_least(
     messages: &SplitSlice<'_, Message>,
     from: usize,
